@@ -98,7 +98,8 @@ class Checked(Model):
 
 def owed_by_model(lines, replies):
     """The place of the first reply that isn't owed, or None. That memory was wanting is taken as
-    told where the command may stand there and may want memory; then nothing has changed."""
+    told where the command may stand there and may want memory; then nothing has changed, but that
+    a search is over that was to be collected."""
     model = Checked()
     for place, (line, reply) in enumerate(zip(lines, replies)):
         if reply == REFUSALS[16]:
@@ -106,6 +107,8 @@ def owed_by_model(lines, replies):
             may_want = command is not None and command[0] in MAY_WANT
             if not may_want or is_owed(copy.deepcopy(model), line, REFUSALS[1]):
                 return place
+            if command[0] == "collect":
+                model.search = None
         elif not is_owed(model, line, reply):
             return place
     return None
@@ -119,7 +122,8 @@ def is_owed(model, line, reply):
         return False
 
 
-MAY_WANT = ("open", "offer", "join", "begin", "finish", "round", "truncate", "rebuild", "answer")
+MAY_WANT = ("open", "offer", "join", "begin", "finish", "round", "collect", "truncate", "rebuild",
+            "answer")
 
 
 def try_run(mutation):

@@ -26,9 +26,9 @@ NO_SPACES = ("\x0b", "\x0c", "\xa0", "\u2028", "\ufeff", "\x00", "/**/", "\\", "
 NO_TEXT = (b"\xff", b"\xfe\xff", b"\xc3", b"\xc0\x80", b"\xed\xa0\x80", b"\xf4\x90\x80\x80",
            b"\x80", b"\xe2\x28\xa1", b"\xf8\x88\x80\x80\x80", b"\xef\xbb\xbf", b"\x00", b"\r",
            b"\x1b", b"\x7f", b"\xef\xbb", b"\xf0\x9f\x98")
-WORDS = ("open", "offer", "join", "close", "begin", "finish", "round", "truncate", "rebuild",
-         "show", "resume", "marks", "last", "resumed", "save", "remain", "answer", "order", "refuted",
-         ABORTED)
+WORDS = ("open", "offer", "join", "close", "begin", "finish", "round", "search", "collect",
+         "wait", "skip", "truncate", "rebuild", "show", "resume", "marks", "last", "resumed",
+         "save", "remain", "answer", "order", "refuted", ABORTED)
 BUDGETS = (1, 1, 1, 2, 2, 3, 4, 5, 7, 8, 15, 16, 31, 32, 33, 64, 64, 128, 256)
 
 
@@ -348,15 +348,22 @@ class Scripts:
             return save(dice, self.sessions)
         if turn < 0.45:
             self.is_open = not self.is_open
-            return ["begin"] if self.is_open else ["finish", *effort(dice)]
+            return ["begin"] if self.is_open else self.ending()
         if turn < 0.75:
-            return ["finish" if self.is_open else "round", *effort(dice)]
+            words = ("search", "search", "finish") if self.is_open else ("round",) * 9 + ("search",)
+            return [dice.choice(words), *effort(dice)]
         if turn < 0.95:
             return ["truncate"]
         if turn < 0.98:
             return ["rebuild"]
         closes = 0.9 if self.joins else 0.3
         return ["close", dice.randrange(self.sessions + 1)] if dice.random() < closes else ["show"]
+
+    def ending(self):
+        """What may well end the open round, beside a search or without one."""
+        dice = self.dice
+        return dice.choice((["finish", *effort(dice)], ["collect", "wait"], ["collect", "wait"],
+                            ["collect"], ["skip"]))
 
 
 def odd(dice, line):
@@ -428,7 +435,7 @@ class Mutated:
                 last = [*last, ABORTED]
             return ["offer", session, store.first[session], [*txns, last]]
         if turn < 0.8:
-            return [dice.choice(("round", "finish")), *effort(dice)]
+            return [dice.choice(("round", "round", "finish", "search")), *effort(dice)]
         if turn < 0.81:
             return ["close", dice.randrange(self.sessions)]
         if turn < 0.83:
@@ -437,6 +444,8 @@ class Mutated:
             return forged(dice, model)
         if turn < 0.85:
             return save(dice, self.sessions)
+        if turn < 0.88:
+            return dice.choice((["collect"], ["collect", "wait"], ["skip"]))
         return [dice.choice(("show", "show", "show", "begin", "truncate", "rebuild"))]
 
     def openings_of_none(self):
@@ -485,8 +494,11 @@ class Answers:
         if model.snapshot:
             more = [self.told(forged(self.dice, model, 1)) for _ in range(20)]
             more.append(self.told(forged(self.dice, model)))
+            if self.dice.random() < 0.2:
+                more.insert(0, ("answers: search", compact(["search", 256, 0, 1])))
             if self.dice.random() < 0.05:
                 more.append(("answers: finish", compact(["finish", 256, 0, 1])))
+                more.append(("answers: collect", compact(["collect", "wait"])))
             return more
         lines = self.offers(model) + [["round", 256, 0, 1]]
         if self.dice.random() < 0.3:

@@ -26,7 +26,7 @@ NAMES = {1: "BadLine", 2: "BadSession", 3: "BadTxn", 4: "BadFence", 5: "Gap", 6:
          12: "BadCertificate", 13: "NoCut",
          14: "BadParts", 16: "NoMemory", 17: "NotAnchored"}
 REFUSALS = {number: b'["no",%d,"%s"]' % (number, name.encode()) for number, name in NAMES.items()}
-OK = b'["ok"]'
+OK, SEARCHING = b'["ok"]', b'["searching"]'
 ABORTED = "aborted"  # behind the lists of a transaction of which nothing was committed
 decode = json.JSONDecoder().decode
 encode = json.JSONEncoder(separators=(",", ":")).encode
@@ -183,6 +183,11 @@ FORMS = {
     ("finish", 5): is_guided,
     ("round", 4): is_effort,
     ("round", 5): is_guided,
+    ("search", 4): is_effort,
+    ("search", 5): is_guided,
+    ("collect", 1): is_nothing,
+    ("collect", 2): lambda parts: parts == ["wait"],
+    ("skip", 1): is_nothing,
     ("truncate", 1): is_nothing,
     ("rebuild", 1): is_nothing,
     ("show", 1): is_nothing,
@@ -347,6 +352,7 @@ class Model:
 
     def __init__(self):
         self.parts = self.limit = self.snapshot = self.held = self.handed = None
+        self.search = None  # what the search was given that goes on beside the open round
         self.version = 1  # of what may be offered: what the script was opened with
         self.rounds = 0
         self.told = {}  # of what remains now: of each budget and depth, the report without number
@@ -355,6 +361,8 @@ class Model:
     def judge(self, line, reply):
         """Raises Wrong where this isn't the reply that is owed to the line; neither has its LF."""
         command = command_of(line)
+        if self.search and command == ["collect"] and reply == SEARCHING:
+            return
         owed = self.owed(command)
         if owed is None:
             self.judge_report(command, reply)
@@ -372,8 +380,10 @@ class Model:
             return REFUSALS[1]
         if self.version == 1 and tells_aborted(command):
             return REFUSALS[1]
-        if command[0] in ("round", "finish"):
+        if command[0] in ("round", "finish", "collect"):
             return self.refused_round(command[0])
+        if command[0] == "search":
+            return self.begin_search(*command[1:])
         return getattr(self, command[0])(*command[1:])
 
     def open(self, sessions, limit, version=1):
@@ -527,20 +537,39 @@ class Model:
             kind = "pending" if parts.has_pending() else "serial"
             self.held = cut_of(parts, Relation(parts))
         check_by_trial(parts, kind)
-        self.snapshot = None
+        self.snapshot = self.search = None
         self.rounds += 1
         return text(["report", self.rounds, kind, parts.received(), given])
+
+    def begin_search(self, *effort):
+        if not self.snapshot:
+            return REFUSALS[11]
+        if self.search:
+            return REFUSALS[10]
+        self.search = effort
+        return OK
+
+    def skip(self):
+        if not self.snapshot:
+            return REFUSALS[11]
+        self.snapshot = self.search = None
+        return OK
 
     def refused_round(self, word):
         if word == "round":
             return REFUSALS[10] if self.snapshot else None
+        if word == "collect":
+            return None if self.search else REFUSALS[11]
+        if self.search:
+            return REFUSALS[10]
         return None if self.snapshot else REFUSALS[11]
 
     def judge_report(self, command, reply):
         """A report on the open round, or on all that was taken in."""
+        budget, depth = self.search[:2] if command[0] == "collect" else command[1:3]
         parts, self.snapshot = self.snapshot or self.parts, None
+        self.search = None
         self.rounds += 1
-        budget, depth = command[1:3]
         report = report_of(reply)
         self.check_front(parts, report)
         relation = Relation(parts)

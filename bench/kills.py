@@ -9,6 +9,7 @@ where there were fewer kills than `--kills`."""
 import argparse
 import collections
 import os
+import signal
 import subprocess
 import sys
 import time
@@ -42,6 +43,7 @@ class Counting(unittest.TextTestResult):
     kills, ended, is_over = collections.Counter(), [], False
 
     def startTest(self, test):
+        Counting.last = test
         self.began, self.before = time.monotonic(), sum(self.kills.values())
         super().startTest(test)
 
@@ -93,8 +95,14 @@ def main():
     subprocess.Popen._handle_exitstatus = handled
     unittest.TestCase.doCleanups = cleaning_up(unittest.TestCase.doCleanups)
     os.chdir(PLACE)
+    signal.signal(signal.SIGTERM, signal.default_int_handler)
     tests = unittest.defaultTestLoader.loadTestsFromNames(asked.tests)
-    found = unittest.TextTestRunner(verbosity=2, resultclass=Counting).run(tests)
+    try:
+        found = unittest.TextTestRunner(verbosity=2, resultclass=Counting).run(tests)
+    except KeyboardInterrupt:  # unittest leaves what is begun: servers and clients
+        Counting.last.doCleanups()
+        type(Counting.last).doClassCleanups()
+        sys.exit(1)
     print("| Killed | times |")
     print("|---|---|")
     for kind, times in Counting.kills.most_common():

@@ -14,7 +14,7 @@ how many went which way:
 
 - given again: cobra_audit has answered a line NoMemory. Then the state is told as it was before the
   line, a round is open where one was open before, and only there; and given once more the line is
-  answered as ever.
+  answered as ever, a collect behind its search.
 - ended: with status 1 and `out of memory`, after whole lines that are a front of what is owed.
 - nothing seen: where the library goes on without the room that was refused.
 
@@ -95,6 +95,7 @@ __attribute__((constructor)) static void start(void) {
 }
 """
 NO_MEMORY, ROUND_OPEN = b'["no",16,"NoMemory"]\n', b'["no",10,"RoundOpen"]\n'
+OK = b'["ok"]\n'
 SHOW = b'["show"]\n'
 # No session joins by it, for want of an anchor; but where a round is open it is told that.
 PROBE = b'["join",63,[[[],[5]]]]\n'
@@ -175,7 +176,7 @@ class Audit:
     def run(self, shim, shows=False, **refused):
         """The replies, the states before each line, where memory was wanting, and the end."""
         with shim.start(path_of("cobra_audit"), **refused) as running:
-            replies, states, again = [], [], []
+            replies, states, again, search = [], [], [], b""
             for line in self.lines:
                 if shows:
                     states.append(state_of(running))
@@ -184,7 +185,11 @@ class Audit:
                     shim.lift()
                     self.look(running, len(replies), line)
                     again.append(len(replies))
+                    if is_word(line, "collect") and ask(running, search) != OK:
+                        raise Wrong(f"behind {line!r} {search!r} can't be given again")
                     reply = ask(running, line)
+                if is_word(line, "search"):
+                    search = line
                 if not reply.endswith(b"\n"):
                     break
                 replies.append(reply)
@@ -216,6 +221,12 @@ class Audit:
         if found:
             raise Wrong(f"{found}: {replies}")
         return "ended" if ended == ENDED else "given again" if again else "nothing seen"
+
+
+def is_word(line, word):
+    """Whether the line is a command of this name."""
+    command = command_of(line[:-1])
+    return command is not None and command[0] == word
 
 
 def state_of(running):

@@ -256,7 +256,7 @@ def check_run(script, replies):
             order = []  # a cut that was found is dropped
         if reply[0] not in ("report", "cut"):
             continue
-        asked = begun if command[0] in ("finish", "answer") else history
+        asked = begun if command[0] in ("finish", "collect", "answer") else history
         told = f"round {reply[1]}: {reply[2]}" if reply[0] == "report" else f"cut at {reply[1][0]}.{reply[1][1]}"
         try:
             if reply[0] == "cut":

@@ -24,4 +24,6 @@ if [ -n "$unformatted" ]; then
 fi
 go vet zanteyard/...
 go test -race "$@" zanteyard/...
+# Sessions again, served by goroutines, as with TLS.
+go test -race "$@" zanteyard/session -without-loop
 ./build.sh

@@ -24,7 +24,11 @@ class Plain(Model):
     def reply_to(self, line):
         command = command_of(line)
         owed = self.owed(command)
-        return self.report(command[1]) if owed is None else owed
+        if owed is not None:
+            return owed
+        budget = self.search[0] if command[0] == "collect" else command[1]
+        self.search = None  # one that goes on is never told to
+        return self.report(budget)
 
     def save(self, what, *where):
         told = super().save(what, *where)

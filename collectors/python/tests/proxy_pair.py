@@ -14,6 +14,8 @@ import threading
 import time
 from typing import Any, Dict, List, Optional
 
+from zanteyard.trial.postgres_server import trusted_plugins
+
 TOP = os.path.normpath(os.path.join(os.path.dirname(os.path.abspath(__file__)), "../../.."))
 DRIVERS = os.path.join(TOP, "proxy/drivers")
 LIMIT = 180.0  # seconds for whatever has to come
@@ -83,7 +85,7 @@ class Server:
                 free.bind(("127.0.0.1", 0))
                 port = free.getsockname()[1]
         self.port = port
-        more = " ".join(f"-c {each}" for each in SETTINGS)
+        more = " ".join(f"-c {each}" for each in (*SETTINGS, *trusted_plugins()))
         options = f"-p {self.port} -c unix_socket_directories={self.folder} {more}"
         log = os.path.join(self.folder, "log")
         self.run("pg_ctl", "-D", self.data, "-l", log, "-o", options, "-w", "start")

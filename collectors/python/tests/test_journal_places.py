@@ -139,8 +139,6 @@ class Places(WithJournal):
 
     def test_not_allowed(self):
         """A file that may be read alone, and one that may not."""
-        if os.getuid() == 0:
-            os.chmod(self.folder, 0o777)
         with self.auditor() as auditor:
             auditor.offer(0, 0, ONE)
         for mode, told in ((0o400, "can't be read"), (0o000, "can't be read")):
@@ -155,7 +153,7 @@ class Places(WithJournal):
         if child == 0:
             try:
                 if os.getuid() == 0:
-                    for path in (self.path, f"{self.path}.lock"):
+                    for path in (self.path, f"{self.path}.lock", self.folder):
                         os.chown(path, NOBODY, NOBODY)
                     os.setuid(NOBODY)
                 Journal(self.path).read()

@@ -489,6 +489,25 @@ class Standing(NoHarm):
         self.assertNotEqual(live.outcome.earlier[0].name, live.name)
         live.stop()
 
+    def test_why_there_is_no_room(self):
+        """Who waits because the auditor is full isn't told that it is slow."""
+        auditor = self.auditor()
+        live = self.live(auditor, most=100)
+        live.stop()
+        backlog, audit = live._backlog, live._audit
+        for number in range(40):
+            backlog.put((0.0, 0, number, None))
+        for room, why, wanted in (
+            (100, None, "the auditor can't keep up: 40 transactions wait for it"),
+            (100, "no fence was settled", "the auditor can't keep up: 40 transactions wait for it"),
+            (7, None, "the auditor has room for 7 transactions more, 40 transactions wait for it, "
+             "and the next cut hasn't come"),
+            (0, "no fence was settled", "the auditor has room for 0 transactions more, "
+             "40 transactions wait for it, and no fence was settled"),
+        ):
+            backlog.room, audit.why_no_cut = room, why
+            self.assertEqual(live._no_room(), wanted)
+
     def test_a_tell_that_raises_ends_nothing_and_is_told_once(self):
         logging.getLogger("zanteyard").setLevel(logging.NOTSET)
         for error in (BrokenPipeError("nobody reads it"), SystemExit(1)):

@@ -13,8 +13,10 @@ import unittest
 from zanteyard import AbortedError, Auditor, AuditorApart, LiveAuditor, Logged
 from zanteyard.cli._main import main
 from zanteyard.explain._reasons import explain_history
+from zanteyard.explain._report import story_lines, story_of
 from zanteyard.explain._shrinking import smaller
 from zanteyard.explain._standing import Apart, standing
+from zanteyard.explain._words import name as plain_name
 from zanteyard.program._auditor import PROGRAM
 from zanteyard.promises._kinds import ALL, GENERALIZED, PREFIX, SERIALIZABLE, SESSIONLESS, SNAPSHOT
 from zanteyard.promises._kinds import STRICT, STRONG_SNAPSHOT
@@ -55,6 +57,23 @@ def timed(logged, began, ended):
 
 class Reasons(unittest.TestCase):
     """No program is needed."""
+
+    def test_a_small_part_among_thousands_has_its_name(self):
+        """It stands where it stood, with all the others in front of it as if they had done nothing."""
+        idle, lost = [txn()] * 10000, txn(("x", "init"), writes="x")
+        for promise in (SERIALIZABLE, SNAPSHOT):
+            story = story_of([[*idle, lost], [*idle, lost]], plain_name, promise=promise)
+            self.assertEqual((story.anomaly.name, story.unnamed), ("lost update", 0))
+
+    def test_what_is_too_much_is_said(self):
+        """No name is looked for among many, and it isn't asked which promises they break."""
+        many = [[txn(("x", "init"), writes="x")] for _ in range(65)]
+        told = "\n".join(story_lines(story_of(many, plain_name)))
+        self.assertIn("it wasn't made smaller than 65 transactions, and a name is looked for among at", told)
+        told = "\n".join(standing(many, PROGRAM).lines())
+        self.assertIn("which promises it breaks wasn't asked: it has 65 transactions", told)
+        told = "\n".join(standing(many[:2], "/no/program", seconds=-1.0).lines())
+        self.assertIn("there was no time to ask about", told)
 
     def test_a_circle_of_begins_and_commits(self):
         lost = [[txn(("x", "init"), writes="x")]] * 2
@@ -256,8 +275,6 @@ class Live(unittest.TestCase):
     def test_what_cant_be_asked_while_clients_run(self):
         with self.assertRaisesRegex(ValueError, "only finished histories"):
             Auditor(1, promise="strict")
-        with self.assertRaisesRegex(ValueError, "journal"):
-            Auditor(1, promise="snapshot", journal="nowhere")
 
 
 @unittest.skipUnless(os.path.isfile(PROGRAM), f"{PROGRAM} is not built")

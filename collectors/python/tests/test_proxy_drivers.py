@@ -20,10 +20,13 @@ GO = {"pgx": "jackc/pgx/v4", "pq": "lib/pq"}
 PYTHON = {
     "psycopg2": ["psycopg2"],
     "psycopg3": ["psycopg"],
+    "psycopg3_c": ["psycopg", "psycopg_c"],  # its part in C, where that is installed
     "asyncpg": ["asyncpg"],
     "sqlalchemy": ["sqlalchemy", "psycopg2"],
     "django": ["django", "psycopg2"],
 }
+SCRIPTS = {"psycopg3_c": "psycopg3"}  # where it isn't called as the driver is
+MORE = {"psycopg3_c": {"PSYCOPG_IMPL": "c"}}  # in the environment
 SLOW = ("jdbc", "django", "sqlalchemy")  # these begin first
 BUILDS = {}  # processes that build what the tests run
 RUNS = {}  # what the programs print, once they have ended
@@ -95,7 +98,7 @@ def begin_runs():
     calls = {name: call for name, call in calls.items() if name in BUILDS}
     for name, modules in PYTHON.items():
         if all(importlib.util.find_spec(each) for each in modules):
-            calls[name] = [sys.executable, os.path.join(DRIVERS, f"{name}_calls.py")]
+            calls[name] = [sys.executable, os.path.join(DRIVERS, f"{SCRIPTS.get(name, name)}_calls.py")]
     path = {"NODE_PATH": f"{os.environ.get('NODE_PATH', '')}:/usr/share/nodejs"}
     asked = ["node", "-e", "require('pg'); require('pg-cursor')"]
     settings = dict(os.environ, **path)
@@ -108,7 +111,7 @@ def begin_runs():
     pool = ThreadPoolExecutor(4)
     unittest.addModuleCleanup(pool.shutdown)
     for name in sorted(calls, key=lambda name: name not in SLOW):
-        RUNS[name] = pool.submit(both, name, calls[name], path)
+        RUNS[name] = pool.submit(both, name, calls[name], {**path, **MORE.get(name, {})})
 
 
 class TestDrivers(unittest.TestCase):
@@ -129,6 +132,9 @@ class TestDrivers(unittest.TestCase):
 
     def test_psycopg3(self):
         self.same("psycopg3", 400)
+
+    def test_psycopg3_in_c(self):
+        self.same("psycopg3_c", 400)
 
     def test_asyncpg(self):
         self.same("asyncpg", 300)

@@ -363,7 +363,10 @@ class Resumed(WithJournal):
         with self.assertRaisesRegex(JournalError, "there already"):
             self.auditor()
         self.path = os.path.join(self.path, "journal")
-        with self.assertRaisesRegex(JournalError, "can't be locked"):
+        with self.assertRaisesRegex(JournalError, "is no folder"):
+            self.auditor()
+        self.path = os.path.join(self.folder, "nowhere", "journal")
+        with self.assertRaisesRegex(JournalError, "can't be locked: No such file"):
             self.auditor()
         self.path = os.path.join(self.folder, "another")
         with self.assertRaises(ProgramEndedError):

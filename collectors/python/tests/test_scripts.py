@@ -39,6 +39,9 @@ HANDED = [  # the same, handed over
 OF_PARTS = "(the script resumes another: a verdict is of every history that the parts stand for)"
 
 
+ENDS = b'["round"', b'["finish"', b'["answer"', b'["collect"'  # lines that are answered by a report
+
+
 def run(*words):
     out, err = io.StringIO(), io.StringIO()
     with redirect_stdout(out), redirect_stderr(err):
@@ -66,8 +69,10 @@ def generated(seed):
         for _, line in made.chunk(plain):
             word = json.loads(line)[0]
             before = plain
-            if word in ("round", "finish"):
+            if word in ("round", "finish", "search"):
                 line, before = json.dumps([word, 256, 0, 1]).encode(), plain.copy()
+            elif word == "collect":  # which is told at any moment that the search goes on
+                line, before = b'["collect","wait"]', plain.copy()
             reply = json.loads(plain.reply_to(line))
             if reply[0] == "report" and reply[2] == "spent":
                 return lines, before
@@ -138,7 +143,7 @@ class Scripts(unittest.TestCase):
             if not kinds or "spent" in kinds:
                 continue  # a spent round is given again
             lines = [line for line, _ in kept]
-            while not lines[-1].strip().startswith((b'["round"', b'["finish"', b'["answer"')):
+            while not lines[-1].strip().startswith(ENDS):
                 lines.pop()  # so that no round is put at the end
             with self.subTest(script=name):
                 status, out = self.told(lines, "check", "0.5")
@@ -158,8 +163,8 @@ class Scripts(unittest.TestCase):
             if plain.parts is None or not {"join", "resume"} & {*told}:
                 continue
             with self.subTest(seed=seed):
-                found, its = self.verdicts([*lines, *([b'["finish",4096,0,1]'] if plain.snapshot else []),
-                                            ROUND.encode()])
+                ended = b'["collect","wait"]' if plain.search else b'["finish",4096,0,1]'
+                found, its = self.verdicts([*lines, *([ended] if plain.snapshot else []), ROUND.encode()])
                 remaining = [[[[*map(_read, txn.reads)], [*txn.writes]] for txn in txns]
                              for txns in its.history]
                 owed = [[[[(its.key_name(key), source if source[0] >= 0 else "init") for key, source in reads],

@@ -162,7 +162,8 @@ class Serving(unittest.TestCase):
         for place in ("violation.txt", "violation.jsonl", "violation.dot"):
             with self.subTest(place):
                 shutil.rmtree(f"{self.folder}/audit", ignore_errors=True)
-                os.makedirs(f"{self.folder}/audit/{place}")
+                os.mkdir(f"{self.folder}/audit", 0o700)
+                os.mkdir(f"{self.folder}/audit/{place}")
                 self.test_a_violation_ends_it()
                 self.assertNotIn("Traceback", self.said())
                 self.assertIn(f"{place}", self.said())

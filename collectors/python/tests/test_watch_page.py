@@ -21,13 +21,14 @@ from zanteyard.watch._feed import answered_of, seen_of
 from zanteyard.watch._serving import Pages
 from zanteyard.watch._state import Ended, Status
 from zanteyard.watch._style import NOW, SCRIPT, STYLE
-from zanteyard.watch._text import counted, escaped, visible, visible_lines
+from zanteyard.core._visible import escaped, visible, visible_lines
+from zanteyard.watch._text import counted
 from zanteyard.watch._violation_page import violation_page
 from zanteyard.watch._violations import Row, Told, Violation
 from zanteyard.watch._web import Answer, WebServer
 
 EVIL = "<script>alert(1)</script>\x1b[2J\u202egnp.exe\u200b\x00"
-SHOWN_EVIL = "&lt;script&gt;alert(1)&lt;/script&gt;\\u001b[2J\\u202egnp.exe\\u200b\\u0000"
+SHOWN_EVIL = "&lt;script&gt;alert(1)&lt;/script&gt;\\x1b[2J\\u202egnp.exe\\u200b\\x00"
 
 
 def violation(evil=""):
@@ -62,7 +63,7 @@ class Texts(unittest.TestCase):
     def test_what_cant_be_seen_is_shown(self):
         for text, wanted in (
             ("a  b\n c\t", "a b c"),
-            ("\x1b[31mred", "\\u001b[31mred"),
+            ("\x1b[31mred", "\\x1b[31mred"),
             ("\u202eabc\u2066", "\\u202eabc\\u2066"),
             ("\U000e0041", "\\U000e0041"),
             ("\ud800", "\\ud800"),
@@ -72,7 +73,7 @@ class Texts(unittest.TestCase):
         ):
             with self.subTest(text=text):
                 self.assertEqual(visible(text, 10 if len(text) == 50 else 4000), wanted)
-        self.assertEqual(visible_lines("SELECT 1\r\n  , 2\x07\n"), "SELECT 1\n  , 2\\u0007")
+        self.assertEqual(visible_lines("SELECT 1\r\n  , 2\x07\n"), "SELECT 1\n  , 2\\x07")
         self.assertEqual(escaped(EVIL), SHOWN_EVIL)
         self.assertEqual(
             [counted(1, "read"), counted(2000, "read"), counted(1, "thing is", "things are")],

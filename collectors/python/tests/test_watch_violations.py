@@ -226,7 +226,7 @@ class Described_(unittest.TestCase):
         self.assertEqual(
             [*lines_of("T1", its)],
             [
-                "T1: shop\\u001b[1m from 10.0.0.7:1, serializable",
+                "T1: shop\\x1b[1m from 10.0.0.7:1, serializable",
                 f"     SELECT 1  [$1 = '{'a' * 80} ..', $2 = NULL]",
                 "        not seen: an aggregate",
             ],

@@ -1,10 +1,22 @@
 """What is written for people to read: files that only their owner can read, figures that are whole."""
+import contextlib
+import io
 import os
+import shutil
+import subprocess
 import tempfile
 import unittest
+from unittest import mock
 
-from zanteyard.core._private_files import private
+from zanteyard.cli._main import main
+from zanteyard.core._private_files import check_folder, private
 from zanteyard.core._prometheus import text_of
+from zanteyard.core._records import Logged
+from zanteyard.core.errors import FolderUnfitError, JournalError
+from zanteyard.explain._graphviz import draw
+from zanteyard.journal._file import Journal
+from zanteyard.remote._connecting import SocketDoor
+from zanteyard.remote._server import AuditServer
 
 
 class PrivateFiles(unittest.TestCase):
@@ -38,6 +50,110 @@ class PrivateFiles(unittest.TestCase):
         with open(os.devnull, "w", encoding="utf-8", opener=private) as file:
             file.write("a value")
         self.assertEqual(os.stat(os.devnull).st_mode, before)
+
+
+class Pictures(unittest.TestCase):
+    def test_they_are_their_owners_alone(self):
+        """The one that `dot` makes as well."""
+        before = os.umask(0)
+        self.addCleanup(os.umask, before)
+        with tempfile.TemporaryDirectory() as folder:
+            names = draw([[Logged([], ["k"])]], f"{folder}/violation", arcs=())
+            self.assertEqual(len(names), 2 if shutil.which("dot") else 1)
+            for name in names:
+                self.assertEqual(os.stat(name).st_mode & 0o777, 0o600, name)
+                self.assertGreater(os.path.getsize(name), 50)
+
+
+class Folders(unittest.TestCase):
+    """Where keys and values of an application stand that nobody is to read or to put there."""
+
+    def setUp(self):
+        its = tempfile.TemporaryDirectory()
+        self.addCleanup(its.cleanup)
+        self.folder = os.path.join(its.name, "audit")
+        os.mkdir(self.folder, 0o700)
+
+    def test_whose_folder_it_is(self):
+        for mode, deed in (
+            (0o700, None), (0o711, None), (0o500, None), (0o1700, None),
+            (0o740, "read"), (0o704, "read"), (0o755, "read"),
+            (0o720, "write"), (0o702, "write"), (0o777, "write"), (0o1777, "write"),
+        ):
+            with self.subTest(mode=f"{mode:o}"):
+                os.chmod(self.folder, mode)
+                if deed is None:
+                    check_folder(self.folder)
+                    continue
+                with self.assertRaisesRegex(FolderUnfitError, f"others may {deed} .*chmod go-rw"):
+                    check_folder(self.folder)
+                subprocess.run(["chmod", "go-rw", self.folder], check=True)  # as it says
+                check_folder(self.folder)
+
+    def test_who_else_has_it(self):
+        with mock.patch("os.geteuid", return_value=os.geteuid() + 1):
+            with self.assertRaisesRegex(FolderUnfitError, "is of user .*mkdir -m 700"):
+                check_folder(self.folder)
+        link = f"{self.folder}.link"
+        os.symlink(self.folder, link)
+        with self.assertRaisesRegex(FolderUnfitError, "is no folder"):
+            check_folder(link)
+
+    def test_a_journal(self):
+        os.chmod(self.folder, 0o750)
+        path = os.path.join(self.folder, "journal")
+        with self.assertRaisesRegex(JournalError, "others may read .*chmod go-rw"):
+            Journal(path)
+        self.assertEqual(os.listdir(self.folder), [])
+        link = f"{self.folder}.link"
+        os.symlink(self.folder, link)
+        with self.assertRaises(JournalError):
+            Journal(os.path.join(link, "journal"))
+        os.chmod(self.folder, 0o700)
+        Journal(os.path.join(link, "journal")).close()
+
+    def test_the_daemon(self):
+        os.chmod(self.folder, 0o755)
+        told = io.StringIO()
+        with contextlib.redirect_stderr(told), mock.patch("signal.signal"):
+            with mock.patch("logging.basicConfig"):
+                self.assertEqual(main(["serve", "--journal", self.folder]), 2)
+        self.assertRegex(told.getvalue(), "^mistake: .*others may read .*chmod go-rw")
+        self.assertEqual(os.listdir(self.folder), [])
+
+    def server(self):
+        live = mock.Mock()
+        return AuditServer(live, os.path.join(self.folder, "socket"))
+
+    def test_notes_that_are_anothers(self):
+        """As where the socket is in a folder that all may write, and one of them was first."""
+        notes = os.path.join(self.folder, "socket.notes")
+        os.mkdir(notes, 0o777)
+        os.chmod(notes, 0o777)
+        with mock.patch("shutil.rmtree"):  # as it fails on what is another user's
+            with self.assertRaisesRegex(FolderUnfitError, "others may write"):
+                self.server()
+        os.chmod(notes, 0o700)
+        server = self.server()
+        self.assertEqual(os.stat(server.notes).st_mode & 0o777, 0o700)
+        server.close(0.0)
+
+    def door(self, notes):
+        """A client's, whose server says that notes are there."""
+        with mock.patch.multiple("zanteyard.remote._connecting", Client=mock.Mock(), Messages=mock.Mock()):
+            door = SocketDoor("a socket")
+        with mock.patch(
+            "zanteyard.remote._connecting.welcomed", return_value=["its words", notes]
+        ):
+            return door.welcome()
+
+    def test_notes_of_a_server_that_is_anothers(self):
+        os.chmod(self.folder, 0o777)
+        with self.assertRaisesRegex(FolderUnfitError, "others may write"):
+            self.door(f"{self.folder}/3")
+        os.chmod(self.folder, 0o700)
+        self.assertEqual(self.door(f"{self.folder}/3"), ["its words"])
+        self.assertEqual(self.door(f"{self.folder}/none/3"), ["its words"])
 
 
 class Figures(unittest.TestCase):

@@ -7,6 +7,7 @@ import threading
 import time
 
 SESSIONS, LIMIT = 64, 4096
+MORE = os.environ.get("ZANTEYARD_FEED_TEXT", "")  # at the end of every text of `described`
 AT = 1764220800.25
 
 
@@ -44,8 +45,8 @@ def coverage(**more):
         "writes": {"seen": 9, "offered": 6, "left_out": {"committed by others than the proxy": 3}},
         "unseen": [
             {
-                "shape": "SELECT count(*) FROM orders WHERE customer = $1",
-                "reason": "an aggregate",
+                "shape": "SELECT count(*) FROM orders WHERE customer = $1" + MORE,
+                "reason": "an aggregate" + MORE,
                 "reads": True,
                 "count": 7,
                 "first": AT,
@@ -83,28 +84,28 @@ def described(session, number, **more):
         "known": True,
         "fence": False,
         "connection": session + 10,
-        "application_name": "shop",
-        "address": f"10.0.0.7:5{session:04}",
-        "user": "shop",
+        "application_name": "shop" + MORE,
+        "address": f"10.0.0.7:5{session:04}{MORE}",
+        "user": "shop" + MORE,
         "database": "shop",
-        "level": "read committed",
+        "level": "read committed" + MORE,
         "began": AT + session + number / 10,
         "ended": AT + session + number / 10 + 0.05,
         "xid": 700 + session,
         "statements": [
             statement(
-                "SELECT qty FROM stock WHERE id = $1 /*file='shop/orders.py',line='41'*/",
+                "SELECT qty FROM stock WHERE id = $1 /*file='shop/orders.py',line='41'*/" + MORE,
                 AT + session,
-                parameters=["7"],
-                file="shop/orders.py",
+                parameters=["7" + MORE],
+                file="shop/orders.py" + MORE,
                 line=41,
             ),
-            statement("UPDATE stock SET qty = 4 WHERE id = 7", AT + session + 0.01),
+            statement("UPDATE stock SET qty = 4 WHERE id = 7" + MORE, AT + session + 0.01),
         ],
         "statements_dropped": 0,
         "reads": [],
         "writes": [5],
-        "keys": [{"key": 5, "table": "public.stock", "row": "7"}],
+        "keys": [{"key": 5, "table": "public.stock" + MORE, "row": "7" + MORE}],
     }
     return {**its, **more}
 

@@ -33,6 +33,7 @@ from .core._version import VERSION as __version__
 from .core.errors import (
     AbortedError,
     AuditLostError,
+    FolderUnfitError,
     FullError,
     JournalDamagedError,
     JournalError,
@@ -80,7 +81,7 @@ __all__ = [
     *("Explanation", "audited", "dot_text", "draw", "explain_history", "from_start", "reasons"),
     *("smaller", "tell_violation", "words"),
     # what is raised
-    *("AbortedError", "AuditLostError", "FullError", "NameTakenError"),
+    *("AbortedError", "AuditLostError", "FolderUnfitError", "FullError", "NameTakenError"),
     *("JournalError", "JournalDamagedError", "JournalInUseError", "JournalVersionError"),
     "RoundTooLongError",
     *("NoCutError", "NoMemoryError", "OtherVersionError", "OutcomeUnknownError"),

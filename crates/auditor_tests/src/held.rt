@@ -5,7 +5,10 @@ use logged_fragments::LoggedFragment;
 use polygraph::Single;
 use std::alloc::{AllocError, Global};
 use std::process::Abort;
+use std::sync::Wait;
 use std::test::Fail;
+use std::thread;
+use std::thread::Threads;
 use txn::Refusal;
 
 /// What is held of an offer or a join.
@@ -71,7 +74,7 @@ fn push_offer(script: &mut Vec<u8>, first: &str, count: usize) -> Result<(), All
     Ok(())
 }
 
-fn replies(alloc: Global, script: &[u8]) -> Result<Vec<u8>, Failure> {
+fn replies<R: Threads + Wait>(rt: &R, alloc: Global, script: &[u8]) -> Result<Vec<u8>, Failure> {
     let mut source = MemorySource {
         bytes: script,
         pace: Pace::new(4096, 0),
@@ -84,7 +87,9 @@ fn replies(alloc: Global, script: &[u8]) -> Result<Vec<u8>, Failure> {
         plain: Single,
         guided: Single,
     };
-    serve(alloc, &mut source, &mut sink, &solvers)?;
+    thread::scope(thread::scope_env(), rt, |scope| {
+        serve(scope, rt, alloc, &mut source, &mut sink, &solvers)
+    })?;
     Ok(sink.bytes)
 }
 
@@ -99,7 +104,7 @@ fn too_many_are_refused(rt: HostRuntime) -> Result<(), Fail> {
     script.extend_from_slice(b"[\"show\"]\n")?;
     let told =
         "[\"ok\"]\n[\"no\",9,\"TooLong\"]\n[\"ok\"]\n[\"no\",9,\"TooLong\"]\n[\"ok\"]\n[\"show\",[0],[257],[false],[],257]\n";
-    assert!(rt; replies(rt.alloc(), &script)?.as_slice() == told.as_bytes());
+    assert!(rt; replies(&rt, rt.alloc(), &script)?.as_slice() == told.as_bytes());
     Ok(())
 }
 
@@ -110,6 +115,6 @@ fn any_number_is_handed_over(rt: HostRuntime) -> Result<(), Fail> {
     push_offer(&mut script, "0", 300)?;
     script.extend_from_slice(b"[\"resumed\"]\n[\"show\"]\n")?;
     let told = "[\"ok\"]\n[\"ok\"]\n[\"ok\"]\n[\"ok\"]\n[\"show\",[0],[300],[false],[],300]\n";
-    assert!(rt; replies(rt.alloc(), &script)?.as_slice() == told.as_bytes());
+    assert!(rt; replies(&rt, rt.alloc(), &script)?.as_slice() == told.as_bytes());
     Ok(())
 }

@@ -42,6 +42,20 @@ fn numbers_of(command: &Command) -> (&'static str, [u64; 3]) {
             workers,
             search: Search::Guided,
         } => ("guided round", [*budget, *depth, *workers]),
+        Command::BeginSearch {
+            budget,
+            depth,
+            workers,
+            search: Search::Plain,
+        } => ("search", [*budget, *depth, *workers]),
+        Command::BeginSearch {
+            budget,
+            depth,
+            workers,
+            search: Search::Guided,
+        } => ("guided search", [*budget, *depth, *workers]),
+        Command::Collect { waits } => ("collect", [u64::from(*waits), 0, 0]),
+        Command::Skip => ("skip", [0, 0, 0]),
         Command::Truncate => ("truncate", [0, 0, 0]),
         Command::Rebuild => ("rebuild", [0, 0, 0]),
         Command::Show => ("show", [0, 0, 0]),
@@ -97,7 +111,27 @@ struct Row {
     numbers: [u64; 3],
 }
 
-static COMMANDS: [Row; 28] = [
+static COMMANDS: [Row; 32] = [
+    Row {
+        line: "[\"search\",4294967296,6,16]",
+        name: "search",
+        numbers: [1 << 32, 6, 16],
+    },
+    Row {
+        line: "[\"search\",1,0,1,\"guided\"]",
+        name: "guided search",
+        numbers: [1, 0, 1],
+    },
+    Row {
+        line: "[\"collect\",\"wait\"]",
+        name: "collect",
+        numbers: [1, 0, 0],
+    },
+    Row {
+        line: "[\"skip\"]",
+        name: "skip",
+        numbers: [0, 0, 0],
+    },
     Row {
         line: "[\"open\",0,18446744073709551615]",
         name: "open",

@@ -20,9 +20,11 @@ enum Told {
     Spent,
     Cut,
     Show,
+    Searching,
 }
 
-static ROWS: [(Told, &str); 10] = [
+static ROWS: [(Told, &str); 11] = [
+    (Told::Searching, "[\"searching\"]\n"),
     (Told::Done, "[\"ok\"]\n"),
     (Told::No(Refusal::BadLine), "[\"no\",1,\"BadLine\"]\n"),
     (Told::No(Refusal::NoMemory), "[\"no\",16,\"NoMemory\"]\n"),
@@ -227,6 +229,7 @@ fn reply_of(alloc: Global, told: Told) -> Result<Reply, NoMemory>
         Told::Spent => spent(alloc),
         Told::Cut => cut(alloc),
         Told::Show => shown(alloc),
+        Told::Searching => Ok(Reply::Searching),
     }
 }
 

@@ -10,7 +10,10 @@ use std::alloc::{AllocError, Global};
 use std::cell::Cell;
 use std::io::{self, ErrorKind, Read, Write};
 use std::process::Abort;
+use std::sync::Wait;
 use std::test::Fail;
+use std::thread;
+use std::thread::Threads;
 
 /// Answers each call with how many bytes it moves, or why it fails, and counts its calls.
 #[derive(Drop)]
@@ -249,7 +252,8 @@ const CUT_REPLIES: &str = r#"["ok"]
 "#;
 
 /// How the script is served, and what is written, where the devices move so many bytes a call and one call of each fails.
-fn served(
+fn served<R: Threads + Wait>(
+    rt: &R,
     alloc: Global,
     script: &[u8],
     most: usize,
@@ -270,7 +274,9 @@ fn served(
         plain: Single,
         guided: Single,
     };
-    let end = serve(alloc, &mut source, &mut sink, &solvers);
+    let end = thread::scope(thread::scope_env(), rt, |scope| {
+        serve(scope, rt, alloc, &mut source, &mut sink, &solvers)
+    });
     (end, sink.bytes)
 }
 
@@ -282,7 +288,7 @@ const FIRST_RUN: &str = r#"["open",1,8]
 
 #[test]
 fn first_run(rt: HostRuntime) -> Result<(), Fail> {
-    let (end, written) = served(rt.alloc(), FIRST_RUN.as_bytes(), 4096, 0, 0);
+    let (end, written) = served(&rt, rt.alloc(), FIRST_RUN.as_bytes(), 4096, 0, 0);
     assert_eq!(rt; end, Ok(()));
     let replies = b"[\"ok\"]\n[\"ok\"]\n[\"report\",1,\"serial\",[2],[[0,0],[0,1]]]\n";
     assert_eq!(rt; written.as_slice(), replies.as_slice());
@@ -299,7 +305,7 @@ fn longest_line(rt: HostRuntime) -> Result<(), Fail> {
     for (shorter, replies) in cases {
         let mut script: Vec<u8> = vec![in rt.alloc(); b' '; LONGEST_LINE - shorter]?;
         script.extend_from_slice(open)?;
-        let (end, written) = served(rt.alloc(), &script, 1 << 20, 0, 0);
+        let (end, written) = served(&rt, rt.alloc(), &script, 1 << 20, 0, 0);
         assert_eq!(rt; end, Ok(()));
         assert_eq!(rt; written.as_slice(), replies.as_bytes(), "at {shorter}");
     }
@@ -313,8 +319,8 @@ fn are_lines(bytes: &[u8]) -> bool {
 
 /// Each read, or each write, fails in turn: a front of the replies is written, after a failed read whole lines. Answers the
 /// first call that isn't made.
-fn fails_in_turn(
-    rt: &(impl AllocGlobal + Abort),
+fn fails_in_turn<R: AllocGlobal + Abort + Threads + Wait>(
+    rt: &R,
     script: &str,
     replies: &str,
     most: usize,
@@ -324,7 +330,7 @@ fn fails_in_turn(
 {
     for call in 1..1000 {
         let (read, write) = if is_read { (call, 0) } else { (0, call) };
-        let (end, written) = served(rt.alloc(), script.as_bytes(), most, read, write);
+        let (end, written) = served(rt, rt.alloc(), script.as_bytes(), most, read, write);
         if end == Ok(()) {
             assert!(rt; written.as_slice() == replies.as_bytes(), "by {most}");
             return call;

@@ -24,8 +24,9 @@ use Rattle.round_state.specs.declared.steps.Step.{Step}
 use Rattle.round_state.specs.declared.steps.Step.TheVariants as step
 use Rattle.round_state.specs.declared.steps.StepReply.{StepReply}
 use Rattle.round_state.specs.declared.steps.StepReply.TheVariants as reply
+use Rattle.cobra.specs.Audits.{AuditState}
 use Rattle.cobra.specs.Held.{IsEnough}
-use Rattle.cobra.specs.Scripts.{Goes, IsStep, IsTakenIn, AnswersOpen, BeginsAnew, AnswersResuming}
+use Rattle.cobra.specs.Scripts.{Goes, IsStep, IsTakenIn, AnswersOpen, AnswersBeside, BeginsAnew, AnswersResuming}
 use Rattle.cobra.specs.declared.handing.Handing.{Handing}
 use Rattle.cobra.specs.declared.stages.Stage.{Stage}
 use Rattle.cobra.specs.declared.stages.Stage.TheVariants as stage
@@ -141,10 +142,10 @@ join_answers most logged version old new answer above is =
     (step_told old new (step.Join front) (step.Join logged) answer (λ said. join_goes old new front logged said long)) is)
     (held_or_long most logged above)
 
-open_answers : (most : ℕ) (version : Version) (old new : EngineState) (command : Command) (answer : Reply) → 256 < most → AnswersOpen version old (held (Some most) command) answer new → AnswersOpen version old command answer new
-open_answers most version old new (Offer logged) answer above is = offer_answers most logged version old new answer above is
-open_answers most version old new (Join logged) answer above is = join_answers most logged version old new answer above is
-open_answers most version old new command answer above is = is
+beside_answers : (most : ℕ) (version : Version) (old new : AuditState) (command : Command) (answer : Reply) → 256 < most → AnswersBeside version old (held (Some most) command) answer new → AnswersBeside version old command answer new
+beside_answers most version old new (Offer logged) answer above is = (offer_answers most logged version old.engine new.engine answer above is.0, is.1)
+beside_answers most version old new (Join logged) answer above is = (join_answers most logged version old.engine new.engine answer above is.0, is.1)
+beside_answers most version old new command answer above is = is
 
 -- where no engine is open, no offer and no join is taken
 anew_answers : (most : ℕ) (old : Stage) (command : Command) (answer : Reply) (new : Stage) → BeginsAnew old (held (Some most) command) answer new → BeginsAnew old command answer new
@@ -159,4 +160,4 @@ pub enough_held : (most : ℕ) (old : Stage) → 256 < most → ((handed : Handi
 enough_held most stage.Nothing above none command answer new is = anew_answers most stage.Nothing command answer new is
 enough_held most (stage.Resuming sessions limit version) above none command answer new is = resuming_answers most sessions limit version command answer new is
 enough_held most (stage.Handing handed version) above none command answer new is = absurd (none handed version refl)
-enough_held most (stage.Open old version) above none command answer new is = (is.0, open_answers most version old is.0 command answer above is.1, is.2)
+enough_held most (stage.Open old version) above none command answer new is = (is.0, beside_answers most version old is.0 command answer above is.1, is.2)

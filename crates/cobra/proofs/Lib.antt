@@ -1,4 +1,5 @@
 pub mod AskedLines
+pub mod BesideRounds
 pub mod Checkpoints
 pub mod GivenOut
 pub mod HandedWriters

@@ -1,11 +1,11 @@
 -- Only a report that is serial or pending is told with an order.
 use Rattle.std.proofs.Common.{◌≡◌, ℕ, ◌+◌, List, Bool, true, false, cond, nat_lt, length, Option, Some, None, sym, subst, ⊎_elim}
-use Rattle.std.specs.Prelude.{IsSomeAnd}
+use Rattle.std.specs.Prelude.{IsSomeAnd, MatchOption, ◌⊎◌}
 use Rattle.order_check.specs.declared.remainder.Kind.{Kind}
 use Rattle.order_check.specs.declared.remainder.Kind.TheVariants as kinds
 use Rattle.order_check.specs.declared.remainder.Parts.{Parts}
 use Rattle.log_text.specs.declared.commands.Command.{Command}
-use Rattle.log_text.specs.declared.commands.Command.TheVariants.{Start, Offer, Join, Close, Begin, Finish, Round, Truncate, Rebuild, Show, Resume, Marks, Last, Resumed, Save, Answer}
+use Rattle.log_text.specs.declared.commands.Command.TheVariants.{Start, Offer, Join, Close, Begin, Finish, Round, BeginSearch, Collect, Skip, Truncate, Rebuild, Show, Resume, Marks, Last, Resumed, Save, Answer}
 use Rattle.log_text.specs.declared.replies.Reply.{Reply}
 use Rattle.log_text.specs.declared.replies.Reply.TheVariants as told
 use Rattle.log_text.specs.Replies.{HasKindOfOrder}
@@ -24,7 +24,7 @@ use Rattle.round_state.specs.declared.steps.StepReply.TheVariants as reply
 use Rattle.settle.specs.declared.cuts.Cut.{Cut}
 use Rattle.log_text.specs.declared.commands.Wanted.{Wanted}
 use Rattle.log_text.specs.declared.commands.Wanted.TheVariants as wanted
-use Rattle.txn.specs.declared.refusals.Refusal.TheVariants.{BadSession}
+use Rattle.txn.specs.declared.refusals.Refusal.TheVariants.{BadSession, RoundOpen, NoRound}
 use Rattle.txn.specs.declared.transactions.TxnId.{TxnId}
 use Rattle.txn.specs.declared.transactions.Fragment.{Fragment}
 use Rattle.cobra.specs.Saving.{saved_told, fragment_told}
@@ -33,10 +33,12 @@ use Rattle.log_text.specs.declared.searches.Search.{Search}
 use Rattle.log_text.specs.declared.versions.Version.{Version}
 use Rattle.log_text.specs.declared.versions.Version.TheVariants.{One}
 use Rattle.logged_fragments.specs.declared.logged.LoggedFragment.{LoggedFragment}
+use Rattle.script_searches.specs.declared.searches.Effort.{Effort}
+use Rattle.cobra.specs.Audits.{AuditState}
 use Rattle.cobra.specs.declared.handing.Handing.{Handing}
 use Rattle.cobra.specs.declared.stages.Stage.{Stage}
 use Rattle.cobra.specs.declared.stages.Stage.TheVariants as stage
-use Rattle.cobra.specs.Scripts.{IsBadLine, Goes, EndsRound, IsRound, IsStep, IsTakenIn, AnswersOpen, Opens, Resumes, AnswersFirst, BeginsAnew, HandsMarks, AnswersResuming, HandsWriters, HandsOffer, EndsHandOver, AnswersHanding, Answers}
+use Rattle.cobra.specs.Scripts.{IsBadLine, Goes, EndsRound, IsRound, IsStep, IsTakenIn, AnswersOpen, AnswersBeside, GoesOn, IsCollected, Opens, Resumes, AnswersFirst, BeginsAnew, HandsMarks, AnswersResuming, HandsWriters, HandsOffer, EndsHandOver, AnswersHanding, Answers}
 use Rattle.cobra.specs.StepReplies.{certificate_of, certified, report_of, reply_of}
 
 -- what a certificate shows is told by its own kind
@@ -119,6 +121,39 @@ open_kind version old new (Resume sessions limit begun) answer is = bad_line_kin
 open_kind version old new (Marks marks closed) answer is = bad_line_kind old new answer is
 open_kind version old new (Last last) answer is = bad_line_kind old new answer is
 open_kind version old new Resumed answer is = bad_line_kind old new answer is
+open_kind version old new (BeginSearch budget depth workers search) answer is = bad_line_kind old new answer is
+open_kind version old new (Collect waits) answer is = bad_line_kind old new answer is
+open_kind version old new Skip answer is = bad_line_kind old new answer is
+
+begin_search_kind : (asked : Option Parts) (search : Option Effort) (old new : AuditState) (given : Effort) (answer : Reply)
+    → MatchOption asked ((answer ≡ told.No NoRound) × (new ≡ old)) (λ parts. MatchOption search ((answer ≡ told.Done) × (new ≡ record old { search = Some given })) (λ one. (answer ≡ told.No RoundOpen) × (new ≡ old)))
+    → HasKindOfOrder answer
+begin_search_kind None search old new given answer is = subst HasKindOfOrder (sym is.0) tt
+begin_search_kind (Some parts) None old new given answer is = subst HasKindOfOrder (sym is.0) tt
+begin_search_kind (Some parts) (Some one) old new given answer is = subst HasKindOfOrder (sym is.0) tt
+
+collected_kind : (old new : AuditState) (effort : Effort) (answer : Reply) → IsCollected old effort answer new → HasKindOfOrder answer
+collected_kind old new effort answer is = told_kind is.0 answer is.2 (step_kind old.engine new.engine (step.Finish effort.budget effort.depth effort.workers) is.0 is.1.goes)
+
+collect_kind : (search : Option Effort) (old new : AuditState) (waits : Bool) (answer : Reply)
+    → MatchOption search ((answer ≡ told.No NoRound) × (new ≡ old)) (λ effort. GoesOn waits old answer new ⊎ IsCollected old effort answer new)
+    → HasKindOfOrder answer
+collect_kind None old new waits answer is = subst HasKindOfOrder (sym is.0) tt
+collect_kind (Some effort) old new waits answer is = ⊎_elim (λ goes. subst HasKindOfOrder (sym goes.1) tt) (λ got. collected_kind old new effort answer got) is
+
+finish_kind : (version : Version) (search : Option Effort) (old new : AuditState) (budget depth workers : ℕ) (kind : Search) (answer : Reply)
+    → MatchOption search (AnswersOpen version old.engine (Finish budget depth workers kind) answer new.engine × (new.search ≡ None)) (λ effort. (answer ≡ told.No RoundOpen) × (new ≡ old))
+    → HasKindOfOrder answer
+finish_kind version None old new budget depth workers kind answer is = open_kind version old.engine new.engine (Finish budget depth workers kind) answer is.0
+finish_kind version (Some effort) old new budget depth workers kind answer is = subst HasKindOfOrder (sym is.0) tt
+
+beside_kind : (version : Version) (old new : AuditState) (command : Command) (answer : Reply) → AnswersBeside version old command answer new → HasKindOfOrder answer
+beside_kind version old new (BeginSearch budget depth workers search) answer is =
+    begin_search_kind old.engine.asked old.search old new (record { budget = budget; depth = depth; workers = workers; search = search }) answer is
+beside_kind version old new (Collect waits) answer is = collect_kind old.search old new waits answer is
+beside_kind version old new Skip answer is = told_kind is.0.0 answer is.0.2 (step_kind old.engine new.engine step.Abandon is.0.0 is.0.1)
+beside_kind version old new (Finish budget depth workers search) answer is = finish_kind version old.search old new budget depth workers search answer is
+beside_kind version old new command answer is = open_kind version old.engine new.engine command answer is.0
 
 opens_kind : (sessions limit : ℕ) (version : Version) (answer : Reply) (begun : Option Stage) → Opens sessions limit version answer begun → HasKindOfOrder answer
 opens_kind sessions limit version told.Done begun is = tt
@@ -172,4 +207,4 @@ pub answer_kind : (old : Stage) (command : Command) (answer : Reply) (new : Stag
 answer_kind stage.Nothing command answer new is = anew_kind stage.Nothing command answer new is
 answer_kind (stage.Resuming sessions limit version) command answer new is = resuming_kind sessions limit version command answer new is
 answer_kind (stage.Handing handed version) command answer new is = handing_kind handed version command answer new is
-answer_kind (stage.Open old version) command answer new is = open_kind version old is.0 command answer is.1
+answer_kind (stage.Open old version) command answer new is = beside_kind version old is.0 command answer is.1

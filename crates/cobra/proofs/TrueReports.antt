@@ -1,9 +1,9 @@
 -- Replies whose reports are true of what a script's lines had offered and what was answered ok.
 use Rattle.std.proofs.Common.{◌≡◌, ℕ, ◌+◌, Bool, true, false, cond, nat_lt, List, [], ◌∷◌, ◌++◌, length, map, Option, Some, None, refl, sym, ap, ◌∙◌, subst, inl, inr, ⊎_elim}
-use Rattle.std.specs.Prelude.{⊤, IsSomeAnd}
+use Rattle.std.specs.Prelude.{⊤, IsSomeAnd, MatchOption, ◌⊎◌}
 use Rattle.std.specs.List.{concat}
 use Rattle.txn.specs.declared.refusals.Refusal.{Refusal}
-use Rattle.txn.specs.declared.refusals.Refusal.TheVariants.{BadLine, BadSession, NoMemory}
+use Rattle.txn.specs.declared.refusals.Refusal.TheVariants.{BadLine, BadSession, RoundOpen, NoRound, NoMemory}
 use Rattle.txn.specs.declared.transactions.Fragment.{Fragment}
 use Rattle.txn.specs.History.{History}
 use Rattle.logged_fragments.specs.Effects.{effects}
@@ -13,7 +13,7 @@ use Rattle.order_check.specs.declared.remainder.Kind.TheVariants as kinds
 use Rattle.order_check.specs.declared.remainder.Parts.{Parts}
 use Rattle.order_check.specs.StandsFor.{StandsFor, history_after, with_fragment}
 use Rattle.log_text.specs.declared.commands.Command.{Command}
-use Rattle.log_text.specs.declared.commands.Command.TheVariants.{Start, Offer, Join, Close, Begin, Finish, Round, Truncate, Rebuild, Show, Resume, Marks, Last, Resumed, Save, Answer}
+use Rattle.log_text.specs.declared.commands.Command.TheVariants.{Start, Offer, Join, Close, Begin, Finish, Round, BeginSearch, Collect, Skip, Truncate, Rebuild, Show, Resume, Marks, Last, Resumed, Save, Answer}
 use Rattle.log_text.specs.declared.commands.Wanted.{Wanted}
 use Rattle.log_text.specs.declared.commands.Wanted.TheVariants as wanted
 use Rattle.log_text.specs.declared.replies.Reply.{Reply}
@@ -37,9 +37,11 @@ use Rattle.round_state.specs.declared.steps.Step.TheVariants as step
 use Rattle.round_state.specs.declared.steps.StepReply.{StepReply}
 use Rattle.round_state.specs.declared.steps.StepReply.TheVariants as reply
 use Rattle.settle.specs.declared.cuts.Cut.{Cut}
+use Rattle.script_searches.specs.declared.searches.Effort.{Effort}
+use Rattle.cobra.specs.Audits.{AuditState}
 use Rattle.cobra.specs.Outputs.{RepliesAll}
 use Rattle.cobra.specs.Saving.{saved_told, fragment_told}
-use Rattle.cobra.specs.Scripts.{IsBadLine, IsTakenIn, Goes, IsStep, EndsRound, IsRound, AnswersOpen, AnswersFirst, BeginsAnew, AnswersResuming, AnswersHanding, HandsOffer, Answers, stage_after}
+use Rattle.cobra.specs.Scripts.{IsBadLine, IsTakenIn, Goes, IsStep, EndsRound, IsRound, AnswersOpen, AnswersBeside, GoesOn, IsCollected, AnswersFirst, BeginsAnew, AnswersResuming, AnswersHanding, HandsOffer, Answers, stage_after}
 use Rattle.cobra.specs.StepReplies.{certificate_of, certified, reply_of}
 use Rattle.cobra.specs.TrueReports.{Accepted, accepted_more, accepted_after, reported_on, TellsTrueOf, IsTrueTold, BeginsWith, AreTrueReplies, EachReportIsTrue}
 use Rattle.cobra.specs.declared.handing.Handing.{Handing}
@@ -52,8 +54,8 @@ state_of engine accepted = record { engine = engine; whole = accepted.whole; ask
 
 -- Where an engine is open it stands for what was accepted; else nothing was.
 abbrev Fits : Stage → Option Accepted → Type 0
-Fits (stage.Open engine version) (Some accepted) = Holds engine (state_of engine accepted)
-Fits (stage.Open engine version) None = ⊥
+Fits (stage.Open audit version) (Some accepted) = Holds audit.engine (state_of audit.engine accepted)
+Fits (stage.Open audit version) None = ⊥
 Fits stage.Nothing None = ⊤
 Fits (stage.Resuming sessions limit version) None = ⊤
 Fits (stage.Handing handed version) None = ⊤
@@ -255,6 +257,54 @@ open_on version old new accepted (Resume sessions limit other) answer is holds =
 open_on version old new accepted (Marks marks closed) answer is holds = bad_on old new accepted (Marks marks closed) answer is holds
 open_on version old new accepted (Last last) answer is holds = bad_on old new accepted (Last last) answer is holds
 open_on version old new accepted Resumed answer is holds = bad_on old new accepted Resumed answer is holds
+open_on version old new accepted (BeginSearch budget depth workers search) answer is holds = bad_on old new accepted (BeginSearch budget depth workers search) answer is holds
+open_on version old new accepted (Collect waits) answer is holds = bad_on old new accepted (Collect waits) answer is holds
+open_on version old new accepted Skip answer is holds = bad_on old new accepted Skip answer is holds
+
+-- ---- commands beside a search
+
+-- a reply that tells nothing, after which the engine is what it was
+quiet_on : (old new : AuditState) (accepted : Accepted) (command : Command) (answer said : Reply) → TellsTrueOf (reported_on accepted command) said → accepted_more accepted command said ≡ accepted → answer ≡ said → new.engine ≡ old.engine → Holds old.engine (state_of old.engine accepted) → IsOn accepted command answer new.engine
+quiet_on old new accepted command answer said is_true more is same holds =
+    let kept = same_on old.engine new.engine accepted same holds in
+    subst (λ (a : Reply). IsOn accepted command a new.engine) (sym is)
+    (record { is_true = is_true; holds = subst (λ (a : Accepted). Holds new.engine (state_of new.engine a)) (sym more) kept })
+
+begin_search_on : (asked : Option Parts) (search : Option Effort) (old new : AuditState) (accepted : Accepted) (given : Effort) (answer : Reply)
+    → MatchOption asked ((answer ≡ told.No NoRound) × (new ≡ old)) (λ parts. MatchOption search ((answer ≡ told.Done) × (new ≡ record old { search = Some given })) (λ one. (answer ≡ told.No RoundOpen) × (new ≡ old)))
+    → Holds old.engine (state_of old.engine accepted) → IsOn accepted (BeginSearch given.budget given.depth given.workers given.search) answer new.engine
+begin_search_on None search old new accepted given answer is holds = quiet_on old new accepted _ answer (told.No NoRound) tt refl is.0 (ap (λ (audit : AuditState). audit.engine) is.1) holds
+begin_search_on (Some parts) None old new accepted given answer is holds = quiet_on old new accepted _ answer told.Done tt refl is.0 (ap (λ (audit : AuditState). audit.engine) is.1) holds
+begin_search_on (Some parts) (Some one) old new accepted given answer is holds = quiet_on old new accepted _ answer (told.No RoundOpen) tt refl is.0 (ap (λ (audit : AuditState). audit.engine) is.1) holds
+
+collected_on : (old new : AuditState) (accepted : Accepted) (waits : Bool) (effort : Effort) (answer : Reply) → IsCollected old effort answer new → Holds old.engine (state_of old.engine accepted) → IsOn accepted (Collect waits) answer new.engine
+collected_on old new accepted waits effort answer is holds =
+    let asked : Step = step.Finish effort.budget effort.depth effort.workers in
+    told_on accepted (Collect waits) answer is.0 new.engine is.2
+    (record { is_true = step_true old.engine new.engine accepted asked is.0 is.1.goes holds; holds = step_on old.engine new.engine accepted accepted asked is.0 is.1.goes holds refl refl })
+
+collect_on : (search : Option Effort) (old new : AuditState) (accepted : Accepted) (waits : Bool) (answer : Reply)
+    → MatchOption search ((answer ≡ told.No NoRound) × (new ≡ old)) (λ effort. GoesOn waits old answer new ⊎ IsCollected old effort answer new)
+    → Holds old.engine (state_of old.engine accepted) → IsOn accepted (Collect waits) answer new.engine
+collect_on None old new accepted waits answer is holds = quiet_on old new accepted (Collect waits) answer (told.No NoRound) tt refl is.0 (ap (λ (audit : AuditState). audit.engine) is.1) holds
+collect_on (Some effort) old new accepted waits answer is holds =
+    ⊎_elim (λ goes. quiet_on old new accepted (Collect waits) answer told.Searching tt refl goes.1 (ap (λ (audit : AuditState). audit.engine) goes.2) holds) (λ got. collected_on old new accepted waits effort answer got holds) is
+
+finish_on : (version : Version) (search : Option Effort) (old new : AuditState) (accepted : Accepted) (budget depth workers : ℕ) (kind : Search) (answer : Reply)
+    → MatchOption search (AnswersOpen version old.engine (Finish budget depth workers kind) answer new.engine × (new.search ≡ None)) (λ effort. (answer ≡ told.No RoundOpen) × (new ≡ old))
+    → Holds old.engine (state_of old.engine accepted) → IsOn accepted (Finish budget depth workers kind) answer new.engine
+finish_on version None old new accepted budget depth workers kind answer is holds = open_on version old.engine new.engine accepted (Finish budget depth workers kind) answer is.0 holds
+finish_on version (Some effort) old new accepted budget depth workers kind answer is holds = quiet_on old new accepted (Finish budget depth workers kind) answer (told.No RoundOpen) tt refl is.0 (ap (λ (audit : AuditState). audit.engine) is.1) holds
+
+beside_on : (version : Version) (old new : AuditState) (accepted : Accepted) (command : Command) (answer : Reply) → AnswersBeside version old command answer new → Holds old.engine (state_of old.engine accepted) → IsOn accepted command answer new.engine
+beside_on version old new accepted (BeginSearch budget depth workers search) answer is holds =
+    begin_search_on old.engine.asked old.search old new accepted (record { budget = budget; depth = depth; workers = workers; search = search }) answer is holds
+beside_on version old new accepted (Collect waits) answer is holds = collect_on old.search old new accepted waits answer is holds
+beside_on version old new accepted Skip answer is holds =
+    told_on accepted Skip answer is.0.0 new.engine is.0.2
+    (record { is_true = step_true old.engine new.engine accepted step.Abandon is.0.0 is.0.1 holds; holds = step_on old.engine new.engine accepted accepted step.Abandon is.0.0 is.0.1 holds refl refl })
+beside_on version old new accepted (Finish budget depth workers search) answer is holds = finish_on version old.search old new accepted budget depth workers search answer is holds
+beside_on version old new accepted command answer is holds = open_on version old.engine new.engine accepted command answer is.0 holds
 
 -- ---- scripts
 
@@ -306,9 +356,9 @@ handing_fits whole handed version new Resumed (told.No refusal) is begins = alon
 handing_fits whole handed version new Resumed answer is begins = absurd is
 handing_fits whole handed version new command answer is begins = anew_fits whole (stage.Handing handed version) new command answer tt is
 
-open_fits : (old : EngineState) (version : Version) (new : Stage) (accepted : Accepted) (command : Command) (answer : Reply) → Answers (stage.Open old version) command answer new → Holds old (state_of old accepted) → TellsTrueOf (reported_on accepted command) answer × Fits new (Some (accepted_more accepted command answer))
+open_fits : (old : AuditState) (version : Version) (new : Stage) (accepted : Accepted) (command : Command) (answer : Reply) → Answers (stage.Open old version) command answer new → Holds old.engine (state_of old.engine accepted) → TellsTrueOf (reported_on accepted command) answer × Fits new (Some (accepted_more accepted command answer))
 open_fits old version new accepted command answer is holds =
-    let on = open_on version old is.0 accepted command answer is.1 holds in
+    let on = beside_on version old is.0 accepted command answer is.1 holds in
     (on.is_true, subst (λ (s : Stage). Fits s (Some (accepted_more accepted command answer))) (sym is.2) on.holds)
 
 answers_true : (old new : Stage) (accepted : Option Accepted) (command : Command) (answer : Reply) → Answers old command answer new → Fits old accepted → IsTrueTold accepted command answer

@@ -1,3 +1,4 @@
+pub mod Audits
 pub mod Checkpoints
 pub mod HandOver
 pub mod Held

@@ -1,16 +1,16 @@
 -- What the commands of a script are answered, and what they lead to.
-use Rattle.std.specs.Prelude.{◌≡◌, ℕ, ◌⊎◌, Bool, true, false, List, length, sum_by, Option, Some, None}
+use Rattle.std.specs.Prelude.{◌≡◌, ℕ, ◌⊎◌, Bool, true, false, List, length, sum_by, Option, Some, None, MatchOption}
 use Rattle.std.specs.FinMap as map
 use Rattle.txn.specs.declared.transactions.TxnId.{TxnId}
 use Rattle.txn.specs.declared.transactions.Fragment.{Fragment}
 use Rattle.txn.specs.declared.refusals.Refusal.{Refusal}
-use Rattle.txn.specs.declared.refusals.Refusal.TheVariants.{BadLine, NoMemory}
+use Rattle.txn.specs.declared.refusals.Refusal.TheVariants.{BadLine, RoundOpen, NoRound, NoMemory}
 use Rattle.txn.specs.History.{History}
 use Rattle.order_check.specs.declared.remainder.Parts.{Parts}
 use Rattle.order_check.specs.Based.{received_counts}
 use Rattle.order_check.specs.StandsFor.{StandsFor}
 use Rattle.log_text.specs.declared.commands.Command.{Command}
-use Rattle.log_text.specs.declared.commands.Command.TheVariants.{Start, Offer, Join, Close, Begin, Finish, Round, Truncate, Rebuild, Show, Resume, Marks, Last, Resumed, Save, Answer}
+use Rattle.log_text.specs.declared.commands.Command.TheVariants.{Start, Offer, Join, Close, Begin, Finish, Round, BeginSearch, Collect, Skip, Truncate, Rebuild, Show, Resume, Marks, Last, Resumed, Save, Answer}
 use Rattle.log_text.specs.declared.replies.Reply.{Reply}
 use Rattle.log_text.specs.declared.replies.Reply.TheVariants as told
 use Rattle.log_text.specs.declared.searches.Search.{Search}
@@ -27,6 +27,8 @@ use Rattle.round_state.specs.declared.steps.Step.{Step}
 use Rattle.round_state.specs.declared.steps.Step.TheVariants as step
 use Rattle.round_state.specs.declared.steps.StepReply.{StepReply}
 use Rattle.round_state.specs.declared.steps.StepReply.TheVariants as reply
+use Rattle.script_searches.specs.declared.searches.Effort.{Effort}
+use Rattle.cobra.specs.Audits.{AuditState, unsearched}
 use Rattle.cobra.specs.HandOver.{AreOfSessions, AreGoodParts, IsHandRefusal, IsMarksRefusal, IsNextOffer, IsResumedRefusal, handed_first, handed_offer, handed_parts, handed_writers}
 use Rattle.cobra.specs.Saving.{saved_told}
 use Rattle.cobra.specs.Searches.{IsSearched}
@@ -77,7 +79,7 @@ IsRound old search budget depth workers said new =
 abbrev pub state_told : EngineState → Reply
 state_told engine = told.Show engine.parts.base.marks (received_counts engine.parts) engine.parts.closed (map.entries engine.parts.base.last) (sum_by length engine.parts.remain)
 
--- the reply to a command, where an engine is open, for lines of this version
+-- the reply to a command of an open engine alone, for lines of this version
 abbrev pub AnswersOpen : Version → EngineState → Command → Reply → EngineState → Type 0
 AnswersOpen version old (Offer logged) answer new = IsTakenIn version logged old answer new (IsStep old (step.Offer logged) answer new)
 AnswersOpen version old (Join logged) answer new = IsTakenIn version logged old answer new (IsStep old (step.Join logged) answer new)
@@ -92,9 +94,46 @@ AnswersOpen version old Show answer new = (answer ≡ state_told old) × (new �
 AnswersOpen version old (Save wanted) answer new = (answer ≡ saved_told old.parts wanted) × (new ≡ old)
 AnswersOpen version old command answer new = IsBadLine old answer new
 
+-- A search lasts no longer than the round that it was begun for.
+abbrev pub search_after : Option Effort → Option Parts → Option Effort
+search_after search None = None
+search_after search (Some parts) = search
+
+-- A search of the open round's problem is begun, where none was; that is no step of the engine.
+abbrev pub BeginsSearch : AuditState → Effort → Reply → AuditState → Type 0
+BeginsSearch old effort answer new =
+    MatchOption old.engine.asked
+    ((answer ≡ told.No NoRound) × (new ≡ old))
+    (λ parts. MatchOption old.search ((answer ≡ told.Done) × (new ≡ record old { search = Some effort })) (λ given. (answer ≡ told.No RoundOpen) × (new ≡ old)))
+
+-- The search goes on, and nobody waits for it.
+abbrev pub GoesOn : Bool → AuditState → Reply → AuditState → Type 0
+GoesOn waits old answer new = (waits ≡ false) × (answer ≡ told.Searching) × (new ≡ old)
+
+-- The search that was given this has ended, and the round is finished by what it answers. A refusal leaves the round open; the search is over.
+abbrev pub IsCollected : AuditState → Effort → Reply → AuditState → Type 0
+IsCollected old effort answer new =
+    (said : StepReply) × Finishes old.engine effort.search effort.budget effort.depth effort.workers said new.engine × (answer ≡ reply_of said) × (new.search ≡ None)
+
+-- the reply to one who asks for what the search has found
+abbrev pub Collects : Bool → AuditState → Reply → AuditState → Type 0
+Collects waits old answer new = MatchOption old.search ((answer ≡ told.No NoRound) × (new ≡ old)) (λ effort. GoesOn waits old answer new ⊎ IsCollected old effort answer new)
+
+-- A round beside which a search was begun isn't finished by another one.
+abbrev pub FinishesAlone : AuditState → Reply → AuditState → Type 0 → Type 0
+FinishesAlone old answer new Finished = MatchOption old.search (Finished × (new.search ≡ None)) (λ effort. (answer ≡ told.No RoundOpen) × (new ≡ old))
+
+-- The reply to a command, where an engine is open. All but four are about the engine alone, and a search goes on beside them.
+abbrev pub AnswersBeside : Version → AuditState → Command → Reply → AuditState → Type 0
+AnswersBeside version old (BeginSearch budget depth workers search) answer new = BeginsSearch old (record { budget = budget; depth = depth; workers = workers; search = search }) answer new
+AnswersBeside version old (Collect waits) answer new = Collects waits old answer new
+AnswersBeside version old Skip answer new = IsStep old.engine step.Abandon answer new.engine × (new.search ≡ None)
+AnswersBeside version old (Finish budget depth workers search) answer new = FinishesAlone old answer new (AnswersOpen version old.engine (Finish budget depth workers search) answer new.engine)
+AnswersBeside version old command answer new = AnswersOpen version old.engine command answer new.engine × (new.search ≡ search_after old.search new.engine.asked)
+
 -- An engine is opened: it is a fresh one, which stands for the history in which nothing was received. Where it isn't, no stage begins.
 abbrev pub Opens : ℕ → ℕ → Version → Reply → Option Stage → Type 0
-Opens sessions limit version told.Done begun = IsSessions sessions × IsLimit limit × (begun ≡ Some (stage.Open (fresh sessions limit) version)) × Holds (fresh sessions limit) (fresh_state sessions limit)
+Opens sessions limit version told.Done begun = IsSessions sessions × IsLimit limit × (begun ≡ Some (stage.Open (unsearched (fresh sessions limit)) version)) × Holds (fresh sessions limit) (fresh_state sessions limit)
 Opens sessions limit version (told.No refusal) begun = IsOpenRefusal sessions limit refusal × (begun ≡ None)
 Opens sessions limit version answer begun = ⊥
 
@@ -153,7 +192,7 @@ HoldsAll parts = (whole : History) → StandsFor parts whole → Holds (engine_o
 
 -- The hand-over ends: the parts that were handed over are good, and the engine has these and nothing else.
 abbrev pub EndsHandOver : Handing → Version → Reply → Stage → Type 0
-EndsHandOver handed version told.Done new = AreGoodParts handed × (new ≡ stage.Open (engine_over (handed_parts handed)) version) × HoldsAll (handed_parts handed)
+EndsHandOver handed version told.Done new = AreGoodParts handed × (new ≡ stage.Open (unsearched (engine_over (handed_parts handed))) version) × HoldsAll (handed_parts handed)
 EndsHandOver handed version (told.No refusal) new = IsResumedRefusal handed refusal × (new ≡ stage.Handing handed version)
 EndsHandOver handed version answer new = ⊥
 
@@ -169,4 +208,4 @@ abbrev pub Answers : Stage → Command → Reply → Stage → Type 0
 Answers stage.Nothing command answer new = BeginsAnew stage.Nothing command answer new
 Answers (stage.Resuming sessions limit version) command answer new = AnswersResuming sessions limit version command answer new
 Answers (stage.Handing handed version) command answer new = AnswersHanding handed version command answer new
-Answers (stage.Open old version) command answer new = (engine : EngineState) × AnswersOpen version old command answer engine × (new ≡ stage.Open engine version)
+Answers (stage.Open old version) command answer new = (audit : AuditState) × AnswersBeside version old command answer audit × (new ≡ stage.Open audit version)

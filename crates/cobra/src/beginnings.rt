@@ -4,6 +4,7 @@ ghost use Rattle.cobra.specs.Scripts.{IsTakenIn, Opens, Resumes, AnswersFirst, B
 ghost use Rattle.cobra.specs.declared.stages.Stage.{Stage};
 ghost use Rattle.log_text.specs.declared.versions.Version.{Version};
 
+use crate::audits::Audit;
 use crate::handing::Handing;
 use crate::open_engine::OpenEngine;
 use crate::stages::Stage;
@@ -17,7 +18,10 @@ fn open(alloc: Global, sessions: u64, limit: u64, version: Version) -> (Reply, O
     ensures { Opens sessions limit version result.0 result.1 }
 {
     match OpenEngine::open(alloc, sessions, limit) {
-        Ok(engine) => (Reply::Done, Some(Stage::Open { engine, version })),
+        Ok(engine) => {
+            let audit = Audit::new(engine);
+            (Reply::Done, Some(Stage::Open { audit, version }))
+        }
         Err(refusal) => (Reply::No(refusal), None),
     }
 }
@@ -190,7 +194,10 @@ fn end_hand_over(alloc: Global, handed: Handing, version: Version) -> (Reply, St
     ensures { EndsHandOver handed version result.0 result.1 }
 {
     match handed.resume(alloc) {
-        Ok(engine) => (Reply::Done, Stage::Open { engine, version }),
+        Ok(engine) => {
+            let audit = Audit::new(engine);
+            (Reply::Done, Stage::Open { audit, version })
+        }
         Err((handed, refusal)) => (Reply::No(refusal), Stage::Handing { handed, version }),
     }
 }

@@ -1,6 +1,7 @@
 //! The commands of the auditor, over devices that give and take bytes.
 #![tactic(auto)]
 
+mod audits;
 mod beginnings;
 mod handing;
 mod last_told;
@@ -8,6 +9,7 @@ mod laws;
 mod open_engine;
 mod programs;
 mod replies;
+mod rounds;
 mod saving;
 mod scripts;
 mod searches;
@@ -24,7 +26,7 @@ pub use laws::each_report_is_true;
 pub use programs::{Asked, Exit, asked_of, exit_of};
 pub use replies::{certificate_of, cut_of, reply_of, report_of};
 pub use saving::{given_out_is_taken, saved_told};
+pub use script_searches::Solvers;
 pub use scripts::command_in;
-pub use searches::Solvers;
 pub use serving::serve;
 pub use showing::state_told;

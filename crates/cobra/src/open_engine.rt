@@ -9,10 +9,11 @@ ghost use Rattle.cobra.specs.Scripts.{Finishes, Goes};
 ghost use Rattle.cobra.specs.Searches.{MayAnswerOf};
 
 use crate::last_told::LastTold;
-use crate::searches::{Effort, Solvers, solve};
+use crate::searches::solve;
 use order_check::Parts;
 use polygraph::{Answer, PlainSolver, Problem, Single, Solver};
 use round_state::{Engine, Step, StepReply};
+use script_searches::{Effort, Solvers};
 use std::alloc::Global;
 use std::marker::Model;
 use txn::{Refusal, Sequence, TxnId};
@@ -130,6 +131,30 @@ impl OpenEngine {
         )
     }
 
+    /// The problem of the round that is open, if one is.
+    pub(crate) fn problem(&self) -> &Option<Problem>
+        ensures { parts_asked result.now ≡ self.now.asked }
+    {
+        &self.kept
+    }
+
+    /// The order that such a search told of what the open round is about, where it may be told again.
+    pub(crate) fn again(&self, effort: Effort) -> Option<Sequence<TxnId>>
+        ensures { IfSome result (λ order. MayAnswerOf effort.search self.now.asked effort.budget effort.depth (answers.Yes order)) }
+    {
+        self.last.again(effort)
+    }
+
+    /// Finishes the open round by what such a search answered to its problem.
+    pub(crate) fn finish_by(&mut self, alloc: Global, effort: Effort, answer: Answer) -> StepReply
+        requires { MayAnswerOf effort.search self.old.asked effort.budget effort.depth answer }
+        ensures { Finishes self.old effort.search effort.budget effort.depth effort.workers result self.new }
+    {
+        let said = finish_by(&mut self.engine, &mut self.kept, alloc, effort, answer);
+        self.last = self.last.after(&said, effort);
+        said
+    }
+
     /// Finishes the open round by a search.
     fn finish_anew<P: PlainSolver, S: Solver>(
         &mut self,
@@ -143,9 +168,7 @@ impl OpenEngine {
         ensures { Finishes self.old effort.search effort.budget effort.depth effort.workers result self.new }
     {
         let answer = solve(alloc, &self.kept, effort, solvers);
-        let said = finish_by(&mut self.engine, &mut self.kept, alloc, effort, answer);
-        self.last = self.last.after(&said, effort);
-        said
+        self.finish_by(alloc, effort, answer)
     }
 
     /// Finishes the open round by the order that was told last, where it may be told again, or else by a search.

@@ -1,26 +1,28 @@
-ghost use Rattle.std.specs.Prelude.{◌≡◌, ℕ, List, IfOk, IfSome, IfNone, IsSome};
+ghost use Rattle.std.specs.Prelude.{◌≡◌, ℕ, List, IfOk, IfSome, IfNone};
 ghost use Rattle.log_text.specs.Commands.{HasLimits};
 ghost use Rattle.log_text.specs.Replies.{HasKindOfOrder};
 ghost use Rattle.order_check.specs.Effort.{IsEffort};
+ghost use Rattle.round_state.specs.Runs as runs;
 ghost use Rattle.cobra.specs.Held.{AsksWithin, HasAtMost, IsLight};
 ghost use Rattle.cobra.specs.Outputs.{Asks, IsTold, AnswersNext, RepliesTo};
-ghost use Rattle.cobra.specs.Scripts.{EndsRound, IsRound, IsStep, IsTakenIn, AnswersOpen, Answers};
+ghost use Rattle.cobra.specs.Scripts.{IsStep, IsTakenIn, AnswersOpen, AnswersBeside, FinishesAlone, IsRound, Answers, search_after};
 ghost use Rattle.cobra.specs.declared.stages.Stage.{Stage};
 
+use crate::audits::Audit;
 use crate::beginnings::{answer_handing, answer_resuming, begin};
-use crate::open_engine::OpenEngine;
 use crate::replies::{certificate_of, reply_of};
 use crate::saving::saved_told;
-use crate::searches::{Effort, Solvers};
 use crate::showing::state_told;
 use crate::stages::Stage;
 use byte_lines::Next;
 use log_text::{Command, Reply, Version, read_line_within, write_reply};
 use logged_fragments::LoggedFragment;
 use polygraph::{PlainSolver, Solver};
-use round_state::{Step, StepReply};
+use round_state::Step;
+use script_searches::{Effort, Solvers};
 use std::alloc::{AllocError, Global};
 use std::mem;
+use std::thread::{Scope, Threads};
 use txn::{NoMemory, Refusal};
 
 /// A script under way.
@@ -29,55 +31,19 @@ pub(crate) struct Script {
     stage: Stage,
 }
 
-/// Finishes the open round, or abandons it where memory is wanting.
-fn end_round<P: PlainSolver, S: Solver>(
-    engine: &mut OpenEngine,
-    alloc: Global,
-    effort: Effort,
-    solvers: &Solvers<P, S>,
-) -> StepReply
-    requires plain { P.ready }
-    requires guided { S.ready }
-    requires effort { IsEffort effort.budget effort.depth effort.workers }
-    ensures { IsSome engine.old.asked → EndsRound engine.old effort.search effort.budget effort.depth effort.workers result engine.new }
-{
-    match engine.finish(alloc, effort, solvers) {
-        StepReply::Refused(refusal) => {
-            let _ = engine.step(alloc, Step::Abandon);
-            StepReply::Refused(refusal)
-        }
-        finished => finished,
-    }
-}
-
-fn make_round<P: PlainSolver, S: Solver>(
-    engine: &mut OpenEngine,
-    alloc: Global,
-    effort: Effort,
-    solvers: &Solvers<P, S>,
-) -> StepReply
-    requires plain { P.ready }
-    requires guided { S.ready }
-    requires effort { IsEffort effort.budget effort.depth effort.workers }
-    ensures { IsRound engine.old effort.search effort.budget effort.depth effort.workers result engine.new }
-{
-    match engine.step(alloc, Step::Begin) {
-        StepReply::Done => end_round(engine, alloc, effort, solvers),
-        refused => refused,
-    }
-}
-
 /// Takes an offer, where the script's version has a form for it.
-fn answer_offer(
-    engine: &mut OpenEngine,
+fn answer_offer<R: Threads>(
+    audit: &mut Audit,
+    rt: &R,
     alloc: Global,
     version: Version,
     logged: LoggedFragment,
 ) -> Result<Reply, NoMemory>
-    ensures { IfOk result (λ answer. IsTakenIn version logged engine.old answer engine.new (IsStep engine.old (Step.Offer logged) answer engine.new)) }
+    ensures { IfOk result (λ answer. AnswersBeside version audit.old (Command.Offer logged) answer audit.new) }
 {
+    audit.lasts();
     if version.has_form(&logged) {
-        let said = engine.step(alloc, Step::Offer(logged));
+        let said = audit.step(rt, alloc, Step::Offer(logged));
         reply_of(alloc, said)
     } else {
         Ok(Reply::No(Refusal::BadLine))
@@ -85,45 +51,96 @@ fn answer_offer(
 }
 
 /// The same of a join.
-fn answer_join(
-    engine: &mut OpenEngine,
+fn answer_join<R: Threads>(
+    audit: &mut Audit,
+    rt: &R,
     alloc: Global,
     version: Version,
     logged: LoggedFragment,
 ) -> Result<Reply, NoMemory>
-    ensures { IfOk result (λ answer. IsTakenIn version logged engine.old answer engine.new (IsStep engine.old (Step.Join logged) answer engine.new)) }
+    ensures { IfOk result (λ answer. AnswersBeside version audit.old (Command.Join logged) answer audit.new) }
 {
+    audit.lasts();
     if version.has_form(&logged) {
-        let said = engine.step(alloc, Step::Join(logged));
+        let said = audit.step(rt, alloc, Step::Join(logged));
         reply_of(alloc, said)
     } else {
         Ok(Reply::No(Refusal::BadLine))
     }
 }
 
-fn answer_open<P: PlainSolver, S: Solver>(
-    engine: &mut OpenEngine,
+/// Makes any other step.
+fn answer_step<R: Threads>(
+    audit: &mut Audit,
+    rt: &R,
+    alloc: Global,
+    step: Step,
+) -> Result<Reply, NoMemory>
+    requires { runs.HasLimits step }
+    ensures { IfOk result (λ answer. IsStep audit.old.engine step answer audit.new.engine × (audit.new.search ≡ search_after audit.old.search audit.new.engine.asked)) }
+{
+    let said = audit.step(rt, alloc, step);
+    reply_of(alloc, said)
+}
+
+/// Finishes the open round by a search in place, unless one was begun beside it.
+fn answer_finish<P: PlainSolver, S: Solver>(
+    audit: &mut Audit,
     alloc: Global,
     version: Version,
-    command: Command,
+    effort: Effort,
     solvers: &Solvers<P, S>,
 ) -> Result<Reply, NoMemory>
     requires plain { P.ready }
     requires guided { S.ready }
-    requires limits { HasLimits command }
-    ensures { IfOk result (λ answer. AnswersOpen version engine.old command answer engine.new) }
+    requires effort { IsEffort effort.budget effort.depth effort.workers }
+    ensures { IfOk result (λ answer. FinishesAlone audit.old answer audit.new (AnswersOpen version audit.old.engine (Command.Finish effort.budget effort.depth effort.workers effort.search) answer audit.new.engine)) }
 {
+    if audit.is_searched() {
+        return Ok(Reply::No(Refusal::RoundOpen));
+    }
+    let said = audit.finish(alloc, effort, solvers);
+    reply_of(alloc, said)
+}
+
+/// Makes a round.
+fn answer_round<R: Threads, P: PlainSolver, S: Solver>(
+    audit: &mut Audit,
+    rt: &R,
+    alloc: Global,
+    version: Version,
+    effort: Effort,
+    solvers: &Solvers<P, S>,
+) -> Result<Reply, NoMemory>
+    requires plain { P.ready }
+    requires guided { S.ready }
+    requires effort { IsEffort effort.budget effort.depth effort.workers }
+    ensures { IfOk result (λ answer. AnswersOpen version audit.old.engine (Command.Round effort.budget effort.depth effort.workers effort.search) answer audit.new.engine × (audit.new.search ≡ search_after audit.old.search audit.new.engine.asked)) }
+{
+    let said = audit.round(rt, alloc, effort, solvers);
+    reply_of(alloc, said)
+}
+
+fn answer_open<'s, E, R: Threads, P: PlainSolver + Sync, S: Solver + Sync>(
+    audit: &mut Audit,
+    scope: &Scope<'s, E>,
+    rt: &R,
+    alloc: Global,
+    version: Version,
+    command: Command,
+    solvers: &'s Solvers<P, S>,
+) -> Result<Reply, NoMemory>
+    requires plain { P.ready }
+    requires guided { S.ready }
+    requires limits { HasLimits command }
+    ensures { IfOk result (λ answer. AnswersBeside version audit.old command answer audit.new) }
+{
+    audit.lasts();
     match command {
-        Command::Offer(logged) => answer_offer(engine, alloc, version, logged),
-        Command::Join(logged) => answer_join(engine, alloc, version, logged),
-        Command::Close(session) => {
-            let said = engine.step(alloc, Step::Close(session));
-            reply_of(alloc, said)
-        }
-        Command::Begin => {
-            let said = engine.step(alloc, Step::Begin);
-            reply_of(alloc, said)
-        }
+        Command::Offer(logged) => answer_offer(audit, rt, alloc, version, logged),
+        Command::Join(logged) => answer_join(audit, rt, alloc, version, logged),
+        Command::Close(session) => answer_step(audit, rt, alloc, Step::Close(session)),
+        Command::Begin => answer_step(audit, rt, alloc, Step::Begin),
         Command::Finish {
             budget,
             depth,
@@ -136,8 +153,7 @@ fn answer_open<P: PlainSolver, S: Solver>(
                 workers,
                 search,
             };
-            let said = engine.finish(alloc, effort, solvers);
-            reply_of(alloc, said)
+            answer_finish(audit, alloc, version, effort, solvers)
         }
         Command::Round {
             budget,
@@ -151,23 +167,31 @@ fn answer_open<P: PlainSolver, S: Solver>(
                 workers,
                 search,
             };
-            let said = make_round(engine, alloc, effort, solvers);
-            reply_of(alloc, said)
+            answer_round(audit, rt, alloc, version, effort, solvers)
         }
+        Command::BeginSearch {
+            budget,
+            depth,
+            workers,
+            search,
+        } => {
+            let effort = Effort {
+                budget,
+                depth,
+                workers,
+                search,
+            };
+            Ok(audit.begin_search(scope, alloc, effort, solvers))
+        }
+        Command::Collect { waits } => audit.collect(rt, alloc, waits),
+        Command::Skip => audit.skip(rt, alloc),
         Command::Answer(shown) => {
-            let said = engine.step(alloc, Step::Judge(certificate_of(shown)));
-            reply_of(alloc, said)
+            answer_step(audit, rt, alloc, Step::Judge(certificate_of(shown)))
         }
-        Command::Truncate => {
-            let said = engine.step(alloc, Step::Truncate);
-            reply_of(alloc, said)
-        }
-        Command::Rebuild => {
-            let said = engine.step(alloc, Step::Rebuild);
-            reply_of(alloc, said)
-        }
-        Command::Show => state_told(alloc, engine.engine()),
-        Command::Save(wanted) => saved_told(alloc, engine.engine(), wanted),
+        Command::Truncate => answer_step(audit, rt, alloc, Step::Truncate),
+        Command::Rebuild => answer_step(audit, rt, alloc, Step::Rebuild),
+        Command::Show => state_told(alloc, audit.engine()),
+        Command::Save(wanted) => saved_told(alloc, audit.engine(), wanted),
         Command::Start { .. }
         | Command::Resume { .. }
         | Command::Marks { .. }
@@ -177,11 +201,13 @@ fn answer_open<P: PlainSolver, S: Solver>(
 }
 
 /// The reply to a command, and how far the script is then.
-fn answered<P: PlainSolver, S: Solver>(
+fn answered<'s, E, R: Threads, P: PlainSolver + Sync, S: Solver + Sync>(
+    scope: &Scope<'s, E>,
+    rt: &R,
     alloc: Global,
     stage: Stage,
     command: Command,
-    solvers: &Solvers<P, S>,
+    solvers: &'s Solvers<P, S>,
 ) -> Result<(Reply, Stage), NoMemory>
     requires plain { P.ready }
     requires guided { S.ready }
@@ -198,10 +224,10 @@ fn answered<P: PlainSolver, S: Solver>(
         Stage::Handing { handed, version } => {
             Ok(answer_handing(alloc, handed, version, command))
         }
-        Stage::Open { engine, version } => {
-            let mut engine = engine;
-            let reply = answer_open(&mut engine, alloc, version, command, solvers)?;
-            Ok((reply, Stage::Open { engine, version }))
+        Stage::Open { audit, version } => {
+            let mut audit = audit;
+            let reply = answer_open(&mut audit, scope, rt, alloc, version, command, solvers)?;
+            Ok((reply, Stage::Open { audit, version }))
         }
     }
 }
@@ -248,11 +274,13 @@ impl Script {
         }
     }
 
-    fn answer<P: PlainSolver, S: Solver>(
+    fn answer<'s, E, R: Threads, P: PlainSolver + Sync, S: Solver + Sync>(
         &mut self,
+        scope: &Scope<'s, E>,
+        rt: &R,
         alloc: Global,
         command: Command,
-        solvers: &Solvers<P, S>,
+        solvers: &'s Solvers<P, S>,
     ) -> Result<Reply, NoMemory>
         requires plain { P.ready }
         requires guided { S.ready }
@@ -261,16 +289,18 @@ impl Script {
         ensures { IfOk result (λ answer. Answers self.old.stage command answer self.new.stage) }
     {
         let stage = mem::replace(&mut self.stage, Stage::Nothing);
-        let (reply, stage) = answered(alloc, stage, command, solvers)?;
+        let (reply, stage) = answered(scope, rt, alloc, stage, command, solvers)?;
         self.stage = stage;
         Ok(reply)
     }
 
-    fn answer_next<P: PlainSolver, S: Solver>(
+    fn answer_next<'s, E, R: Threads, P: PlainSolver + Sync, S: Solver + Sync>(
         &mut self,
+        scope: &Scope<'s, E>,
+        rt: &R,
         alloc: Global,
         next: &Next,
-        solvers: &Solvers<P, S>,
+        solvers: &'s Solvers<P, S>,
     ) -> Result<Reply, NoMemory>
         requires plain { P.ready }
         requires guided { S.ready }
@@ -279,23 +309,25 @@ impl Script {
     {
         let most = self.stage.most_held();
         match command_within(alloc, next, most)? {
-            Some(command) => self.answer(alloc, command, solvers),
+            Some(command) => self.answer(scope, rt, alloc, command, solvers),
             None => Ok(Reply::No(Refusal::BadLine)),
         }
     }
 
     /// The line of the reply to what was read.
-    pub(crate) fn answer_line<P: PlainSolver, S: Solver>(
+    pub(crate) fn answer_line<'s, E, R: Threads, P: PlainSolver + Sync, S: Solver + Sync>(
         &mut self,
+        scope: &Scope<'s, E>,
+        rt: &R,
         alloc: Global,
         next: &Next,
-        solvers: &Solvers<P, S>,
+        solvers: &'s Solvers<P, S>,
     ) -> Result<Vec<u8>, NoMemory>
         requires plain { P.ready }
         requires guided { S.ready }
         ensures { IfOk result (λ text. RepliesTo self.old.stage next.now text.items self.new.stage) }
     {
-        let answer = self.answer_next(alloc, next, solvers)?;
+        let answer = self.answer_next(scope, rt, alloc, next, solvers)?;
         write_reply(alloc, &answer)
     }
 }

@@ -1,70 +1,12 @@
-//! The searches that a script may ask for.
-ghost use Rattle.std.specs.Prelude.{◌≡◌, IsTrue};
+//! The searches of open rounds.
+ghost use Rattle.std.specs.Prelude.{◌≡◌};
 ghost use Rattle.order_check.specs.Effort.{IsEffort};
 ghost use Rattle.round_state.specs.EngineState.{parts_asked};
-ghost use Rattle.cobra.specs.Searches.{MayAnswer, MayAnswerOf};
+ghost use Rattle.cobra.specs.Searches.{MayAnswerOf};
 
-use log_text::Search;
 use polygraph::{Answer, PlainSolver, Problem, Solver};
+use script_searches::{Effort, Solvers, search};
 use std::alloc::Global;
-
-/// What searches where a script asks for the plain search, and where it asks for the guided one.
-#[derive(Drop)]
-pub struct Solvers<P, S> {
-    pub plain: P,
-    pub guided: S,
-}
-
-/// Which search a round is to make, and what that may cost.
-#[derive(Clone, Copy)]
-pub(crate) struct Effort {
-    pub budget: u64,
-    pub depth: u64,
-    pub workers: u64,
-    pub search: Search,
-}
-
-/// Whether both are the same search.
-pub(crate) fn is_same(one: Search, other: Search) -> bool
-    ensures { IsTrue result → one ≡ other }
-{
-    match one {
-        Search::Plain => match other {
-            Search::Plain => true,
-            Search::Guided => false,
-        },
-        Search::Guided => match other {
-            Search::Plain => false,
-            Search::Guided => true,
-        },
-    }
-}
-
-/// What the search answers.
-fn search<P: PlainSolver, S: Solver>(
-    alloc: Global,
-    problem: &Problem,
-    effort: Effort,
-    solvers: &Solvers<P, S>,
-) -> Answer
-    requires plain { P.ready }
-    requires guided { S.ready }
-    requires effort { IsEffort effort.budget effort.depth effort.workers }
-    ensures { MayAnswer effort.search problem.now.known.parts effort.budget effort.depth result }
-{
-    // It tells that the problem's choices are those of its parts.
-    let _ = problem.open_choices();
-    let Effort {
-        budget,
-        depth,
-        workers,
-        search,
-    } = effort;
-    match search {
-        Search::Plain => solvers.plain.search(alloc, problem, budget, depth, workers),
-        Search::Guided => solvers.guided.solve(alloc, problem, budget, depth, workers),
-    }
-}
 
 /// What the search answers to the problem of the round that is open; where none is, nothing is searched.
 pub(crate) fn solve<P: PlainSolver, S: Solver>(

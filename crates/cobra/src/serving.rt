@@ -4,18 +4,21 @@ ghost use Rattle.cobra.specs.Outputs.{IsOutput, StopsForMemory, StopsReading, St
 ghost use Rattle.cobra.specs.declared.stages.Stage.{Stage};
 
 use crate::scripts::Script;
-use crate::searches::Solvers;
 use byte_lines::{ByteSink, ByteSource, Failure, LONGEST_LINE, LineReader, Next, write_all};
 use polygraph::{PlainSolver, Solver};
+use script_searches::Solvers;
 use std::alloc::Global;
+use std::thread::{Scope, Threads};
 
 /// Writes the reply to what was read.
-fn reply_to<W: ByteSink, P: PlainSolver, S: Solver>(
+fn reply_to<'s, E, T: Threads, W: ByteSink, P: PlainSolver + Sync, S: Solver + Sync>(
+    scope: &Scope<'s, E>,
+    rt: &T,
     alloc: Global,
     script: &mut Script,
     next: &Next,
     sink: &mut W,
-    solvers: &Solvers<P, S>,
+    solvers: &'s Solvers<P, S>,
 ) -> Result<(), Failure>
     requires plain { P.ready }
     requires guided { S.ready }
@@ -29,20 +32,30 @@ fn reply_to<W: ByteSink, P: PlainSolver, S: Solver>(
     ensures unwritten { IsErrOf result Failure.NoMemory → Keeps (W.contents sink.old) (W.contents sink.new) }
     ensures unfailed { IsErrOf result Failure.NoMemory → W.faults sink.new ≡ W.faults sink.old }
 {
-    let text = script.answer_line(alloc, next, solvers)?;
+    let text = script.answer_line(scope, rt, alloc, next, solvers)?;
     write_all(sink, &text)?;
     Ok(())
 }
 
 /// Reads on with a reader that has taken nothing yet, for a script that has not begun, to the end of input, and writes the reply to each
 /// line before it reads on. It owns neither, so that nothing is let go where it returns: that keeps its proof short.
-fn serve_lines<R: ByteSource, W: ByteSink, P: PlainSolver, S: Solver>(
+fn serve_lines<
+    's,
+    E,
+    T: Threads,
+    R: ByteSource,
+    W: ByteSink,
+    P: PlainSolver + Sync,
+    S: Solver + Sync,
+>(
+    scope: &Scope<'s, E>,
+    rt: &T,
     alloc: Global,
     reader: &mut LineReader,
     script: &mut Script,
     source: &mut R,
     sink: &mut W,
-    solvers: &Solvers<P, S>,
+    solvers: &'s Solvers<P, S>,
 ) -> Result<(), Failure>
     requires plain { P.ready }
     requires guided { S.ready }
@@ -69,18 +82,28 @@ fn serve_lines<R: ByteSource, W: ByteSink, P: PlainSolver, S: Solver>(
         if let Next::End = next {
             return Ok(());
         }
-        reply_to(alloc, script, &next, sink, solvers)?;
+        reply_to(scope, rt, alloc, script, &next, sink, solvers)?;
     }
 }
 
-/// Reads a script to the end of input, and writes the reply to each line before it reads on. Each finish and round is searched by the solver of the
-/// search that it asks for. What a failure of a device or
-/// want of memory leaves half done isn't tried again.
-pub fn serve<R: ByteSource, W: ByteSink, P: PlainSolver, S: Solver>(
+/// Reads a script to the end of input, and writes the reply to each line before it reads on. Each round is searched by the solver of the search that
+/// it asks for: at a finish or a round before the reply, and at a search in a thread of the scope, while lines are read on. A search that nobody has
+/// collected where it returns is told to stop. What a failure of a device or want of memory leaves half done isn't tried again.
+pub fn serve<
+    's,
+    E,
+    T: Threads,
+    R: ByteSource,
+    W: ByteSink,
+    P: PlainSolver + Sync,
+    S: Solver + Sync,
+>(
+    scope: &Scope<'s, E>,
+    rt: &T,
     alloc: Global,
     source: &mut R,
     sink: &mut W,
-    solvers: &Solvers<P, S>,
+    solvers: &'s Solvers<P, S>,
 ) -> Result<(), Failure>
     requires plain { P.ready }
     requires guided { S.ready }
@@ -100,5 +123,14 @@ pub fn serve<R: ByteSource, W: ByteSink, P: PlainSolver, S: Solver>(
 {
     let mut reader = LineReader::new(alloc, LONGEST_LINE)?;
     let mut script = Script::new();
-    serve_lines(alloc, &mut reader, &mut script, source, sink, solvers)
+    serve_lines(
+        scope,
+        rt,
+        alloc,
+        &mut reader,
+        &mut script,
+        source,
+        sink,
+        solvers,
+    )
 }

@@ -1,8 +1,8 @@
 ghost use Rattle.std.specs.Prelude.{◌≤◌, IfSome, IfNone};
 ghost use Rattle.cobra.specs.Held.{IsHanding, IsEnough};
 
+use crate::audits::Audit;
 use crate::handing::Handing;
-use crate::open_engine::OpenEngine;
 use log_text::Version;
 
 /// One more than a fragment may have.
@@ -24,9 +24,9 @@ pub(crate) enum Stage {
         handed: Handing,
         version: Version,
     },
-    /// An engine is open, for lines of this version.
+    /// An engine is open, for lines of this version; a search may go on beside them.
     Open {
-        engine: OpenEngine,
+        audit: Audit,
         version: Version,
     },
 }

@@ -2,10 +2,14 @@
 //! output what it finds of each report.
 #![tactic(auto)]
 
-ghost use Rattle.std.specs.Prelude.{◌≡◌, Ok, Some, IfSome, OnOk, OnErr, option_map};
+ghost use Rattle.std.specs.Prelude.{◌≡◌, ◌≢◌, ℕ, ◌⊎◌, ◌++◌, List, map, string_bytes, true, false, Ok, Err, Some, IfSome, IfOk, IfErr, OnOk, OnErr, option_map};
 ghost use Rattle.std.specs.Io.KnownBytes.{Appends, Keeps};
+ghost use Rattle.std.specs.IoError.{error_kind};
+ghost use Rattle.std.specs.Vec.Iter.{into_iter_items};
+ghost use Rattle.cobra.specs.Programs.{asked_by};
 ghost use Rattle.report_checking.specs.Checking.{IsAllRight};
 ghost use Rattle.report_checking.specs.RightReports.{StopsAtWrong};
+ghost use Rattle.report_checking.specs.Telling.{Tells, last_line};
 
 use cobra::{
     Asked, ByteSink, ByteSource, Exit, Failure, ReaderSource, WriterSink, asked_of, exit_of,
@@ -13,9 +17,10 @@ use cobra::{
 };
 use report_checking::{check_replies, exit_of_check};
 use std::alloc::Global;
-use std::env;
+use std::env::Args;
 use std::io::ErrorKind;
 use std::process::ExitCode;
+use std::{env, io};
 
 const VERSION: &str = "cobra_check 0.1.0\n";
 
@@ -39,11 +44,16 @@ wanting, which standard error then tells; 2 for other arguments.
 docs/FORMATS.md describes what it reads and writes.
 "#;
 
-/// What the arguments ask for. One that isn't UTF-8 is unknown.
-fn asked(rt: &HostRuntime) -> Result<Asked, Failure> {
-    match env::args(rt) {
+/// What the arguments ask for, as they were read. One that isn't UTF-8 is unknown.
+fn asked(alloc: Global, given: io::Result<Args>) -> Result<Asked, Failure>
+    ensures words { IfOk given (λ args. IfOk result (λ asked. asked ≡ asked_by (map string_bytes (into_iter_items args)))) }
+    ensures unknown { IfErr given (λ error. error_kind error ≡ ErrorKind.InvalidData → result ≡ Ok Asked.Unknown) }
+    ensures failed { IfErr given (λ error. error_kind error ≢ ErrorKind.InvalidData → result ≡ Err Failure.NoMemory) }
+    ensures memory { IfErr result (λ failure. failure ≡ Failure.NoMemory) }
+{
+    match given {
         Ok(args) => {
-            let args: Vec<String> = args.collect(rt.alloc())?;
+            let args: Vec<String> = args.collect(alloc)?;
             Ok(asked_of(&args))
         }
         Err(error) if error.kind() == ErrorKind::InvalidData => Ok(Asked::Unknown),
@@ -69,6 +79,12 @@ fn run<R: ByteSource, W: ByteSink>(
     ensures right { asked ≡ Ok Asked.Work → result.status ≡ 0 → IfSome (R.remaining input.old) IsAllRight }
     ensures wrong { asked ≡ Ok Asked.Work → result.status ≡ 3 → IfSome (R.remaining input.old) StopsAtWrong }
 
+    // What was written tells of one reply after another, and at its end the same as the status.
+    ensures told_right { asked ≡ Ok Asked.Work → result.status ≡ 0 → (tally : _) × (text : List ℕ) × Tells tally text × Appends (W.contents output.old) (W.contents output.new) (text ++ last_line tally true) }
+    ensures told_wrong { asked ≡ Ok Asked.Work → result.status ≡ 3 → (tally : _) × (text : List ℕ) × Tells tally text × Appends (W.contents output.old) (W.contents output.new) (text ++ last_line tally false) }
+
+    ensures statuses { asked ≡ Ok Asked.Work → (result.status ≡ 0) ⊎ (result.status ≡ 1) ⊎ (result.status ≡ 3) }
+
     ensures help { asked ≡ Ok Asked.Help → result.status ≡ 0 → Appends (W.contents output.old) (W.contents output.new) HELP.now }
     ensures version { asked ≡ Ok Asked.Version → result.status ≡ 0 → Appends (W.contents output.old) (W.contents output.new) VERSION.now }
 
@@ -91,7 +107,12 @@ fn run<R: ByteSource, W: ByteSink>(
 fn main(rt: HostRuntime) -> ExitCode {
     let mut input = ReaderSource::new(rt.stdin());
     let mut output = WriterSink::new(rt.stdout());
-    let exit = run(rt.alloc(), asked(&rt), &mut input, &mut output);
+    let exit = run(
+        rt.alloc(),
+        asked(rt.alloc(), env::args(&rt)),
+        &mut input,
+        &mut output,
+    );
     if let Some(words) = exit.words {
         let _ = eprintln!(rt; "{words}");
     }

@@ -12,10 +12,13 @@ use guided_search::{Conflicts, Guided};
 use polygraph::{PlainSolver, Single, Solver};
 use shared_search::{OpenGate, Shared};
 use std::alloc::Global;
-use std::{env, fs, io};
+use std::sync::Wait;
+use std::thread::Threads;
+use std::{env, fs, io, thread};
 
 /// Whether the script is answered so, by devices that move so many bytes a call.
-fn is_answered<P: PlainSolver, S: Solver>(
+fn is_answered<R: Threads + Wait, P: PlainSolver + Sync, S: Solver + Sync>(
+    rt: &R,
     alloc: Global,
     script: &[u8],
     replies: &[u8],
@@ -34,19 +37,30 @@ fn is_answered<P: PlainSolver, S: Solver>(
         bytes: Vec::new(alloc),
         pace: Pace::new(most, 0),
     };
-    let end = serve(alloc, &mut source, &mut sink, solvers);
+    let end = thread::scope(
+        thread::scope_env(),
+        rt,
+        |scope|
+            requires { P.ready × S.ready }
+        { serve(scope, rt, alloc, &mut source, &mut sink, solvers) },
+    );
     end.is_ok() && sink.bytes.as_slice() == replies
 }
 
 /// The same by the solver of one thread, whether the devices move a byte, a few or many.
-fn is_answered_alone(alloc: Global, script: &[u8], replies: &[u8]) -> bool {
+fn is_answered_alone<R: Threads + Wait>(
+    rt: &R,
+    alloc: Global,
+    script: &[u8],
+    replies: &[u8],
+) -> bool {
     let solvers = Solvers {
         plain: Single,
         guided: Guided::new(Conflicts, Single),
     };
-    is_answered(alloc, script, replies, 1, &solvers)
-        && is_answered(alloc, script, replies, 7, &solvers)
-        && is_answered(alloc, script, replies, 4096, &solvers)
+    is_answered(rt, alloc, script, replies, 1, &solvers)
+        && is_answered(rt, alloc, script, replies, 7, &solvers)
+        && is_answered(rt, alloc, script, replies, 4096, &solvers)
 }
 
 fn main(rt: HostRuntime) -> io::Result<()> {
@@ -54,13 +68,13 @@ fn main(rt: HostRuntime) -> io::Result<()> {
     for name in env::args(&rt)?.skip(1) {
         let script = fs::read(&rt, format!(in alloc; "{name}.jsonl")?)?;
         let replies = fs::read(&rt, format!(in alloc; "{name}.replies")?)?;
-        let mut is_so = is_answered_alone(alloc, &script, &replies);
+        let mut is_so = is_answered_alone(&rt, alloc, &script, &replies);
         for workers in [Workers::One, Workers::Two, Workers::Four, Workers::Sixteen] {
             let solvers = Solvers {
                 plain: Crew::new(Shared::new(&rt, OpenGate), workers),
                 guided: Guided::new(Conflicts, Crew::new(Shared::new(&rt, OpenGate), workers)),
             };
-            is_so = is_so && is_answered(alloc, &script, &replies, 4096, &solvers);
+            is_so = is_so && is_answered(&rt, alloc, &script, &replies, 4096, &solvers);
         }
         if is_so {
             println!(rt; "{name}: as it must be")?;

@@ -1,7 +1,8 @@
 -- What a run comes to.
-use Rattle.std.specs.Prelude.{◌≡◌, true, List, [], ◌∷◌, length, map, All}
+use Rattle.std.specs.Prelude.{◌≡◌, true, List, [], ◌∷◌, ◌++◌, length, map, All}
 use Rattle.demo_store.specs.Logs.{StoreState}
 use Rattle.fragment_intake.specs.Collectors.{AreCollectorsOf, Collector, Counts}
+use Rattle.fragment_intake.specs.Delivers.{of}
 use Rattle.fragment_intake.specs.declared.rules.Parcel.{Parcel}
 use Rattle.report_queue.specs.Rings.{Receiving}
 use Rattle.report_queue.specs.declared.entries.Entry.{Entry}
@@ -16,6 +17,7 @@ use Rattle.demonstration.specs.declared.halls.Hall.{Hall}
 use Rattle.demonstration.specs.declared.texts.Shown.{Shown}
 use Rattle.demonstration.specs.declared.threads.Returned.{Returned}
 use Rattle.demonstration.specs.Reading.{last_kind}
+use Rattle.demonstration.specs.Work.{IsAllWork}
 
 -- how much the search of a round may cost
 abbrev pub demo_search : Search
@@ -27,12 +29,18 @@ pub record HasAudited (taken : List Parcel) (sent : List Entry) : Type 0 where
   pub reports : All (IsTrueEntry (accepted_history 4 taken sent)) sent
   pub last : IsLastCount (map length (accepted_history 4 taken sent)) sent
 
--- What is shown of a run of this store whose auditor sent these entries: the fault is the store's; each collector submitted its 11 items, of which so
--- many were taken; the auditor audited these; the last of its reports has this kind.
+-- the parcels have all the work of each of the four sessions, whose collector has its number
+abbrev pub HaveAllWork : List Parcel → Type 0
+HaveAllWork parcels = IsAllWork 0 (of 0 parcels) × IsAllWork 1 (of 1 parcels) × IsAllWork 2 (of 2 parcels) × IsAllWork 3 (of 3 parcels)
+
+-- What is shown of a run of this store whose auditor sent these entries: the fault is the store's; each collector submitted all of its work, 11
+-- items, of which so many were taken, and the others left; the auditor audited those taken; the last of its reports has this kind.
 pub record IsRunOf (store : StoreState) (sent : List Entry) (shown : Shown) : Type 0 where
   pub fault : store.fault ≡ shown.fault
   pub taken : List Parcel
+  pub left : List Parcel
   pub submitted : shown.tally.submitted ≡ 11 ∷ 11 ∷ 11 ∷ 11 ∷ []
+  pub work : HaveAllWork (taken ++ left)
   pub counts : Counts shown.tally.taken taken
   pub audited : HasAudited taken sent
   pub last : shown.last ≡ last_kind sent
@@ -43,9 +51,9 @@ IsRun shown = (store : StoreState) × (sent : List Entry) × IsRunOf store sent 
 
 -- For private clauses.
 
--- the pass is the collector's again, and where it is done 11 items were submitted
+-- the pass is the collector's again, and where it is done all of its session's work was submitted, which is 11 items
 abbrev pub HasCollected : Collector → Collected → Type 0
-HasCollected pass collected = (collected.pass.0 ≡ pass.0) × (collected.pass.1 ≡ pass.1) × (collected.is_done ≡ true → length collected.pass.2 ≡ 11)
+HasCollected pass collected = (collected.pass.0 ≡ pass.0) × (collected.pass.1 ≡ pass.1) × (collected.is_done ≡ true → (length collected.pass.2 ≡ 11) × IsAllWork pass.1 collected.pass.2)
 
 -- the side is the auditor's again
 abbrev pub IsSameSide : AuditorSide → AuditorSide → Type 0
@@ -67,9 +75,9 @@ pub record IsFreshSide (hall : Hall) (side : AuditorSide) : Type 0 where
   pub sent : side.sender.sent ≡ []
   pub published : side.seat.published ≡ []
 
--- the pass is the collector's again, by which 11 items were submitted
+-- the pass is the collector's again, by which all of its session's work was submitted, 11 items
 abbrev pub IsDone : Collector → Collector → Type 0
-IsDone old new = (new.0 ≡ old.0) × (new.1 ≡ old.1) × (length new.2 ≡ 11)
+IsDone old new = (new.0 ≡ old.0) × (new.1 ≡ old.1) × (length new.2 ≡ 11) × IsAllWork old.1 new.2
 
 -- all came back, and did all of their work; the reader tells what it has received, and the kind of the last report among that
 pub record HasReturned (passes : Collector × Collector × Collector × Collector) (side : AuditorSide) (reader : Receiving) (returned : Returned) : Type 0 where
@@ -92,3 +100,7 @@ pub record IsOfHall (hall : Hall) (returned : Returned) : Type 0 where
 -- each collector's pass has submitted its 11 items
 abbrev pub HaveSubmitted : Collector × Collector × Collector × Collector → Type 0
 HaveSubmitted passes = (length passes.0.2 ≡ 11) × (length passes.1.2 ≡ 11) × (length passes.2.2 ≡ 11) × (length passes.3.2 ≡ 11)
+
+-- and all of its session's work
+abbrev pub HaveWorked : Collector × Collector × Collector × Collector → Type 0
+HaveWorked passes = IsAllWork 0 passes.0.2 × IsAllWork 1 passes.1.2 × IsAllWork 2 passes.2.2 × IsAllWork 3 passes.3.2

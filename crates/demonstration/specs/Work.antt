@@ -1,5 +1,5 @@
 -- What a collector has the store execute.
-use Rattle.std.specs.Prelude.{◌≡◌, ℕ, ◌+◌, ◌*◌, Bool, true, false, List, [], ◌∷◌, length, map, slice_get, Some, ⊤}
+use Rattle.std.specs.Prelude.{◌≡◌, ℕ, ◌+◌, ◌*◌, Bool, true, false, List, [], ◌∷◌, ◌++◌, length, map, slice_get, Some, ⊤}
 use Rattle.txn.specs.declared.transactions.Txn.{Txn}
 use Rattle.logged_fragments.specs.declared.logged.LoggedFragment.{LoggedFragment}
 use Rattle.fragment_intake.specs.declared.rules.Item.TheVariants as item
@@ -48,3 +48,14 @@ IsStepOf session step parcel = (logged : LoggedFragment) × (parcel.item ≡ ite
 abbrev pub AreStepsFrom : ℕ → ℕ → List Parcel → Type 0
 AreStepsFrom session step [] = ⊤
 AreStepsFrom session step (parcel ∷ more) = IsStepOf session step parcel × AreStepsFrom session (step + 1) more
+
+-- The parcels have all that a session hands in: what is handed in of each of its nine steps, then that it is closed, and the end.
+pub record IsAllWork (session : ℕ) (parcels : List Parcel) : Type 0 where
+  pub steps : List Parcel
+  pub each : AreStepsFrom session 0 steps
+  pub nine : length steps ≡ 9
+  pub closing : Parcel
+  pub closes : closing.item ≡ item.Close session
+  pub last : Parcel
+  pub ends : last.item ≡ item.End
+  pub whole : parcels ≡ steps ++ closing ∷ last ∷ []

@@ -126,6 +126,7 @@ pub fn collect<R: Wait>(
     pass: CollectorPass,
 ) -> Collected
     requires session { session < 4 }
+    requires number { pass.1 ≡ session }
     requires desk { pass.0 ≡ hall.now.desk.0 }
     requires fresh { pass.2 ≡ [] }
     ensures { HasCollected pass result }

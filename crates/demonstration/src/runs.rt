@@ -2,7 +2,7 @@ ghost use Rattle.std.specs.Prelude.{◌≡◌, ◌≤◌, None, [], IfOk, IsTrue
 ghost use Rattle.round_state.specs.Opening.{fresh_state};
 ghost use Rattle.round_state.specs.Runs.{Holds};
 ghost use Rattle.demonstration.specs.Reading.{last_kind};
-ghost use Rattle.demonstration.specs.Runs.{IsRunOf, IsOfHall, HaveSubmitted, HasAudited};
+ghost use Rattle.demonstration.specs.Runs.{IsRunOf, IsOfHall, HaveSubmitted, HaveWorked, HasAudited};
 
 use crate::halls::Hall;
 use crate::starting::Start;
@@ -83,6 +83,7 @@ fn outcome_of<R: Wait>(
 ) -> Result<Outcome, NoMemory>
     requires hall { IsOfHall hall returned }
     requires submitted { HaveSubmitted returned.passes }
+    requires worked { HaveWorked returned.passes }
     requires audited { HasAudited returned.side.pass.1 returned.side.sender.sent }
     requires heard { returned.last ≡ last_kind returned.reader.received }
     requires entries { returned.entries ≡ returned.reader.received }

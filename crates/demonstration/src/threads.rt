@@ -45,6 +45,7 @@ fn start_collector<'s, E, R: Threads + Wait + Sync>(
     pass: CollectorPass,
 ) -> Result<Collecting, NoMemory>
     requires session { session < 4 }
+    requires number { pass.1 ≡ session }
     requires desk { pass.0 ≡ hall.now.desk.0 }
     requires fresh { pass.2 ≡ [] }
     ensures { IfOk result (λ thread. thread.promise.0.value ≡ pass) }
@@ -53,7 +54,7 @@ fn start_collector<'s, E, R: Threads + Wait + Sync>(
     let thread = scope.spawn_with(
         promise,
         move || -> Collected
-            requires { (session < 4) × (pass.0 ≡ hall.now.desk.0) × (pass.2 ≡ []) }
+            requires { (session < 4) × (pass.1 ≡ session) × (pass.0 ≡ hall.now.desk.0) × (pass.2 ≡ []) }
             ensures { HasCollected pass result }
         { collect(rt, alloc, hall, session, pass) },
     )?;

@@ -4,7 +4,7 @@ use Rattle.serde_json.specs.Data.{Data}
 use Rattle.serde_json.specs.View.{items_view}
 use Rattle.serde_json.specs.declared.value.Value.{Value}
 use Rattle.log_text.specs.Items.{alone, one_item, two_items, three_items}
-use Rattle.log_text.specs.Commands.{source_in, aborted_in, effort_in, start_in, resume_in}
+use Rattle.log_text.specs.Commands.{source_in, aborted_in, effort_in, waits_in, start_in, resume_in}
 use Rattle.log_text.specs.Refutations.{choice_in, ends_in}
 use Rattle.log_text.specs.Searches.{search_in}
 use Rattle.log_text.specs.Shown.{Reports}
@@ -50,6 +50,12 @@ pub search_none : (vs : List Value) → length vs ≢ 0 → length vs ≢ 1 → 
 search_none [] none one = absurd (omega (arith, none))
 search_none (a ∷ []) none one = absurd (omega (arith, one))
 search_none (a ∷ b ∷ vs) none one = refl
+
+-- and behind the name of a collect
+pub waits_none : (vs : List Value) → length vs ≢ 0 → length vs ≢ 1 → None ≡ waits_in (items_view vs)
+waits_none [] none one = absurd (omega (arith, none))
+waits_none (a ∷ []) none one = absurd (omega (arith, one))
+waits_none (a ∷ b ∷ vs) none one = refl
 
 pub effort_none : (vs : List Value) → length vs < 3 → None ≡ effort_in (items_view vs)
 effort_none [] few = refl

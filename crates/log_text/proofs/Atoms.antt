@@ -2,7 +2,7 @@
 use Rattle.std.proofs.Common.{◌≡◌, ℕ, zero, suc, ◌^◌, ◌≤◌, ◌&&◌, subst, Bool, true, false, List, codes, Option, Some, None, option_map, option_and_then, refl, sym, ap, ◌∙◌, arith}
 use Rattle.std.specs.Prelude.{⊤, bytes_eq, if◌then◌else◌}
 use Rattle.serde_json.specs.Data.{Data, null, boolean, number, string, array, object, unsigned, negative, float, Items, no_items, item}
-use Rattle.log_text.specs.Commands.{init_of, source_in, read_in, aborted_by, aborted_in, start_in, resume_in, close_in, effort_in, writer_in, save_named, save_in}
+use Rattle.log_text.specs.Commands.{init_of, source_in, read_in, aborted_by, aborted_in, start_in, resume_in, close_in, effort_in, waits_by, waits_in, writer_in, save_named, save_in}
 use Rattle.log_text.specs.Items.{with_both, with_three, with_four, alone, one_item, two_items, three_items}
 use Rattle.log_text.specs.Lines.{plain_named}
 use Rattle.log_text.specs.Numbers.{whole_number, if_within, number_within, session_of}
@@ -11,7 +11,7 @@ use Rattle.log_text.specs.Searches.{search_in, search_of}
 use Rattle.log_text.specs.Shown.{id_in}
 use Rattle.log_text.specs.Streams.{is_atom, is_few, TakesFew}
 use Rattle.log_text.specs.Versions.{version_in}
-use Rattle.log_text.specs.declared.commands.Command.TheVariants.{Begin, Truncate, Rebuild, Show, Resumed}
+use Rattle.log_text.specs.declared.commands.Command.TheVariants.{Begin, Skip, Truncate, Rebuild, Show, Resumed}
 
 abbrev IsThere : {X : Type 0} → Option X → Type 0
 IsThere None = ⊥
@@ -226,6 +226,23 @@ effort_few (item a (item b (item c rest))) there =
 pub effort_takes_few : TakesFew 4 effort_in
 effort_takes_few = of_few 4 effort_in effort_few
 
+waits_atom : (given : Data) → IsThere (waits_by given) → IsAtom given
+waits_atom null never = absurd never
+waits_atom (boolean b) never = absurd never
+waits_atom (number n) never = absurd never
+waits_atom (string word) there = tt
+waits_atom (array items) never = absurd never
+waits_atom (object ms) never = absurd never
+
+waits_few : (given : Items) → IsThere (waits_in given) → AreFewAtoms 1 given
+waits_few no_items there = tt
+waits_few (item a no_items) there = (waits_atom a there, tt)
+waits_few (item a (item b rest)) never = absurd never
+
+-- one item at most, of four
+waits_take_few : TakesFew 4 waits_in
+waits_take_few parts many = takes_more 1 4 waits_in (omega arith) (of_few 1 waits_in waits_few) parts many
+
 pub writer_takes_few : TakesFew 3 writer_in
 writer_takes_few = of_few 3 writer_in (three_few _ whole_number session_of whole_number number_atom session_atom number_atom)
 
@@ -359,9 +376,12 @@ plain_takes_few name parts many =
     (if_none (bytes_eq name (codes "begin")) _ _ (takes_more 0 4 (alone Begin) (omega arith) (alone_takes_few Begin) parts many)
     (if_none (bytes_eq name (codes "finish")) _ _ (map_takes_few _ 4 effort_in effort_takes_few parts many)
     (if_none (bytes_eq name (codes "round")) _ _ (map_takes_few _ 4 effort_in effort_takes_few parts many)
+    (if_none (bytes_eq name (codes "search")) _ _ (map_takes_few _ 4 effort_in effort_takes_few parts many)
+    (if_none (bytes_eq name (codes "collect")) _ _ (map_takes_few _ 4 waits_in waits_take_few parts many)
+    (if_none (bytes_eq name (codes "skip")) _ _ (takes_more 0 4 (alone Skip) (omega arith) (alone_takes_few Skip) parts many)
     (if_none (bytes_eq name (codes "truncate")) _ _ (takes_more 0 4 (alone Truncate) (omega arith) (alone_takes_few Truncate) parts many)
     (if_none (bytes_eq name (codes "rebuild")) _ _ (takes_more 0 4 (alone Rebuild) (omega arith) (alone_takes_few Rebuild) parts many)
     (if_none (bytes_eq name (codes "show")) _ _ (takes_more 0 4 (alone Show) (omega arith) (alone_takes_few Show) parts many)
     (if_none (bytes_eq name (codes "resume")) _ _ (takes_more 3 4 resume_in (omega arith) resume_takes_few parts many)
     (if_none (bytes_eq name (codes "resumed")) _ _ (takes_more 0 4 (alone Resumed) (omega arith) (alone_takes_few Resumed) parts many)
-    (if_none (bytes_eq name (codes "save")) _ _ (takes_more 3 4 save_in (omega arith) save_takes_few parts many) refl))))))))))
+    (if_none (bytes_eq name (codes "save")) _ _ (takes_more 3 4 save_in (omega arith) save_takes_few parts many) refl)))))))))))))

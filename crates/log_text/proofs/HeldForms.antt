@@ -9,7 +9,7 @@ use Rattle.txn.specs.declared.transactions.Txn.{Txn}
 use Rattle.logged_fragments.specs.declared.logged.LoggedFragment.{LoggedFragment}
 use Rattle.log_text.specs.Items.{alone, one_item, two_items, three_items, with_both, with_three, list_of, each_of}
 use Rattle.log_text.specs.Numbers.{whole_number, session_of}
-use Rattle.log_text.specs.Commands.{txn_of, fragment_of, offer_in, join_in, start_in, resume_in, effort_in, marks_in, last_in, flag_of, writer_of, save_in, command_named}
+use Rattle.log_text.specs.Commands.{txn_of, fragment_of, offer_in, join_in, start_in, resume_in, effort_in, waits_in, marks_in, last_in, flag_of, writer_of, save_in, command_named}
 use Rattle.log_text.specs.Held.{held}
 use Rattle.log_text.specs.Kept.{kept, txns_of, made, behind_of, joined_by, joined_within}
 use Rattle.log_text.specs.Lines.{plain_named}
@@ -187,12 +187,15 @@ module _ (n : ℕ) where
       (kept_if (bytes_eq name (codes "begin")) _ _ (alone_kept _ refl parts)
       (kept_if (bytes_eq name (codes "finish")) _ _ (kept_one _ (λ a. refl) (effort_in parts))
       (kept_if (bytes_eq name (codes "round")) _ _ (kept_one _ (λ a. refl) (effort_in parts))
+      (kept_if (bytes_eq name (codes "search")) _ _ (kept_one _ (λ a. refl) (effort_in parts))
+      (kept_if (bytes_eq name (codes "collect")) _ _ (kept_one _ (λ a. refl) (waits_in parts))
+      (kept_if (bytes_eq name (codes "skip")) _ _ (alone_kept _ refl parts)
       (kept_if (bytes_eq name (codes "truncate")) _ _ (alone_kept _ refl parts)
       (kept_if (bytes_eq name (codes "rebuild")) _ _ (alone_kept _ refl parts)
       (kept_if (bytes_eq name (codes "show")) _ _ (alone_kept _ refl parts)
       (kept_if (bytes_eq name (codes "resume")) _ _ (resume_kept parts)
       (kept_if (bytes_eq name (codes "resumed")) _ _ (alone_kept _ refl parts)
-      (kept_if (bytes_eq name (codes "save")) _ _ (save_kept parts) refl))))))))))
+      (kept_if (bytes_eq name (codes "save")) _ _ (save_kept parts) refl)))))))))))))
 
 plain_held : (most : Option ℕ) (name : List ℕ) (parts : Items) → option_map (held most) (plain_named name parts) ≡ plain_named name parts
 plain_held None name parts = all_held (plain_named name parts)

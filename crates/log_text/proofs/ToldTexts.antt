@@ -24,7 +24,7 @@ use Rattle.log_text.specs.Told.{named_data, id_data, choice_data, arc_data, cycl
 use Rattle.log_text.specs.Trees.{choice_text, arc_text, cycle_text, side_number, step_text, split_text, leaf_text, tree_text}
 use Rattle.log_text.specs.Trees as trees
 use Rattle.log_text.proofs.SavedData.{have_texts, have_both, list_data_written, writer_written, saved_written}
-use Rattle.log_text.proofs.ValueTexts.{number_written, flag_written, list_written, name_written, kind_written, ok_written, no_written, report_written, cut_written, show_written, session_written, read_written, base_written, taken_written, force_written, split_written, cycle_written, nowrite_written, gone_written}
+use Rattle.log_text.proofs.ValueTexts.{number_written, flag_written, list_written, name_written, kind_written, ok_written, searching_written, no_written, report_written, cut_written, show_written, session_written, read_written, base_written, taken_written, force_written, split_written, cycle_written, nowrite_written, gone_written}
 
 numbers_written : (numbers : List ℕ) → HasText (list_data number_data numbers) (numbers_text numbers)
 numbers_written numbers = list_data_written number_data decimal number_written numbers
@@ -91,6 +91,7 @@ reply_written (reply.Cut fence gone last) =
 reply_written (reply.Show marks received closed last remaining) =
     (show_written, (numbers_written marks, (numbers_written received, (list_data_written boolean flag_text flag_written closed, (list_data_written writer_data writer_text writer_written last, (number_written remaining, tt))))))
 reply_written (reply.Saved given) = saved_written given
+reply_written reply.Searching = (searching_written, tt)
 
 -- the bytes of a reply's value are its text
 pub reply_text : (d : Data) (bytes : List ℕ) (reply : Reply) → d ≡ array (items_of (reply_data reply)) → (has_float d ≡ false → bytes ≡ compact_text d) → bytes ≡ text_of reply

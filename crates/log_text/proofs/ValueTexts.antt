@@ -53,6 +53,10 @@ pub ok_written : HasText (string (codes "ok")) (word_text (codes "ok"))
 unfolding serde_json_on_literals
 ok_written = word_written _ refl
 
+pub searching_written : HasText (string (codes "searching")) (word_text (codes "searching"))
+unfolding serde_json_on_literals
+searching_written = word_written _ refl
+
 pub no_written : HasText (string (codes "no")) (word_text (codes "no"))
 unfolding serde_json_on_literals
 no_written = word_written _ refl

@@ -10,7 +10,7 @@ use Rattle.order_check.specs.Effort.{IsEffort}
 use Rattle.logged_fragments.specs.declared.logged.LoggedFragment.{LoggedFragment}
 use Rattle.log_text.specs.declared.commands.Command.{Command}
 use Rattle.log_text.specs.declared.commands.Effort.{Effort}
-use Rattle.log_text.specs.declared.commands.Command.TheVariants.{Start, Offer, Join, Close, Begin, Finish, Round, Truncate, Rebuild, Show, Resume, Marks, Last, Resumed, Save, Answer}
+use Rattle.log_text.specs.declared.commands.Command.TheVariants.{Start, Offer, Join, Close, Begin, Finish, Round, BeginSearch, Collect, Skip, Truncate, Rebuild, Show, Resume, Marks, Last, Resumed, Save, Answer}
 use Rattle.log_text.specs.declared.commands.Wanted.TheVariants as wanted
 use Rattle.log_text.specs.Items.{array_of, list_of, with_both, with_three, with_four, alone, one_item, two_items, three_items}
 use Rattle.log_text.specs.Numbers.{whole_number, number_within, session_of}
@@ -111,6 +111,25 @@ finish_in parts = option_map (λ (effort : Effort). Finish effort.budget effort.
 abbrev pub round_in : Items → Option Command
 round_in parts = option_map (λ (effort : Effort). Round effort.budget effort.depth effort.workers effort.search) (effort_in parts)
 
+-- ["search",budget,depth,workers] or ["search",budget,depth,workers,"guided"]
+abbrev pub begin_search_in : Items → Option Command
+begin_search_in parts = option_map (λ (effort : Effort). BeginSearch effort.budget effort.depth effort.workers effort.search) (effort_in parts)
+
+-- "wait"
+abbrev pub waits_by : Data → Option Bool
+waits_by (string word) = if bytes_eq word (codes "wait") then Some true else None
+waits_by given = None
+
+-- whether the end of a search is waited for: it is where "wait" stands behind the name, and nothing else may stand there
+abbrev pub waits_in : Items → Option Bool
+waits_in no_items = Some false
+waits_in (item word no_items) = waits_by word
+waits_in items = None
+
+-- ["collect"] or ["collect","wait"]
+abbrev pub collect_in : Items → Option Command
+collect_in parts = option_map Collect (waits_in parts)
+
 -- ["resume",sessions,limit] or ["resume",sessions,limit,2]
 abbrev pub resume_in : Items → Option Command
 resume_in (item sessions (item limit behind)) = with_three Resume (whole_number sessions) (whole_number limit) (version_in behind)
@@ -148,7 +167,7 @@ abbrev pub save_in : Items → Option Command
 save_in (item (string name) parts) = save_named name parts
 save_in items = None
 
--- the command of this name, with these parts; "begin", "truncate", "rebuild", "show" and "resumed" have none
+-- the command of this name, with these parts; "begin", "skip", "truncate", "rebuild", "show" and "resumed" have none
 abbrev pub command_named : List ℕ → Items → Option Command
 command_named name parts =
     if bytes_eq name (codes "open") then start_in parts
@@ -158,6 +177,9 @@ command_named name parts =
     else (if bytes_eq name (codes "begin") then alone Begin parts
     else (if bytes_eq name (codes "finish") then finish_in parts
     else (if bytes_eq name (codes "round") then round_in parts
+    else (if bytes_eq name (codes "search") then begin_search_in parts
+    else (if bytes_eq name (codes "collect") then collect_in parts
+    else (if bytes_eq name (codes "skip") then alone Skip parts
     else (if bytes_eq name (codes "truncate") then alone Truncate parts
     else (if bytes_eq name (codes "rebuild") then alone Rebuild parts
     else (if bytes_eq name (codes "show") then alone Show parts
@@ -166,7 +188,7 @@ command_named name parts =
     else (if bytes_eq name (codes "last") then last_in parts
     else (if bytes_eq name (codes "resumed") then alone Resumed parts
     else (if bytes_eq name (codes "save") then save_in parts
-    else None))))))))))))))
+    else None)))))))))))))))))
 
 -- the items are a command's name and its parts
 abbrev pub command_in : Items → Option Command
@@ -180,6 +202,7 @@ command_of = array_of command_in
 abbrev pub HasLimits : Command → Type 0
 HasLimits (Finish budget depth workers search) = IsEffort budget depth workers
 HasLimits (Round budget depth workers search) = IsEffort budget depth workers
+HasLimits (BeginSearch budget depth workers search) = IsEffort budget depth workers
 HasLimits command = ⊤
 
 -- the data are this command: one that hands an answer in, or another one

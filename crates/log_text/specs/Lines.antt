@@ -4,13 +4,13 @@ use Rattle.json.specs.Token.{Token}
 use Rattle.serde_json.specs.Data.{Data, Items}
 use Rattle.serde_json.specs.Read.{read}
 use Rattle.log_text.specs.Items.{alone}
-use Rattle.log_text.specs.Commands.{start_in, close_in, finish_in, round_in, resume_in, save_in, Says}
+use Rattle.log_text.specs.Commands.{start_in, close_in, finish_in, round_in, begin_search_in, collect_in, resume_in, save_in, Says}
 use Rattle.log_text.specs.Held.{held}
 use Rattle.log_text.specs.Answers.{IsAnsweredAt}
 use Rattle.log_text.specs.Streams.{rest_as}
 use Rattle.log_text.specs.declared.shown.Shown.{Shown}
 use Rattle.log_text.specs.declared.commands.Command.{Command}
-use Rattle.log_text.specs.declared.commands.Command.TheVariants.{Begin, Truncate, Rebuild, Show, Resumed, Answer}
+use Rattle.log_text.specs.declared.commands.Command.TheVariants.{Begin, Skip, Truncate, Rebuild, Show, Resumed, Answer}
 
 -- the command of this name, where it is one whose parts are a few words and numbers
 abbrev pub plain_named : List ℕ → Items → Option Command
@@ -20,13 +20,16 @@ plain_named name parts =
     else (if bytes_eq name (codes "begin") then alone Begin parts
     else (if bytes_eq name (codes "finish") then finish_in parts
     else (if bytes_eq name (codes "round") then round_in parts
+    else (if bytes_eq name (codes "search") then begin_search_in parts
+    else (if bytes_eq name (codes "collect") then collect_in parts
+    else (if bytes_eq name (codes "skip") then alone Skip parts
     else (if bytes_eq name (codes "truncate") then alone Truncate parts
     else (if bytes_eq name (codes "rebuild") then alone Rebuild parts
     else (if bytes_eq name (codes "show") then alone Show parts
     else (if bytes_eq name (codes "resume") then resume_in parts
     else (if bytes_eq name (codes "resumed") then alone Resumed parts
     else (if bytes_eq name (codes "save") then save_in parts
-    else None))))))))))
+    else None)))))))))))))
 
 -- The items up to the end of an array are this in the form, and no token is behind it; or not.
 abbrev pub IsWhole : {X : Type 0} → (Items → Option X) → List Token → Option X → Type 0

@@ -65,6 +65,7 @@ parts_of (reply.Spent round counts) = report_parts round kind.Spent counts
 parts_of (reply.Cut fence gone last) = word_text (codes "cut") ∷ id_text fence ∷ list_text (map id_text gone) ∷ list_text (map writer_text last) ∷ []
 parts_of (reply.Show marks received closed last remaining) = word_text (codes "show") ∷ numbers_text marks ∷ numbers_text received ∷ list_text (map flag_text closed) ∷ list_text (map writer_text last) ∷ decimal remaining ∷ []
 parts_of (reply.Saved given) = saved_parts given
+parts_of reply.Searching = word_text (codes "searching") ∷ []
 
 abbrev pub text_of : Reply → List ℕ
 text_of reply = list_text (parts_of reply)

@@ -76,6 +76,7 @@ reply_data (reply.Spent round counts) = report_data round kind.Spent counts
 reply_data (reply.Cut fence gone last) = string (codes "cut") ∷ id_data fence ∷ list_data id_data gone ∷ list_data writer_data last ∷ []
 reply_data (reply.Show marks received closed last remaining) = string (codes "show") ∷ list_data number_data marks ∷ list_data number_data received ∷ list_data boolean closed ∷ list_data writer_data last ∷ number_data remaining ∷ []
 reply_data (reply.Saved given) = saved_data given
+reply_data reply.Searching = string (codes "searching") ∷ []
 
 -- the value is the reply
 abbrev pub IsReply : Value → Reply → Type 0

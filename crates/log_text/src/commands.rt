@@ -1,10 +1,11 @@
 ghost use Rattle.std.specs.Prelude.{◌≡◌, IfSome};
-ghost use Rattle.serde_json.specs.View.{items_view};
+ghost use Rattle.serde_json.specs.View.{view, items_view};
 ghost use Rattle.order_check.specs.Effort.{IsEffort};
+ghost use Rattle.serde_json.specs.Data.{string};
 ghost use Rattle.log_text.specs.Items.{alone, one_item, two_items};
 ghost use Rattle.log_text.specs.Lines.{plain_named};
 ghost use Rattle.log_text.specs.Numbers.{whole_number, session_of};
-ghost use Rattle.log_text.specs.Commands.{start_in, close_in, effort_in, finish_in, round_in, resume_in, save_named, save_in, HasLimits};
+ghost use Rattle.log_text.specs.Commands.{start_in, close_in, effort_in, finish_in, round_in, begin_search_in, waits_by, waits_in, collect_in, resume_in, save_named, save_in, HasLimits};
 
 use crate::numbers::{number_within, session_of, whole_number};
 use crate::searches::{Search, search_in};
@@ -51,6 +52,19 @@ pub enum Command {
         workers: u64,
         search: Search,
     },
+    /// To search for the round that is open, beside the lines that come next.
+    BeginSearch {
+        budget: u64,
+        depth: u64,
+        workers: u64,
+        search: Search,
+    },
+    /// To finish the open round by what its search has found, where that has ended or is waited for.
+    Collect {
+        waits: bool,
+    },
+    /// To give the search up, and the round that is open.
+    Skip,
     /// To apply the cut that the engine holds.
     Truncate,
     /// To have the engine made anew of its parts.
@@ -188,6 +202,56 @@ fn round_in(parts: &[Value]) -> Option<Command>
     })
 }
 
+fn begin_search_in(parts: &[Value]) -> Option<Command>
+    ensures form { result ≡ begin_search_in (items_view parts.now) }
+    ensures limits { IfSome result HasLimits }
+{
+    let Effort {
+        budget,
+        depth,
+        workers,
+        search,
+    } = effort_in(parts)?;
+    Some(Command::BeginSearch {
+        budget,
+        depth,
+        workers,
+        search,
+    })
+}
+
+fn waits_named(name: &str) -> Option<bool>
+    ensures { result ≡ waits_by (string name.now) }
+{
+    if name == "wait" { Some(true) } else { None }
+}
+
+fn waits_by(value: &Value) -> Option<bool>
+    ensures { result ≡ waits_by (view value.now) }
+{
+    waits_named(value.as_str()?)
+}
+
+#[tactic(auto, using(crate::proofs::Arity::waits_none))]
+fn waits_in(behind: &[Value]) -> Option<bool>
+    ensures { result ≡ waits_in (items_view behind.now) }
+{
+    match behind {
+        [] => Some(false),
+        [word] => waits_by(word),
+        _ => None,
+    }
+}
+
+fn collect_in(parts: &[Value]) -> Option<Command>
+    ensures form { result ≡ collect_in (items_view parts.now) }
+    ensures limits { IfSome result HasLimits }
+{
+    Some(Command::Collect {
+        waits: waits_in(parts)?,
+    })
+}
+
 #[tactic(auto, using(crate::proofs::Arity::resume_none))]
 fn resume_in(parts: &[Value]) -> Option<Command>
     ensures form { result ≡ resume_in (items_view parts.now) }
@@ -263,6 +327,9 @@ pub(crate) fn plain_named(name: &str, parts: &[Value]) -> Option<Command>
         "begin" => alone(Command::Begin, parts),
         "finish" => finish_in(parts),
         "round" => round_in(parts),
+        "search" => begin_search_in(parts),
+        "collect" => collect_in(parts),
+        "skip" => alone(Command::Skip, parts),
         "truncate" => alone(Command::Truncate, parts),
         "rebuild" => alone(Command::Rebuild, parts),
         "show" => alone(Command::Show, parts),

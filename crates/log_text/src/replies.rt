@@ -60,6 +60,8 @@ pub enum Reply {
     },
     /// What was to be given out of the parts.
     Saved(Saved),
+    /// The search that is to be collected goes on.
+    Searching,
 }
 
 fn kind_name(kind: Kind) -> &'static str
@@ -186,6 +188,7 @@ fn push_parts(alloc: Global, items: &mut Vec<Value>, reply: &Reply) -> Result<()
             remaining,
         } => push_shown(alloc, items, marks, received, closed, last, *remaining),
         Reply::Saved(saved) => push_saved(alloc, items, saved),
+        Reply::Searching => push_word(alloc, items, "searching"),
     }
 }
 

@@ -1,8 +1,8 @@
 -- What is found of stored replies, and of a script.
-use Rattle.std.proofs.Common.{◌≡◌, ◌≢◌, ℕ, ◌≤◌, List, [], ◌∷◌, ◌++◌, append_assoc, append-nil, Option, Some, None, IfSome, refl, ap, sym, ◌∙◌, subst, arith, inl, inr}
+use Rattle.std.proofs.Common.{◌≡◌, ◌≢◌, ℕ, ◌≤◌, List, [], ◌∷◌, ◌++◌, append_assoc, append-nil, Option, Some, None, IfSome, false, refl, ap, sym, ◌∙◌, subst, arith, inl, inr}
 use Rattle.txn.specs.declared.refusals.Refusal.TheVariants.{BadLine}
 use Rattle.log_text.specs.declared.commands.Command.{Command}
-use Rattle.log_text.specs.declared.commands.Command.TheVariants.{Start}
+use Rattle.log_text.specs.declared.commands.Command.TheVariants.{Start, Collect}
 use Rattle.log_text.specs.declared.replies.Reply.{Reply}
 use Rattle.log_text.specs.declared.replies.Reply.TheVariants as told
 use Rattle.byte_lines.specs.declared.lines.Next.{Next}
@@ -12,11 +12,11 @@ use Rattle.byte_lines.specs.Lines.{lines}
 use Rattle.round_state.specs.Opening.{IsSessions, IsLimit, fresh_state}
 use Rattle.round_state.specs.Runs.{Holds}
 use Rattle.cobra.specs.Outputs.{Asks, IsTold}
-use Rattle.report_checking.specs.Checking.{TakesMemory, Checks, start, right, unchecked, IsAllRight}
+use Rattle.report_checking.specs.Checking.{TakesMemory, Checks, start, right, unchecked, IsAllRight, left_by}
 use Rattle.report_checking.specs.Owing.{Owes, ScriptState}
-use Rattle.report_checking.specs.Reading.{HoldsScript, LeadsScript, IsOwedBy, IsOfKind, IsRead, Finds, FindsFor, FindsNext, IsFoundBy, IsFoundOf, IsFine, IsChecking, LeadsOn, Advances}
+use Rattle.report_checking.specs.Reading.{HoldsScript, LeadsScript, MayGoOn, script_left, IsOwedBy, IsOfKind, IsRead, Finds, FindsFor, FindsNext, IsFoundBy, IsFoundOf, IsFine, IsChecking, LeadsOn, Advances}
 use Rattle.report_checking.specs.declared.findings.Found.{Found}
-use Rattle.report_checking.specs.declared.pairs.OpenScript.{OpenScript}
+use Rattle.report_checking.specs.declared.open_scripts.OpenScript.{OpenScript}
 use Rattle.report_checking.specs.declared.findings.Found.TheVariants as found
 use Rattle.report_checking.specs.declared.findings.Fault.{Fault}
 use Rattle.report_checking.specs.declared.findings.Fault.TheVariants as fault
@@ -26,14 +26,29 @@ use Rattle.report_checking.specs.declared.findings.Owed.{Owed}
 use Rattle.report_checking.specs.declared.findings.Owed.TheVariants as owed
 
 -- None was open, and the first one is.
-opened_by : (script : OpenScript) (sessions limit : ℕ) → Holds script.engine (fresh_state sessions limit) → IsSessions sessions × IsLimit limit → LeadsScript None (Some script) (λ before after. Owes before (Start sessions limit script.version) told.Done after)
-opened_by script sessions limit holds numbers None first =
-    (Some (record { state = fresh_state sessions limit; version = script.version }), (numbers.0, numbers.1, refl), (holds, refl))
-opened_by script sessions limit holds numbers (Some before) first = absurd first
+opened_by : (script : OpenScript) (sessions limit : ℕ) → script.searched ≡ false → Holds script.engine (fresh_state sessions limit) → IsSessions sessions × IsLimit limit → LeadsScript None (Some script) (λ before after. Owes before (Start sessions limit script.version) told.Done after)
+opened_by script sessions limit unsearched holds numbers None first =
+    (Some (record { state = fresh_state sessions limit; version = script.version; searched = false }), (numbers.0, numbers.1, refl), (holds, refl, unsearched))
+opened_by script sessions limit unsearched holds numbers (Some before) first = absurd first
 
-pub opened : (old : Option OpenScript) (script : OpenScript) (sessions limit : ℕ) → old ≡ None → Holds script.engine (fresh_state sessions limit) → IsSessions sessions × IsLimit limit → LeadsScript old (Some script) (λ before after. Owes before (Start sessions limit script.version) told.Done after)
-opened old script sessions limit none holds numbers =
-    subst (λ (o : Option OpenScript). LeadsScript o (Some script) (λ before after. Owes before (Start sessions limit script.version) told.Done after)) (sym none) (opened_by script sessions limit holds numbers)
+pub opened : (old : Option OpenScript) (script : OpenScript) (sessions limit : ℕ) → old ≡ None → script.searched ≡ false → Holds script.engine (fresh_state sessions limit) → IsSessions sessions × IsLimit limit → LeadsScript old (Some script) (λ before after. Owes before (Start sessions limit script.version) told.Done after)
+opened old script sessions limit none unsearched holds numbers =
+    subst (λ (o : Option OpenScript). LeadsScript o (Some script) (λ before after. Owes before (Start sessions limit script.version) told.Done after)) (sym none) (opened_by script sessions limit unsearched holds numbers)
+
+-- Memory was wanting for a command.
+pub left_out : (old : Option OpenScript) (command : Command) → LeadsScript old (script_left command old) (λ before after. after ≡ left_by command before)
+left_out (Some script) (Collect waits) (Some before) holds = (Some (record before { searched = false }), refl, (holds.0, holds.1, refl))
+left_out None (Collect waits) None holds = (None, refl, holds)
+left_out (Some script) (Collect waits) None holds = absurd holds
+left_out None (Collect waits) (Some before) holds = absurd holds
+left_out script command before holds = (before, refl, holds)
+
+-- A search goes on.
+pub goes_on : (old : Option OpenScript) (command : Command) → MayGoOn old command → LeadsScript old old (λ before after. Owes before command told.Searching after)
+goes_on (Some script) (Collect waits) may (Some before) holds =
+    (Some before, (inl (may.0, sym holds.2 ∙ may.1, refl, refl, refl), refl), holds)
+goes_on (Some script) (Collect waits) may None holds = absurd holds
+goes_on script command may before holds = absurd may
 
 pub owed_kind : (P : Reply → Type 0) (given : Owed) → IsOwedBy P given → IsOfKind given
 owed_kind P (owed.Reply answer) owes = owes.0
@@ -71,7 +86,8 @@ finds_asked old new next command stored asks (found.Right what) finds = λ line 
     let after = finds.2 before holds in
     (after.0, record { answer = finds.0; owed = inl (command, asks line said, after.1); text_is = finds.1 }, after.2)
 finds_asked old new next command stored asks found.Unchecked finds = λ line said before holds.
-    (before, record { command = command; asks = asks line said; takes = takes_along old before command holds finds.0; text_is = finds.1; same = refl }, subst (λ (e : Option OpenScript). HoldsScript e before) (sym finds.2) holds)
+    let after = finds.2 before holds in
+    (after.0, record { command = command; asks = asks line said; takes = takes_along old before command holds finds.0; text_is = finds.1; left = after.1 }, after.2)
 finds_asked old new next command stored asks (found.Wrong (fault.Other text)) finds = λ line said before holds.
     let after = finds.3 before holds in
     (after.0, (finds.1, record { answer = finds.0; owed = inl (command, asks line said, after.1); text_is = finds.2 }), after.2)

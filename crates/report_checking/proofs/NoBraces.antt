@@ -26,7 +26,7 @@ use Rattle.cobra.specs.StepReplies.{certified, report_of}
 use Rattle.report_checking.specs.Reading.{IsFair, has_brace}
 use Rattle.report_checking.specs.declared.findings.Found.{Found}
 use Rattle.report_checking.specs.declared.findings.Found.TheVariants as found
-use Rattle.report_checking.specs.declared.pairs.OpenScript.{OpenScript}
+use Rattle.report_checking.specs.declared.open_scripts.OpenScript.{OpenScript}
 
 abbrev HasNone : List ℕ → Type 0
 HasNone text = has_brace text ≡ false

@@ -1,9 +1,9 @@
 -- Right replies that are no reports are told right: what is owed is the one right reply, want of memory apart.
 use Rattle.std.proofs.Common.{◌≡◌, ◌≢◌, ℕ, ◌+◌, List, length, Option, Some, None, true, false, refl, ap, sym, ◌∙◌, subst, inl, inr}
-use Rattle.std.specs.Prelude.{Bool, if◌then◌else◌, ◌⊎◌, IsSomeAnd, nat_lt}
+use Rattle.std.specs.Prelude.{Bool, not, if◌then◌else◌, ◌⊎◌, IsSomeAnd, nat_lt}
 use Rattle.serde_json.specs.Data.{Data}
 use Rattle.txn.specs.declared.refusals.Refusal.{Refusal}
-use Rattle.txn.specs.declared.refusals.Refusal.TheVariants.{BadLine, BadSession, TooLong, NoRound, BadCertificate, NoMemory}
+use Rattle.txn.specs.declared.refusals.Refusal.TheVariants.{BadLine, BadSession, TooLong, NoRound, RoundOpen, BadCertificate, NoMemory}
 use Rattle.logged_fragments.specs.declared.logged.LoggedFragment.{LoggedFragment}
 use Rattle.order_check.specs.declared.remainder.Kind.{Kind}
 use Rattle.order_check.specs.declared.remainder.Parts.{Parts}
@@ -23,6 +23,7 @@ use Rattle.log_text.specs.declared.commands.Wanted.{Wanted}
 use Rattle.log_text.specs.declared.commands.Wanted.TheVariants as wanted
 use Rattle.log_text.specs.declared.replies.Reply.{Reply}
 use Rattle.log_text.specs.declared.replies.Reply.TheVariants as told
+use Rattle.log_text.specs.declared.searches.Search.{Search}
 use Rattle.log_text.specs.declared.shown.Shown.{Shown}
 use Rattle.log_text.specs.declared.shown.Shown.TheVariants as shown
 use Rattle.log_text.specs.declared.versions.Version.{Version}
@@ -31,7 +32,7 @@ use Rattle.round_state.specs.EngineState.{EngineState}
 use Rattle.round_state.specs.Legal.{State, Legal}
 use Rattle.round_state.specs.Opening.{IsSessions, IsLimit, IsOpenRefusal}
 use Rattle.round_state.specs.Solving.{IsRight, IsWrong, IsReportOn}
-use Rattle.round_state.specs.Steps.{StepsTo, IsCloseRefusal, IsFinishRefusal, IsHeldAfter, answer_told}
+use Rattle.round_state.specs.Steps.{StepsTo, IsCloseRefusal, IsAbandonRefusal, IsFinishRefusal, IsHeldAfter, answer_told}
 use Rattle.round_state.specs.declared.reports.Certificate.{Certificate}
 use Rattle.round_state.specs.declared.reports.Certificate.TheVariants.{Order, Refuted, Nothing}
 use Rattle.round_state.specs.declared.reports.Report.{Report}
@@ -44,8 +45,8 @@ use Rattle.cobra.specs.Saving.{saved_told, fragment_told}
 use Rattle.cobra.specs.Scripts.{IsTakenIn}
 use Rattle.cobra.specs.StepReplies.{certificate_of, certified, report_of, reply_of}
 use Rattle.report_checking.specs.Checking.{AsksOfMemory, OpensEngine, TakesMemory, IsUnchecked}
-use Rattle.report_checking.specs.Owing.{IsStep, Owes, OwesFinish, OwesRound, OwesOpen, OwesFirst, OwesLine, ScriptState}
-use Rattle.report_checking.specs.Reading.{HoldsScript, IsToldOf, IsStepTold, IsTakenTold, IsTakenAs, IsRefusedBy, Gives, GivesFirst, GivesScript, IsAlone, IsOtherwise, IsOtherwiseTo, IsFoundBy, IsFoundOf}
+use Rattle.report_checking.specs.Owing.{IsStep, IsOfEngine, BeginsSearch, FinishesWhere, GoesOn, Owes, OwesFinish, OwesRound, OwesOpen, OwesBeside, OwesFirst, OwesLine, ScriptState}
+use Rattle.report_checking.specs.Reading.{HoldsScript, IsToldOf, IsStepTold, IsTakenTold, IsTakenAs, IsRefusedBy, Gives, GivesFirst, GivesWhere, GivesBeside, GivesScript, MayGoOn, IsAlone, IsOtherwise, IsOtherwiseTo, IsFoundBy, IsFoundOf}
 use Rattle.report_checking.specs.RightReports.{IsNoReport, IsRightOther}
 use Rattle.report_checking.specs.declared.findings.Fault.{Fault}
 use Rattle.report_checking.specs.declared.findings.Fault.TheVariants as fault
@@ -53,7 +54,7 @@ use Rattle.report_checking.specs.declared.findings.Found.{Found}
 use Rattle.report_checking.specs.declared.findings.Found.TheVariants as found
 use Rattle.report_checking.specs.declared.findings.Owed.{Owed}
 use Rattle.report_checking.specs.declared.findings.Owed.TheVariants as owed
-use Rattle.report_checking.specs.declared.pairs.OpenScript.{OpenScript}
+use Rattle.report_checking.specs.declared.open_scripts.OpenScript.{OpenScript}
 use Rattle.report_checking.proofs.RightReports.{shown_then, shown_self, same_refutation, same_answer, no_command, is_said}
 use Rattle.report_checking.proofs.SaidOnce.{IsOne, IsSaidOnce, IsOneWay, said_once, begun_anyway}
 
@@ -97,6 +98,34 @@ refused_alone old new said given right is answer other =
 pub finish_alone : (old : EngineState) (given : Owed) → (old.asked ≡ None → given ≡ owed.Reply (told.No NoRound)) → IsAlone (λ answer. (old.asked ≡ None) × (answer ≡ told.No NoRound)) given
 finish_alone old (owed.Reply given) none = λ answer is. inr (inr (let e = none is.0 in let same : given ≡ told.No NoRound = cc in same ∙ sym is.1))
 finish_alone old (owed.Nothing why) none = λ answer is. absurd (let e = none is.0 in cc)
+
+-- the same where it may be made, or is refused
+pub where_alone : (may : Bool) (refusal : Refusal) (old : EngineState) (given : Owed) → may ≡ true → IsAlone (λ answer. (old.asked ≡ None) × (answer ≡ told.No NoRound)) given → IsAlone (GivesWhere may refusal old) given
+where_alone may refusal old given is alone = subst (λ (m : Bool). IsAlone (GivesWhere m refusal old) given) (sym is) alone
+
+pub where_refused_alone : (may : Bool) (refusal : Refusal) (old : EngineState) → may ≡ false → IsAlone (GivesWhere may refusal old) (owed.Reply (told.No refusal))
+where_refused_alone may refusal old is = subst (λ (m : Bool). IsAlone (GivesWhere m refusal old) (owed.Reply (told.No refusal))) (sym is) (λ answer same. inr (inr (sym same)))
+
+-- a search is begun in one way
+begun_once : (asked : Option Parts) (searched one two : Bool) (answer given : Reply) → BeginsSearch asked searched given one → BeginsSearch asked searched answer two → given ≡ answer
+begun_once None searched one two answer given a b = a.0 ∙ sym b.0
+begun_once (Some parts) true one two answer given a b = a.0 ∙ sym b.0
+begun_once (Some parts) false one two answer given a b = a.0 ∙ sym b.0
+
+pub begins_alone : (version : Version) (searched after : Bool) (old : EngineState) (budget depth workers : ℕ) (search : Search) (given : Reply) → BeginsSearch old.asked searched given after → IsAlone (GivesBeside version searched old (command.BeginSearch budget depth workers search)) (owed.Reply given)
+begins_alone version searched after old budget depth workers search given begins answer is = inr (inr (begun_once old.asked searched after is.0 answer given begins is.1))
+
+-- what is about the engine alone
+gives_by_engine : (version : Version) (searched : Bool) (old : EngineState) (asked : Command) (answer : Reply) → IsOfEngine asked → GivesBeside version searched old asked answer → Gives version old asked answer
+gives_by_engine version searched old (command.BeginSearch budget depth workers search) answer of is = absurd of
+gives_by_engine version searched old (command.Collect waits) answer of is = absurd of
+gives_by_engine version searched old command.Skip answer of is = absurd of
+gives_by_engine version searched old (command.Finish budget depth workers search) answer of is = absurd of
+gives_by_engine version searched old asked answer of is = is
+
+pub engine_alone : (version : Version) (searched : Bool) (old : EngineState) (asked : Command) (given : Owed) → IsOfEngine asked → IsAlone (Gives version old asked) given → IsAlone (GivesBeside version searched old asked) given
+engine_alone version searched old asked (owed.Reply given) of alone = λ answer is. alone answer (gives_by_engine version searched old asked answer of is)
+engine_alone version searched old asked (owed.Nothing why) of alone = λ answer is. alone answer (gives_by_engine version searched old asked answer of is)
 
 -- the same of one reply
 pub one_alone : (P : Reply → Type 0) (given : Reply) → ((answer : Reply) → P answer → answer ≡ given) → IsAlone P (owed.Reply given)
@@ -195,11 +224,33 @@ takes_open version old (command.Start sessions limit lines) is = other_refusal i
 takes_open version old (command.Close session) is = never_closed old is.1 session is.0 is.2 is.3
 takes_open version old command.Show is = let no : ⊥ = cc in no
 takes_open version old (command.Save asked) is = never_saved old.parts asked is
+takes_open version old (command.BeginSearch budget depth workers search) is = other_refusal is
+takes_open version old command.Skip is = other_refusal is
 takes_open version old (command.Resume sessions limit lines) is = other_refusal is
 takes_open version old (command.Marks marks closed) is = other_refusal is
 takes_open version old (command.Last last) is = other_refusal is
 takes_open version old command.Resumed is = other_refusal is
 takes_open version old asked is = tt
+
+never_begun : (asked : Option Parts) (searched after : Bool) → BeginsSearch asked searched (told.No NoMemory) after → ⊥
+never_begun None searched after is = let e = is.0 in cc
+never_begun (Some parts) true after is = let e = is.0 in cc
+never_begun (Some parts) false after is = let e = is.0 in cc
+
+never_skipped : (old new : EngineState) (said : StepReply) → StepsTo old step.Abandon said new → told.No NoMemory ≡ reply_of said → ⊥
+never_skipped old new reply.Done steps is = cc
+never_skipped old new (reply.Refused r) steps is =
+    let same : NoMemory ≡ r = cc in
+    subst (IsAbandonRefusal old) (sym same) steps.0
+never_skipped old new (reply.Report report) steps is = steps
+never_skipped old new (reply.Cut cut) steps is = steps
+
+takes_beside : (version : Version) (searched : Bool) (old : EngineState) (asked : Command) → GivesBeside version searched old asked (told.No NoMemory) → AsksOfMemory asked
+takes_beside version searched old (command.BeginSearch budget depth workers search) is = never_begun old.asked searched is.0 is.1
+takes_beside version searched old (command.Collect waits) is = tt
+takes_beside version searched old command.Skip is = never_skipped old is.1 is.0 is.2 is.3
+takes_beside version searched old (command.Finish budget depth workers search) is = tt
+takes_beside version searched old asked is = takes_open version old asked is
 
 takes_first : (asked : Command) → GivesFirst asked (told.No NoMemory) → OpensEngine asked
 takes_first (command.Start sessions limit lines) is = tt
@@ -208,7 +259,7 @@ takes_first asked is = other_refusal is
 
 takes_if : (old : Option OpenScript) (asked : Command) → GivesScript old asked (told.No NoMemory) → TakesMemory old asked
 takes_if None asked is = takes_first asked is
-takes_if (Some old) asked is = takes_open old.version old.engine asked is
+takes_if (Some old) asked is = takes_beside old.version old.searched old.engine asked is
 
 -- ---- what is found
 
@@ -219,19 +270,19 @@ other_wrong old asked stored given right text gives checked enough other is (inl
 other_wrong old asked stored given right text gives checked enough other is (inr (inl none)) same = enough none
 other_wrong old asked stored given right text gives checked enough other is (inr (inr alone)) same = other (same ∙ ap text_of (sym alone) ∙ sym is)
 
-other_of_reply : (old : Option OpenScript) (asked : Command) (stored : List ℕ) (given : Reply) (why : Fault) → IsAlone (GivesScript old asked) (owed.Reply given) → (TakesMemory old asked → stored ≢ text_of (told.No NoMemory)) → IsFoundBy given stored (found.Wrong why) → (given ≡ told.No NoMemory → ⊥) → IsOtherwise old asked stored (found.Wrong why)
-other_of_reply old asked stored given (fault.Other text) alone checked is enough =
-    (λ right gives. other_wrong old asked stored given right text.items gives checked enough is.0 is.1 (alone right gives), checked)
-other_of_reply old asked stored given (fault.Unshown it) alone checked is enough = absurd is
-other_of_reply old asked stored given fault.Missing alone checked is enough = absurd is
-other_of_reply old asked stored given fault.TooLong alone checked is enough = absurd is
+other_of_reply : (old : Option OpenScript) (asked : Command) (stored : List ℕ) (given : Reply) (why : Fault) → IsAlone (GivesScript old asked) (owed.Reply given) → (TakesMemory old asked → stored ≢ text_of (told.No NoMemory)) → (MayGoOn old asked → stored ≢ text_of told.Searching) → IsFoundBy given stored (found.Wrong why) → (given ≡ told.No NoMemory → ⊥) → IsOtherwise old asked stored (found.Wrong why)
+other_of_reply old asked stored given (fault.Other text) alone checked ended is enough =
+    (λ right gives. other_wrong old asked stored given right text.items gives checked enough is.0 is.1 (alone right gives), checked, ended)
+other_of_reply old asked stored given (fault.Unshown it) alone checked ended is enough = absurd is
+other_of_reply old asked stored given fault.Missing alone checked ended is enough = absurd is
+other_of_reply old asked stored given fault.TooLong alone checked ended is enough = absurd is
 
-pub other_found : (old : Option OpenScript) (asked : Command) (stored : List ℕ) (given : Owed) → IsAlone (GivesScript old asked) given → (TakesMemory old asked → stored ≢ text_of (told.No NoMemory)) → (got : Found) → IsFoundOf given stored got → IsOtherwise old asked stored got
-other_found old asked stored given alone checked (found.Right what) is = tt
-other_found old asked stored given alone checked found.Unchecked is = tt
-other_found old asked stored (owed.Reply given) alone checked (found.Wrong why) is = other_of_reply old asked stored given why alone checked is.0 is.1
-other_found old asked stored (owed.Nothing it) alone checked (found.Wrong why) is =
-    (λ right gives same. checked (takes_if old asked (subst (λ (r : Reply). GivesScript old asked r) (alone right gives) gives)) (same ∙ ap text_of (alone right gives)), checked)
+pub other_found : (old : Option OpenScript) (asked : Command) (stored : List ℕ) (given : Owed) → IsAlone (GivesScript old asked) given → (TakesMemory old asked → stored ≢ text_of (told.No NoMemory)) → (MayGoOn old asked → stored ≢ text_of told.Searching) → (got : Found) → IsFoundOf given stored got → IsOtherwise old asked stored got
+other_found old asked stored given alone checked ended (found.Right what) is = tt
+other_found old asked stored given alone checked ended found.Unchecked is = tt
+other_found old asked stored (owed.Reply given) alone checked ended (found.Wrong why) is = other_of_reply old asked stored given why alone checked ended is.0 is.1
+other_found old asked stored (owed.Nothing it) alone checked ended (found.Wrong why) is =
+    (λ right gives same. checked (takes_if old asked (subst (λ (r : Reply). GivesScript old asked r) (alone right gives) gives)) (same ∙ ap text_of (alone right gives)), checked, ended)
 
 -- ---- a line is one command
 
@@ -241,7 +292,7 @@ gives_answer (Some old) it other answer same is = (is.0, shown_then it other is.
 
 otherwise_answer : (old : Option OpenScript) (it other : Shown) (stored : List ℕ) (why : Fault) → IsSameShown (Some it) (Some other) → IsOtherwise old (command.Answer it) stored (found.Wrong why) → IsOtherwise old (command.Answer other) stored (found.Wrong why)
 otherwise_answer None it other stored why same is = is
-otherwise_answer (Some old) it other stored why same is = (λ right gives. is.0 right (gives_answer (Some old) it other right same gives), is.1)
+otherwise_answer (Some old) it other stored why same is = (λ right gives. is.0 right (gives_answer (Some old) it other right same gives), is.1, is.2)
 
 otherwise_said : (old : Option OpenScript) (said : Data) (asked other : Command) (stored : List ℕ) (why : Fault) → Says said asked → Says said other → IsOtherwise old asked stored (found.Wrong why) → IsOtherwise old other stored (found.Wrong why)
 otherwise_said old said asked other stored why (inl one) (inl two) is =
@@ -325,18 +376,56 @@ gives_first (command.Start sessions limit version) answer new is = absurd is
 gives_first (command.Resume sessions limit version) answer new is = absurd is
 gives_first asked answer new is = is.0
 
-gives_owed : (script : Option OpenScript) (old new : Option ScriptState) (asked : Command) (answer : Reply) → HoldsScript script old → Owes old asked answer new → IsNoReport answer → GivesScript script asked answer
-gives_owed None None new asked answer holds is none = gives_first asked answer new is
+begins_told : (asked : Option Parts) (searched after : Bool) (answer : Reply) → BeginsSearch asked searched answer after → (later : Bool) × BeginsSearch asked searched answer later
+begins_told asked searched after answer is = (after, is)
+
+where_told : (old new : State) (may searched after : Bool) (refusal : Refusal) (answer : Reply) → FinishesWhere may refusal searched old answer after new → IsNoReport answer → GivesWhere may refusal old.engine answer
+where_told old new true searched after refusal answer is none = finish_told old new answer is.0 none
+where_told old new false searched after refusal answer is none = is.0
+
+-- a right reply that is no report is one of these, or says that a search goes on
+abbrev pub GivesOrGoesOn : Version → Bool → EngineState → Command → Reply → Type 0
+GivesOrGoesOn version searched old (command.Collect waits) answer = ((waits ≡ false) × (searched ≡ true) × (answer ≡ told.Searching)) ⊎ GivesWhere searched NoRound old answer
+GivesOrGoesOn version searched old asked answer = GivesBeside version searched old asked answer
+
+collect_told : (waits searched after : Bool) (old new : State) (answer : Reply) → GoesOn waits searched old answer after new ⊎ FinishesWhere searched NoRound searched old answer after new → IsNoReport answer → ((waits ≡ false) × (searched ≡ true) × (answer ≡ told.Searching)) ⊎ GivesWhere searched NoRound old.engine answer
+collect_told waits searched after old new answer (inl on) none = inl (on.0, on.1, on.2)
+collect_told waits searched after old new answer (inr is) none = inr (where_told old new searched searched after NoRound answer is none)
+
+gives_beside : (version : Version) (searched after : Bool) (old new : State) (asked : Command) (answer : Reply) → OwesBeside version searched old asked answer after new → IsNoReport answer → GivesOrGoesOn version searched old.engine asked answer
+gives_beside version searched after old new (command.BeginSearch budget depth workers search) answer is none = begins_told old.engine.asked searched after answer is.0
+gives_beside version searched after old new (command.Collect waits) answer is none = collect_told waits searched after old new answer is none
+gives_beside version searched after old new command.Skip answer is none = step_told old new step.Abandon answer is.0
+gives_beside version searched after old new (command.Finish budget depth workers search) answer is none = where_told old new (not searched) searched after RoundOpen answer is none
+gives_beside version searched after old new asked answer is none = gives_open version old new asked answer is.0 none
+
+-- of a script
+abbrev GivesNow : Option OpenScript → Command → Reply → Type 0
+GivesNow script asked answer = GivesScript script asked answer ⊎ (MayGoOn script asked × (answer ≡ told.Searching))
+
+now_of : (script : OpenScript) (asked : Command) (answer : Reply) → GivesOrGoesOn script.version script.searched script.engine asked answer → GivesNow (Some script) asked answer
+now_of script (command.Collect waits) answer (inl on) = inr ((on.0, on.1), on.2)
+now_of script (command.Collect waits) answer (inr is) = inl is
+now_of script asked answer is = inl is
+
+gives_owed : (script : Option OpenScript) (old new : Option ScriptState) (asked : Command) (answer : Reply) → HoldsScript script old → Owes old asked answer new → IsNoReport answer → GivesNow script asked answer
+gives_owed None None new asked answer holds is none = inl (gives_first asked answer new is)
 gives_owed (Some script) (Some old) (Some new) asked answer holds is none =
-    let gives = gives_open old.version old.state new.state asked answer is.0 none in
-    subst (λ (v : Version). Gives v script.engine asked answer) (sym holds.1) (subst (λ (e : EngineState). Gives old.version e asked answer) holds.0.same gives)
+    let gives = gives_beside old.version old.searched new.searched old.state new.state asked answer is.0 none in
+    let engine = subst (λ (e : EngineState). GivesOrGoesOn old.version old.searched e asked answer) holds.0.same gives in
+    let searched = subst (λ (s : Bool). GivesOrGoesOn old.version s script.engine asked answer) (sym holds.2) engine in
+    now_of script asked answer (subst (λ (v : Version). GivesOrGoesOn v script.searched script.engine asked answer) (sym holds.1) searched)
 gives_owed (Some script) (Some old) None asked answer holds is none = absurd is
 gives_owed None (Some old) new asked answer holds is none = absurd holds
 gives_owed (Some script) None new asked answer holds is none = absurd holds
 
+not_given : (script : Option OpenScript) (asked : Command) (stored : List ℕ) (why : Fault) (answer : Reply) → IsOtherwise script asked stored (found.Wrong why) → GivesNow script asked answer → stored ≢ text_of answer
+not_given script asked stored why answer is (inl gives) = is.0 answer gives
+not_given script asked stored why answer is (inr on) = λ same. is.2 on.0 (same ∙ ap text_of on.1)
+
 line_owed : (script : Option OpenScript) (old new : Option ScriptState) (next : Next) (line stored : List ℕ) (why : Fault) (answer : Reply) → HoldsScript script old → IsTold line next → IsOtherwiseTo script next stored (found.Wrong why) → IsNoReport answer → OwesLine old line answer new → stored ≢ text_of answer
 line_owed script old new next line stored why answer holds said is none (inl owes) =
-    ((is line said).0 owes.0 owes.1).0 answer (gives_owed script old new owes.0 answer holds owes.2 none)
+    not_given script owes.0 stored why answer ((is line said).0 owes.0 owes.1) (gives_owed script old new owes.0 answer holds owes.2 none)
 line_owed script old new next line stored why answer holds said is none (inr owes) = λ same. (is line said).1 owes.0 (same ∙ ap text_of owes.1.0)
 
 pub no_right_other : (script : Option OpenScript) (old : Option ScriptState) (next : Next) (line stored : List ℕ) (why : Fault) → HoldsScript script old → IsTold line next → IsOtherwiseTo script next stored (found.Wrong why) → ¬ IsRightOther old line stored

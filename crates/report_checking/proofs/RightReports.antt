@@ -1,6 +1,7 @@
 -- Right reports are told right.
-use Rattle.std.proofs.Common.{◌≡◌, ◌≢◌, ℕ, ◌+◌, ◌≤◌, List, [], ◌∷◌, ◌++◌, map, Option, Some, None, codes, refl, ap, ap₂, sym, ◌∙◌, subst, arith, inl, inr}
-use Rattle.std.specs.Prelude.{◌⊎◌, IsSome, IsSomeAnd}
+use Rattle.std.proofs.Common.{◌≡◌, ◌≢◌, ℕ, ◌+◌, ◌≤◌, List, [], ◌∷◌, ◌++◌, map, Option, Some, None, true, false, codes, refl, ap, ap₂, sym, ◌∙◌, subst, arith, inl, inr}
+use Rattle.std.specs.Prelude.{◌⊎◌, Bool, IsSome, IsSomeAnd}
+use Rattle.std.proofs.lemmas.Bool.{false≢true}
 use Rattle.serde_json.specs.Data.{Data, string, array, Items, no_items, item}
 use Rattle.txn.specs.Choices.{first_side, second_side}
 use Rattle.txn.specs.declared.choices.ForceStep.{ForceStep}
@@ -43,14 +44,14 @@ use Rattle.round_state.specs.declared.steps.StepReply.{StepReply}
 use Rattle.round_state.specs.declared.steps.StepReply.TheVariants as reply
 use Rattle.cobra.specs.Outputs.{Asks, IsTold}
 use Rattle.cobra.specs.StepReplies.{certificate_of, certified, report_of, reply_of}
-use Rattle.report_checking.specs.Owing.{IsEarned}
-use Rattle.report_checking.specs.Reading.{IsAnswerOf, IsToldOf, OwesText, Earns, EarnsScript, OfRight, IsFair, IsFairTo, IsFoundBy, IsFoundOf}
+use Rattle.report_checking.specs.Owing.{IsEarned, IsOfEngine}
+use Rattle.report_checking.specs.Reading.{IsAnswerOf, IsToldOf, OwesText, Earns, EarnsWhere, EarnsBeside, EarnsScript, OfRight, IsFair, IsFairTo, IsFoundBy, IsFoundOf}
 use Rattle.report_checking.specs.RightReports.{shown_of}
 use Rattle.report_checking.specs.declared.findings.Found.{Found}
 use Rattle.report_checking.specs.declared.findings.Found.TheVariants as found
 use Rattle.report_checking.specs.declared.findings.Fault.{Fault}
 use Rattle.report_checking.specs.declared.findings.Fault.TheVariants as fault
-use Rattle.report_checking.specs.declared.pairs.OpenScript.{OpenScript}
+use Rattle.report_checking.specs.declared.open_scripts.OpenScript.{OpenScript}
 use Rattle.report_checking.specs.declared.findings.Owed.{Owed}
 use Rattle.report_checking.specs.declared.findings.Owed.TheVariants as owed
 
@@ -368,6 +369,24 @@ is_said line asked other one two =
     let same : Some one.is.said ≡ Some two.is.said = sym one.is.reads ∙ two.is.reads in
     subst (λ (d : Data). Says d asked) (let e : one.is.said ≡ two.is.said = cc in e) one.is.is
 
+-- ---- reports beside a search
+
+pub where_right : (old : EngineState) (may : Bool) (stored : List ℕ) (given : Owed) → OfRight (IsEarned old) stored (λ text. OwesText text given) → OfRight (EarnsWhere may old) stored (λ text. OwesText text given)
+where_right old may stored given right report new earned shows = right report new earned.1 shows
+
+pub where_refused : (old : EngineState) (may : Bool) (stored : List ℕ) (given : Owed) → may ≡ false → OfRight (EarnsWhere may old) stored (λ text. OwesText text given)
+where_refused old may stored given refused report new earned shows = absurd (false≢true (sym refused ∙ earned.0))
+
+earns_by_engine : (searched : Bool) (old : EngineState) (asked : Command) (report : Report) (new : EngineState) → IsOfEngine asked → EarnsBeside searched old asked report new → Earns old asked report new
+earns_by_engine searched old (command.BeginSearch budget depth workers search) report new of earned = absurd of
+earns_by_engine searched old (command.Collect waits) report new of earned = absurd of
+earns_by_engine searched old command.Skip report new of earned = absurd of
+earns_by_engine searched old (command.Finish budget depth workers search) report new of earned = absurd of
+earns_by_engine searched old asked report new of earned = earned
+
+pub engine_right : (searched : Bool) (old : EngineState) (asked : Command) (stored : List ℕ) (given : Owed) → IsOfEngine asked → OfRight (Earns old asked) stored (λ text. OwesText text given) → OfRight (EarnsBeside searched old asked) stored (λ text. OwesText text given)
+engine_right searched old asked stored given of right report new earned shows = right report new (earns_by_engine searched old asked report new of earned) shows
+
 earns_said : (old : Option OpenScript) (said : Data) (asked other : Command) (report : Report) (new : EngineState) → Says said asked → Says said other → EarnsScript old asked report new → EarnsScript old other report new
 earns_said old said asked other report new (inl one) (inl two) earned =
     let same : Some asked ≡ Some other = sym one ∙ two in
@@ -376,8 +395,8 @@ earns_said old said asked other report new (inl one) (inr two) earned = let no :
 earns_said None said asked other report new (inr one) two earned = absurd earned
 earns_said (Some old) said asked other report new (inr one) (inl two) earned = let no : Some other ≡ None = sym two ∙ no_command said one.0 one.1 in absurd (let it : ⊥ = cc in it)
 earns_said (Some old) said asked other report new (inr one) (inr two) earned =
-    let first : Earns old.engine (command.Answer one.0) report new = subst (λ (c : Command). Earns old.engine c report new) one.2 earned in
-    subst (λ (c : Command). Earns old.engine c report new) (sym two.2) (first.0, shown_then two.0 one.0 first.0 (same_answer said two.0 one.0 two.1 one.1) first.1, first.2)
+    let first : Earns old.engine (command.Answer one.0) report new = subst (λ (c : Command). EarnsBeside old.searched old.engine c report new) one.2 earned in
+    subst (λ (c : Command). EarnsBeside old.searched old.engine c report new) (sym two.2) (first.0, shown_then two.0 one.0 first.0 (same_answer said two.0 one.0 two.1 one.1) first.1, first.2)
 
 pub fair_asked : (old : Option OpenScript) (next : Next) (asked : Command) (stored : List ℕ) → ((line : List ℕ) → IsTold line next → Asks line asked) → (got : Found) → IsFair old asked stored got → IsFairTo old next stored got
 fair_asked old next asked stored asks (found.Right what) fair = tt

@@ -7,7 +7,7 @@ use Rattle.txn.specs.declared.transactions.Fragment.{Fragment}
 use Rattle.txn.specs.declared.transactions.Txn.{Txn}
 use Rattle.txn.specs.declared.transactions.TxnId.{TxnId}
 use Rattle.txn.specs.declared.refusals.Refusal.{Refusal}
-use Rattle.txn.specs.declared.refusals.Refusal.TheVariants.{BadSession, BadTxn, BadFence, Gap, Repeat, Closed, Backlog, TooLong, RoundOpen, NoCut, NoMemory, NotAnchored}
+use Rattle.txn.specs.declared.refusals.Refusal.TheVariants.{BadSession, BadTxn, BadFence, Gap, Repeat, Closed, Backlog, TooLong, RoundOpen, NoRound, NoCut, NoMemory, NotAnchored}
 use Rattle.txn.specs.Transactions.{IsWellFormed, IsWellFormedFragment, HasGoodLengths, TxnFault, FirstFault, FragmentFault, id_in}
 use Rattle.logged_fragments.specs.declared.logged.LoggedFragment.{LoggedFragment}
 use Rattle.logged_fragments.specs.Effects.{effects}
@@ -15,7 +15,7 @@ use Rattle.order_check.specs.declared.remainder.Parts.{Parts}
 use Rattle.order_check.specs.StandsFor.{IsOpenSession}
 use Rattle.settle.specs.declared.cuts.Cut.{Cut}
 use Rattle.round_state.specs.EngineState.{EngineState}
-use Rattle.round_state.specs.Steps.{StepsTo, IntakeFault, IsAdmitted, IsOfferRefusal, JoinFault, IsLetIn, IsJoinRefusal, IsCloseRefusal, MayBegin, IsBeginRefusal, IsTruncated, IsTruncateRefusal, IsRebuildRefusal}
+use Rattle.round_state.specs.Steps.{StepsTo, IntakeFault, IsAdmitted, IsOfferRefusal, JoinFault, IsLetIn, IsJoinRefusal, IsCloseRefusal, MayBegin, IsBeginRefusal, IsTruncated, IsTruncateRefusal, IsRebuildRefusal, IsAbandonRefusal}
 use Rattle.round_state.specs.declared.steps.Step.{Step}
 use Rattle.round_state.specs.declared.steps.Step.TheVariants as step
 use Rattle.round_state.specs.declared.steps.StepReply.{StepReply}
@@ -300,6 +300,15 @@ one_held held cut other a b = let same : Some cut ≡ Some other = sym a ∙ b i
 abbrev pub IsSaidOnce : StepReply → StepReply → Type 0
 IsSaidOnce s t = (s ≡ reply.Refused NoMemory) ⊎ ((t ≡ reply.Refused NoMemory) ⊎ (s ≡ t))
 
+abandoned_anyway : (old : EngineState) (r : Refusal) → IsSome old.asked → IsAbandonRefusal old r → ⊥
+abandoned_anyway old NoRound some is = none_and_some old.asked is some
+abandoned_anyway old r some is = is
+
+pub same_abandon : (old : EngineState) (r q : Refusal) → IsAbandonRefusal old r → IsAbandonRefusal old q → r ≡ q
+same_abandon old NoRound NoRound a b = refl
+same_abandon old NoRound q a b = absurd b
+same_abandon old r q a b = absurd a
+
 refused_once : (r q : Refusal) → IsOne r q → IsSaidOnce (reply.Refused r) (reply.Refused q)
 refused_once r q (inl is) = inl (ap reply.Refused is)
 refused_once r q (inr (inl is)) = inr (inl (ap reply.Refused is))
@@ -311,6 +320,7 @@ IsOneWay (step.Offer logged) = ⊤
 IsOneWay (step.Join logged) = ⊤
 IsOneWay (step.Close session) = ⊤
 IsOneWay step.Begin = ⊤
+IsOneWay step.Abandon = ⊤
 IsOneWay step.Truncate = ⊤
 IsOneWay step.Rebuild = ⊤
 IsOneWay asked = ⊥
@@ -344,6 +354,13 @@ said_once old step.Begin (reply.Refused r) (reply.Refused q) m n one a b = refus
 said_once old step.Begin reply.Done t m n one a b = absurd b
 said_once old step.Begin (reply.Refused r) t m n one a b = absurd b
 said_once old step.Begin s t m n one a b = absurd a
+said_once old step.Abandon reply.Done reply.Done m n one a b = inr (inr refl)
+said_once old step.Abandon reply.Done (reply.Refused q) m n one a b = absurd (abandoned_anyway old q a.0 b.0)
+said_once old step.Abandon (reply.Refused r) reply.Done m n one a b = absurd (abandoned_anyway old r b.0 a.0)
+said_once old step.Abandon (reply.Refused r) (reply.Refused q) m n one a b = refused_once r q (inr (inr (same_abandon old r q a.0 b.0)))
+said_once old step.Abandon reply.Done t m n one a b = absurd b
+said_once old step.Abandon (reply.Refused r) t m n one a b = absurd b
+said_once old step.Abandon s t m n one a b = absurd a
 said_once old step.Rebuild reply.Done reply.Done m n one a b = inr (inr refl)
 said_once old step.Rebuild reply.Done (reply.Refused q) m n one a b = inr (inl (ap reply.Refused (rebuilt_anyway old q a.0 b.0)))
 said_once old step.Rebuild (reply.Refused r) reply.Done m n one a b = inl (ap reply.Refused (rebuilt_anyway old r b.0 a.0))

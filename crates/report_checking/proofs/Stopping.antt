@@ -1,6 +1,6 @@
 -- Where the check of a script stops.
-use Rattle.std.proofs.Common.{◌≡◌, ℕ, ◌+◌, List, ◌∷◌, ◌++◌, Option, Some, None, ap, sym, ◌∙◌, subst, arith, inl, inr}
-use Rattle.std.specs.Prelude.{◌⊎◌}
+use Rattle.std.proofs.Common.{◌≡◌, ℕ, ◌+◌, List, ◌∷◌, ◌++◌, Option, Some, None, true, false, refl, ap, sym, ◌∙◌, subst, arith, inl, inr}
+use Rattle.std.specs.Prelude.{Bool, not}
 use Rattle.polygraph.specs.declared.solving.Answer.{Answer}
 use Rattle.log_text.specs.declared.commands.Command.{Command}
 use Rattle.log_text.specs.declared.commands.Command.TheVariants as command
@@ -12,20 +12,25 @@ use Rattle.round_state.specs.Legal.{State}
 use Rattle.round_state.specs.declared.reports.Report.{Report}
 use Rattle.cobra.specs.Outputs.{IsTold}
 use Rattle.report_checking.specs.Owing.{ScriptState}
-use Rattle.report_checking.specs.Reading.{HoldsScript, Earns, IsFairTo, IsFairNext, IsOtherwiseNext, IsRead, StopsOn}
+use Rattle.report_checking.specs.Reading.{HoldsScript, EarnsBeside, IsFairTo, IsFairNext, IsOtherwiseNext, IsRead, StopsOn}
 use Rattle.report_checking.specs.RightReports.{OwesReport, TellsRightReport, HasWrongNext}
 use Rattle.report_checking.specs.declared.findings.Found.{Found}
 use Rattle.report_checking.specs.declared.findings.Found.TheVariants as found
 use Rattle.report_checking.specs.declared.findings.Fault.{Fault}
-use Rattle.report_checking.specs.declared.pairs.OpenScript.{OpenScript}
+use Rattle.report_checking.specs.declared.open_scripts.OpenScript.{OpenScript}
 use Rattle.report_checking.proofs.CheckedLines.{next_line}
 use Rattle.report_checking.proofs.OtherReplies.{no_right_other, no_unchecked}
 use Rattle.report_checking.proofs.RightReports.{shown_self}
 
 -- ---- where the check stops
 
-earns_of : (before : State) (asked : Command) (report : Report) (new : State) → OwesReport before asked report new → Earns before.engine asked report new.engine
-earns_of before (command.Finish budget depth workers search) report new owes = owes.earned
+not_searched : (searched : Bool) → searched ≡ false → not searched ≡ true
+not_searched true is = sym is
+not_searched false is = refl
+
+earns_of : (before : ScriptState) (asked : Command) (report : Report) (new : State) → OwesReport before asked report new → EarnsBeside before.searched before.state.engine asked report new.engine
+earns_of before (command.Finish budget depth workers search) report new owes = (not_searched before.searched owes.0, owes.1.earned)
+earns_of before (command.Collect waits) report new owes = (owes.0, owes.1.earned)
 earns_of before (command.Round budget depth workers search) report new owes = (owes.0.engine, owes.1.engine, owes.2.earned)
 earns_of before (command.Answer it) report new owes = (it, shown_self it, owes.engine)
 earns_of before asked report new owes = absurd owes
@@ -35,7 +40,8 @@ no_right_report script None next line stored why holds said fair right = right
 no_right_report None (Some before) next line stored why holds said fair right = holds
 no_right_report (Some script) (Some before) next line stored why holds said fair right =
     fair line said right.command right.asks right.report right.new.engine
-    (subst (λ (e : EngineState). Earns e right.command right.report right.new.engine) holds.0.same (earns_of before.state right.command right.report right.new right.owed)) right.shows right.text_is
+    (subst (λ (s : Bool). EarnsBeside s script.engine right.command right.report right.new.engine) (sym holds.2)
+    (subst (λ (e : EngineState). EarnsBeside before.searched e right.command right.report right.new.engine) holds.0.same (earns_of before right.command right.report right.new right.owed))) right.shows right.text_is
 
 -- what was read behind the line
 wrong_behind : (limit : ℕ) (left : List (List ℕ)) (after : Option (List (List ℕ))) (line : List ℕ) (next stored : Next) (script : Option OpenScript) (state : Option ScriptState) (why : Fault) → limit ≡ 1073741824 → HoldsScript script state → IsTold line next → IsNextOf limit (Some left) stored after

@@ -1,8 +1,8 @@
 -- Scripts whose stored replies are right.
-use Rattle.std.specs.Prelude.{◌≡◌, ℕ, ⊤, List, [], ◌∷◌, ◌++◌, Option, Some, None}
+use Rattle.std.specs.Prelude.{◌≡◌, ℕ, ⊤, false, List, [], ◌∷◌, ◌++◌, Option, Some, None}
 use Rattle.txn.specs.declared.refusals.Refusal.TheVariants.{NoMemory}
 use Rattle.log_text.specs.declared.commands.Command.{Command}
-use Rattle.log_text.specs.declared.commands.Command.TheVariants.{Start, Close, Show, Resume, Marks, Last, Resumed, Save}
+use Rattle.log_text.specs.declared.commands.Command.TheVariants.{Start, Close, BeginSearch, Collect, Skip, Show, Resume, Marks, Last, Resumed, Save}
 use Rattle.log_text.specs.declared.replies.Reply.{Reply}
 use Rattle.log_text.specs.declared.replies.Reply.TheVariants as told
 use Rattle.log_text.specs.Replies.{text_of}
@@ -25,6 +25,8 @@ OpensEngine command = ⊥
 abbrev pub AsksOfMemory : Command → Type 0
 AsksOfMemory (Start sessions limit version) = ⊥
 AsksOfMemory (Close session) = ⊥
+AsksOfMemory (BeginSearch budget depth workers search) = ⊥
+AsksOfMemory Skip = ⊥
 AsksOfMemory Show = ⊥
 AsksOfMemory (Save wanted) = ⊥
 AsksOfMemory (Resume sessions limit version) = ⊥
@@ -37,13 +39,18 @@ abbrev pub TakesMemory : {X : Type 0} → Option X → Command → Type 0
 TakesMemory None command = OpensEngine command
 TakesMemory (Some open_one) command = AsksOfMemory command
 
--- The stored reply to a command says that memory was wanting, of which nothing is known; it changes nothing.
+-- What such a refusal leaves: a search that was to be collected is over, and else nothing has changed.
+abbrev pub left_by : Command → Option ScriptState → Option ScriptState
+left_by (Collect waits) (Some old) = Some (record old { searched = false })
+left_by command old = old
+
+-- The stored reply to a command says that memory was wanting, of which nothing is known.
 pub record IsUnchecked (old : Option ScriptState) (line stored : List ℕ) (new : Option ScriptState) : Type 0 where
   pub command : Command
   pub asks : Asks line command
   pub takes : TakesMemory old command
   pub text_is : stored ≡ text_of (told.No NoMemory)
-  pub same : new ≡ old
+  pub left : new ≡ left_by command old
 
 -- From the beginning of a script on: lines and stored replies by turns, each of which is right, or says that memory was wanting; and what
 -- they lead to.

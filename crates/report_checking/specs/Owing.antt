@@ -1,10 +1,11 @@
 -- Which reply is owed to a line of a script, where no search is made: what a report tells is judged by its own certificate.
-use Rattle.std.specs.Prelude.{◌≡◌, ℕ, ◌+◌, ◌⊎◌, ⊤, List, Option, Some, None, IsSomeAnd}
+use Rattle.std.specs.Prelude.{◌≡◌, ℕ, ◌+◌, ◌⊎◌, ⊤, Bool, true, false, not, List, Option, Some, None, IsSomeAnd}
 use Rattle.txn.specs.declared.refusals.Refusal.{Refusal}
-use Rattle.txn.specs.declared.refusals.Refusal.TheVariants.{NoRound}
+use Rattle.txn.specs.declared.refusals.Refusal.TheVariants.{NoRound, RoundOpen}
+use Rattle.order_check.specs.declared.remainder.Parts.{Parts}
 use Rattle.polygraph.specs.declared.solving.Answer as solved
 use Rattle.log_text.specs.declared.commands.Command.{Command}
-use Rattle.log_text.specs.declared.commands.Command.TheVariants.{Start, Offer, Join, Close, Begin, Finish, Round, Truncate, Rebuild, Show, Resume, Save, Answer}
+use Rattle.log_text.specs.declared.commands.Command.TheVariants.{Start, Offer, Join, Close, Begin, Finish, Round, BeginSearch, Collect, Skip, Truncate, Rebuild, Show, Resume, Save, Answer}
 use Rattle.log_text.specs.declared.replies.Reply.{Reply}
 use Rattle.log_text.specs.declared.replies.Reply.TheVariants as told
 use Rattle.log_text.specs.declared.versions.Version.{Version}
@@ -54,7 +55,7 @@ OwesRound old answer new =
 abbrev pub IsStep : State → Step → Reply → State → Type 0
 IsStep old asked answer new = (said : StepReply) × Legal old asked said new × (answer ≡ reply_of said)
 
--- what is owed to a command, where an engine is open, for lines of this version
+-- what is owed to a command that is about an open engine alone, for lines of this version
 abbrev pub OwesOpen : Version → State → Command → Reply → State → Type 0
 OwesOpen version old (Offer logged) answer new = IsTakenIn version logged old answer new (IsStep old (step.Offer logged) answer new)
 OwesOpen version old (Join logged) answer new = IsTakenIn version logged old answer new (IsStep old (step.Join logged) answer new)
@@ -69,14 +70,53 @@ OwesOpen version old Show answer new = (answer ≡ state_told old.engine) × (ne
 OwesOpen version old (Save wanted) answer new = (answer ≡ saved_told old.engine.parts wanted) × (new ≡ old)
 OwesOpen version old command answer new = IsBadLine old answer new
 
--- A script whose engine is open: the engine, with the history that it stands for, and the version of the lines.
+-- A search lasts no longer than the round that it was begun for.
+abbrev pub searched_after : Bool → Option Parts → Bool
+searched_after searched None = false
+searched_after searched (Some parts) = searched
+
+-- A search is begun where a round is open and none was; what is told, and whether one was begun then.
+abbrev pub BeginsSearch : Option Parts → Bool → Reply → Bool → Type 0
+BeginsSearch None searched answer after = (answer ≡ told.No NoRound) × (after ≡ searched)
+BeginsSearch (Some parts) true answer after = (answer ≡ told.No RoundOpen) × (after ≡ true)
+BeginsSearch (Some parts) false answer after = (answer ≡ told.Done) × (after ≡ true)
+
+-- Where it may be made, a finish is owed, after which no search is under way; else this refusal, and nothing changes.
+abbrev pub FinishesWhere : Bool → Refusal → Bool → State → Reply → Bool → State → Type 0
+FinishesWhere true refusal searched old answer after new = OwesFinish old answer new × (after ≡ false)
+FinishesWhere false refusal searched old answer after new = (answer ≡ told.No refusal) × (new ≡ old) × (after ≡ searched)
+
+-- A search goes on, and nobody waits for it. That may be told at any moment.
+abbrev pub GoesOn : Bool → Bool → State → Reply → Bool → State → Type 0
+GoesOn waits searched old answer after new = (waits ≡ false) × (searched ≡ true) × (answer ≡ told.Searching) × (new ≡ old) × (after ≡ searched)
+
+-- the command is about the engine alone
+abbrev pub IsOfEngine : Command → Type 0
+IsOfEngine (BeginSearch budget depth workers search) = ⊥
+IsOfEngine (Collect waits) = ⊥
+IsOfEngine Skip = ⊥
+IsOfEngine (Finish budget depth workers search) = ⊥
+IsOfEngine command = ⊤
+
+-- What is owed to a command, where an engine is open, for lines of this version: with whether a search was begun for the open round that isn't
+-- collected yet, before and after. What it searches isn't looked at: a report is judged by its certificate.
+abbrev pub OwesBeside : Version → Bool → State → Command → Reply → Bool → State → Type 0
+OwesBeside version searched old (BeginSearch budget depth workers search) answer after new = BeginsSearch old.engine.asked searched answer after × (new ≡ old)
+OwesBeside version searched old (Collect waits) answer after new = GoesOn waits searched old answer after new ⊎ FinishesWhere searched NoRound searched old answer after new
+OwesBeside version searched old Skip answer after new = IsStep old step.Abandon answer new × (after ≡ false)
+OwesBeside version searched old (Finish budget depth workers search) answer after new = FinishesWhere (not searched) RoundOpen searched old answer after new
+OwesBeside version searched old command answer after new = OwesOpen version old command answer new × (after ≡ searched_after searched new.engine.asked)
+
+-- A script whose engine is open: the engine, with the history that it stands for, the version of the lines, and whether a search was begun for the
+-- open round that isn't collected yet.
 pub record ScriptState : Type 0 where
   pub state : State
   pub version : Version
+  pub searched : Bool
 
 -- What is owed to a command, where none is open yet. To one that begins a hand-over nothing is: what had gone before isn't shown.
 abbrev pub OwesFirst : Command → Reply → Option ScriptState → Type 0
-OwesFirst (Start sessions limit version) told.Done new = IsSessions sessions × IsLimit limit × (new ≡ Some (record { state = fresh_state sessions limit; version = version }))
+OwesFirst (Start sessions limit version) told.Done new = IsSessions sessions × IsLimit limit × (new ≡ Some (record { state = fresh_state sessions limit; version = version; searched = false }))
 OwesFirst (Start sessions limit version) (told.No refusal) new = IsOpenRefusal sessions limit refusal × (new ≡ None)
 OwesFirst (Start sessions limit version) answer new = ⊥
 OwesFirst (Resume sessions limit version) answer new = ⊥
@@ -85,7 +125,7 @@ OwesFirst command answer new = IsBadLine None answer new
 -- what is owed to a command; a script has a state once its engine is open, and its version stays
 abbrev pub Owes : Option ScriptState → Command → Reply → Option ScriptState → Type 0
 Owes None command answer new = OwesFirst command answer new
-Owes (Some old) command answer (Some new) = OwesOpen old.version old.state command answer new.state × (new.version ≡ old.version)
+Owes (Some old) command answer (Some new) = OwesBeside old.version old.searched old.state command answer new.searched new.state × (new.version ≡ old.version)
 Owes (Some old) command answer None = ⊥
 
 -- what is owed to a line: that of its command, and BadLine where it is none

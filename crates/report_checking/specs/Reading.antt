@@ -1,10 +1,10 @@
 -- For private clauses: what single calls of the checker come to, whatever histories its engine stood for.
-use Rattle.std.specs.Prelude.{◌≡◌, ◌≢◌, ℕ, ◌<◌, ◌⊎◌, ⊤, Bool, true, false, nat_eq, List, ◌++◌, length, Option, Some, None}
+use Rattle.std.specs.Prelude.{◌≡◌, ◌≢◌, ℕ, ◌<◌, ◌⊎◌, ⊤, Bool, true, false, not, nat_eq, List, ◌++◌, length, Option, Some, None}
 use Rattle.std.specs.List.{list_any}
 use Rattle.txn.specs.declared.refusals.Refusal.{Refusal}
-use Rattle.txn.specs.declared.refusals.Refusal.TheVariants.{NoMemory, NoRound, BadLine}
+use Rattle.txn.specs.declared.refusals.Refusal.TheVariants.{NoMemory, NoRound, RoundOpen, BadLine}
 use Rattle.log_text.specs.declared.commands.Command.{Command}
-use Rattle.log_text.specs.declared.commands.Command.TheVariants.{Start, Offer, Join, Close, Begin, Finish, Round, Truncate, Rebuild, Show, Resume, Save, Answer}
+use Rattle.log_text.specs.declared.commands.Command.TheVariants.{Start, Offer, Join, Close, Begin, Finish, Round, BeginSearch, Collect, Skip, Truncate, Rebuild, Show, Resume, Save, Answer}
 use Rattle.polygraph.specs.declared.solving.Answer as solved
 use Rattle.polygraph.specs.declared.solving.Answer.TheVariants as answers
 use Rattle.log_text.specs.declared.replies.Reply.{Reply}
@@ -35,11 +35,11 @@ use Rattle.cobra.specs.Outputs.{Asks, IsTold}
 use Rattle.cobra.specs.Saving.{saved_told}
 use Rattle.cobra.specs.Scripts.{state_told}
 use Rattle.cobra.specs.StepReplies.{certificate_of, report_of, reply_of}
-use Rattle.report_checking.specs.Checking.{IsRightReply, IsUnchecked, TakesMemory, Checks, IsAllRight}
-use Rattle.report_checking.specs.Owing.{IsEarned, Owes, ScriptState}
+use Rattle.report_checking.specs.Checking.{IsRightReply, IsUnchecked, TakesMemory, Checks, IsAllRight, left_by}
+use Rattle.report_checking.specs.Owing.{BeginsSearch, IsEarned, Owes, ScriptState}
 use Rattle.report_checking.specs.RightReports.{shown_of, StopsAtWrong}
 use Rattle.report_checking.specs.declared.findings.Found.{Found}
-use Rattle.report_checking.specs.declared.pairs.OpenScript.{OpenScript}
+use Rattle.report_checking.specs.declared.open_scripts.OpenScript.{OpenScript}
 use Rattle.report_checking.specs.declared.findings.Found.TheVariants as found
 use Rattle.report_checking.specs.declared.findings.Fault.{Fault}
 use Rattle.report_checking.specs.declared.findings.Fault.TheVariants as fault
@@ -52,10 +52,11 @@ use Rattle.report_checking.specs.declared.findings.Owed.TheVariants as owed
 abbrev pub Leads : EngineState → EngineState → (State → State → Type 0) → Type 0
 Leads old new P = (before : State) → Holds old before → (after : State) × P before after × Holds new after
 
--- A script, once it is open, is of the version of its state; its engine is that of the state, and stands for the histories of the state.
+-- A script, once it is open, is of the version of its state, and searches where that does; its engine is that of the state, and stands for the
+-- histories of the state.
 abbrev pub HoldsScript : Option OpenScript → Option ScriptState → Type 0
 HoldsScript None None = ⊤
-HoldsScript (Some script) (Some state) = Holds script.engine state.state × (script.version ≡ state.version)
+HoldsScript (Some script) (Some state) = Holds script.engine state.state × (script.version ≡ state.version) × (script.searched ≡ state.searched)
 HoldsScript script state = ⊥
 
 -- the same of a script, once it is open
@@ -101,10 +102,20 @@ IsFoundOf (owed.Nothing why) stored other = ⊥
 abbrev pub has_brace : List ℕ → Bool
 has_brace text = list_any (λ byte. nat_eq byte 123) text
 
+-- the command may be told that a search goes on
+abbrev pub MayGoOn : Option OpenScript → Command → Type 0
+MayGoOn (Some script) (Collect waits) = (waits ≡ false) × (script.searched ≡ true)
+MayGoOn script command = ⊥
+
+-- what is left of a script where memory was wanting for a command
+abbrev pub script_left : Command → Option OpenScript → Option OpenScript
+script_left (Collect waits) (Some script) = Some (record script { searched = false })
+script_left command script = script
+
 -- What is found of a stored reply to a command.
 abbrev pub FindsFor : Option OpenScript → Command → List ℕ → Found → Option OpenScript → Type 0
 FindsFor old command stored (found.Right what) new = (answer : Reply) × (stored ≡ text_of answer) × LeadsScript old new (λ before after. Owes before command answer after)
-FindsFor old command stored found.Unchecked new = TakesMemory old command × (stored ≡ text_of (told.No NoMemory)) × (new ≡ old)
+FindsFor old command stored found.Unchecked new = TakesMemory old command × (stored ≡ text_of (told.No NoMemory)) × LeadsScript old new (λ before after. after ≡ left_by command before)
 FindsFor old command stored (found.Wrong (fault.Other text)) new = (answer : Reply) × (stored ≢ text.items) × (text.items ≡ text_of answer) × LeadsScript old new (λ before after. Owes before command answer after)
 FindsFor old command stored other new = ⊤
 
@@ -163,10 +174,22 @@ Earns old (Round budget depth workers search) report new = (begun : EngineState)
 Earns old (Answer handed) report new = (other : Shown) × IsSameShown (Some handed) (Some other) × StepsTo old (step.Judge (certificate_of other)) (reply.Report report) new
 Earns old command report new = ⊥
 
+-- the same of a finish, where it may be made
+abbrev pub EarnsWhere : Bool → EngineState → Report → EngineState → Type 0
+EarnsWhere may old report new = (may ≡ true) × IsEarned old report new
+
+-- the same where a search is under way, or none is
+abbrev pub EarnsBeside : Bool → EngineState → Command → Report → EngineState → Type 0
+EarnsBeside searched old (BeginSearch budget depth workers search) report new = ⊥
+EarnsBeside searched old (Collect waits) report new = EarnsWhere searched old report new
+EarnsBeside searched old Skip report new = ⊥
+EarnsBeside searched old (Finish budget depth workers search) report new = EarnsWhere (not searched) old report new
+EarnsBeside searched old command report new = Earns old command report new
+
 -- the same of a script; the version of its lines has no part in it
 abbrev pub EarnsScript : Option OpenScript → Command → Report → EngineState → Type 0
 EarnsScript None command report new = ⊥
-EarnsScript (Some old) command report new = Earns old.engine command report new
+EarnsScript (Some old) command report new = EarnsBeside old.searched old.engine command report new
 
 -- Where a report is earned and the stored reply shows its certificate, this is so of its text.
 abbrev pub OfRight : (Report → EngineState → Type 0) → List ℕ → (List ℕ → Type 0) → Type 0
@@ -221,6 +244,19 @@ Gives version old Show answer = answer ≡ state_told old
 Gives version old (Save wanted) answer = answer ≡ saved_told old.parts wanted
 Gives version old command answer = answer ≡ told.No BadLine
 
+-- the same of a finish where it may be made, and else this refusal
+abbrev pub GivesWhere : Bool → Refusal → EngineState → Reply → Type 0
+GivesWhere true refusal old answer = (old.asked ≡ None) × (answer ≡ told.No NoRound)
+GivesWhere false refusal old answer = answer ≡ told.No refusal
+
+-- The same where a search is under way, or none is. That one goes on is apart.
+abbrev pub GivesBeside : Version → Bool → EngineState → Command → Reply → Type 0
+GivesBeside version searched old (BeginSearch budget depth workers search) answer = (after : Bool) × BeginsSearch old.asked searched answer after
+GivesBeside version searched old (Collect waits) answer = GivesWhere searched NoRound old answer
+GivesBeside version searched old Skip answer = IsStepTold old step.Abandon answer
+GivesBeside version searched old (Finish budget depth workers search) answer = GivesWhere (not searched) RoundOpen old answer
+GivesBeside version searched old command answer = Gives version old command answer
+
 -- the same where no engine is open
 abbrev pub GivesFirst : Command → Reply → Type 0
 GivesFirst (Start sessions limit version) told.Done = IsSessions sessions × IsLimit limit
@@ -232,7 +268,7 @@ GivesFirst command answer = answer ≡ told.No BadLine
 -- the same of a script
 abbrev pub GivesScript : Option OpenScript → Command → Reply → Type 0
 GivesScript None command answer = GivesFirst command answer
-GivesScript (Some old) command answer = Gives old.version old.engine command answer
+GivesScript (Some old) command answer = GivesBeside old.version old.searched old.engine command answer
 
 -- What is owed is the one right reply of these, want of memory apart.
 abbrev pub IsAlone : (Reply → Type 0) → Owed → Type 0
@@ -244,11 +280,11 @@ abbrev pub IsTakenAs : Version → EngineState → LoggedFragment → Step → O
 IsTakenAs version old logged asked given =
     ((has_form version logged ≡ true) × IsToldOf old asked given) ⊎ ((has_form version logged ≡ false) × (given ≡ owed.Reply (told.No BadLine)))
 
--- A reply to the command that is found wrong is the text of no right reply that isn't a report, and doesn't say that memory was wanting where
--- that is left out.
+-- A reply to the command that is found wrong is the text of no right reply that isn't a report, doesn't say that memory was wanting where that is
+-- left out, and doesn't say that a search goes on where that may be told.
 abbrev pub IsOtherwise : Option OpenScript → Command → List ℕ → Found → Type 0
 IsOtherwise old command stored (found.Wrong why) =
-    ((answer : Reply) → GivesScript old command answer → stored ≢ text_of answer) × (TakesMemory old command → stored ≢ text_of (told.No NoMemory))
+    ((answer : Reply) → GivesScript old command answer → stored ≢ text_of answer) × (TakesMemory old command → stored ≢ text_of (told.No NoMemory)) × (MayGoOn old command → stored ≢ text_of told.Searching)
 IsOtherwise old command stored given = ⊤
 
 -- the same of a reply to what was read

@@ -1,7 +1,7 @@
 -- Scripts of which a stored reply is told wrong: the first such reply isn't a right one.
-use Rattle.std.specs.Prelude.{◌≡◌, ◌<◌, ◌⊎◌, ⊤, ℕ, List, [], ◌∷◌, ◌++◌, length, Option, Some, None}
+use Rattle.std.specs.Prelude.{◌≡◌, ◌<◌, ◌⊎◌, ⊤, ℕ, true, false, List, [], ◌∷◌, ◌++◌, length, Option, Some, None}
 use Rattle.log_text.specs.declared.commands.Command.{Command}
-use Rattle.log_text.specs.declared.commands.Command.TheVariants.{Finish, Round, Answer}
+use Rattle.log_text.specs.declared.commands.Command.TheVariants.{Finish, Round, Collect, Answer}
 use Rattle.log_text.specs.declared.replies.Reply.{Reply}
 use Rattle.log_text.specs.declared.replies.Reply.TheVariants as told
 use Rattle.log_text.specs.declared.shown.Shown.{Shown}
@@ -27,15 +27,16 @@ shown_of (Refuted tree) = Some (shown.Refuted tree)
 shown_of Nothing = None
 
 -- the report is owed to a command that ends a round; to one that hands an answer in, where that is right
-abbrev pub OwesReport : State → Command → Report → State → Type 0
-OwesReport old (Finish budget depth workers search) report new = IsOwedReport old report new
-OwesReport old (Round budget depth workers search) report new = (begun : State) × Legal old step.Begin reply.Done begun × IsOwedReport begun report new
-OwesReport old (Answer handed) report new = Legal old (step.Judge (certificate_of handed)) (reply.Report report) new
+abbrev pub OwesReport : ScriptState → Command → Report → State → Type 0
+OwesReport old (Finish budget depth workers search) report new = (old.searched ≡ false) × IsOwedReport old.state report new
+OwesReport old (Collect waits) report new = (old.searched ≡ true) × IsOwedReport old.state report new
+OwesReport old (Round budget depth workers search) report new = (begun : State) × Legal old.state step.Begin reply.Done begun × IsOwedReport begun report new
+OwesReport old (Answer handed) report new = Legal old.state (step.Judge (certificate_of handed)) (reply.Report report) new
 OwesReport old command report new = ⊥
 
 -- The stored reply to the line is a right report: it is the text of one that is owed, whatever its certificate, and it shows that
 -- certificate. The text that `write_reply` wrote of a report does, where it names sessions up to 255 and its tree is merged.
-pub record IsRightReport (old : State) (line stored : List ℕ) : Type 0 where
+pub record IsRightReport (old : ScriptState) (line stored : List ℕ) : Type 0 where
   pub command : Command
   pub asks : Asks line command
   pub report : Report
@@ -47,7 +48,7 @@ pub record IsRightReport (old : State) (line stored : List ℕ) : Type 0 where
 -- the same of a script, whatever the version of its lines is
 abbrev pub TellsRightReport : Option ScriptState → List ℕ → List ℕ → Type 0
 TellsRightReport None line stored = ⊥
-TellsRightReport (Some old) line stored = IsRightReport old.state line stored
+TellsRightReport (Some old) line stored = IsRightReport old line stored
 
 -- the reply isn't a report
 abbrev pub IsNoReport : Reply → Type 0

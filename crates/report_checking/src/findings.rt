@@ -69,6 +69,7 @@ pub(crate) fn what_of(answer: &Reply) -> What
         Reply::Violated { .. } => What::Report(Kind::Violated),
         Reply::Spent { .. } => What::Report(Kind::Spent),
         Reply::Cut { .. } => What::Cut,
-        Reply::Done | Reply::No(_) | Reply::Show { .. } | Reply::Saved(_) => What::Other,
+        Reply::Done | Reply::Searching | Reply::No(_) | Reply::Show { .. } | Reply::Saved(_) =>
+            What::Other,
     }
 }

@@ -6,6 +6,7 @@ mod certificates;
 mod checking;
 mod exits;
 mod findings;
+mod open_scripts;
 mod owed;
 mod pairs;
 mod replayed;

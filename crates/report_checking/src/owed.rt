@@ -28,7 +28,7 @@ fn unshown_by(answer: &Answer) -> Unshown {
 }
 
 /// What is owed to a step that isn't a finish.
-fn owed_step(engine: &mut Replayed, alloc: Global, step: Step) -> Result<Owed, NoMemory>
+pub(crate) fn owed_step(engine: &mut Replayed, alloc: Global, step: Step) -> Result<Owed, NoMemory>
     requires { IsPlain step }
     ensures owed { IfOk result (IsOwedBy (λ answer. Leads engine.old engine.new (λ before after. IsStep before step answer after))) }
     ensures told { IfOk result (IsToldOf engine.old step) }
@@ -38,7 +38,11 @@ fn owed_step(engine: &mut Replayed, alloc: Global, step: Step) -> Result<Owed, N
 }
 
 /// What is owed to a finish, whose report is what the certificate in the stored reply earns.
-fn owed_finish(engine: &mut Replayed, alloc: Global, stored: &[u8]) -> Result<Owed, NoMemory>
+pub(crate) fn owed_finish(
+    engine: &mut Replayed,
+    alloc: Global,
+    stored: &[u8],
+) -> Result<Owed, NoMemory>
     ensures owed { IfOk result (IsOwedBy (λ answer. Leads engine.old engine.new (λ before after. OwesFinish before answer after))) }
     ensures right { IfOk result (λ owed. OfRight (IsEarned engine.old) stored.now (λ text. OwesText text owed)) }
     ensures none { IfOk result (λ owed. engine.old.asked ≡ None → owed ≡ Owed.Reply (Reply.No Refusal.NoRound)) }
@@ -98,7 +102,7 @@ fn owed_join(
     }
 }
 
-/// What is owed to a command of an engine that is open, for lines of this version.
+/// What is owed to a command that is about an engine alone, for lines of this version.
 pub(crate) fn owed_open(
     engine: &mut Replayed,
     alloc: Global,
@@ -122,6 +126,9 @@ pub(crate) fn owed_open(
         Command::Rebuild => owed_step(engine, alloc, Step::Rebuild),
         Command::Show => Ok(Owed::Reply(state_told(alloc, engine.engine())?)),
         Command::Save(wanted) => Ok(Owed::Reply(saved_told(alloc, engine.engine(), wanted)?)),
+        Command::BeginSearch { .. } => Ok(Owed::Reply(Reply::No(Refusal::BadLine))),
+        Command::Collect { .. } => Ok(Owed::Reply(Reply::No(Refusal::BadLine))),
+        Command::Skip => Ok(Owed::Reply(Reply::No(Refusal::BadLine))),
         Command::Start { .. } => Ok(Owed::Reply(Reply::No(Refusal::BadLine))),
         Command::Resume { .. } => Ok(Owed::Reply(Reply::No(Refusal::BadLine))),
         Command::Marks { .. } => Ok(Owed::Reply(Reply::No(Refusal::BadLine))),

@@ -5,23 +5,16 @@ ghost use Rattle.txn.specs.declared.refusals.Refusal.TheVariants as refusals;
 ghost use Rattle.report_checking.specs.Checking.{TakesMemory};
 ghost use Rattle.report_checking.specs.Owing.{Owes};
 ghost use Rattle.report_checking.specs.Telling.{IsWhatOf};
-ghost use Rattle.report_checking.specs.Reading.{LeadsScript, IsOwedBy, IsOfKind, Finds, FindsFor, IsFoundBy, IsFoundOf, EarnsScript, OfRight, OwesText, IsFair, IsFairTo, GivesScript, IsAlone, IsOtherwise, IsOtherwiseTo, has_brace};
+ghost use Rattle.report_checking.specs.Reading.{LeadsScript, MayGoOn, script_left, IsOwedBy, IsOfKind, Finds, FindsFor, IsFoundBy, IsFoundOf, EarnsScript, OfRight, OwesText, IsFair, IsFairTo, GivesScript, IsAlone, IsOtherwise, IsOtherwiseTo, has_brace};
 
-use crate::findings::{Fault, Found, Owed, Unshown, what_of};
-use crate::owed::owed_open;
+use crate::findings::{Fault, Found, Owed, Unshown, What, what_of};
+use crate::open_scripts::OpenScript;
 use crate::replayed::Replayed;
 use byte_lines::Next;
 use cobra::command_in;
 use log_text::{Command, Reply, Version, write_reply};
 use std::alloc::{AllocError, Global};
 use txn::{NoMemory, Refusal};
-
-/// A script whose engine is open, for lines of this version.
-#[derive(Drop)]
-pub(crate) struct OpenScript {
-    engine: Replayed,
-    version: Version,
-}
 
 /// A script that is gone through once more.
 #[derive(Drop)]
@@ -54,6 +47,8 @@ impl Replay {
         match command {
             Command::Start { .. } => self.script.is_none(),
             Command::Close(_)
+            | Command::BeginSearch { .. }
+            | Command::Skip
             | Command::Show
             | Command::Save(_)
             | Command::Resume { .. }
@@ -72,7 +67,7 @@ impl Replay {
     {
         match Replayed::open(alloc, sessions, limit) {
             Ok(engine) => {
-                self.script = Some(OpenScript { engine, version });
+                self.script = Some(OpenScript::new(engine, version));
                 Reply::Done
             }
             Err(refusal) => Reply::No(refusal),
@@ -86,8 +81,7 @@ impl Replay {
         ensures alone { IfOk result (IsAlone (GivesScript self.old.script command)) }
     {
         if let Some(script) = &mut self.script {
-            let version = script.version;
-            return owed_open(&mut script.engine, alloc, version, command, stored);
+            return script.owed(alloc, command, stored);
         }
         match command {
             Command::Start {
@@ -109,7 +103,43 @@ impl Replay {
         if !self.takes_memory(command) {
             return Ok(false);
         }
-        is_want_of_memory(alloc, stored)
+        is_text_of(alloc, &Reply::No(Refusal::NoMemory), stored)
+    }
+
+    /// What is left where memory was wanting for a command: a search that was to be collected is over, and else nothing has changed.
+    fn leave_out(&mut self, command: &Command)
+        ensures { self.new.script ≡ script_left command.now self.old.script }
+    {
+        if let Command::Collect { .. } = command {
+            if let Some(script) = &mut self.script {
+                script.end_search();
+            }
+        }
+    }
+
+    /// Whether the command may be told that a search goes on.
+    fn may_go_on(&self, command: &Command) -> bool
+        ensures { IsTrue result ↔ MayGoOn self.now.script command.now }
+    {
+        match command {
+            Command::Collect { waits: false } => match &self.script {
+                Some(script) => script.is_searched(),
+                None => false,
+            },
+            _ => false,
+        }
+    }
+
+    /// Whether the stored reply to the command says that a search goes on, as it may at any moment.
+    fn is_going_on(&self, alloc: Global, command: &Command, stored: &[u8]) -> Result<bool, NoMemory>
+        ensures takes { IfOk result (λ is. IsTrue is → MayGoOn self.now.script command.now) }
+        ensures text { IfOk result (λ is. IsTrue is → stored.now ≡ text_of told.Searching) }
+        ensures none { IfOk result (λ is. ¬ IsTrue is → MayGoOn self.now.script command.now → stored.now ≢ text_of told.Searching) }
+    {
+        if !self.may_go_on(command) {
+            return Ok(false);
+        }
+        is_text_of(alloc, &Reply::Searching, stored)
     }
 
     /// What is found of a stored reply with a brace to a command. No report's text has one, so it shows nothing, and isn't read.
@@ -121,6 +151,7 @@ impl Replay {
     ) -> Result<Found, NoMemory>
         requires brace { has_brace stored.now ≡ true }
         requires checked { TakesMemory self.old.script command → stored.now ≢ text_of (told.No refusals.NoMemory) }
+        requires ended { MayGoOn self.old.script command → stored.now ≢ text_of told.Searching }
         ensures finds { IfOk result (λ found. FindsFor self.old.script command stored.now found self.new.script) }
         ensures fair { IfOk result (λ found. IsFair self.old.script command stored.now found) }
         ensures otherwise { IfOk result (λ found. IsOtherwise self.old.script command stored.now found) }
@@ -141,7 +172,11 @@ impl Replay {
         ensures otherwise { IfOk result (λ found. IsOtherwise self.old.script command stored.now found) }
     {
         if self.is_left_out(alloc, &command, stored)? {
+            self.leave_out(&command);
             return Ok(Found::Unchecked);
+        }
+        if self.is_going_on(alloc, &command, stored)? {
+            return Ok(Found::Right(What::Other));
         }
         if stored.contains(&b'{') {
             return self.check_unread(alloc, command, stored);
@@ -168,10 +203,12 @@ impl Replay {
     }
 }
 
-fn is_want_of_memory(alloc: Global, stored: &[u8]) -> Result<bool, NoMemory>
-    ensures { IfOk result (λ is. IsTrue is ↔ (stored.now ≡ text_of (told.No refusals.NoMemory))) }
+/// Whether this is the text of the reply.
+fn is_text_of(alloc: Global, answer: &Reply, stored: &[u8]) -> Result<bool, NoMemory>
+    requires { HasKindOfOrder answer.now }
+    ensures { IfOk result (λ is. IsTrue is ↔ (stored.now ≡ text_of answer.now)) }
 {
-    let text = text_of(alloc, &Reply::No(Refusal::NoMemory))?;
+    let text = text_of(alloc, answer)?;
     Ok(text.as_slice() == stored)
 }
 

@@ -1,4 +1,4 @@
-ghost use Rattle.std.specs.Prelude.{◌≡◌, ◌+◌, Some, IsSomeAnd, IfOk, IfErr, OnOk, ⊤};
+ghost use Rattle.std.specs.Prelude.{◌≡◌, ◌+◌, Some, None, IsSome, IsSomeAnd, IfOk, IfErr, OnOk, MatchBool, ⊤};
 ghost use Rattle.order_check.specs.declared.remainder.Parts.{Parts};
 ghost use Rattle.order_check.specs.Good.{IsGood};
 ghost use Rattle.round_state.specs.Opening.{IsSessions, IsLimit, IsOpenRefusal, fresh_state};
@@ -72,6 +72,13 @@ impl Replayed {
         ensures { result.now ≡ self.now }
     {
         &self.engine
+    }
+
+    /// Whether a round is open.
+    pub(crate) fn has_round(&self) -> bool
+        ensures { MatchBool result (IsSome self.now.asked) (self.now.asked ≡ None) }
+    {
+        self.kept.is_some()
     }
 
     /// Makes a step that isn't a finish.

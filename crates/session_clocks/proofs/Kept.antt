@@ -42,7 +42,7 @@ module _ (gone received : List ℕ) (lens : length received ≡ length gone) whe
     few = λ a session there within. let e = same a session there in let s = are.few a session there within in omega (arith, e, s);
   }
 
-  AreLines-same : (old new : List (Vec ℕ Global)) → AreAsLong old new → AreLines gone received old → AreLines gone received new
+  pub AreLines-same : (old new : List (Vec ℕ Global)) → AreAsLong old new → AreLines gone received old → AreLines gone received new
   AreLines-same old new long are = record {
     sessions = long.sessions ∙ are.sessions;
     rows = λ session within. long.each session ∙ are.rows session within;

@@ -5,7 +5,9 @@ pub mod Dropped
 pub mod Firsts
 pub mod Kept
 pub mod LineLists
+pub mod Marked
 pub mod Next
 pub mod Orders
 pub mod Places
 pub mod Steps
+pub mod Trails

@@ -96,3 +96,13 @@ AreEmptyLines-push n lines line none are = record {
   len = length_push lines line ∙ ap (λ m. m + 1) are.len;
   each = line_at-push lines line none are.each;
 }
+
+-- one more line is put behind the others
+pub line_at-push_before : (lines : List (Vec ℕ Global)) (line : Vec ℕ Global) (k : ℕ) → k < length lines → line_at (lines ++ line ∷ []) k ≡ line_at lines k
+line_at-push_before [] line k within = absurd (omega arith)
+line_at-push_before (first ∷ lines) line zero within = refl
+line_at-push_before (first ∷ lines) line (suc k) within = line_at-push_before lines line k (omega arith)
+
+pub line_at-push_last : (lines : List (Vec ℕ Global)) (line : Vec ℕ Global) → line_at (lines ++ line ∷ []) (length lines) ≡ line.items
+line_at-push_last [] line = refl
+line_at-push_last (first ∷ lines) line = line_at-push_last lines line

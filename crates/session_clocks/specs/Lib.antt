@@ -3,7 +3,9 @@ pub mod Clocks
 pub mod Drops
 pub mod Graphs
 pub mod Lines
+pub mod Marks
 pub mod Reach
 pub mod Rows
+pub mod SavedNumbers
 pub mod Sweeps
 pub mod Tails

@@ -14,14 +14,16 @@ pub record IsRaising (old new row : List ℕ) (from stop rows : ℕ) : Type 0 wh
   pub joined : (at place : ℕ) → from ≤ at → at < stop → place < length row → IsGreater (number_at (length row) old at place) (slice_index row place) (number_at (length row) new at place)
   pub others : (at place : ℕ) → (at < from) ⊎ (stop ≤ at) → place < length row → number_at (length row) new at place ≡ number_at (length row) old at place
 
--- some of the rows before the top are lowered; where one stands before them, its number for the session is as low as this already
+-- the last rows before the top are lowered, whose numbers for the session are above this; where one stands before them, its number for the session is as low as this already
 pub record IsLowered (old new : List ℕ) (session number : ℕ) (row : List ℕ) (top : ℕ) : Type 0 where
   pub stop : ℕ
   pub lowering : IsLowering old new row stop top
+  pub above : (at : ℕ) → stop ≤ at → at < top → number < number_at (length row) old at session
   pub before : (stop ≡ 0) ⊎ (number_at (length row) old (stop - 1) session ≤ number)
 
--- some of the rows from this one on are raised; where one stands behind them, its number for the session is above this already
+-- the first rows from this one on are raised, whose numbers for the session aren't above this; where one stands behind them, its number for the session is above this already
 pub record IsRaised (old new : List ℕ) (session number : ℕ) (row : List ℕ) (from rows : ℕ) : Type 0 where
   pub stop : ℕ
   pub raising : IsRaising old new row from stop rows
+  pub below : (at : ℕ) → from ≤ at → at < stop → number_at (length row) old at session ≤ number
   pub behind : (stop ≡ rows) ⊎ (number < number_at (length row) old stop session)

@@ -3,13 +3,14 @@ ghost use Rattle.txn.specs.declared.transactions.TxnId.{TxnId};
 ghost use Rattle.txn.specs.Arcs.{start_of, end_of};
 ghost use Rattle.session_clocks.specs.Additions.{IsAddition};
 ghost use Rattle.session_clocks.specs.Drops.{arc_stays};
-ghost use Rattle.session_clocks.specs.Graphs.{HasNode, IsOneMore};
+ghost use Rattle.session_clocks.specs.Graphs.{HasNode, IsOneMore, back_to, last_mark};
 ghost use Rattle.session_clocks.specs.Reach.{IsThere, Reaches, IsOrReaches};
 
 use crate::drops::{drop_arcs, drop_rows};
-use crate::lines::{no_lines, push_rows};
+use crate::lines::{copied, no_lines, push_rows};
 use crate::rows::{clock, count_row, first_row};
 use crate::sweeps::{lower_all, raise_all};
+use crate::trail::{Mark, Trail, put_back};
 use std::alloc::Global;
 use std::marker::Model;
 use txn::{Arc, NoMemory, TxnId};
@@ -35,17 +36,18 @@ pub struct Graph {
     /// For each session a row for each transaction that is there: how many of each session reach it.
     count: Vec<Vec<u64>>,
     arcs: Vec<Arc>,
+    trail: Trail,
 }
 
 impl Model for Graph {
-    ghost use Rattle.session_clocks.specs.Clocks.{IsKept};
     ghost use Rattle.session_clocks.specs.Graphs.{GraphState};
+    ghost use Rattle.session_clocks.specs.Marks.{IsMarkedGraph, marks_of};
 
     ghost Value = { GraphState };
 
-    ghost view = { λ graph. record { gone = graph.gone.items; received = graph.received.items; arcs = graph.arcs.items } };
+    ghost view = { λ graph. record { gone = graph.gone.items; received = graph.received.items; arcs = graph.arcs.items; marks = marks_of graph.trail.marks.items } };
 
-    ghost invariant = { λ graph. IsKept graph.gone.items graph.received.items graph.arcs.items graph.first.items graph.count.items };
+    ghost invariant = { λ graph. IsMarkedGraph graph.gone.items graph.received.items graph.arcs.items graph.first.items graph.count.items graph.trail };
 }
 
 /// Whether a transaction is there.
@@ -71,6 +73,7 @@ impl Graph {
         ensures gone { IfOk result (λ graph. graph.gone ≡ gone.now) }
         ensures received { IfOk result (λ graph. graph.received ≡ gone.now) }
         ensures arcs { IfOk result (λ graph. graph.arcs ≡ []) }
+        ensures marks { IfOk result (λ graph. graph.marks ≡ []) }
     {
         let sessions = gone.len();
         let received = Vec::from_slice(alloc, gone)?;
@@ -78,12 +81,14 @@ impl Graph {
         let first = no_lines(alloc, sessions)?;
         let count = no_lines(alloc, sessions)?;
         let arcs = Vec::new(alloc);
+        let trail = Trail::new(alloc);
         Ok(Graph {
             gone,
             received,
             first,
             count,
             arcs,
+            trail,
         })
     }
 
@@ -152,7 +157,7 @@ impl Graph {
         self.arcs.as_slice()
     }
 
-    /// Adds the next transaction of a session, which all of its session reach.
+    /// Adds the next transaction of a session, which all of its session reach, and takes all marks away.
     pub fn add_node(&mut self, session: u8) -> Result<TxnId, NoMemory>
         requires session { session < length self.old.gone }
         requires number { slice_index self.old.received session < 2 ^ 64 - 1 }
@@ -161,6 +166,7 @@ impl Graph {
         ensures received { OnOk result (IsOneMore self.old.received self.new.received session) }
         ensures gone { self.new.gone ≡ self.old.gone }
         ensures arcs { self.new.arcs ≡ self.old.arcs }
+        ensures marks { OnOk result (self.new.marks ≡ []) }
         ensures err { OnErr result (self.new ≡ self.old) }
     {
         let line = usize::from(session);
@@ -173,6 +179,7 @@ impl Graph {
             number,
         )?;
         self.received[line] = number + 1;
+        self.trail.clear();
         Ok(TxnId { session, number })
     }
 
@@ -195,6 +202,8 @@ impl Graph {
         ensures received { self.new.received ≡ self.old.received }
         ensures arcs { OnOk result (self.new.arcs ≡ self.old.arcs ++ arc ∷ []) }
         ensures addition { IfOk result (IsAddition self.old.gone self.old.received self.old.arcs arc) }
+        ensures marks { self.new.marks ≡ self.old.marks }
+        ensures last { last_mark self.new ≡ last_mark self.old }
         ensures err { OnErr result (self.new ≡ self.old) }
     {
         let addition = self.outcome(arc);
@@ -204,6 +213,16 @@ impl Graph {
         }
         let tops = count_row(alloc, &self.count, &self.gone, arc.start())?;
         let starts = first_row(alloc, &self.first, &self.gone, arc.end())?;
+        self.trail
+            .save_first(&self.first, &self.gone, &tops, arc.end(), &starts)?;
+        self.trail.save_count(
+            &self.count,
+            &self.gone,
+            &self.received,
+            &starts,
+            arc.start(),
+            &tops,
+        )?;
         self.arcs.push(arc)?;
         lower_all(&mut self.first, &self.gone, &tops, arc.end(), &starts);
         raise_all(
@@ -217,8 +236,35 @@ impl Graph {
         Ok(addition)
     }
 
+    /// Sets a mark, to which the graph can be taken back.
+    pub fn mark(&mut self) -> Result<(), NoMemory>
+        ensures ok { OnOk result (self.new ≡ record self.old { marks = length self.old.arcs ∷ self.old.marks }) }
+        ensures err { OnErr result (self.new ≡ self.old) }
+    {
+        let mark = Mark {
+            arcs: self.arcs.len(),
+            first: self.trail.first.len(),
+            count: self.trail.count.len(),
+        };
+        self.trail.marks.push(mark)?;
+        Ok(())
+    }
+
+    /// Takes the arcs behind the last mark back, and the mark away, in time of what they changed. It takes no memory.
+    pub fn back(&mut self)
+        requires { self.old.marks ≢ [] }
+        ensures { self.new ≡ back_to self.old self.old.marks }
+    {
+        let Some(mark) = self.trail.marks.pop() else {
+            unreachable!()
+        };
+        put_back(&mut self.first, &mut self.trail.first, mark.first);
+        put_back(&mut self.count, &mut self.trail.count, mark.count);
+        self.arcs.truncate(mark.arcs);
+    }
+
     /// Drops the first transactions of each session, up to these numbers, which none that stays reaches, with the arcs that
-    /// touch them. It takes no memory.
+    /// touch them, and takes all marks away. It takes no memory.
     pub fn drop_fronts(&mut self, gone: &[u64])
         requires sessions { length gone.now ≡ length self.old.gone }
         requires more { (session : ℕ) → slice_index self.old.gone session ≤ slice_index gone.now session }
@@ -227,6 +273,7 @@ impl Graph {
         ensures gone { self.new.gone ≡ gone.now }
         ensures received { self.new.received ≡ self.old.received }
         ensures arcs { self.new.arcs ≡ filter (arc_stays gone.now) self.old.arcs }
+        ensures marks { self.new.marks ≡ [] }
         // Among the rest all stays as it was.
         ensures rest { (a b : TxnId) → Reaches self.new.gone self.new.received self.new.arcs a b
             ↔ (Reaches self.old.gone self.old.received self.old.arcs a b × HasNode self.new a × HasNode self.new b) }
@@ -235,5 +282,30 @@ impl Graph {
         drop_rows(&mut self.count, &self.gone, gone);
         drop_arcs(&mut self.arcs, gone);
         self.gone.copy_from_slice(gone);
+        self.trail.clear();
+    }
+}
+
+impl Clone for Graph {
+    ghost use Rattle.std.specs.Prelude.{◌≡◌};
+
+    ghost is_clone = { λ old new. new ≡ old };
+
+    fn clone(&self) -> Result<Self, NoMemory> {
+        let alloc = *self.arcs.allocator();
+        let gone = Vec::from_slice(alloc, &self.gone)?;
+        let received = Vec::from_slice(alloc, &self.received)?;
+        let first = copied(alloc, &self.first)?;
+        let count = copied(alloc, &self.count)?;
+        let arcs = Vec::from_slice(alloc, &self.arcs)?;
+        let trail = self.trail.copied(alloc)?;
+        Ok(Graph {
+            gone,
+            received,
+            first,
+            count,
+            arcs,
+            trail,
+        })
     }
 }

@@ -8,5 +8,6 @@ mod lines;
 mod rows;
 mod sweeps;
 mod tails;
+mod trail;
 
 pub use graph::{Addition, Graph};

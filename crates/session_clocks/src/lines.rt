@@ -18,6 +18,17 @@ pub(crate) fn no_lines(alloc: Global, sessions: usize) -> Result<Vec<Vec<u64>>, 
     Ok(lines)
 }
 
+/// A copy of the lines.
+pub(crate) fn copied(alloc: Global, lines: &[Vec<u64>]) -> Result<Vec<Vec<u64>>, NoMemory>
+    ensures { IfOk result (λ copy. AreSameNumbers lines.now copy.items) }
+{
+    let mut copy = Vec::with_capacity(alloc, lines.len())?;
+    for i in 0..lines.len() {
+        copy.push(Vec::from_slice(alloc, &lines[i])?)?;
+    }
+    Ok(copy)
+}
+
 /// Puts the rows of a session's next transaction behind the others of its lines.
 fn push_both(
     first: &mut Vec<u64>,

@@ -8,11 +8,12 @@ import contextlib
 import os
 import sys
 import traceback
-from typing import Any, Callable, Iterator, List, Mapping, Optional, Sequence
+from typing import Any, Callable, Iterator, List, Mapping, NoReturn, Optional, Sequence
 
 from ..core._private_files import private
 from ..core._shared_key import make_key
 from ..core._version import VERSION
+from ..core._visible import say, shown as safe
 from ..core.errors import (
     CantBeAskedError,
     ImportRefusedError,
@@ -70,7 +71,8 @@ def main(words: Optional[Sequence[str]] = None) -> int:
     except KeyboardInterrupt:
         return _told(UNDECIDED, "undecided: it was interrupted")
     except Exception:  # Python's own status would be 1, which says violated
-        return _told(UNDECIDED, traceback.format_exc().rstrip())
+        first, *lines = traceback.format_exc().rstrip().split("\n")
+        return _told(UNDECIDED, first, *(f"  | {line}" for line in lines))
 
 
 def _let_go_of_output() -> None:
@@ -79,10 +81,11 @@ def _let_go_of_output() -> None:
         os.dup2(nowhere.fileno(), sys.stdout.fileno())
 
 
-def _told(status: int, words: str) -> int:
-    """The status, also where standard error can't take the words: Python's own would be 1."""
+def _told(status: int, *lines: str) -> int:
+    """The status, also where standard error can't take the lines: Python's own would be 1."""
     with contextlib.suppress(OSError):
-        print(words, file=sys.stderr, flush=True)
+        for line in lines:
+            say(line, file=sys.stderr, flush=True)
     return status
 
 
@@ -90,16 +93,23 @@ class _Version(argparse.Action):
     """Tells the version and which program would be started, and ends."""
 
     def __call__(self, parser: argparse.ArgumentParser, *_: Any) -> None:
-        print(f"zanteyard {VERSION}")
-        print(f"auditor {origin_of(program_path()).sentence()}")
-        print(f"checker {origin_of(checker_path()).sentence()}")
-        print(f"proxy {build_of()}", flush=True)
+        say(f"zanteyard {VERSION}")
+        say(f"auditor {origin_of(program_path()).sentence()}")
+        say(f"checker {origin_of(checker_path()).sentence()}")
+        say(f"proxy {build_of()}", flush=True)
         parser.exit()
+
+
+class _Parser(argparse.ArgumentParser):
+    """Quotes words of the call safely."""
+
+    def error(self, message: str) -> NoReturn:
+        super().error(safe(message))
 
 
 def parser() -> argparse.ArgumentParser:
     """The command line."""
-    whole = argparse.ArgumentParser(
+    whole = _Parser(
         prog="zanteyard",
         description="Checks whether a store's transactions were serializable, each session's "
         "order kept.",
@@ -221,7 +231,7 @@ def _names(path: str) -> Optional[ScriptNames]:
     """The names beside the script, where it has some."""
     names, why_not = read_names(path) if path != "-" else (None, "")
     if why_not:
-        print(f"({why_not})")
+        say(f"({why_not})")
     return names
 
 
@@ -248,9 +258,9 @@ def _check(asked: Any) -> int:
     is_told = False
     with _run_of(asked) as run:
         for verdict in run.verdicts(_lines(asked.script)):
-            print(_where(verdict), end=" ")
+            say(_where(verdict), end=" ")
             if verdict.kind == "violated" and is_told:
-                print("violated, still")
+                say("violated, still")
                 continue
             _tell(_story(verdict, run, asked.seconds), asked.all)
             is_told = verdict.kind == "violated"
@@ -266,7 +276,7 @@ def _explain(asked: Any) -> int:
                 break  # violated is final
         assert run.verdict is not None
         story = _story(run.verdict, run, asked.seconds)
-        print(_where(run.verdict), end=" ")
+        say(_where(run.verdict), end=" ")
         _tell(story, asked.all)
         _tell_resumed(run)
     if asked.html:
@@ -280,13 +290,13 @@ def _levels(asked: Any) -> int:
     names, times = _names(asked.script), _times(asked.script)
     more = (asked.nodes, asked.seconds)
     for line in levels_lines(Levels(find_program(), lines, names, times, *more).found()):
-        print(line)
+        say(line)
     return 0
 
 
 def _demo(asked: Any) -> int:
     program = find_program()
-    print(f"{asked.name}: {demo.about(asked.name)}.")
+    say(f"{asked.name}: {demo.about(asked.name)}.")
     with Auditor(demo.SESSIONS, program=program) as auditor:
         demo.run_demo(asked.name, auditor)
         report = auditor.round()
@@ -307,7 +317,7 @@ def _demo(asked: Any) -> int:
 def _audit(asked: Any) -> int:
     ran = audit_command.run(asked)
     for line in ran.lines():
-        print(line)
+        say(line)
     status = STATUSES.get(ran.outcome.whole.kind, UNDECIDED)
     if asked.html:
         try:
@@ -321,14 +331,14 @@ def _journal(asked: Any) -> int:
     program = find_program()
     with Auditor.resumed(asked.journal, program) as auditor:
         count, sessions = sum(auditor.received), auditor.sessions
-        print(f"{auditor.run_name}: {count} transactions of {sessions} sessions were taken in")
+        say(f"{auditor.run_name}: {count} transactions of {sessions} sessions were taken in")
         report = auditor.last_round()
         if report.kind == "violated":
-            round_told = (report.counts, EXPLAINED, report.certificate)
+            round_told = (report.counts, EXPLAINED, report.certificate, auditor.promise)
             _tell(violation_story(auditor, program, *round_told))
             return STATUSES["violated"]
         outcome = auditor.outcome()
-        print(f"over these the last round is {report.kind}; {outcome}")
+        say(f"over these the last round is {report.kind}; {outcome}")
         return STATUSES.get(outcome.kind, UNDECIDED)
 
 
@@ -348,20 +358,20 @@ def _where(verdict: Verdict) -> str:
 
 def _tell(story: Story, tells_all: bool = False) -> None:
     for line in story_lines(story, tells_all):
-        print(line)
+        say(line)
 
 
 def _tell_no_cuts(run: ScriptRun) -> None:
     if run.no_cut_lines:
         lines: List[str] = [str(number) for number in run.no_cut_lines[:8]]
         more = " and more" if len(run.no_cut_lines) > 8 else ""
-        print(f"(nothing was settled, so nothing forgotten, at line {', '.join(lines)}{more})")
+        say(f"(nothing was settled, so nothing forgotten, at line {', '.join(lines)}{more})")
 
 
 def _tell_resumed(run: ScriptRun) -> None:
     if run.is_resumed:  # what had gone before isn't in the script
         what = "a verdict is of every history that the parts stand for"
-        print(f"(the script resumes another: {what})")
+        say(f"(the script resumes another: {what})")
 
 
 def _write_page(story: Story, about: str, path: str) -> None:
@@ -371,7 +381,7 @@ def _write_page(story: Story, about: str, path: str) -> None:
 def _write(page: str, path: str) -> None:
     with open(path, "w", encoding="utf-8", opener=private) as file:
         file.write(page)
-    print(f"(to look at: {path})")
+    say(f"(to look at: {path})")
 
 
 def _origin() -> str:

@@ -40,6 +40,8 @@ from ..journal._file import Journal
 from ..live._live_auditor import LiveAuditor
 from ..program._auditor import Auditor
 from ..program._binaries import find_program
+from ..promises._kinds import LIVE as PROMISES
+from ..promises._kinds import SERIALIZABLE
 from ..remote._server import AuditServer
 from ._metrics import MetricsServer, families, text_of
 
@@ -99,6 +101,10 @@ def add_arguments(command: argparse.ArgumentParser) -> None:
         help="1 to 64 sessions at first (16); more join, for 64 clients at a time",
     )
     command.add_argument(
+        "--promise", choices=[*PROMISES], default=SERIALIZABLE.name,
+        help="what the store promises (serializable; docs/PROMISES.md)",
+    )
+    command.add_argument(
         "--metrics",
         type=_address,
         metavar="HOST:PORT",
@@ -118,6 +124,10 @@ def add_arguments(command: argparse.ArgumentParser) -> None:
     )
     command.add_argument(
         "--rather-wait", action="store_true", help="clients wait longer before the audit gives way"
+    )
+    command.add_argument(
+        "--redact", action="store_true",
+        help="shows no values and no constants of statements; keys stay",
     )
     command.add_argument(
         "--script", metavar="FILE",
@@ -159,8 +169,8 @@ def run(asked: Any) -> int:
 def _audit(asked: Any, stack: contextlib.ExitStack, stopped: threading.Event) -> int:
     auditor = stack.enter_context(_auditor(asked))
     policy = RATHER_WAIT if asked.rather_wait else RATHER_LOSE_THE_AUDIT
-    is_elsewhere = asked.redis is not None
-    live = LiveAuditor(auditor, every=asked.every, policy=policy, elsewhere=is_elsewhere)
+    more = {"elsewhere": asked.redis is not None, "redacts": asked.redact}
+    live = LiveAuditor(auditor, every=asked.every, policy=policy, **more)
     live.count_awaited()
     server = _server(asked, live)
     if asked.metrics is not None:
@@ -168,7 +178,8 @@ def _audit(asked: Any, stack: contextlib.ExitStack, stopped: threading.Event) ->
         stack.callback(metrics.close)
         logger.info("metrics are at port %d", metrics.port)
     how = "goes on" if auditor.is_resumed else "begins"
-    logger.info("the audit %s %s; it keeps %s", live.name, how, asked.journal)
+    about = auditor.promise.title
+    logger.info("the audit %s for %s %s; it keeps %s", live.name, about, how, asked.journal)
     faults: List[str] = []
     _end_at_faults(faults)
     while not (live.is_over or _failure(server) or faults or stopped.wait(LOOKS)):
@@ -211,14 +222,14 @@ def _auditor(asked: Any) -> Auditor:
     settings["round_seconds"] = asked.round_seconds
     if os.path.lexists(path):
         if asked.redis is not None and os.path.lexists(f"{path}.live"):
-            return Auditor.resumed(path, **settings)
+            return Auditor.resumed(path, promise=asked.promise, **settings)
         # Nobody had a session; or nobody knows what was on its way as its process ended.
         journal = Journal(path)  # which another daemon may have
         try:
             os.replace(path, f"{path}.old")
         finally:
             journal.close()
-    return Auditor(asked.sessions, journal=path, **settings)
+    return Auditor(asked.sessions, journal=path, promise=asked.promise, **settings)
 
 
 def _unused(script: Optional[str]) -> Optional[str]:
@@ -272,7 +283,8 @@ def _tell(asked: Any, auditor: Auditor, outcome: Outcome) -> None:
     try:
         history, called = from_start(auditor)
         known = refuted(auditor, outcome.certificate)
-        tell_violation(history, path, called, tell, TELLING, auditor.path, known)
+        more = (TELLING, auditor.path, known, auditor.promise)
+        tell_violation(history, path, called, tell, *more)
     except Exception as error:
         tell(f"violated, and why can't be told: {error!r}")
     try:

@@ -11,6 +11,7 @@ from dataclasses import dataclass
 from typing import Any, List, Optional, Tuple
 
 from ..core._outcome import RATHER_LOSE_THE_AUDIT, RATHER_WAIT, Outcome
+from ..core._visible import say
 from ..explain._charts import RoundSeen
 from ..explain._html import page_of
 from ..explain._report import Story, story_of
@@ -18,7 +19,7 @@ from ..explain._shrinking import from_start, refuted
 from ..explain._violation_text import tell_violation
 from ..live._live_auditor import LiveAuditor
 from ..program._subprocess import AuditorApart
-from ..promises._kinds import SERIALIZABLE, SNAPSHOT
+from ..promises._kinds import LIVE as PROMISES
 from ..remote._server import AuditServer
 from ..session._session import Session
 from ..trial._throwaway_folder import ThrowawayFolder
@@ -27,7 +28,6 @@ from ..trial.store_kinds import POSTGRES, MakesStore, StoreKind
 from ..trial.store_kinds import CantAuditError as CantAuditError
 from ..trial.workloads import EVERY_WORKLOAD, ChurningClients, ClientProcesses, Clients, Nothing
 
-PROMISES = (SERIALIZABLE.name, SNAPSHOT.name)  # that can be asked for while clients run
 PAGE_SECONDS = 5.0  # that finding the reasons for the page may take
 STAYING, CHURNING = 8, 16  # clients at a time, where nothing else is asked for
 logger = logging.getLogger("zanteyard")
@@ -121,7 +121,7 @@ class _Rounds:
         self.seen: List[RoundSeen] = []
 
     def tell(self, line: str) -> None:
-        print(line, flush=True)
+        say(line, flush=True)
         live = self.live
         if live is not None and live.report is not None and line.startswith("round"):
             at = time.monotonic() - self.began
@@ -219,8 +219,6 @@ def run(asked: Any) -> LiveRun:
     """Runs the clients as asked, and tells each round. Raises CantAuditError."""
     kind = kind_of(asked)
     asked.clients = asked.clients or (CHURNING if asked.churn else STAYING)
-    if asked.promise != PROMISES[0] and asked.audit_journal:
-        raise CantAuditError("an audit with a journal is of serializability")
     if asked.churn and asked.processes:
         raise CantAuditError("--churn has each client in a thread, and not in a process")
     with ended_by_signals(), kind.server(asked) as used:

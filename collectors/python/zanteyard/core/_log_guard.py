@@ -1,4 +1,5 @@
-"""What a handler of the log raises reaches nobody who runs transactions.
+"""What a handler of the log raises reaches nobody who runs transactions, and what is logged is
+safe to show: no key, statement or name in it can look like another line.
 
 Some of Python's own handlers raise: a WatchedFileHandler whose folder is gone, or may not be
 written to any more, or a FileHandler that opens its file late. Told behind a commit that would look
@@ -16,6 +17,8 @@ import sys
 from traceback import walk_tb
 from typing import Any, Callable, Iterator
 
+from ._visible import shown
+
 
 def guard(logger: logging.Logger) -> None:
     """From here on, whatever handlers it, or those above it, are given later. May be called
@@ -26,6 +29,7 @@ def guard(logger: logging.Logger) -> None:
 
     def handle(record: logging.LogRecord) -> None:
         try:
+            make_visible(record)
             plain(record)
         except Exception as error:
             if is_of_signal(error):
@@ -36,10 +40,22 @@ def guard(logger: logging.Logger) -> None:
     setattr(logger, "handle", handle)  # of this logger alone
 
 
+def make_visible(record: logging.LogRecord) -> None:
+    """Changes it only if something in it can't be seen. Lines of a traceback begin with a mark."""
+    message = record.getMessage()
+    safe = shown(message)
+    if safe != message:
+        record.msg, record.args = safe, ()
+    if record.exc_info and not record.exc_text:
+        traceback = logging.Formatter().formatException(record.exc_info)
+        record.exc_text = "\n".join(f"  | {shown(line)}" for line in traceback.split("\n"))
+
+
 def tell(record: logging.LogRecord, error: Exception) -> None:
     """On standard error, if there is one."""
     with contextlib.suppress(Exception):
-        sys.stderr.write(f"{record.getMessage()} (the log can't be written: {error!r})\n")
+        told = f"{record.getMessage()} (the log can't be written: {error!r})"
+        sys.stderr.write(f"{shown(told)}\n")
         sys.stderr.flush()
 
 

@@ -5,6 +5,7 @@ from dataclasses import dataclass, replace
 from typing import Any, Optional, Sequence, Tuple
 
 from ._records import Pending, Report
+from ._visible import shown
 from .errors import MissingError
 
 SERIAL, PENDING, VIOLATED, UNDECIDED = "serial", "pending", "violated", "undecided"
@@ -104,7 +105,7 @@ class Outcome:
             parts.append(f"and {len(self.pending) - 3} more such reads")
         if self.failure:
             parts.append(str(self.failure).strip() or type(self.failure).__name__)
-        return "; ".join(parts)
+        return shown("; ".join(parts))
 
 
 KINDS = {"spent": UNDECIDED}

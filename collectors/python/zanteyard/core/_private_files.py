@@ -3,6 +3,9 @@
 from __future__ import annotations
 
 import os
+import stat
+
+from .errors import FolderUnfitError
 
 
 def private(path: str, flags: int) -> int:
@@ -16,3 +19,22 @@ def private(path: str, flags: int) -> int:
         os.close(file)
         raise
     return file
+
+
+def check_folder(path: str) -> None:
+    """That the folder is this user's own, and nobody else may read or write it. Raises
+    FolderUnfitError, which says how that is mended, and OSError where it can't be looked at."""
+    seen = os.lstat(path)
+    if not stat.S_ISDIR(seen.st_mode):
+        raise FolderUnfitError(f"{path} is no folder")
+    if seen.st_uid != os.geteuid():
+        raise FolderUnfitError(
+            f"the folder {path} is of user {seen.st_uid}, and this process of {os.geteuid()}: take "
+            "one of its own, as `mkdir -m 700` makes it"
+        )
+    if seen.st_mode & 0o066:
+        deed = "write" if seen.st_mode & 0o022 else "read"
+        raise FolderUnfitError(
+            f"others may {deed} the folder {path}, and in it is what an application read and "
+            f"wrote: `chmod go-rw {path}`, or take one that `mkdir -m 700` makes"
+        )

@@ -2,9 +2,15 @@
 
 from __future__ import annotations
 
+from ._visible import shown
+
 
 class ZanteyardError(Exception):
-    """The base of every error that this package raises by itself."""
+    """The base of every error that this package raises by itself. Its text may quote what came from
+    outside, and is safe to print."""
+
+    def __str__(self) -> str:
+        return shown(super().__str__())
 
 
 class ProgramMissingError(ZanteyardError):
@@ -78,6 +84,11 @@ class NameTakenError(ZanteyardError, ValueError):
 class StoreUnfitError(ZanteyardError, ValueError):
     """The store drops what it was given, by its settings: what is found missing would be told as a
     fault. Nothing has begun."""
+
+
+class FolderUnfitError(ZanteyardError):
+    """Others may read or write the folder, or it is theirs: nothing of an audit is put there.
+    Nothing has begun."""
 
 
 class AuditLostError(ZanteyardError):

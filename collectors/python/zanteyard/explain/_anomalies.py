@@ -70,11 +70,7 @@ def find_anomaly(
 ) -> Optional[Anomaly]:
     """The first of the patterns that the history has, and that the promise excludes; or None. The
     history should be small."""
-    table = {
-        ShownId((session, number)): logged
-        for session, transactions in enumerate(history)
-        for number, logged in enumerate(transactions)
-    }
+    table = _busy(history)
     behind = _behind(table, promise.is_timed)
     patterns = [
         *(_dirty_reads, _unrepeatable_reads, _information_flows, _lost_updates, _dirty_writes),
@@ -86,6 +82,19 @@ def find_anomaly(
         for anomaly in pattern(table, behind, name):
             return anomaly
     return None
+
+
+def _busy(history: Sequence[Sequence[Logged]]) -> Transactions:
+    """Without those that did nothing, of which a part has as many as the whole; in their order."""
+    read = {
+        source for txns in history for logged in txns for _, source in logged.did[0]
+    }
+    return {
+        ShownId((session, number)): logged
+        for session, txns in enumerate(history)
+        for number, logged in enumerate(txns)
+        if any(logged.did) or (session, number) in read
+    }
 
 
 def name_circle(arcs: Sequence[Arc], name: Naming = plain_name) -> Optional[Anomaly]:
@@ -117,10 +126,11 @@ def _told(key: str) -> str:
 
 def _plain_arcs(table: Transactions) -> Iterator[Edge]:
     """What comes before what by sessions and by who read from whom."""
+    before: Optional[ShownId] = None
     for id, logged in table.items():
-        following = ShownId((id[0], id[1] + 1))
-        if following in table:
-            yield id, following
+        if before is not None and before[0] == id[0]:
+            yield before, id
+        before = id
         for _, source in logged.reads:
             if source in table:
                 yield source, id

@@ -4,8 +4,9 @@ auditor is behind, and each round's verdict."""
 from __future__ import annotations
 
 from dataclasses import dataclass
-from html import escape
 from typing import Callable, List, Sequence, Tuple
+
+from ..core._visible import html_text
 
 WIDTH, HEIGHT, LEFT, BOTTOM = 860.0, 150.0, 66.0, 34.0
 
@@ -52,8 +53,8 @@ def _chart(
     for seen, (x, y) in zip(rounds, points):
         about = f"{seen.seconds:.1f} s: {seen.kind}, {shown.format(value(seen))} {title}"
         dots.append(
-            f'<circle class="{escape(seen.kind)}" cx="{x:.1f}" cy="{y:.1f}" r="3.5">'
-            f"<title>{escape(about)}</title></circle>"
+            f'<circle class="{html_text(seen.kind)}" cx="{x:.1f}" cy="{y:.1f}" r="3.5">'
+            f"<title>{html_text(about)}</title></circle>"
         )
     line = " ".join(f"{x:.1f},{y:.1f}" for x, y in points)
     floor = HEIGHT - BOTTOM
@@ -61,8 +62,8 @@ def _chart(
         [
             f'<svg class="chart" role="img" viewBox="0 0 {WIDTH:.0f} {HEIGHT:.0f}" '
             f'width="{WIDTH:.0f}" height="{HEIGHT:.0f}">',
-            f"<title>{escape(title)}, round by round</title>",
-            f'<text class="label" x="{LEFT:.0f}" y="15">{escape(title)}</text>',
+            f"<title>{html_text(title)}, round by round</title>",
+            f'<text class="label" x="{LEFT:.0f}" y="15">{html_text(title)}</text>',
             f'<line class="axis" x1="{LEFT:.0f}" x2="{WIDTH - 20:.0f}" y1="{floor}" y2="{floor}"/>',
             f'<text class="tick end" x="{LEFT - 8:.0f}" y="32">{shown.format(most)}</text>',
             f'<text class="tick end" x="{LEFT - 8:.0f}" y="{floor + 4}">0</text>',

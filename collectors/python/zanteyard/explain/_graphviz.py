@@ -8,6 +8,7 @@ from typing import Iterator, List, Optional, Sequence, Tuple
 
 from ..core._private_files import private
 from ..core._records import ABORTED, History, Naming, ShownId
+from ..core._visible import shown
 from ._arcs import Arc, below, table, told_arc, transaction_of
 from ._reasons import explain_history
 from ._words import deeds, name, statements_of
@@ -16,7 +17,9 @@ DRAWING = 20.0  # seconds for `dot`
 
 
 def quoted(*lines: str) -> str:
-    escaped = (line.replace("\\", "\\\\").replace('"', '\\"') for line in lines)
+    """As a string of Graphviz's, which knows backslashes and the entities of HTML."""
+    changed = str.maketrans({"\\": "\\\\", '"': '\\"', "&": "&amp;"})
+    escaped = (shown(line).translate(changed) for line in lines)
     return '"' + "\\n".join(escaped) + '"'
 
 
@@ -76,8 +79,9 @@ def draw(
     if not shutil.which("dot"):
         return [f"{path}.dot"]
     try:
-        call = ["dot", "-Tsvg", "-o", f"{path}.svg", f"{path}.dot"]
-        subprocess.run(call, check=True, timeout=DRAWING)
+        call = ["dot", "-Tsvg", f"{path}.dot"]
+        with open(f"{path}.svg", "wb", opener=private) as drawn:
+            subprocess.run(call, stdout=drawn, check=True, timeout=DRAWING)
     except subprocess.SubprocessError:
         return [f"{path}.dot"]
     return [f"{path}.dot", f"{path}.svg"]

@@ -3,11 +3,11 @@ scripting and on paper."""
 
 from __future__ import annotations
 
-from html import escape
 from typing import Iterable, List, Sequence
 
 from ..core._records import ABORTED
 from ..core._version import VERSION
+from ..core._visible import html_lines, html_text
 from ._anomalies import meaning_of
 from ._charts import RoundSeen, draw_rounds
 from ._report import SHOWN, Step, Story, line_of
@@ -104,11 +104,11 @@ def page_of(story: Story, about: str, origin: str, rounds: Sequence[RoundSeen] =
             "<!DOCTYPE html>",
             '<html lang="en"><head><meta charset="utf-8">',
             '<meta name="viewport" content="width=device-width, initial-scale=1">',
-            f"<title>{escape(title)}</title>",
+            f"<title>{html_text(title)}</title>",
             f"<style>{STYLE}</style></head><body>",
             *parts,
             f"<footer><p>Made by zanteyard {VERSION}. The verdict is that of the auditor "
-            f"({escape(origin)}); what is told and drawn of it here is an aid, made beside it."
+            f"({html_text(origin)}); what is told and drawn of it here is an aid, made beside it."
             "</p></footer>",
             "</body></html>",
             "",
@@ -121,17 +121,17 @@ def _head(story: Story, about: str) -> str:
     of_what = f"{about}: {count:,} transactions of {len(story.counts)} sessions" if count else about
     lines = [
         f'<h1>{_heading(story)} <span class="verdict {story.kind}">{story.kind}</span></h1>',
-        f'<p class="soft">{escape(of_what)}</p>',
-        f"<p>{escape(_sentence(story))}.</p>",
+        f'<p class="soft">{html_text(of_what)}</p>',
+        f"<p>{html_text(_sentence(story))}.</p>",
     ]
     if story.anomaly is not None:
         meaning = meaning_of(story.anomaly.name)
-        more = f' <span class="soft">({escape(meaning)})</span>' if meaning else ""
+        more = f' <span class="soft">({html_text(meaning)})</span>' if meaning else ""
         lines.append(
-            f'<div class="anomaly"><strong>{escape(_capital(story.anomaly.name))}</strong>{more}'
-            f"<br>{escape(_capital(story.anomaly.sentence))}.</div>"
+            f'<div class="anomaly"><strong>{html_text(_capital(story.anomaly.name))}</strong>{more}'
+            f"<br>{html_text(_capital(story.anomaly.sentence))}.</div>"
         )
-    lines += [f"<p>It {escape(line)}.</p>" for line in story.standing.lines()]
+    lines += [f"<p>It {html_text(line)}.</p>" for line in story.standing.lines()]
     return "\n".join(lines)
 
 
@@ -177,7 +177,7 @@ def picture_part(story: Story) -> Iterable[str]:
 def reasons_part(story: Story) -> Iterable[str]:
     yield "<h2>Why no order is left</h2>"
     if not story.links:
-        yield "<ul>" + "".join(f"<li>{escape(line)}</li>" for line in story.because) + "</ul>"
+        yield "<ul>" + "".join(f"<li>{html_text(line)}</li>" for line in story.because) + "</ul>"
         if not story.anomaly:
             yield (
                 "<p>No one circle is in all orders: whichever way the writers of one key are put, "
@@ -188,11 +188,11 @@ def reasons_part(story: Story) -> Iterable[str]:
     for number, link in enumerate(story.links, 1):
         kind = ' class="circle"' if link.is_of_circle else ""
         yield (
-            f'<li{kind}><span class="mark">{number}</span><strong>{escape(link.told)}</strong>: '
-            f"{escape(link.why)}.</li>"
+            f'<li{kind}><span class="mark">{number}</span><strong>{html_text(link.told)}</strong>: '
+            f"{html_text(link.why)}.</li>"
         )
     yield "</ol>"
-    around = " → ".join(escape(called) for called in story.circle)
+    around = " → ".join(html_text(called) for called in story.circle)
     yield '<p>That goes round in a circle, so none of them can come first:</p><p class="around">'
     yield f"{around}</p>"
 
@@ -214,18 +214,18 @@ def _table(steps: Sequence[Step]) -> Iterable[str]:
         for at in range(rows):
             yield "<tr>"
             if not at:
-                outcome = "" if step.outcome == "committed" else f" ({escape(step.outcome)})"
-                yield f'<td class="number" rowspan="{rows}">{escape(step.name)}{outcome}</td>'
+                outcome = "" if step.outcome == "committed" else f" ({html_text(step.outcome)})"
+                yield f'<td class="number" rowspan="{rows}">{html_text(step.name)}{outcome}</td>'
             deed = deeds[at] if deeds else None
-            did = escape(deed.text) if deed else "nothing that matters here"
+            did = html_text(deed.text) if deed else "nothing that matters here"
             yield f'<td class="did">{did}</td>'
             if has_returned:
-                yield f"<td>{escape(deed.returned) if deed else ''}</td>"
+                yield f"<td>{html_text(deed.returned) if deed else ''}</td>"
             if has_statements:
-                yield f"<td><code>{escape(deed.statement) if deed else ''}</code></td>"
+                yield f"<td><code>{html_text(deed.statement) if deed else ''}</code></td>"
             if has_places and not at:
                 where = " ".join(part for part in (step.clock, step.caller) if part)
-                yield f'<td rowspan="{rows}">{escape(where)}</td>'
+                yield f'<td rowspan="{rows}">{html_text(where)}</td>'
             yield "</tr>"
     yield "</tbody></table>"
     yield (
@@ -242,7 +242,7 @@ def _others(story: Story) -> Iterable[str]:
     """The violations that lie apart, a line each."""
     if story.others:
         yield "<h2>What else is violated, apart from this</h2><ul>"
-        yield from (f"<li>{escape(line_of(other))}</li>" for other in story.others[: 4 * SHOWN])
+        yield from (f"<li>{html_text(line_of(other))}</li>" for other in story.others[: 4 * SHOWN])
         yield "</ul>"
         if len(story.others) > 4 * SHOWN:
             yield f"<p>and {len(story.others) - 4 * SHOWN} more.</p>"
@@ -260,7 +260,7 @@ def _again(story: Story) -> Iterable[str]:
             "<p>This is the same as a script. Save it as <code>violation.jsonl</code>; "
             f"<code>zanteyard check {asked}violation.jsonl</code> says so again{refutation}.</p>"
         )
-        yield f"<pre>{escape(story.script)}</pre>"
+        yield f"<pre>{html_lines(story.script)}</pre>"
     yield "<h2>Before you accuse the store</h2>"
     yield "<ul>" + "".join(f"<li>{line}</li>" for line in BEFORE_YOU_ACCUSE) + "</ul>"
 
@@ -268,13 +268,13 @@ def _again(story: Story) -> Iterable[str]:
 def _order(story: Story) -> Iterable[str]:
     if story.waiting:
         yield "<h2>What is waited for</h2><ul>"
-        yield from (f"<li>{escape(line)}</li>" for line in story.waiting[: 4 * SHOWN])
+        yield from (f"<li>{html_text(line)}</li>" for line in story.waiting[: 4 * SHOWN])
         yield "</ul>"
         if len(story.waiting) > 4 * SHOWN:
             yield f"<p>and {len(story.waiting) - 4 * SHOWN} more.</p>"
     if story.order:
         yield "<h2>An order that explains what was read</h2>"
-        yield f"<p>{escape(' '.join(story.order))}</p>"
+        yield f"<p>{html_text(' '.join(story.order))}</p>"
 
 
 def _rounds(rounds: Sequence[RoundSeen]) -> Iterable[str]:
@@ -290,5 +290,5 @@ def _rounds(rounds: Sequence[RoundSeen]) -> Iterable[str]:
     yield f'<figure><div class="wide">{draw_rounds(rounds)}</div></figure>'
     if last.waiting:
         yield "<p>Reads that wait for a transaction which hasn’t come:</p><ul>"
-        yield from (f"<li>{escape(line)}</li>" for line in last.waiting[: 2 * SHOWN])
+        yield from (f"<li>{html_text(line)}</li>" for line in last.waiting[: 2 * SHOWN])
         yield "</ul>"

@@ -88,6 +88,7 @@ class Story:
     standing: Standing = Standing()  # what a violation breaks besides, and what it doesn't
     others: Tuple["Story", ...] = ()  # violations that lie apart from this one
     are_all_found: bool = True  # whether there are none besides these
+    unnamed: int = 0  # transactions, where these were too many to look for an anomaly among them
 
     @property
     def sentence(self) -> str:
@@ -168,8 +169,8 @@ def story_of(
     """Of a violated history that is small already. One that couldn't be made small in time has no
     name but that of the circle: to look for an anomaly among many takes minutes."""
     explanation = explain_history(history, names, seconds, promise)
-    is_small = sum(map(len, history)) <= NAMED
-    anomaly = find_anomaly(history, names, promise) if is_small else None
+    count = sum(any(logged.did) for txns in history for logged in txns)
+    anomaly = find_anomaly(history, names, promise) if count <= NAMED else None
     links = tuple(_links(explanation, names))
     ends = {end for link in links for end in (link.start, link.end)}
     return Story(
@@ -183,6 +184,7 @@ def story_of(
         script,
         names=tuple((id, names(id)) for id in sorted(ends)),
         promise=promise,
+        unnamed=count if count > NAMED else 0,
     )
 
 
@@ -274,6 +276,11 @@ def _one_story(story: Story) -> Iterator[str]:
         meaning = meaning_of(story.anomaly.name)
         yield f"  {story.anomaly.name}" + (f" ({meaning}):" if meaning else ":")
         yield f"  {story.anomaly.sentence}"
+    if story.unnamed:
+        yield (
+            f"  (it wasn't made smaller than {story.unnamed:,} transactions, and a name is looked "
+            f"for among at most {NAMED})"
+        )
     for line in story.lines:
         yield f"    {line}"
     if story.because:

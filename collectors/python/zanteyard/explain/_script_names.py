@@ -77,7 +77,7 @@ def write_names(names: ScriptNames, script: str) -> str:
         ],
     }
     with open(script + NAMES, "w", encoding="utf-8", opener=private) as file:
-        json.dump(whole, file, ensure_ascii=False, separators=(",", ":"))
+        json.dump(whole, file, separators=(",", ":"))
         file.write("\n")
     return script + NAMES
 

@@ -211,6 +211,7 @@ class ScriptRun:
         self.is_resumed = False  # it began with what an earlier run had given out
         self._is_open = False
         self._round_is_open = False
+        self._search: List[Any] = []  # the numbers of a search that isn't collected
         self._has_more = False  # something was accepted since the last verdict
         self.path = program
         self._program = subprocess.Popen(
@@ -239,15 +240,16 @@ class ScriptRun:
         if not self._is_open:
             begins = 'a script begins with ["open",..], or by ["resume",..] up to ["resumed"]'
             raise ScriptMistakeError(number, "nothing", begins)
-        if self._round_is_open:
-            yield from self._searched("finish")
+        if self._search:
+            yield from self._ended("collect", "wait")
+        elif self._round_is_open:
+            yield from self._ended("finish", *EFFORTS[0], GUIDED)
         if self._has_more or self.verdict is None:
-            yield from self._searched("round")
+            yield from self._ended("round", *EFFORTS[0], GUIDED)
 
-    def _searched(self, word: str) -> Iterator[Verdict]:
-        """A finish or a round that the script doesn't have."""
-        command = [word, *EFFORTS[0], GUIDED]
-        yield from self._taken(command, self._ask_for(*command), 0)
+    def _ended(self, *command: Any) -> Iterator[Verdict]:
+        """The end of a round, by a command that the script doesn't have."""
+        yield from self._taken([*command], self._ask_for(*command), 0)
 
     def _taken(self, command: List[Any], reply: List[Any], number: int) -> Iterator[Verdict]:
         """Keeps what the command has done."""
@@ -270,13 +272,19 @@ class ScriptRun:
             self._has_more = True
         elif command[0] == "begin":
             self._round_is_open, self._has_more = True, False
+        elif command[0] == "search":
+            self._search = command[1:]
+        elif command[0] == "skip":  # its round is without a verdict
+            self._round_is_open, self._search, self._has_more = False, [], True
         elif reply[0] == "cut":
             self.history.forget(*reply[2:])
         if reply[0] == "report":
             self._round_is_open = False
             if command[0] == "round":  # what came while a round was open isn't in its report
                 self._has_more = False
-            nodes = 0 if command[0] == "answer" else command[1]  # handed in, without a search
+            effort = self._search if command[0] == "collect" else command[1:]
+            nodes = 0 if command[0] == "answer" else effort[0]  # handed in, without a search
+            self._search = []
             self.verdict = self._decided(nodes, reply, number)
             if command[0] == "round":
                 self.verdict = self._without_times(self.verdict)
@@ -315,6 +323,8 @@ class ScriptRun:
                 raise ProgramTooOldError(f"{self.path} {TOO_OLD}")
             if reply[2] != "NoMemory":
                 raise ScriptMistakeError(number, reply[2], self._advice(reply[2]))
+            if self._search and _parts_of(text)[0] == "collect":  # which has ended the search
+                text = json.dumps(["finish", *self._search]).encode()
             if wait:
                 time.sleep(wait)
         raise ProgramEndedError(f"line {number} was refused memory, also when it was given again")

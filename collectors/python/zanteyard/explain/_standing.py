@@ -22,6 +22,8 @@ class Standing:
 
     broken: Sequence[Promise] = ()
     kept: Sequence[Promise] = ()
+    late: Sequence[Promise] = ()  # for which there was no time
+    many: int = 0  # transactions, where these were too many to be asked about
 
     def lines(self) -> Iterator[str]:
         """What it breaks, and the strongest of what it leaves standing."""
@@ -35,6 +37,13 @@ class Standing:
         strongest = [each for each in self.kept if each not in implied]
         if strongest:
             yield f"leaves {listed(strongest)} standing"
+        if self.late:
+            yield f"(there was no time to ask about {listed(self.late)})"
+        if self.many:
+            yield (
+                f"(which promises it breaks wasn't asked: it has {self.many:,} transactions, and "
+                f"at most {FEW} are asked about)"
+            )
 
 
 def listed(promises: Sequence[Promise]) -> str:
@@ -48,22 +57,28 @@ def standing(
 ) -> Standing:
     """Of a small history that breaks this promise. Promises about time are asked about if it tells
     when its transactions began."""
-    if len(Part.of(small).txns) > FEW:
-        return Standing()
+    count = len(Part.of(small).txns)
+    if count > FEW:
+        return Standing(many=count)
     ends = time.monotonic() + seconds
     has_times = any(logged.span for txns in small for logged in txns)
     asked = [each for each in ALL if has_times or not each.is_timed]
     decided: Dict[Promise, bool] = {promise: False}
     decided.update((each, False) for each in stronger(promise))
+    late = []
     for each in asked:
-        if each in decided or time.monotonic() > ends:
+        if each in decided:
+            continue
+        if time.monotonic() > ends:
+            late.append(each)
             continue
         is_kept = _keeps(small, program, each)
         if is_kept is not None:
             decided[each] = is_kept
             decided.update((other, is_kept) for other in _following(each, is_kept))
     broken = [each for each in asked if decided.get(each) is False]
-    return Standing(broken, [each for each in asked if decided.get(each)])
+    late = [each for each in late if each not in decided]
+    return Standing(broken, [each for each in asked if decided.get(each)], late)
 
 
 def _following(promise: Promise, is_kept: bool) -> Sequence[Promise]:

@@ -6,10 +6,10 @@ right edge of its box. Nothing in it is from outside."""
 from __future__ import annotations
 
 from dataclasses import dataclass
-from html import escape
 from typing import Dict, List, Mapping, Sequence, Tuple
 
 from ..core._records import ABORTED, ShownId
+from ..core._visible import html_text
 from ._report import IN_ONE_SESSION, Link, Step, Story
 
 WIDTH, GAP, LANE_GAP = 264.0, 120.0, 76.0  # of a box, and between boxes, in the picture's units
@@ -120,7 +120,7 @@ def draw_story(story: Story) -> str:
         [
             f'<svg class="timeline" role="img" viewBox="{left:.0f} {top:.0f} {right - left:.0f} '
             f'{bottom - top:.0f}" width="{right - left:.0f}" height="{bottom - top:.0f}">',
-            f"<title>{escape(about)}</title>",
+            f"<title>{html_text(about)}</title>",
             _ends_of_arcs(),
             *_lanes(story, boxes, right),
             *(text for is_red, text in arcs if not is_red),
@@ -175,18 +175,18 @@ def _box(step: Step, box: Box, has_events: bool) -> str:
     deeds = _told(step)
     lines = "".join(
         f'<text class="deed" x="{box.left + PADDING:.1f}" '
-        f'y="{box.top + PADDING + LINE * (at + 1.7):.1f}">{escape(_short(deed))}</text>'
+        f'y="{box.top + PADDING + LINE * (at + 1.7):.1f}">{html_text(_short(deed))}</text>'
         for at, deed in enumerate(deeds)
     )
     run = [deed.statement for deed in step.deeds if deed.statement]
     more = f"{step.name}: {'; '.join(run or deeds)}"
     dashed = " aborted" if step.outcome == ABORTED else ""
     return (
-        f'<g class="transaction{dashed}"><title>{escape(more)}</title>'
+        f'<g class="transaction{dashed}"><title>{html_text(more)}</title>'
         f'<rect x="{box.left:.1f}" y="{box.top:.1f}" width="{WIDTH:.0f}" '
         f'height="{box.height:.1f}" rx="6"/>'
         f'<text class="name" x="{box.left + PADDING:.1f}" '
-        f'y="{box.top + PADDING + LINE * 0.75:.1f}">{escape(step.name)}</text>{lines}'
+        f'y="{box.top + PADDING + LINE * 0.75:.1f}">{html_text(step.name)}</text>{lines}'
         f"{_edges(box) if has_events else ''}</g>"
     )
 
@@ -235,8 +235,9 @@ def _arc(link: Link, boxes: Mapping[ShownId, Box], number: int) -> Tuple[str, Li
         f'<circle cx="{middle[0]:.1f}" cy="{middle[1]:.1f}" r="11"/>'
         f'<text class="number" x="{middle[0]:.1f}" y="{middle[1] + 4.5:.1f}">{number}</text>'
     )
+    its = f"{number}. " if number else ""
     text = (
-        f'<g class="arc {kind}"><title>{f"{number}. " if number else ""}{escape(link.why)}</title>'
+        f'<g class="arc {kind}"><title>{its}{html_text(link.why)}</title>'
         f'<path d="M{first[0]:.1f} {first[1]:.1f}{way} {last[0]:.1f} {last[1]:.1f}" '
         f'marker-end="url(#{colour}-head)"/>{badge if number else ""}</g>'
     )

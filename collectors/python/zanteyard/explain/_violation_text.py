@@ -8,6 +8,7 @@ from typing import Callable, Iterable
 from ..core._circumstances import circumstances
 from ..core._private_files import private
 from ..core._records import History, Naming, ShownId
+from ..core._visible import say, shown
 from ..program._binaries import PROGRAM
 from ..promises._kinds import SERIALIZABLE, Promise
 from ._graphviz import draw
@@ -21,7 +22,7 @@ def tell_violation(
     history: History,
     path: str,
     called: Naming = name,
-    tell: Callable[[str], object] = print,
+    tell: Callable[[str], object] = say,
     seconds: float = SECONDS,
     program: str = PROGRAM,
     known: Iterable[ShownId] = (),
@@ -30,30 +31,35 @@ def tell_violation(
     """Tells what is left of a violated history without what it is violated without, why no order
     explains it, and which promises it breaks; then writes that as path.jsonl for cobra_audit, and
     draws it. What can't be written is told as well, when everything else has been. Gives the small
-    history. `known` is what a refutation of the history names, where one is at hand."""
+    history. `known` is what a refutation of the history names, where one is at hand. Each line that
+    `tell` is given is safe to show."""
+
+    def told(line: str) -> None:
+        tell(shown(line))
+
     ends = time.monotonic() + seconds
     small = smaller(history, program, max(0.0, ends - time.monotonic()), known, promise)
     what = "order of begins and commits" if promise.is_split else "order"
     kept = "each client's own order kept"
-    tell(f"violated: of what was logged, no {what} explains this part, {kept}:")
+    told(f"violated: of what was logged, no {what} explains this part, {kept}:")
     for line in words(small, called):
-        tell(f"  {line}")
+        told(f"  {line}")
     seen = [*circumstances(small, called)]
     if seen:
-        tell("as the clients saw it")
+        told("as the clients saw it")
     for line in seen:
-        tell(f"  {line}")
+        told(f"  {line}")
     explanation = explain_history(small, called, max(0.5, ends - time.monotonic()), promise)
-    tell("because")
+    told("because")
     for line in explanation.lines:
-        tell(f"  {line}")
+        told(f"  {line}")
     for line in standing(small, program, promise, max(0.5, ends - time.monotonic())).lines():
-        tell(line)
+        told(line)
     for write in (write_script, draw_picture):
         try:
-            tell(write(small, path, called, explanation, program, promise))
+            told(write(small, path, called, explanation, program, promise))
         except Exception as error:  # as where the disk is full: what was found has been told
-            tell(f"({path} can't be written: {error})")
+            told(f"({path} can't be written: {error})")
     return small
 
 

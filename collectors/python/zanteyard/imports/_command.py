@@ -9,6 +9,7 @@ from dataclasses import dataclass
 from typing import Any, Callable, Mapping, Optional
 
 from ..core._private_files import private
+from ..core._visible import say
 from ..core.errors import ImportRefusedError
 from ..explain._script_names import write_names
 from ..explain._script_times import TIMES, write_times
@@ -94,12 +95,12 @@ def run(asked: Any) -> int:
     with open(asked.script, "w", encoding="utf-8", opener=private) as file:
         file.writelines(f"{line}\n" for line in imported.lines)
     write_names(imported.names, asked.script)
-    print(f"{asked.script}: {imported.about[0]}")
+    say(f"{asked.script}: {imported.about[0]}")
     for line in imported.about[1:]:
-        print(f"  {line}")
+        say(f"  {line}")
     if imported.times is not None:
         write_times(imported.times, asked.script)
-        print(f"  when they began and ended: {asked.script}{TIMES}")
+        say(f"  when they began and ended: {asked.script}{TIMES}")
     else:
         with contextlib.suppress(FileNotFoundError):  # of another file's script
             os.remove(asked.script + TIMES)

@@ -16,6 +16,7 @@ from dataclasses import dataclass, field
 from typing import Any, Dict, Iterable, Iterator, List, NamedTuple, Optional, Sequence
 
 from ..core.errors import JournalDamagedError
+from ..promises._kinds import ASKED, SERIALIZABLE
 from ._file import Journal
 from ._records import record, records
 
@@ -37,8 +38,8 @@ class Head:
     """Of an audit: how many sessions its program has, and how many transactions it may hold, the
     run's name, which audit of the run it is, and where it began, if that was while clients went on;
     and so far, how many rounds were told, how many reads were left out at most, whether sessions
-    handed in what they did, and the sessions that several clients had, each with what these began
-    with."""
+    handed in what they did, the sessions that several clients had, each with what these began
+    with, and the promise that it asks for."""
 
     sessions: int
     limit: int
@@ -49,6 +50,7 @@ class Head:
     left_out: int = 0
     is_of_sessions: bool = False
     joined: List[List[int]] = field(default_factory=list)
+    promise: str = SERIALIZABLE.name
 
 
 @dataclass
@@ -101,6 +103,8 @@ def kept_in(journal: Journal, has_names: bool = True) -> Kept:
         if head[:1] != HEAD:
             raise ValueError("there is no head")
         kept = Kept(Head(**json.loads(head[1:])))
+        if kept.head.promise not in ASKED:
+            raise ValueError(f"it asks for the promise {kept.head.promise}")
         for text in [*names, *behind]:
             if has_names or text[:1] != KEYS:
                 kept.take(text[:1], text[1:])
@@ -137,13 +141,21 @@ def checkpoint(
 ) -> List[bytes]:
     """As records' texts; the names of those keys that are in front of it nowhere."""
     return [
-        HEAD + _text(vars(head)),
+        HEAD + _text(_plain(head)),
         names,
         *map(violated, violations),
         *([UNDONE + _text(undone)] if undone else []),
         *(SAVED + line for line in saved),
         WHOLE + _text(len(saved)),
     ]
+
+
+def _plain(head: Head) -> Dict[str, Any]:
+    """As earlier versions read it too, where these know what is asked for."""
+    its = {**vars(head)}
+    if head.promise == SERIALIZABLE.name:
+        del its["promise"]
+    return its
 
 
 def later(texts: Iterable[bytes]) -> bytes:

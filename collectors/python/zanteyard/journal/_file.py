@@ -13,7 +13,14 @@ import os
 import weakref
 from typing import Iterable, List, NoReturn, Optional
 
-from ..core.errors import JournalDamagedError, JournalError, JournalInUseError, JournalVersionError
+from ..core._private_files import check_folder
+from ..core.errors import (
+    FolderUnfitError,
+    JournalDamagedError,
+    JournalError,
+    JournalInUseError,
+    JournalVersionError,
+)
 from ._records import record, records
 
 VERSION = 2
@@ -29,7 +36,8 @@ class Journal:
     read; then nothing half-written is left in it."""
 
     def __init__(self, path: str) -> None:
-        """Raises JournalInUseError where another auditor has it."""
+        """Raises JournalInUseError where another auditor has it, and JournalError also where
+        others may read or write its folder."""
         self.path = os.path.realpath(path)  # one lock, whatever links lead there
         self.size = 0  # bytes of the file's whole records
         self._is_torn = False  # it has more
@@ -37,8 +45,11 @@ class Journal:
         self._lock: Optional[int] = None
         _journals.add(self)
         try:
+            check_folder(os.path.dirname(self.path))
             self._lock = os.open(f"{self.path}.lock", os.O_RDWR | os.O_CREAT | os.O_CLOEXEC, 0o600)
             fcntl.flock(self._lock, fcntl.LOCK_EX | fcntl.LOCK_NB)
+        except FolderUnfitError as error:
+            raise JournalError(f"{path} can't be there: {error}") from error
         except OSError as error:
             self.close()
             if isinstance(error, BlockingIOError):

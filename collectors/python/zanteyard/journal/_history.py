@@ -29,7 +29,7 @@ class State:
         if word == "resume":
             self.remaining = [[] for _ in range(parts[0])]
         elif word == "marks":
-            self.gone, self.closed = parts
+            self.gone, self.closed = parts[:2]  # behind them, what has begun
         elif word == "last":
             self.last.update((key, AuditId((session, number))) for key, session, number in parts[0])
         elif word == "offer":

@@ -6,6 +6,7 @@ import json
 from typing import Any, Callable, Dict, Iterable, List, Optional, Sequence, Tuple
 
 from ..core._records import ABORTED, AuditId
+from ..promises._kinds import ASKED, Promise
 from ._entries import (
     Head,
     Kept,
@@ -63,6 +64,11 @@ class JournalWriter:
         return self._head().limit
 
     @property
+    def promise(self) -> Promise:
+        """Which the audit asks for."""
+        return ASKED[self._head().promise]
+
+    @property
     def is_checkpoint_due(self) -> bool:
         return self._has_begun and self.journal.size > self._due
 
@@ -87,7 +93,7 @@ class JournalWriter:
     def _undone_of(self, saved: Sequence[bytes]) -> List[Any]:
         """Of what remains by these."""
         if self._undone:
-            _, gone, _ = json.loads(saved[1])
+            _, gone, *_ = json.loads(saved[1])
             self._undone = {id: txn for id, txn in self._undone.items() if id[1] >= gone[id[0]]}
         return [[*id, txn] for id, txn in self._undone.items()]
 

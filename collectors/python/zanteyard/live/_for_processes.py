@@ -6,6 +6,7 @@ import logging
 from typing import Any, Callable, ContextManager, Iterable, List, Optional, Set, Tuple
 
 from ..core._records import unpacked
+from ..core._redacting import redacted_bytes
 from ..core.errors import AuditLostError, MissingError
 from ..session._place import Place
 from ._backlog import keys_written_unseen
@@ -20,6 +21,7 @@ class ForProcesses(LiveFigures):
     """For threads."""
 
     token: str
+    redacts: bool
     _packed: Any  # makes bytes of what was logged, where the auditor takes it as bytes
     _crash_searches: CrashSearches
     _at_end: List[Callable[[], object]]
@@ -73,7 +75,8 @@ class ForProcesses(LiveFigures):
         self, came: float, session: int, number: int, unseen: Iterable[str], packed: bytes
     ) -> None:
         """What a transaction did, which came at this time by the monotonic clock."""
-        self._hand_in(came, session, number, unseen, packed if self._packed else unpacked(packed))
+        kept = redacted_bytes(packed) if self.redacts else packed
+        self._hand_in(came, session, number, unseen, kept if self._packed else unpacked(kept))
 
     def _hand_in(
         self, came: float, session: int, number: int, unseen: Iterable[str], what: Any

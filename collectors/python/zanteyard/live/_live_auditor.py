@@ -66,6 +66,10 @@ class LiveAuditor(ForProcesses):
     there until it is taken in, as behind a StreamServer, the auditor may be one that goes on by a
     journal.
 
+    With `redacts`, what is told of a violation has keys and the form of statements, and neither
+    their constants nor values; sessions of this process keep none either. An AuditClient has the
+    same, for what leaves its process.
+
     Each round is a line at level INFO of the log `zanteyard`; `tell` is called with it too, where
     it is given, in the auditor's thread. What fails is told by `outcome`, and never raised to who
     runs transactions.
@@ -87,6 +91,7 @@ class LiveAuditor(ForProcesses):
         journal: Optional[str] = None,
         round_seconds: Optional[float] = None,
         elsewhere: bool = False,
+        redacts: bool = False,
     ) -> None:
         if auditor.is_resumed and not elsewhere:
             raise ValueError("a live audit doesn't go on by a journal: begin another run")
@@ -97,7 +102,7 @@ class LiveAuditor(ForProcesses):
         super().__init__(run_name if run_name is not None else auditor.run_name, policy)
         self.auditor = auditor
         self.is_named = run_name is not None or auditor.is_named
-        self.token = auditor.token
+        self.token, self.redacts = auditor.token, redacts
         # Has what was logged as bytes while it waits.
         self._packed = auditor.packed if isinstance(auditor, AuditorApart) else None
         self._told_to, self._has_failed_to_tell = tell, False
@@ -186,9 +191,10 @@ class LiveAuditor(ForProcesses):
 
     def _no_room(self) -> str:
         """Why clients would have to wait."""
-        waits, why = f"{len(self._backlog)} transactions wait for it", self._audit.why_no_cut
-        if self._backlog.room < self._backlog.most and why:
-            return f"the auditor holds as many transactions as it can, {waits}, and {why}"
+        waits, room = f"{len(self._backlog)} transactions wait for it", self._backlog.room
+        if room < self._backlog.most:  # it may be quick, and hold as many as it can
+            why = self._audit.why_no_cut or "the next cut hasn't come"
+            return f"the auditor has room for {room} transactions more, {waits}, and {why}"
         return f"the auditor can't keep up: {waits}"
 
     def _renew(self, session: Session) -> Optional[Place]:

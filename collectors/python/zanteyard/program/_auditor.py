@@ -28,7 +28,7 @@ from ._binaries import PROGRAM as PROGRAM
 from ._intake import EFFORTS, GUIDED, Effort, Fragment
 from ._lines import BAD_LINE, ENDED, TOO_OLD, Lines, written
 from ._pipes import Pipes
-from ._rewritten_pipes import RewrittenPipes
+from ._rewritten_pipes import RewrittenPipes, begun
 from ._resuming import Reopened, journaled, reopened
 from ._supervised import SupervisedProgram
 
@@ -51,7 +51,7 @@ class Auditor(Lines):
     dies, or takes more than `round_seconds` for a round, if that is given, another one is brought
     where it stood. Then all calls raise JournalError where the journal can't be written. `promise`
     is "serializable" or "snapshot" (docs/PROMISES.md); under the latter there is room for half as
-    many, and no journal."""
+    many."""
 
     rewriting: Optional[Rewriting] = None  # of a finished history, where it is asked about another
     # promise than serializability
@@ -72,17 +72,20 @@ class Auditor(Lines):
         script: Optional[str] = None,
         policy: Policy = RATHER_LOSE_THE_AUDIT,
         round_seconds: Optional[float] = None,
+        promise: Optional[str] = None,
     ) -> Auditor:
         """Goes on with the audit of this journal, whose process is gone: `received`, `closed`,
         `history` and `violation` tell where it stands. What clients did that isn't received is to
         be offered again, from there on. Of an audit whose sessions were in that process it isn't
         known what they did last: then `outcome` is violated or incomplete, and `last_round` tells
-        of what is received. Raises JournalError."""
-        reopened_audit = reopened(journal)
+        of what is received. It asks for the promise that it asked for before; raises JournalError
+        if that isn't `promise`, and if there is no journal that can be believed."""
+        reopened_audit = reopened(journal, promise)
         head = reopened_audit.kept.head
         try:
             more = (program, head.run_name, script, policy, reopened_audit, round_seconds)
-            return cls(len(reopened_audit.state.gone), head.limit, *more)
+            sessions = len(reopened_audit.state.gone)
+            return cls(sessions, head.limit, *more, promise=head.promise)
         except BaseException:
             reopened_audit.journal.close()
             raise
@@ -127,10 +130,8 @@ class Auditor(Lines):
     def _started(self, journal: Union[str, Reopened, None]) -> Union[Pipes, SupervisedProgram]:
         if journal is None and self.rewriting is not None:
             return RewrittenPipes(self.path, self.rewriting)
-        if journal is None and self.promise != SERIALIZABLE:
-            return RewrittenPipes(self.path, Rewriting(self.promise))
         if journal is None:
-            return Pipes(self.path)
+            return begun(self.path, self.promise)
         program = journaled(self.path, journal, self._head, self.names, self.round_seconds)
         program.keeping.is_of_sessions |= self.has_sessions
         return program
@@ -139,7 +140,7 @@ class Auditor(Lines):
         """For the journal."""
         coverage = asdict(self.coverage) if self.coverage is not None else None
         plain = (self.sessions, self.limit, self.run_name, self.audits, coverage)
-        return Head(*plain, joined=self._tenancy.joined())
+        return Head(*plain, joined=self._tenancy.joined(), promise=self.promise.name)
 
     def _go_on_by(self, reopened_audit: Reopened) -> None:
         """Where the program of this journal stood."""

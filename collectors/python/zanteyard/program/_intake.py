@@ -66,8 +66,6 @@ class Intake:
         if self.promise.is_timed:
             raise ValueError(f"{promise}: only finished histories are asked about time")
         if self.promise.is_split:
-            if journal is not None:
-                raise ValueError("an audit with a journal is of serializability")
             limit = min(limit, LIMIT // 2)  # each takes the room of two
         self.sessions, self.limit, self.path, self.script_path = sessions, limit, program, script
         self.journal, self.round_seconds = journal, round_seconds

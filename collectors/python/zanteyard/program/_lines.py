@@ -29,6 +29,7 @@ TOO_OLD = (
     f"is an auditor of an earlier version than this package: it doesn't know scripts of version "
     f"{FORM}, which tell what was aborted. Build it anew, or name another one"
 )
+SHOWN = 160  # characters of a line that is refused
 WAITS = (0.1, 0.5)  # seconds after which a line that was answered NoMemory is given again
 ENDED = "cobra_audit has been ended"
 logger = logging.getLogger("zanteyard")
@@ -87,7 +88,8 @@ class Lines(Intake):
             time.sleep(wait)
             (reply,) = self._replies_to([text])
         refused = reply[0] == "no" and KINDS.get(reply[2], RefusedError)
-        return reply, refused(f"{text} was answered {reply[2]}") if refused else None
+        short = text if len(text) <= SHOWN else f"{text[:SHOWN]} .."
+        return reply, refused(f"{short} was answered {reply[2]}") if refused else None
 
     def _replies_to(self, texts: Sequence[str]) -> List[List[Any]]:
         """Of lines that are given one behind the other; raises ProgramLateError where that takes

@@ -52,6 +52,11 @@ class Pipes:
         answers, self.found = self.found[:count], self.found[count:]
         return answers
 
+    def taken(self) -> List[bytes]:
+        """All that are there by now."""
+        taken, self.found = self.found, []
+        return taken
+
     def still_in_step(self) -> None:
         """Raises ProgramEndedError where it isn't known any more to which line an answer
         belongs."""

@@ -12,6 +12,7 @@ from ..journal._entries import Head, Kept, Violation, kept_in
 from ..journal._file import Journal
 from ..journal._history import State, state_of
 from ..journal._writer import JournalWriter
+from ..promises._kinds import ASKED
 from ._supervised import SupervisedProgram
 
 logger = logging.getLogger("zanteyard")
@@ -34,13 +35,19 @@ class Reopened:
         return Coverage(plain["early"], plain["first"], plain["last"], unknown)
 
 
-def reopened(path: str) -> Reopened:
-    """Raises JournalError where there is none, or none that can be believed."""
+def reopened(path: str, promise: Optional[str] = None) -> Reopened:
+    """Raises JournalError where there is none, none that can be believed, or one of an audit that
+    asks for another promise."""
     journal = Journal(path)
     try:
         if not journal.is_there:
             raise JournalError(f"{path}: there is no journal")
         kept = kept_in(journal)
+        if promise is not None and promise != kept.head.promise:
+            raise JournalError(
+                f"{path} is of an audit that asks for {ASKED[kept.head.promise].title}, and can't "
+                f"go on with {ASKED[promise].title}"
+            )
         return Reopened(journal, kept, _state_of(kept, path))
     except BaseException:
         journal.close()

@@ -7,6 +7,8 @@ from collections import deque
 from itertools import islice
 from typing import Any, Deque, Iterable, List, NamedTuple, Optional
 
+from ..promises._keeping import KeptRewriting
+from ..promises._kinds import SERIALIZABLE, Promise
 from ..promises._rewriting import Rewriting
 from ._pipes import Pipes
 
@@ -60,3 +62,16 @@ class RewrittenPipes(Pipes):
             del self.found[:given]
             reply = self._rewriting.told(line, replies)
         return json.dumps(reply, separators=(",", ":")).encode()
+
+    def taken(self) -> List[bytes]:
+        taken: List[bytes] = []
+        while self._asked and len(self.found) >= self._asked[0].given:
+            taken.append(self._answer())
+        return taken if self._asked else taken + super().taken()
+
+
+def begun(path: str, promise: Promise = SERIALIZABLE, is_kept: bool = False) -> Pipes:
+    """A program that is asked about this promise; `is_kept`, if what it has may be given out."""
+    if promise == SERIALIZABLE:
+        return Pipes(path)
+    return RewrittenPipes(path, KeptRewriting(promise) if is_kept else Rewriting(promise))

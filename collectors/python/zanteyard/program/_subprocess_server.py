@@ -28,9 +28,10 @@ class OfPacked(Auditor):
         *arguments: Any,
         audits: int = 1,
         coverage: Optional[Coverage] = None,
+        **more: Any,
     ) -> None:
         self._earlier, self._began = audits - 1, coverage
-        super().__init__(*arguments)
+        super().__init__(*arguments, **more)
 
     def _start(self, _: Optional[Coverage]) -> None:
         self.audits = self._earlier

@@ -31,6 +31,7 @@ from ._checkpoint import (
     why_not_resumed,
 )
 from ._pipes import Pipes
+from ._rewritten_pipes import begun
 
 Talk = Generator[List[bytes], List[bytes], None]  # gives lines, and is sent their answers
 AnswerOrError = Union[bytes, RoundTooLongError]
@@ -76,9 +77,12 @@ class SupervisedProgram:
         self._starts_at, self._round_ends = 0.0, float("inf")
         self._is_down = False
         self._is_in_step, self._why_over = True, ""
-        self._pipes = Pipes(path)
+        self._pipes = self._program()
         if kept is not None:
             self._begin(self._resume(kept))
+
+    def _program(self) -> Pipes:
+        return begun(self.path, self.keeping.promise, is_kept=True)
 
     # as Pipes
 
@@ -140,7 +144,7 @@ class SupervisedProgram:
             ends = min(until, self._round_ends)
             self._pipes.wait(wanted, max(0.0, ends - time.monotonic()))
             self._is_in_step = False
-            answers, self._pipes.found = self._pipes.found, []
+            answers = self._pipes.taken()
             self._take(answers)
             self._is_in_step = not self._why_over
         except ProgramLateError:
@@ -264,7 +268,7 @@ class SupervisedProgram:
         if kept and behind:
             self._pipes.kill()
             self._pipes.end()
-            self._pipes = Pipes(self.path)
+            self._pipes = self._program()
             yield from self._begun_with(kept.lines[: len(kept.lines) - len(behind)])
         self._limit_round(self._last_round)
         (answer,) = yield [self._last_round]
@@ -330,7 +334,7 @@ class SupervisedProgram:
                 raise ProgramLateError("cobra_audit is being started again")
         self._is_in_step = False
         kept = self.keeping.kept()
-        self._pipes = Pipes(self.path)
+        self._pipes = self._program()
         self.restarts += 1
         self._is_down = False
         if kept is not None:

@@ -44,6 +44,7 @@ GENERALIZED = Promise(
 )
 WITHOUT_SESSIONS: Mapping[Promise, Promise] = {SERIALIZABLE: SESSIONLESS, SNAPSHOT: GENERALIZED}
 ASKED: Mapping[str, Promise] = {each.name: each for each in (SERIALIZABLE, SNAPSHOT, STRICT)}
+LIVE = (SERIALIZABLE.name, SNAPSHOT.name)  # that can be asked for while clients run
 # All, each before those that it is no weaker than; and which ones follow at once from each.
 ALL: Tuple[Promise, ...] = (
     STRICT,

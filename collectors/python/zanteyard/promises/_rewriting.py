@@ -209,10 +209,10 @@ def _cut(reply: Sequence[Any]) -> List[Any]:
         for session, number in gone
         if not number % 2 and (session, number // 2) not in whole
     ]
-    return ["cut", [fence[0], fence[1] // 2], commits, [*_last(last)], begun]
+    return ["cut", [fence[0], fence[1] // 2], commits, [*last_writers(last)], begun]
 
 
-def _last(last: Sequence[Sequence[int]]) -> Iterator[List[int]]:
+def last_writers(last: Sequence[Sequence[int]]) -> Iterator[List[int]]:
     """The last gone writers of keys that transactions write themselves."""
     for key, session, number in last:
         if key < KEYS and number % 2:
@@ -227,7 +227,7 @@ def _state(reply: Sequence[Any]) -> List[Any]:
         [mark // 2 for mark in marks],
         [count // 2 for count in received],
         closed,
-        [*_last(last)],
+        [*last_writers(last)],
         (remaining + half_gone) // 2,
     ]
 

@@ -32,13 +32,22 @@ class AuditClient(LocalSessions):
     """In place of a LiveAuditor, in a process of clients: theirs is behind the AuditServer at this
     path; or, where the address is a redis:// or rediss:// URL, behind the StreamServer of the audit
     of this name in that Redis, which has the same `key`: the path of a file, or else what the
-    environment's ZANTEYARD_KEY says. `leave` ends it, once its sessions do nothing more. What a process
-    did last that is killed is found in its notes (`core/_crash_notes.py`, `_stream_client.py`).
+    environment's ZANTEYARD_KEY says. `leave` ends it, once its sessions do nothing more. What a
+    process did last that is killed is found in its notes (`core/_crash_notes.py`,
+    `_stream_client.py`).
     Raises OSError where nobody is there, ProgramEndedError where nobody answers, and
     OtherVersionError where the auditor's process is of a version that this one doesn't understand;
-    KeyFileError, an OSError, if the key can't be used. For threads."""
+    KeyFileError, an OSError, if the key can't be used. With `redacts` no values and no constants of
+    statements leave this process, nor are they in notes. For threads."""
 
-    def __init__(self, address: str, audit: str = "audit", key: Optional[str] = None) -> None:
+    def __init__(
+        self,
+        address: str,
+        audit: str = "audit",
+        redacts: bool = False,
+        key: Optional[str] = None,
+    ) -> None:
+        self.redacts = redacts
         self._door = door_to(address, audit, key)
         self._messages = self._door.messages
         run_name, self.is_named, self.token, most, policy = self._door.welcome()
@@ -176,7 +185,8 @@ class AuditClient(LocalSessions):
         while self._outbox.is_full(sessions) and not self._goes_on():
             if time.monotonic() > ends:
                 count = self._outbox.on_their_way
-                self._lose(f"the auditor can't keep up: {count} transactions are on their way")
+                waited = f"for {self.policy.wait:g} s"
+                self._lose(f"there was no room {waited}: {count} transactions are on their way")
             time.sleep(PAUSE / 8)
 
     def _goes_on(self) -> bool:

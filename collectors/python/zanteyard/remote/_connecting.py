@@ -3,12 +3,14 @@ a Redis."""
 
 from __future__ import annotations
 
+import contextlib
 import functools
 import os
 from multiprocessing.connection import Client
 from typing import Any, Dict, Optional, Protocol
 
 from ..core._crash_notes import FORKED, CrashNotes
+from ..core._private_files import check_folder
 from ..core._shared_key import shared_key
 from ..core._version import FORM, VERSION
 from ..core.errors import OtherVersionError, ProgramEndedError
@@ -71,6 +73,8 @@ class SocketDoor:
     def welcome(self) -> Any:
         try:
             *welcome, self._notes_path = welcomed(self.messages)
+            with contextlib.suppress(OSError):  # it isn't there: notes fail, which they tell
+                check_folder(os.path.dirname(self._notes_path))
         except BaseException:
             self.messages.close()
             raise

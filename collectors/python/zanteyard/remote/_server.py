@@ -20,6 +20,8 @@ import time
 from multiprocessing.connection import Client, Listener
 from typing import Any, List
 
+from ..core._private_files import check_folder
+from ..core.errors import FolderUnfitError
 from ..live._live_auditor import PAUSE, LiveAuditor
 from ._socket_process import SocketProcess
 
@@ -30,7 +32,8 @@ CLOSING = 30.0  # seconds for all processes to leave
 class AuditServer:
     """A socket at this path, through which an AuditClient comes in. Who can open it is believed,
     which is this user alone. Raises OSError where there can be no socket, as where another server
-    has it. For threads."""
+    has it, and FolderUnfitError where somebody else has the folder
+    of its notes. For threads."""
 
     def __init__(self, live: LiveAuditor, path: str) -> None:
         self.path, self._live = path, live
@@ -50,10 +53,21 @@ class AuditServer:
         try:
             os.mkdir(self.notes, 0o700)
         except OSError as error:
+            self._refuse_others_notes()
             logger.error("what clients do can't be noted: %s", error)
         live.call_at_end(self._tell_end)
         self._thread = threading.Thread(target=self._let_in, daemon=True)
         self._thread.start()
+
+    def _refuse_others_notes(self) -> None:
+        """What is there under their name couldn't be removed."""
+        try:
+            check_folder(self.notes)
+        except FolderUnfitError:
+            self._listener.close()
+            raise
+        except OSError:
+            pass  # there is nothing; the log tells why
 
     def close(self, patience: float = CLOSING) -> None:
         """Lets nobody in any more, and waits for so many seconds until all have left; before the

@@ -74,6 +74,7 @@ class Session(OwnTransactions):
         self.is_changing = False  # it gets its place, or gives it back, and its turn is held
         its_name = getattr(auditor, "run_name", "")
         self.run_name = run_name if run_name is not None else its_name
+        self.redacts = getattr(auditor, "redacts", False) is True  # keeps no values and constants
         self.is_named = self.run_name != its_name or getattr(auditor, "is_named", True)
         self.place: Any = Place(number)  # None where no place is left for it
         self.is_open = True

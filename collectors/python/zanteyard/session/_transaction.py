@@ -11,6 +11,7 @@ from ..core._circumstances import brief, caller
 from ..core._forks import UNAUDITED
 from ..core._own_keys import FENCE, FLAG
 from ..core._records import Deed, Logged, Name, Read, Source, StoreId, StoredValue, as_bytes, undone
+from ..core._redacting import redacted
 from ..core.errors import AbortedError, AuditLostError, OutcomeUnknownError
 
 if TYPE_CHECKING:
@@ -323,7 +324,8 @@ class Transaction:
         if not (reads or tried_reads):  # it isn't known, or doesn't matter, what was read
             values = tuple(value for value in values if value[0] == "wrote")
         more = (statements, values, self.began, self.caller)
-        return Logged(reads, writes, outcome, *more, tried_reads, tried_writes)
+        logged = Logged(reads, writes, outcome, *more, tried_reads, tried_writes)
+        return redacted(logged) if self.session.redacts else logged
 
     def undone(self) -> Tuple[List[Read], List[str]]:
         """What this has read, and what it wrote under its name, where it was aborted. What was only

@@ -8,6 +8,7 @@ from typing import Callable
 import psycopg2
 from psycopg2 import errors
 
+from ..core._visible import say
 from ..stores.postgres import prepare, quoted
 
 WAITING = 10  # seconds for what clients have left open, as it is cleaned up
@@ -19,7 +20,7 @@ class GuestSchema:
     under a name that nothing else has. What `dsn` doesn't say the environment does, as PGHOST and
     PGDATABASE."""
 
-    def __init__(self, dsn: str, tell: Callable[[str], object] = print) -> None:
+    def __init__(self, dsn: str, tell: Callable[[str], object] = say) -> None:
         self.dsn, self.tell = dsn, tell
         self.name = f"zanteyard_{secrets.token_hex(6)}"
         self.table = f"{self.name}.zanteyard"

@@ -8,6 +8,7 @@ import secrets
 import shutil
 from typing import Any, Callable, Dict, List, Optional
 
+from ..core._visible import say
 from ._throwaway_server import ThrowawayServer
 
 DATABASE = "zanteyard"
@@ -70,7 +71,7 @@ class MariaDBGuest:
     """The same, in a server that is there: makes one table, under a name that nothing else has, in
     the database that `dsn` names, and drops it at the end."""
 
-    def __init__(self, dsn: Dict[str, Any], tell: Callable[[str], object] = print) -> None:
+    def __init__(self, dsn: Dict[str, Any], tell: Callable[[str], object] = say) -> None:
         self.dsn, self.tell = dsn, tell
         self.table = f"zanteyard_{secrets.token_hex(6)}"
 

@@ -11,7 +11,7 @@ import sys
 import tempfile
 import time
 from contextlib import contextmanager
-from typing import Any, Dict, Iterator, Optional
+from typing import Any, Dict, Iterator, Optional, Sequence
 
 INITIAL = ("-A", "trust", "-U", "postgres", "-E", "UTF8", "--locale=C", "--no-sync")
 STOPPING = 20  # seconds for a server to stop
@@ -23,6 +23,19 @@ def program(name: str) -> Optional[str]:
     places = glob.glob(f"/usr/lib/postgresql/*/bin/{name}")
     places.sort(key=lambda path: int(path.split("/")[4]))
     return shutil.which(name) or (places[-1] if places else None)
+
+
+def trusted_plugins() -> Sequence[str]:
+    """The setting by which a server lets wal2json read its log, if it has that setting: since
+    15.19, and since as late a version of each release."""
+    name = "output_plugin_libraries"
+    call = [program("postgres") or "postgres", "--describe-config"]
+    try:
+        known = subprocess.run(call, capture_output=True, text=True, check=False).stdout
+    except OSError:
+        return ()
+    is_known = any(line.startswith(f"{name}\t") for line in known.splitlines())
+    return (f"{name}=pgoutput,test_decoding,wal2json",) if is_known else ()
 
 
 @contextmanager
@@ -80,6 +93,7 @@ class PostgresServer:
     def start(self) -> None:
         """Again, where it was stopped."""
         options = f"-c listen_addresses='' -c unix_socket_directories={self.folder} -c fsync=off"
+        options += "".join(f" -c {each}" for each in trusted_plugins())
         log = f"{self.folder}/log"
         self.run("pg_ctl", "-D", self.data, "-l", log, "-o", options, "-w", "start")
 

@@ -7,6 +7,7 @@ import shutil
 import socket
 from typing import Callable, List, Optional
 
+from ..core._visible import say
 from ._throwaway_server import ThrowawayServer
 
 
@@ -49,7 +50,7 @@ class RedisGuest:
     """Keys of one's own in a server that is there, under a prefix that nothing else has; they are
     deleted at the end."""
 
-    def __init__(self, dsn: str, tell: Callable[[str], object] = print) -> None:
+    def __init__(self, dsn: str, tell: Callable[[str], object] = say) -> None:
         self.dsn, self.tell = dsn, tell
         self.prefix = f"zanteyard_{secrets.token_hex(6)}:"
 

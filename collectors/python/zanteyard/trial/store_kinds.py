@@ -7,6 +7,7 @@ import argparse
 import os
 from typing import Any, Callable, Dict, List, Mapping, Sequence
 
+from ..core._visible import say
 from ..core.errors import ZanteyardError
 from ..stores.levels import LEVELS
 from ._throwaway_folder import ThrowawayFolder
@@ -308,7 +309,7 @@ class SQLiteGuest(SQLiteFile):
         self.dsn, self.table = path, f"zanteyard_{os.urandom(6).hex()}"
 
     def __enter__(self) -> SQLiteGuest:
-        print(f"makes the table {self.table} in {self.dsn}, and drops it")
+        say(f"makes the table {self.table} in {self.dsn}, and drops it")
         return self
 
     def __exit__(self, *_: object) -> None:
@@ -318,7 +319,7 @@ class SQLiteGuest(SQLiteFile):
         try:
             connection.execute(f"DROP TABLE IF EXISTS {self.table}")
         except sqlite3.Error as error:
-            print(f"what it made is left (DROP TABLE {self.table}): {error}")
+            say(f"what it made is left (DROP TABLE {self.table}): {error}")
         finally:
             connection.close()
 

@@ -17,8 +17,10 @@ from ..core.errors import JournalError, ProgramEndedError, RoundTooLongError
 from ..journal._file import Journal
 from ..journal._entries import Head
 from ..program._pipes import Pipes
+from ..program._rewritten_pipes import begun
 from ..program._supervised import SupervisedProgram
 from ..program._resuming import journaled
+from ..promises._kinds import SERIALIZABLE, Promise
 from ._retained import OPEN
 
 SECONDS = 60.0  # in which a line has to be answered that isn't a round
@@ -32,11 +34,17 @@ class Auditing:
     is brought to where it stood; without one its end is the audit's."""
 
     def __init__(
-        self, path: str, journal: Optional[str] = None, round_seconds: float = 60.0
+        self,
+        path: str,
+        journal: Optional[str] = None,
+        round_seconds: float = 60.0,
+        promise: Promise = SERIALIZABLE,
     ) -> None:
-        """`path` is the program to start. A journal that is there from an earlier run is set
-        aside. Raises JournalError."""
+        """`path` is the program to start. Lines and replies are of transactions as the proxy has
+        them, whatever the promise. A journal that is there from an earlier run is set aside. Raises
+        JournalError."""
         self.path, self.journal, self.round_seconds = path, journal, round_seconds
+        self.promise = promise
         self.audits = 0
         self.run_name = uuid.uuid4().hex
         self._program: Union[Pipes, SupervisedProgram, None] = None
@@ -74,11 +82,12 @@ class Auditing:
         self.end()
         self.audits += 1
         if self.journal is None:
-            self._program = Pipes(self.path)
+            self._program = begun(self.path, self.promise)
             return
         found = OPEN.match(line)
         assert found is not None
         head = Head(int(found[1]), int(found[2]), self.run_name, self.audits)
+        head.promise = self.promise.name
         self._program = journaled(
             self.path, self.journal, lambda: head, [FENCE], self.round_seconds
         )

@@ -9,6 +9,7 @@ from dataclasses import replace
 from typing import Any, Deque, Dict, List, Mapping, Sequence
 
 from ..explain._charts import RoundSeen
+from ..promises._kinds import SERIALIZABLE, Promise
 from ._feed import listed, number, seen_of, text, whole
 from ._state import Ended, Seen, Status, added
 from ._violations import Violation
@@ -21,10 +22,12 @@ NOTES = 12
 class Board:
     """Safe for several threads. Times are in seconds since 1970."""
 
-    def __init__(self, title: str, origin: str = "") -> None:
+    def __init__(
+        self, title: str, origin: str = "", promise: Promise = SERIALIZABLE
+    ) -> None:
         now = time.time()
         self._turn = threading.Lock()
-        self._status = Status(title, now, now, origin=origin)
+        self._status = Status(title, now, now, origin=origin, promise=promise)
         self._rounds: Deque[RoundSeen] = deque(maxlen=ROUNDS)
         self._kinds: Dict[str, int] = {}
         self._violations: List[Violation] = []

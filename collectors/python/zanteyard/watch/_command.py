@@ -13,8 +13,10 @@ import sys
 from typing import Any, Dict, List, Sequence, Tuple
 from urllib.parse import unquote, urlsplit
 
+from ..core._visible import say, visible
 from ..core.errors import ZanteyardError
 from ..program._binaries import find_program, origin_of
+from ..promises._kinds import ASKED, LIVE, SERIALIZABLE
 from . import _prepare
 from ._database import Database, DatabaseError, DriverMissingError, without_password
 from ._ending import STATUS_WORDS
@@ -25,7 +27,6 @@ from ._proxy import find_proxy
 from ._run import Plan, Run, stopped_by_signals
 from ._sharing import add_sharing, mistake_of, words_of
 from ._supervising import CantBeginError
-from ._text import visible
 from ._web import host_and_port
 
 MISTAKE = 2
@@ -67,6 +68,10 @@ def add_arguments(command: argparse.ArgumentParser) -> None:
     )
     add_sharing(command)
     add_tables_option(command, "audits only these tables, as public.*,shop.orders")
+    command.add_argument(
+        "--promise", choices=[*LIVE], default=SERIALIZABLE.name,
+        help="what the application relies on (serializable; docs/PROMISES.md)",
+    )
     command.add_argument(
         "--redact", action="store_true", help="shows no parameters and no constants of statements"
     )
@@ -126,9 +131,11 @@ def run(asked: Any) -> int:
         call, program, title, origin_of(program).sentence(), environment,
         page=asked.page, metrics=asked.metrics, journal=asked.journal, save=asked.save,
         round_seconds=asked.round_seconds, for_seconds=asked.seconds, redacts=asked.redact,
+        promise=ASKED[asked.promise],
     )
     watch = Run(plan, tell)
-    logger.info("applications connect to %s", asked.listen)
+    about = plan.promise.title
+    logger.info("applications connect to %s; they are watched for %s", asked.listen, about)
     with stopped_by_signals(watch):
         try:
             return watch.run()
@@ -137,11 +144,11 @@ def run(asked: Any) -> int:
 
 
 def tell(line: str) -> None:
-    print(line, flush=True)
+    say(line, flush=True)
 
 
 def _mistake(told: str) -> int:
-    print(f"mistake: {told}", file=sys.stderr, flush=True)
+    say(f"mistake: {told}", file=sys.stderr, flush=True)
     return MISTAKE
 
 
@@ -179,6 +186,8 @@ def call_of(proxy: str, asked: Any) -> Tuple[Sequence[str], Dict[str, str]]:
         url, environment["PGPASSWORD"] = without_password(url), unquote(password)
     call = [proxy, "--server", url, "--listen", asked.listen]
     call.append(f"--parameters={'false' if asked.redact else 'true'}")
+    if asked.promise != SERIALIZABLE.name:
+        call.append(f"--promise={asked.promise}")
     if asked.sample is not None:
         call.append(f"--sample={asked.sample:g}")
     if asked.tables is not None:

@@ -7,8 +7,8 @@ from dataclasses import dataclass
 from typing import Any, Iterator, Optional, Sequence, Tuple
 
 from ..core._records import AuditId
+from ..core._visible import visible
 from ._origins import without_tags
-from ._text import visible
 
 VALUE, VALUES = 80, 300  # characters of one parameter, and of all of a statement
 
@@ -91,7 +91,8 @@ def lines_of(label: str, its: Optional[Described]) -> Iterator[str]:
     if its is None:
         yield f"{label}: nothing more is known of it"
         return
-    facts = [its.client, its.level, f"began at {clock(its.began)}" if its.began else ""]
+    began = f"began at {clock(its.began)}" if its.began else ""
+    facts = [its.client, visible(its.level, 80), began]
     yield f"{label}: " + ", ".join(fact for fact in facts if fact)
     for one in its.statements:
         more = "".join(f"  [{it}]" for it in (one.values, visible(one.origin)) if it)

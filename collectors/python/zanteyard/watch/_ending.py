@@ -4,9 +4,11 @@ from __future__ import annotations
 
 from typing import Iterator, List, Mapping
 
+from ..core._visible import visible
+from ..promises._kinds import SERIALIZABLE
 from ._described import clock
 from ._state import Seen, Status
-from ._text import counted, visible
+from ._text import counted
 
 STATUSES: Mapping[str, int] = {"serial": 0, "violated": 1, "pending": 3}
 UNDECIDED = 4
@@ -39,11 +41,13 @@ def lines_of(status: Status) -> Iterator[str]:
     rounds = counted(status.rounds_count, "round")
     audits = f" and {counted(status.audit, 'audit')}" if status.audit > 1 else ""
     checked = f"{seen.offered:,} of {seen.whole:,} transactions were checked"
-    yield f"{kind}: {checked}, in {rounds}{audits}"
+    about = "" if status.promise == SERIALIZABLE else f" for {status.promise.title}"
+    yield f"{kind}: {checked}{about}, in {rounds}{audits}"
     if status.violations_count:
         its = counted(status.violations_count, "violation")
         names = ", ".join(sorted({one.title for one in status.violations}))
         yield f"  {its} found" + (f": {names}" if names else "")
+        yield from (f"  {line}" for line in status.standing.lines())
     for one in status.ended:
         if one.is_lost:
             yield f"  an audit ended at {clock(one.at, False)}: {visible(one.reason)}"

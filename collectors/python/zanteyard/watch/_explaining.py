@@ -9,7 +9,8 @@ import time
 from typing import Any, Callable, Dict, List, Optional, Sequence
 
 from ..core._records import AuditId
-from ._violations import NOTHING, Answered, Held, Violation, explained
+from ..promises._kinds import SERIALIZABLE, Promise
+from ._violations import EXPLAINING, NOTHING, Answered, Held, Violation, explained
 
 ANSWERING = 10.0  # seconds in which the proxy has to describe transactions
 MOST = 16  # violations that are explained; the rest is counted
@@ -22,8 +23,13 @@ class Explaining:
     """`begin` is for the thread that asks the auditor; `told` is called by a thread of this one,
     with each violation once it is explained."""
 
-    def __init__(self, program: str, told: Callable[[Violation], object]) -> None:
-        self._program, self._told = program, told
+    def __init__(
+        self,
+        program: str,
+        told: Callable[[Violation], object],
+        promise: Promise = SERIALIZABLE,
+    ) -> None:
+        self._program, self._told, self._promise = program, told, promise
         self._turn = threading.Lock()
         self._places = threading.BoundedSemaphore(MOST_AT_ONCE)
         self._awaited: Dict[int, _Answer] = {}
@@ -64,7 +70,8 @@ class Explaining:
         try:
             answered = answer.take(ANSWERING)
             with self._places:
-                found = explained(number, report, held, answered, self._program, now)
+                its = (self._program, now, EXPLAINING, self._promise)
+                found = explained(number, report, held, answered, *its)
             self._told(found)
         except Exception:  # the verdict stands, whatever fails here
             logger.exception("violation %d can't be explained", number)

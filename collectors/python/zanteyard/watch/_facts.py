@@ -6,11 +6,14 @@ from dataclasses import dataclass
 from typing import List, Optional, Sequence, Tuple
 
 from ._database import Database, DatabaseError
-from ._hosts import KEEP, REPLICATION, SENDERS, SLOTS, WAL_LEVEL, WALINSPECT, Host, host_of
+from ._hosts import (
+    KEEP, PLUGINS, REPLICATION, SENDERS, SLOTS, WAL_LEVEL, WALINSPECT, Host, host_of
+)
 
 OLDEST = 130000  # PostgreSQL 13
 FENCE = "public.zanteyard_fence"
-PLUGIN = "wal2json"  # what decodes the log, for the proxy
+PLUGIN, SHIPPED = "wal2json", "test_decoding"  # what decodes the log, for the proxy
+TRUSTED = "output_plugin_libraries"  # the server's list of those that may
 CREATES = (
     f"CREATE TABLE IF NOT EXISTS {FENCE} (id integer PRIMARY KEY CHECK (id = 0), "
     "n bigint NOT NULL)",
@@ -18,7 +21,9 @@ CREATES = (
     f"GRANT SELECT, UPDATE ON {FENCE} TO PUBLIC",
 )
 PROBE = "zanteyard_probe"
+BEHIND_SAVEPOINTS = "rows that were written behind a savepoint may be unknown to their readers"
 NO_PLUGIN = ("58P01", "42704")  # undefined file, undefined object
+REFUSED = "42501"  # insufficient privilege
 
 
 @dataclass(frozen=True)
@@ -59,7 +64,7 @@ def findings(database: Database, server: Server) -> List[Finding]:
     found += [_senders(database, server), _slots(database, server)]
     found.append(_replication(database, server))
     if all(one.is_right for one in found):
-        found.append(_plugin(database))
+        found.append(_plugin(database, server))
     found += [_fence(database, server), _walinspect(database, server), _keep(database, server)]
     return found
 
@@ -115,20 +120,40 @@ def _replication(database: Database, server: Server) -> Finding:
     return Finding(False, True, f"the role {server.user} may not replicate", remedy)
 
 
-def _plugin(database: Database) -> Finding:
+def _plugin(database: Database, server: Server) -> Finding:
     """By a slot that is gone with this connection, or at once."""
     try:
         database.run("SET statement_timeout = '10s'")
-        database.run(f"SELECT pg_create_logical_replication_slot('{PROBE}', '{PLUGIN}', true)")
-        database.run(f"SELECT pg_drop_replication_slot('{PROBE}')")
+        _probe(database, PLUGIN)
         return Finding(True, True, f"{PLUGIN} is installed, and a slot with it can be made")
     except DatabaseError as error:
         if error.code in NO_PLUGIN:
+            told = f"{PLUGIN} isn't installed"
             remedy = f"install it on the server (Debian: postgresql-NN-{PLUGIN})"
-            return Finding(False, True, f"{PLUGIN} isn't installed", remedy)
-        return Finding(False, True, f"no slot can be made: {error}")
+        elif error.code == REFUSED and (trusted := _trusted(database)) is not None:
+            told = f"{PLUGIN} isn't in the server's {TRUSTED}"
+            remedy = server.host.remedy(PLUGINS, server.user).replace("{trusted}", trusted)
+        else:
+            return Finding(False, True, f"no slot can be made: {error}")
+        try:
+            _probe(database, SHIPPED)
+        except DatabaseError as other:
+            return Finding(False, True, f"{told}, and {SHIPPED} can't be used: {other}", remedy)
+        without = f"{SHIPPED} is used; with it {BEHIND_SAVEPOINTS}"
+        return Finding(False, False, f"{told}: {without}", remedy)
     finally:
         database.run("RESET statement_timeout")
+
+
+def _probe(database: Database, plugin: str) -> None:
+    database.run(f"SELECT pg_create_logical_replication_slot('{PROBE}', '{plugin}', true)")
+    database.run(f"SELECT pg_drop_replication_slot('{PROBE}')")
+
+
+def _trusted(database: Database) -> Optional[str]:
+    """The server's list of plugins that may be used, with ours; None if it has no such list."""
+    its: Optional[str] = database.one(f"SELECT current_setting('{TRUSTED}', true)")
+    return None if its is None else f"{its}, {PLUGIN}" if its else PLUGIN
 
 
 def _fence(database: Database, server: Server) -> Finding:
@@ -145,7 +170,7 @@ def _fence(database: Database, server: Server) -> Finding:
 
 def _walinspect(database: Database, server: Server) -> Finding:
     told = "pg_walinspect"
-    without = "without it rows that were written behind a savepoint may be unknown to their readers"
+    without = f"without it {BEHIND_SAVEPOINTS}"
     remedy = server.host.remedy(WALINSPECT, server.user)
     if server.number < 150000:
         return Finding(False, False, f"{told} needs PostgreSQL 15; {without}")

@@ -7,6 +7,7 @@ from typing import Iterator, Mapping
 
 from ..core._prometheus import TEXT, Family, text_of
 from ..core._version import VERSION
+from ..promises._kinds import ALL
 from ._board import Board
 from ._state import Status
 from ._web import TEXT as PLAIN
@@ -22,7 +23,11 @@ def families(status: Status) -> Iterator[Family]:
     def one(name: str, kind: str, about: str, value: float) -> Family:
         return f"zanteyard_{name}", kind, about, [((), value)]
 
-    its = (("version", VERSION), ("database", status.database))
+    its = (
+        ("version", VERSION),
+        ("database", status.database),
+        ("promise", status.promise.name),
+    )
     yield "zanteyard_info", "gauge", "Which audit it is, and of which version.", [(its, 1)]
     for name, field, about in (
         ("transactions_taken_total", "offered", "Transactions given to the auditor."),
@@ -71,6 +76,10 @@ def families(status: Status) -> Iterator[Family]:
     yield one("audits_total", "counter", "Audits that have begun.", status.audit)
     yield one("violations_total", "counter", "Violations found.", status.violations_count)
     yield one("violated", "gauge", "1 after a violation.", bool(status.violations_count))
+    broken = status.standing.broken
+    promises = [((("promise", it.name),), float(it in broken)) for it in ALL if not it.is_timed]
+    about = "1 after a violation that breaks this promise was explained."
+    yield "zanteyard_promise_broken", "gauge", about, promises
     is_lost = any(one.is_lost for one in status.ended)
     yield one("incomplete", "gauge", "1 after an audit ended before its time.", is_lost)
     yield one("auditing", "gauge", "1 while an audit goes on.", not status.is_over)

@@ -9,8 +9,8 @@ from __future__ import annotations
 from dataclasses import dataclass
 from typing import Iterable, Mapping
 
-WAL_LEVEL, SLOTS, SENDERS, REPLICATION, WALINSPECT, KEEP = (
-    "wal_level", "slots", "senders", "replication", "walinspect", "keep"
+WAL_LEVEL, SLOTS, SENDERS, REPLICATION, WALINSPECT, KEEP, PLUGINS = (
+    "wal_level", "slots", "senders", "replication", "walinspect", "keep", "plugins"
 )
 
 
@@ -35,6 +35,9 @@ OWN = Host(
         WALINSPECT: "as a superuser: CREATE EXTENSION pg_walinspect; "
         "GRANT pg_read_server_files TO {user}",
         KEEP: "ALTER SYSTEM SET max_slot_wal_keep_size = '4GB'; SELECT pg_reload_conf()",
+        PLUGINS: "ALTER SYSTEM SET output_plugin_libraries = {trusted}; SELECT pg_reload_conf(). "
+        "Each role that may replicate may use it then. On a host's console: the parameter "
+        "output_plugin_libraries, if it is offered",
     },
 )
 _AMAZON = {

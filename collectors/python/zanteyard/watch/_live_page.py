@@ -3,15 +3,16 @@ clients, and each violation with a link to its own page. It reads well without s
 
 from __future__ import annotations
 
-import html
 from typing import Iterator, List, Mapping, Sequence, Tuple
 
 from ..explain._charts import draw_rounds
 from ..core._version import VERSION
+from ..core._visible import escaped, html_text
 from ._described import clock
 from ._state import MOST_SHAPES, Shape, Status
 from ._style import EVERY_WITHOUT, SCRIPT, STYLE
-from ._text import counted, escaped
+from ._text import counted
+from ._violations import Violation
 from ._web import policy_for
 
 POLICY = policy_for(STYLE, SCRIPT)
@@ -22,6 +23,7 @@ HEADINGS: Mapping[str, str] = {
     "spent": "The last round wasn't decided",
     "incomplete": "No violation so far, and something wasn't checked",
     "violated": "Transactions ran that no serial order explains",
+    "broken": "Transactions ran that snapshot isolation doesn’t allow",
 }
 SHOWN = 40  # reads that wait
 
@@ -84,12 +86,13 @@ def _state(status: Status) -> Iterator[str]:
 
 def _sentences(status: Status) -> Iterator[str]:
     if status.violations_count:
-        yield f"{HEADINGS['violated']}. {_where_explained(status)}"
+        found = HEADINGS["broken" if status.promise.is_split else "violated"]
+        yield f"{found}. {_where_explained(status)}"
     elif status.rounds_count:
-        yield (
-            "Some serial order explains all that was checked, with each connection’s own order "
-            "kept."
-        )
+        order = "order of begins and commits keeps snapshot isolation in"
+        if not status.promise.is_split:
+            order = "serial order explains"
+        yield f"Some {order} all that was checked, with each connection’s own order kept."
     elif not status.seen.connections:
         yield "No application has connected yet."
     if status.ended and status.is_over and not status.ended[-1].is_lost:
@@ -105,7 +108,8 @@ def _sentences(status: Status) -> Iterator[str]:
             f"An audit ended at {clock(lost[-1].at, False)}: {escaped(lost[-1].reason)}. Another "
             "one began after it. Nothing is said about what happened between the two."
         )
-    told = f"Watching for {lasting(status.now - status.began)}"
+    told = f"The audit asks for {status.promise.title}. Watching for "
+    told += lasting(status.now - status.began)
     if status.told_at and not status.is_over:
         told += f"; checked up to {clock(status.checked_until, False)}, "
         told += f"{lasting(max(0.0, status.now - status.checked_until))} ago"
@@ -169,13 +173,17 @@ def _violations(status: Status) -> Iterator[str]:
         yield (
             f'<li><a href="/violation/{one.number}">{escaped(_capital(one.title))}</a> '
             f'<span class="soft">at {clock(one.at, False)}, round {one.round}</span><br>'
-            f"{escaped(_capital(one.sentence), 400)}.</li>"
+            f"{escaped(_capital(one.sentence), 400)}.{_standing(one)}</li>"
         )
     yield "</ol>"
     more = status.violations_count - len(status.violations)
     if more > 0:
         told = "whose explanation isn’t made yet, or isn’t kept"
         yield f"<p>{counted(more, 'violation')} more, {told}.</p>"
+
+
+def _standing(one: Violation) -> str:
+    return "".join(f"<br>It {escaped(line)}." for line in one.story.standing.lines())
 
 
 def _capital(text: str) -> str:
@@ -214,7 +222,7 @@ def _bar(name: str, part: float, whole: float, told: str) -> Iterator[str]:
         f'<div class="share"><span>{name}</span><svg viewBox="0 0 1000 10" '
         'preserveAspectRatio="none" aria-hidden="true"><rect class="track" width="1000" '
         f'height="10"/><rect class="part" width="{width:.1f}" height="10"/></svg>'
-        f'<span class="soft">{html.escape(told)}</span></div>'
+        f'<span class="soft">{html_text(told)}</span></div>'
     )
 
 

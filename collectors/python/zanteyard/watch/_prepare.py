@@ -7,12 +7,13 @@ import argparse
 from typing import Any, Iterator, List, Sequence
 from urllib.parse import parse_qs, urlsplit
 
+from ..core._visible import say, visible
 from ._database import Database, DatabaseError, without_password
 from ._facts import Finding, Server, create, findings, server_of
 from ._hosts import DOCKER_NOTE, OWN
 from ._patterns import add_tables_option
 from ._schema import Table, asked_of, summary, tables_of
-from ._text import counted, visible
+from ._text import counted
 
 READY, MISSING = 0, 2
 STATUS_WORDS = (
@@ -34,17 +35,17 @@ def add_arguments(command: argparse.ArgumentParser) -> None:
 def run(asked: Any) -> int:
     with Database(asked.url) as database:
         server = server_of(database, host_name(asked.url))
-        print(heading(server, asked.url))
+        say(heading(server, asked.url))
         if asked.create:
             for line in _created(database):
-                print(line)
+                say(line)
         found = findings(database, server)
         idle: Sequence[str] = ()
         tables = tables_of(database)
         if asked.tables is not None:
             tables, idle = asked_of(tables, asked.tables)
         for line in report(server, found, tables, idle):
-            print(line)
+            say(line)
     return READY if is_ready(found) else MISSING
 
 

@@ -10,10 +10,10 @@ import subprocess
 import threading
 from typing import Callable, List, Mapping, Optional, Sequence
 
+from ..core._visible import visible
 from ..core.errors import ProgramMissingError
 from ..program._binaries import CRATES, PACKED
 from ._feed import Item, Split
-from ._text import visible
 
 NAME = "zanteyard-proxy"
 ENVIRONMENT = "ZANTEYARD_PROXY"

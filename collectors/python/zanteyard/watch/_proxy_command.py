@@ -8,6 +8,7 @@ import os
 import sys
 from typing import Any
 
+from ..core._visible import say
 from ._command import LISTEN, MISTAKE, URL, call_of, place
 from ._patterns import add_tables_option
 from ._proxy import find_proxy
@@ -67,5 +68,5 @@ def run(asked: Any) -> int:
 
 
 def _mistake(told: str) -> int:
-    print(f"mistake: {told}", file=sys.stderr, flush=True)
+    say(f"mistake: {told}", file=sys.stderr, flush=True)
     return MISTAKE

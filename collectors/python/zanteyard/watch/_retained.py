@@ -9,7 +9,7 @@ from __future__ import annotations
 import json
 import re
 from collections import Counter, deque
-from typing import Any, Deque, Dict, Iterable, List, Sequence, Tuple
+from typing import Any, Deque, Dict, Iterable, List, Sequence, Set, Tuple
 
 from ..core._records import AuditId
 
@@ -26,6 +26,7 @@ class Retained:
     def __init__(self) -> None:
         self.marks: List[int] = []
         self._lines: List[Deque[Tuple[int, bytes]]] = []  # of each session, with their first number
+        self._begun: Set[AuditId] = set()
 
     def note(self, line: bytes) -> None:
         """A line that was answered ok."""
@@ -45,14 +46,20 @@ class Retained:
         if found:
             self.marks = [0] * int(found[1])
             self._lines = [deque() for _ in self.marks]
+            self._begun = set()
 
-    def forget(self, gone: Iterable[Sequence[int]]) -> None:
-        """The transactions that a cut names."""
+    def forget(
+        self, gone: Iterable[Sequence[int]], begun: Iterable[Sequence[int]] = ()
+    ) -> None:
+        """The transactions that a cut names, and the reads of those of which it forgets the begin
+        alone."""
+        self._begun.update(AuditId((session, number)) for session, number in begun)
         for session, count in Counter(its[0] for its in gone).items():
             self.marks[session] += count
             lines = self._lines[session]
             while len(lines) > 1 and lines[1][0] <= self.marks[session]:
                 lines.popleft()
+        self._begun = {one for one in self._begun if one[1] >= self.marks[one[0]]}
 
     @property
     def size(self) -> int:
@@ -66,5 +73,6 @@ class Retained:
             for first, line in lines:
                 for number, its in enumerate(json.loads(line)[-1], first):
                     if number >= self.marks[session]:
-                        found[AuditId((session, number))] = its
+                        one = AuditId((session, number))
+                        found[one] = [[], *its[1:]] if one in self._begun else its
         return found

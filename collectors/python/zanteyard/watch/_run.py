@@ -10,7 +10,9 @@ import time
 from dataclasses import dataclass
 from typing import Callable, Iterator, Mapping, Optional, Sequence, Tuple
 
+from ..core._visible import say, shown
 from ..core.errors import ProgramEndedError
+from ..promises._kinds import SERIALIZABLE, Promise
 from ._auditing import Auditing
 from ._board import Board
 from ._ending import lines_of, status_of
@@ -48,20 +50,23 @@ class Plan:
     round_seconds: float = 60.0
     for_seconds: Optional[float] = None  # then it stops by itself
     redacts: bool = False  # shows no values of statements
+    promise: Promise = SERIALIZABLE  # what the audit asks for
 
 
 class Run:
     """`tell` takes what is for standard output. Not for several threads, but for `stop`."""
 
-    def __init__(self, plan: Plan, tell: Callable[[str], object] = print) -> None:
+    def __init__(self, plan: Plan, tell: Callable[[str], object] = say) -> None:
         """Raises JournalError, and OSError if it can't listen at one of the addresses."""
-        self.plan, self._tell = plan, tell
+        self.plan = plan
+        self._tell: Callable[[str], object] = lambda line: tell(shown(line))
         self.stop = threading.Event()
         self._turn = threading.Lock()
-        self.board = Board(plan.title, plan.origin)
+        self.board = Board(plan.title, plan.origin, plan.promise)
         intake = Intake()
-        explaining = Explaining(plan.auditor, self._explained)
-        auditing = Auditing(plan.auditor, plan.journal, plan.round_seconds)
+        explaining = Explaining(plan.auditor, self._explained, plan.promise)
+        its_promise = plan.promise
+        auditing = Auditing(plan.auditor, plan.journal, plan.round_seconds, its_promise)
         its = (auditing, self.board, intake, self._to_proxy, explaining, plan.redacts)
         self._watching = Watching(*its)
         self._explaining = explaining

@@ -16,6 +16,7 @@ from ..explain._anomalies import UNREPEATABLE, Anomaly
 from ..explain._report import Story
 from ..explain._shrinking import Part, is_violated
 from ..explain._words import version
+from ..promises._kinds import SERIALIZABLE, Promise
 
 FRACTURED = "fractured read"
 
@@ -32,7 +33,9 @@ def read_twice(history: History) -> Iterator[Tuple[ShownId, str, Set[Source]]]:
                     yield ShownId((session, number)), key, its
 
 
-def lost_update(small: History, whole: History, program: str) -> Optional[History]:
+def lost_update(
+    small: History, whole: History, program: str, promise: Promise = SERIALIZABLE
+) -> Optional[History]:
     """In place of a part of the whole in which a transaction read two versions of a row that it
     wrote: two transactions that both read one version and both replaced it. None if there are no
     such two, or they aren't violated by themselves."""
@@ -43,7 +46,7 @@ def lost_update(small: History, whole: History, program: str) -> Optional[Histor
             other = _replaced(whole, key, source, one)
             if other is not None:
                 found = _both(whole, key, source, (one, other))
-                if is_violated(found, program):
+                if is_violated(found, program, promise):
                     return found
     return None
 

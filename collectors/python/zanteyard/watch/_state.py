@@ -7,6 +7,8 @@ from dataclasses import dataclass, field, replace
 from typing import ClassVar, Mapping, Optional, Sequence, Tuple
 
 from ..explain._charts import RoundSeen
+from ..explain._standing import Standing
+from ..promises._kinds import ALL, SERIALIZABLE, Promise
 from ._violations import Violation
 
 MOST_SHAPES = 200  # that are shown on a page
@@ -142,6 +144,7 @@ class Status:
     began: float
     now: float
     origin: str = ""  # by which auditor
+    promise: Promise = SERIALIZABLE  # what it asks for
     database: str = ""
     server: str = ""  # its version
     subtransactions: str = ""  # how those are resolved
@@ -186,6 +189,14 @@ class Status:
         if self.is_over or any(one.is_lost for one in self.ended):
             return "incomplete"
         return self.kind
+
+    @property
+    def standing(self) -> Standing:
+        """What the violations that are explained break together, and what none of them does."""
+        found = [one.story.standing for one in self.violations]
+        broken = [it for it in ALL if any(it in each.broken for each in found)]
+        kept = [it for it in ALL if found and all(it in each.kept for each in found)]
+        return Standing(broken, kept)
 
 
 def added(one: Seen, other: Seen) -> Seen:

@@ -3,15 +3,15 @@ serial order is left. It is whole without scripting, and can be saved as one fil
 
 from __future__ import annotations
 
-from html import escape
 from typing import Iterable, Iterator, Sequence
 
 from ..explain._anomalies import meaning_of
 from ..explain._html import BEFORE_YOU_ACCUSE, picture_part, reasons_part
 from ..core._version import VERSION
+from ..core._visible import escaped, escaped_lines, html_lines, html_text, visible
 from ._described import Described, Statement, clock
 from ._style import STYLE
-from ._text import counted, escaped, escaped_lines, visible
+from ._text import counted
 from ._violations import Told, Violation
 from ._web import policy_for
 
@@ -60,6 +60,7 @@ def _head(one: Violation) -> Iterator[str]:
     if meaning:
         yield f"<p>{escaped(_capital(meaning))}.</p>"
     yield f"<p>{escaped(_capital(one.sentence), 600)}.</p>"
+    yield from (f"<p>It {escaped(line)}.</p>" for line in one.story.standing.lines())
     yield (
         f'<p class="soft">Found at {clock(one.at)}, in round {one.round}, among '
         f"{counted(sum(one.story.counts), 'transaction')}.</p></section>"
@@ -69,8 +70,8 @@ def _head(one: Violation) -> Iterator[str]:
 def _ran(told: Sequence[Told]) -> Iterator[str]:
     yield "<h2>What the application ran</h2>"
     for one in told:
-        yield f'<details class="transaction" id="{escape(one.label)}" open>'
-        yield f"<summary>{escape(one.label)}: {_whose(one)}</summary>"
+        yield f'<details class="transaction" id="{html_text(one.label)}" open>'
+        yield f"<summary>{html_text(one.label)}: {_whose(one)}</summary>"
         if one.its is None:
             yield "<p>Nothing more is known of it.</p></details>"
             continue
@@ -112,7 +113,7 @@ def _statement(one: Statement) -> Iterable[str]:
     if one.origin:
         yield f'<span class="origin">{escaped(one.origin, 300)}</span>'
     values = f"\n-- {visible(one.values)}" if one.values else ""
-    yield f"<pre>{escaped_lines(one.plain)}{escape(values)}</pre>"
+    yield f"<pre>{escaped_lines(one.plain)}{html_lines(values)}</pre>"
     if one.unseen:
         yield f'<span class="soft">Not seen: {escaped("; ".join(one.unseen), 300)}.</span>'
     yield "</div>"
@@ -124,15 +125,20 @@ def _again(one: Violation, is_file: bool) -> Iterator[str]:
     yield "<h2>See it again</h2>"
     yield (
         f"<p>This is the same as a script: {name if is_file else link}. "
-        "<code>zanteyard check</code> reports the same violation, and <code>cobra_audit</code> "
-        "prints its refutation.</p>"
+        f"{AGAIN[one.story.promise.is_split]}</p>"
     )
-    yield f"<pre>{escape(one.story.script)}</pre>"
+    yield f"<pre>{html_lines(one.story.script)}</pre>"
     yield "<h2>Before you accuse the application</h2><ul>"
-    yield "".join(f"<li>{line}</li>" for line in (*QUESTIONS, *BEFORE_YOU_ACCUSE[2:]))
+    questions = SNAPSHOT_QUESTIONS if one.story.promise.is_split else QUESTIONS
+    yield "".join(f"<li>{line}</li>" for line in (*questions, *BEFORE_YOU_ACCUSE[2:]))
     yield "</ul>"
 
 
+AGAIN = {
+    False: "<code>zanteyard check</code> reports the same violation, and "
+    "<code>cobra_audit</code> prints its refutation.",
+    True: "<code>zanteyard check --promise snapshot</code> reports the same violation.",
+}
 QUESTIONS = (
     "Is the isolation level what you meant? At read committed, PostgreSQL’s default, and at "
     "repeatable read the server allows such violations: it keeps its promise, which is a weaker "
@@ -140,4 +146,12 @@ QUESTIONS = (
     "Does it matter here? An application may read something that it doesn’t rely on.",
     "The usual remedies are: serializable for these transactions, with a retry; a lock "
     "(<code>SELECT .. FOR UPDATE</code>); or one statement that reads and writes.",
+)
+SNAPSHOT_QUESTIONS = (
+    "Is the isolation level what you meant? At read committed, PostgreSQL’s default, the server "
+    "allows such violations: it keeps its promise, which is a weaker one. At repeatable read and "
+    "at serializable it promises that there are none.",
+    QUESTIONS[1],
+    "The usual remedies are: repeatable read or serializable for these transactions, with a retry; "
+    "a lock (<code>SELECT .. FOR UPDATE</code>); or one statement that reads and writes.",
 )

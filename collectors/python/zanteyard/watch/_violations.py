@@ -10,13 +10,16 @@ from typing import Tuple
 
 from ..core._own_keys import FENCE
 from ..core._records import ABORTED, AuditId, History, Logged, Read, ShownId
+from ..core._visible import visible
 from ..explain._shrinking import audited, from_start, named, refuted, smaller
 from ..explain._report import Story, story_lines, story_of
+from ..explain._standing import standing
+from ..promises._kinds import SERIALIZABLE, Promise
+from ..promises._rewriting import ids_of
 from ._described import Described, by_time, clock, lines_of
 from ._retained import Retained, Transaction
 from ._sql_anomalies import lost_update
 from ._sql_anomalies import named as named_story
-from ._text import visible
 
 EXPLAINING = 15.0  # seconds for making a violated history small, and as many for the reasons
 CLOSED_ENDS = re.compile(rb"(?:true|false)\],")  # in a reply to `show`, before the last writers
@@ -74,7 +77,10 @@ class Violation:
     @property
     def title(self) -> str:
         anomaly = self.story.anomaly
-        return anomaly.name if anomaly is not None else "no serial order"
+        if anomaly is not None:
+            return anomaly.name
+        is_split = self.story.promise.is_split
+        return "no order of begins and commits" if is_split else "no serial order"
 
     @property
     def sentence(self) -> str:
@@ -108,9 +114,9 @@ def keys_of(certificate: Iterable[Sequence[Any]]) -> Set[int]:
     for kind, *rest in certificate:
         arcs: Sequence[Any] = ()
         if kind in ("nowrite", "gone"):
-            found.add(rest[2])
+            found.add(ids_of(rest)[2])
         elif kind in ("force", "split"):
-            found.add(rest[0][2])
+            found.add(ids_of(rest[0])[2])
             arcs = rest[2] if kind == "force" else ()
         elif kind == "cycle":
             arcs = rest[0]
@@ -174,13 +180,14 @@ def explained(
     program: str,
     now: float,
     seconds: float = EXPLAINING,
+    promise: Promise = SERIALIZABLE,
 ) -> Violation:
     """The violation that this report of a round tells of, with what the proxy said of it. Takes up
-    to twice so many seconds. Raises ProgramEndedError and the like."""
+    to three times so many seconds. Raises ProgramEndedError and the like."""
     _, round_number, _, counts, certificate = report
     history, names = from_start(held)
-    part = smaller(history, program, seconds, refuted(held, certificate))
-    part = lost_update(part, history, program) or part
+    part = smaller(history, program, seconds, refuted(held, certificate), promise)
+    part = lost_update(part, history, program, promise) or part
     real = {
         there: absolute(there, held.marks)
         for there in compact(part)[1].values()
@@ -200,9 +207,11 @@ def explained(
     older: Mapping[str, str] = getattr(names, "older", {})
     its = {shown.get(key, key): told for key, told in older.items()}
     called.older = its  # type: ignore[attr-defined]  # what `version` looks for
-    script = audited(small, program)[1]
+    script = audited(small, program, promise)[1]
     renamed = _with_keys(small, shown)
-    story = named_story(story_of(renamed, called, script, counts, seconds), renamed, called)
+    story = story_of(renamed, called, script, counts, seconds, promise)
+    story = named_story(story, renamed, called)
+    story = replace(story, standing=standing(small, program, promise, seconds))
     told = tuple(Told(labels[one], one, answered.transactions.get(one)) for one in ordered)
     return Violation(number, round_number, now, _with_clocks(story, told), told)
 

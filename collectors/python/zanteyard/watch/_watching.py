@@ -165,8 +165,8 @@ class Watching:
             self.board.waits(*waiting_reads(self._retained.transactions(), counts))
 
     def _cut(self, reply: bytes) -> None:
-        gone = json.loads(reply)[2]
-        self._retained.forget(gone)
+        _, _, gone, _, *begun = json.loads(reply)
+        self._retained.forget(gone, *begun)
         self.board.cut(len(gone), self._remaining)
 
     @property
@@ -177,7 +177,8 @@ class Watching:
     def _see_to_violation(self) -> None:
         assert self._violated is not None
         report, self._violated = json.loads(self._violated), None
-        logger.error("VIOLATED: no serial order explains what was read; an explanation follows")
+        sentence = self.auditing.promise.sentence("violated")
+        logger.error("VIOLATED: %s; an explanation follows", sentence)
         keys = keys_of(report[4])
         held = Held(self._retained, keys, last_writers(self.auditing.ask(SHOW), keys))
         self.explaining.begin(

@@ -89,14 +89,15 @@ func hearSlot(t *testing.T, plugin slot.Plugin) {
 		}
 		return it
 	}
-	expect("INSERT INTO a VALUES (1, 'x')", record.Write{Relation: a, Key: "1"})
-	expect("UPDATE a SET id = 2; ", record.Write{Relation: a, Key: "1", Deleted: true}, record.Write{Relation: a, Key: "2"})
-	expect("INSERT INTO full_row VALUES (1, 'x')", record.Write{Relation: oid("full_row"), Key: "1"})
+	expect("INSERT INTO a VALUES (1, 'x')", record.Write{Relation: a, Key: "1", Inserted: true})
+	expect("UPDATE a SET id = 2; ", record.Write{Relation: a, Key: "1", Deleted: true},
+		record.Write{Relation: a, Key: "2", Inserted: true})
+	expect("INSERT INTO full_row VALUES (1, 'x')", record.Write{Relation: oid("full_row"), Key: "1", Inserted: true})
 	expect("UPDATE full_row SET id = 3", record.Write{Relation: oid("full_row"), Key: "1", Deleted: true},
-		record.Write{Relation: oid("full_row"), Key: "3"})
+		record.Write{Relation: oid("full_row"), Key: "3", Inserted: true})
 
 	it := expect("BEGIN; SAVEPOINT x; UPDATE a SET v = 'y'; RELEASE x; SAVEPOINT y; INSERT INTO b VALUES (7); COMMIT",
-		record.Write{Relation: a, Key: "2"}, record.Write{Relation: b, Key: "7"})
+		record.Write{Relation: a, Key: "2"}, record.Write{Relation: b, Key: "7", Inserted: true})
 	if plugin == slot.Wal2json {
 		hearSubtransactions(t, control, it)
 	}
@@ -107,7 +108,7 @@ func hearSlot(t *testing.T, plugin slot.Plugin) {
 		t.Errorf("a prepared transaction is told with the number %d, and not %s", it.Number, number)
 	}
 	must(t, conn, "INSERT INTO aside.log VALUES (1), (2)")
-	expect("INSERT INTO parts VALUES (4); TRUNCATE aside.log", record.Write{Relation: oid("parts"), Key: "4"})
+	expect("INSERT INTO parts VALUES (4); TRUNCATE aside.log", record.Write{Relation: oid("parts"), Key: "4", Inserted: true})
 	must(t, conn, "TRUNCATE a")
 	if it := h.next(t); len(it.Emptied) != 1 || it.Emptied[0] != a {
 		t.Errorf("a TRUNCATE is told as %+v", it)
@@ -133,7 +134,7 @@ func hearSlot(t *testing.T, plugin slot.Plugin) {
 	if err != nil || after.Names <= before.Names || len(after.Changed) != 4 || after.Changed[0] != a || after.Changed[3] != b {
 		t.Errorf("two tables' names have changed, and the place is %+v (%v)", after, err)
 	}
-	if it := expect("INSERT INTO a VALUES (9)", record.Write{Relation: b, Key: "9"}); it.Names != after.Names || it.LSN <= after.At {
+	if it := expect("INSERT INTO a VALUES (9)", record.Write{Relation: b, Key: "9", Inserted: true}); it.Names != after.Names || it.LSN <= after.At {
 		t.Errorf("what was written behind the change is told as %+v", it)
 	}
 	if kept, err := control.Health(ctx, "names"); err != nil || kept.Lost || kept.Kept > 1<<30 {

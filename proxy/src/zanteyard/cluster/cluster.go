@@ -108,7 +108,8 @@ func (c *Cluster) start(settings, hba []string) error {
 	lines := append([]string{"listen_addresses='127.0.0.1'", "unix_socket_directories='" + c.Dir + "'",
 		"port=" + strconv.Itoa(c.Port), "wal_level=logical", "fsync=off", "max_connections=100",
 		"max_prepared_transactions=10", "shared_buffers=64MB", "max_wal_senders=10", "max_replication_slots=10"},
-		settings...)
+		c.plugins()...)
+	lines = append(lines, settings...)
 	if err := c.append("postgresql.conf", lines); err != nil {
 		return err
 	}
@@ -124,6 +125,19 @@ func (c *Cluster) start(settings, hba []string) error {
 	}
 	return c.launch()
 }
+
+// plugins is the setting by which the server lets wal2json be used, if it has that setting: since 15.19, and since as
+// late a version of each release.
+func (c *Cluster) plugins() []string {
+	known, err := exec.Command(filepath.Join(c.bin, "postgres"), "--describe-config").Output()
+	if err != nil || !strings.Contains(string(known), "\n"+Plugins+"\t") {
+		return nil
+	}
+	return []string{Plugins + "='pgoutput, test_decoding, wal2json'"}
+}
+
+// Plugins is the name of that setting.
+const Plugins = "output_plugin_libraries"
 
 // launch starts the server, and waits until it takes connections. It is started by a thread that stays for as long, since
 // the server is told to end when its parent's thread does.

@@ -138,6 +138,9 @@ func (c *core) addVersions(w *writer, it record.Commit) {
 			last.deleted = one.Deleted // two partitions' keys have become one row's
 			continue
 		}
+		if c.opt.Snapshot && one.Inserted && r.last != nil {
+			r = c.rows.renew(r)
+		}
 		v := &version{writer: w, deleted: one.Deleted, left: len(w.writes) >= mostOfEach}
 		c.rows.add(r, v)
 		if !v.left {

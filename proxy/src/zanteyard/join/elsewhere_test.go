@@ -45,7 +45,7 @@ func TestElsewhereMakesUpNothing(t *testing.T) {
 		w := newWorld(t, seed, false)
 		w.elsewhere = true
 		w.live1(12)
-		if path := w.model.cycle(); path != nil {
+		if path := w.model.cycle(false); path != nil {
 			t.Fatalf("seed %d: what was committed has an order, and what was offered hasn't:\n%s", seed, path)
 		}
 		n := w.core.counts
@@ -64,7 +64,7 @@ func TestAnotherClock(t *testing.T) {
 		w := newWorld(t, seed, false)
 		w.elsewhere, w.trusted = true, true
 		w.live1(12)
-		if path := w.model.cycle(); path != nil {
+		if path := w.model.cycle(false); path != nil {
 			t.Logf("seed %d: %d transactions make a cycle", seed, len(path))
 			return
 		}

@@ -145,8 +145,9 @@ func (p past) String() string {
 }
 
 // fold has a joiner take the history in with some of it left out, in one of many ways, and in any order that may be.
-func fold(t testing.TB, p past, r *rand.Rand) *bench {
-	b := newBench(t, Options{Late: time.Second, Stale: 500 * time.Millisecond, Rows: 1 + r.Intn(4), Sessions: 8})
+func fold(t testing.TB, p past, r *rand.Rand, opt Options) *bench {
+	opt.Late, opt.Stale, opt.Rows, opt.Sessions = time.Second, 500*time.Millisecond, 1+r.Intn(4), 8
+	b := newBench(t, opt)
 	b.connect(1, 2, 3)
 	if r.Intn(2) == 0 {
 		b.connect(4)
@@ -162,7 +163,7 @@ func fold(t testing.TB, p past, r *rand.Rand) *bench {
 			commits = append(commits, func() {
 				var keys []string
 				for _, key := range it.writes {
-					keys = append(keys, sign(it.deletes[key])+string(rune('a'+key)))
+					keys = append(keys, sign(p.inserts(i, key), "+")+sign(it.deletes[key], "-")+string(rune('a'+key)))
 				}
 				b.commit(uint32(1001+i), keys...)
 			})
@@ -195,9 +196,9 @@ func fold(t testing.TB, p past, r *rand.Rand) *bench {
 	return b
 }
 
-func sign(deleted bool) string {
-	if deleted {
-		return "-"
+func sign(is bool, its string) string {
+	if is {
+		return its
 	}
 	return ""
 }
@@ -252,7 +253,7 @@ func TestFoldingMakesUpNothing(t *testing.T) {
 		p := randomPast(r)
 		whole := p.explained()
 		for way := 0; way < 4; way++ {
-			b := fold(t, p, r)
+			b := fold(t, p, r, Options{})
 			offered := b.model.explained()
 			switch {
 			case whole && !offered:

@@ -24,13 +24,14 @@ type world struct {
 	versions map[string][]worldVersion
 	locks    map[string]*worldTxn
 	commits  int
-	after    map[int]map[int]bool // of each committed transaction, those that have to come later
+	after    map[int]map[int]bool // of each begin and commit, those that have to come later
 	readers  map[string]map[int][]int
 	live     []*worldConn
 	most     int      // connections at a time
 	untold   []func() // what sessions have seen and the joiner hasn't been told
 	fences   []*worldFence
 	points   bool // the fault: a session is handed on by the clock alone
+	snapshot bool // the store keeps snapshot isolation, and no more
 	aborted  int
 	// elsewhere: connections with an even number are those of another machine's proxy (elsewhere_test.go). trusted: the fault
 	// that its clock is believed.
@@ -58,10 +59,11 @@ type worldTxn struct {
 	writes   map[string]bool
 }
 
-// worldFence is a fence under way.
+// worldFence is a fence under way. The server may have committed it already: then it has a number.
 type worldFence struct {
-	conn  *worldConn
-	began time.Time
+	conn   *worldConn
+	began  time.Time
+	number uint32
 }
 
 func newWorld(t testing.TB, seed int64, points bool) *world {
@@ -182,29 +184,52 @@ func (w *world) reaches(from int, to map[int]bool, seen map[int]bool) bool {
 	return false
 }
 
-// around are the transactions that have to come before this one, and those that have to come behind it.
+// begin and commit are what stands for a transaction in after: one of them, unless the store keeps snapshots alone.
+func (w *world) begin(id int) int { return 2 * id }
+func (w *world) commit2(id int) int {
+	if w.snapshot {
+		return 2*id + 1
+	}
+	return 2 * id
+}
+
+// around are the events that have to come before this transaction begins, and those that have to come behind that.
 func (w *world) around(t *worldTxn) (before, behind map[int]bool) {
 	before, behind = map[int]bool{}, map[int]bool{}
-	if t.conn.last > 0 {
-		before[t.conn.last] = true
+	committed := func(id int) {
+		if id > 0 {
+			before[w.commit2(id)] = true
+		}
 	}
+	committed(t.conn.last)
 	for key, versions := range t.reads {
 		for i := range versions {
-			before[w.versions[key][i].by] = true
+			committed(w.versions[key][i].by)
 			if i+1 < len(w.versions[key]) {
-				behind[w.versions[key][i+1].by] = true
+				behind[w.commit2(w.versions[key][i+1].by)] = true
 			}
 		}
 	}
 	for key := range t.writes {
-		i := len(w.versions[key]) - 1
-		before[w.versions[key][i].by] = true
-		for _, reader := range w.readers[key][i] {
-			before[reader] = true
+		committed(w.versions[key][len(w.versions[key])-1].by)
+	}
+	if !w.snapshot {
+		for one := range w.overwritten(t) {
+			before[one] = true
 		}
 	}
-	delete(before, 0)
 	return before, behind
+}
+
+// overwritten are the begins of those who have read what the transaction overwrites: its commit comes behind them.
+func (w *world) overwritten(t *worldTxn) map[int]bool {
+	its := map[int]bool{}
+	for key := range t.writes {
+		for _, reader := range w.readers[key][len(w.versions[key])-1] {
+			its[w.begin(reader)] = true
+		}
+	}
+	return its
 }
 
 // end commits the transaction, if an order still explains everything.
@@ -244,10 +269,19 @@ func (w *world) end(c *worldConn) {
 func (w *world) committed(t *worldTxn, it *record.Transaction, before, behind map[int]bool) {
 	w.commits++
 	id := w.commits
+	begin, commit := w.begin(id), w.commit2(id)
+	overwritten := w.overwritten(t)
 	for one := range before {
-		w.after[one][id] = true
+		w.after[one][begin] = true
 	}
-	w.after[id] = behind
+	w.after[begin] = behind
+	if w.snapshot {
+		behind[commit] = true
+		w.after[commit] = map[int]bool{}
+		for one := range overwritten {
+			w.after[one][commit] = true
+		}
+	}
 	t.conn.last = id
 	for key, versions := range t.reads {
 		for i := range versions {
@@ -290,17 +324,27 @@ func (w *world) fence(c *worldConn, slow int) {
 	f := &worldFence{conn: c, began: w.now}
 	c.fencing = true
 	if w.r.Intn(slow) == 0 {
+		if w.r.Intn(2) == 0 {
+			w.commitFence(f)
+		}
 		w.fences = append(w.fences, f)
 		return
 	}
 	w.fenced(f)
 }
 
-func (w *world) fenced(f *worldFence) {
+func (w *world) commitFence(f *worldFence) {
 	w.next++
-	w.bench.commitFence(1_000_000 + w.next)
+	f.number = 1_000_000 + w.next
+	w.bench.commitFence(f.number)
+}
+
+func (w *world) fenced(f *worldFence) {
+	if f.number == 0 {
+		w.commitFence(f)
+	}
 	f.conn.fencing = false
-	w.told(f.conn, record.Transaction{Began: f.began, Number: uint64(1_000_000 + w.next), Fence: true})
+	w.told(f.conn, record.Transaction{Began: f.began, Number: uint64(f.number), Fence: true})
 }
 
 // slow ends fences that were under way.
@@ -428,9 +472,15 @@ func (w *world) live1(meetings int) {
 }
 
 // cycle looks for transactions of those that were offered which have to come before one another: none, if some order
-// explains all.
-func (m *model) cycle() []string {
+// explains all. With snapshots it looks for such begins and commits.
+func (m *model) cycle(snapshots bool) []string {
 	type id [2]int64
+	type event struct {
+		id
+		commits bool
+	}
+	begin := func(at id) event { return event{at, false} }
+	commit := func(at id) event { return event{at, snapshots} }
 	next := map[int64]map[id]id{} // by key: who wrote the version behind this one's
 	each := func(f func(at id, t modelTxn)) {
 		for s := range m.sessions {
@@ -439,41 +489,48 @@ func (m *model) cycle() []string {
 			}
 		}
 	}
+	after := map[event][]event{}
 	each(func(at id, t modelTxn) {
 		for _, key := range t.writes {
 			if next[key] == nil {
 				next[key] = map[id]id{}
 			}
 			for _, read := range t.reads {
-				if read[0] == key {
-					next[key][id{read[1], read[2]}] = at // of two, one makes a cycle with the other
+				if from := (id{read[1], read[2]}); read[0] == key {
+					if other, is := next[key][from]; is { // of two that overwrite one version neither can come first
+						after[commit(at)] = append(after[commit(at)], commit(other))
+						after[commit(other)] = append(after[commit(other)], commit(at))
+					}
+					next[key][from] = at
 				}
 			}
 		}
 	})
-	after := map[id][]id{}
 	each(func(at id, t modelTxn) {
+		if snapshots {
+			after[begin(at)] = append(after[begin(at)], commit(at))
+		}
 		if n := at[1] + 1; n < int64(len(m.sessions[at[0]].its)) {
-			after[at] = append(after[at], id{at[0], n})
+			after[commit(at)] = append(after[commit(at)], begin(id{at[0], n}))
 		}
 		for _, read := range t.reads {
 			from := id{read[1], read[2]}
 			if read[1] >= 0 {
-				after[from] = append(after[from], at)
+				after[commit(from)] = append(after[commit(from)], begin(at))
 			}
 			if to, is := next[read[0]][from]; is && to != at {
-				after[at] = append(after[at], to)
+				after[begin(at)] = append(after[begin(at)], commit(to))
 			}
 		}
 	})
-	state := map[id]int{}
+	state := map[event]int{}
 	var path []string
-	var visit func(at id) bool
-	visit = func(at id) bool {
+	var visit func(at event) bool
+	visit = func(at event) bool {
 		state[at] = 1
 		for _, to := range after[at] {
 			if state[to] == 1 || state[to] == 0 && visit(to) {
-				path = append(path, fmt.Sprintf("%d.%d %+v", at[0], at[1], m.sessions[at[0]].its[at[1]]))
+				path = append(path, fmt.Sprintf("%d.%d %v %+v", at.id[0], at.id[1], at.commits, m.sessions[at.id[0]].its[at.id[1]]))
 				return true
 			}
 		}
@@ -481,7 +538,9 @@ func (m *model) cycle() []string {
 		return false
 	}
 	found := false
-	each(func(at id, _ modelTxn) { found = found || state[at] == 0 && visit(at) })
+	each(func(at id, _ modelTxn) {
+		found = found || state[begin(at)] == 0 && visit(begin(at)) || state[commit(at)] == 0 && visit(commit(at))
+	})
 	return path
 }
 
@@ -492,7 +551,7 @@ func TestHandingOnMakesUpNothing(t *testing.T) {
 	for seed := int64(0); seed < int64(*worlds); seed++ {
 		w := newWorld(t, seed, false)
 		w.live1(12)
-		if path := w.model.cycle(); path != nil {
+		if path := w.model.cycle(false); path != nil {
 			t.Fatalf("seed %d: what was committed has an order, and what was offered hasn't:\n%s", seed, path)
 		}
 		n := w.core.counts
@@ -516,7 +575,7 @@ func TestHandingOnByTheClock(t *testing.T) {
 	for seed := int64(0); seed < int64(*worlds); seed++ {
 		w := newWorld(t, seed, true)
 		w.live1(12)
-		if path := w.model.cycle(); path != nil {
+		if path := w.model.cycle(false); path != nil {
 			t.Logf("seed %d: %d transactions make a cycle", seed, len(path))
 			return
 		}
@@ -620,6 +679,69 @@ func TestFencesAtOnce(t *testing.T) {
 		b.settle()
 		if n := b.core.counts; n.folded[acrossMoment] != 1 || n.offered != 3 {
 			t.Errorf("the fence late: %v: offered %d, folded %v", lateFence, n.offered, n.folded)
+		}
+	}
+}
+
+// A connection's fence is told late, behind the one that the audit's own connection made in its place, and was written
+// in front of it: the session doesn't take it for a later one. Told in time, both are offered.
+func TestFenceToldLate(t *testing.T) {
+	for _, late := range []bool{false, true} {
+		b := newBench(t, Options{Sessions: 2, Late: time.Second})
+		b.connect(1)
+		b.commit(1001, "a")
+		b.tell(1, 0, record.Transaction{Number: 1001})
+		b.later(time.Millisecond)
+		b.core.quiet()
+		b.later(time.Millisecond)
+		its := record.Transaction{Began: b.now, Ended: b.later(time.Millisecond).now, Number: 1002, Fence: true}
+		b.commitFence(1002)
+		if !late {
+			b.tell(1, 1, its)
+		}
+		began := b.later(time.Millisecond).now
+		b.commitFence(1003)
+		b.core.spare(0, 1003, began, b.later(time.Millisecond).now)
+		if late {
+			b.tell(1, 1, its)
+		}
+		b.settle()
+		want := map[bool]uint64{false: 0, true: 1}[late]
+		if n := b.core.counts; n.folded[acrossMoment] != want || n.offered != 3-want || !b.model.explained() {
+			t.Errorf("late: %v: offered %d, folded %v\n%v", late, n.offered, n.folded, b.lines)
+		}
+	}
+}
+
+// A session's connection makes its fence late, while the audit's own connection makes one for it. Whichever is told
+// first, two of them stand in the session only in the order in which they were written.
+func TestFencesOfOneSession(t *testing.T) {
+	for _, spareIsLate := range []bool{false, true} {
+		b := newBench(t, Options{Late: time.Second})
+		b.core.quiet()
+		b.later(time.Millisecond)
+		b.connect(1)
+		b.commit(1001, "a")
+		b.tell(1, 0, record.Transaction{Number: 1001})
+		began := b.now
+		own, spare := uint32(1002), uint32(1003)
+		if spareIsLate {
+			own, spare = spare, own
+		}
+		b.commitFence(1002)
+		b.commitFence(1003)
+		b.later(time.Millisecond)
+		ended := b.now
+		tells := []func(){
+			func() { b.core.spare(0, uint64(spare), began, ended) },
+			func() { b.tell(1, 1, record.Transaction{Began: began, Ended: ended, Number: uint64(own), Fence: true}) },
+		}
+		tells[0]()
+		tells[1]()
+		b.settle()
+		b.settle()
+		if !b.model.explained() {
+			t.Errorf("the spare is written last: %v: no order explains it\n%v", !spareIsLate, b.lines)
 		}
 	}
 }

@@ -70,15 +70,19 @@ func (b *bench) later(d time.Duration) *bench {
 	return b
 }
 
-// commit has the slot tell a transaction. A key with a minus in front is deleted.
+// commit has the slot tell a transaction. A key with a minus in front is deleted, and one with a plus inserted.
 func (b *bench) commit(number uint32, keys ...string) {
 	b.place += 100
 	it := record.Commit{Number: number, LSN: b.place, Start: b.place - 50}
 	for _, key := range keys {
 		one := record.Write{Relation: 1, Key: record.Key(key)}
-		if key[0] == '-' {
-			one.Key, one.Deleted = record.Key(key[1:]), true
+		if key[0] == '+' {
+			key, one.Inserted = key[1:], true
 		}
+		if key[0] == '-' {
+			key, one.Deleted = key[1:], true
+		}
+		one.Key = record.Key(key)
 		it.Writes = append(it.Writes, one)
 	}
 	b.core.commit(it)

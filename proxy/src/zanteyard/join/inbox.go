@@ -132,7 +132,7 @@ func (b *Inbox) losses() map[string]uint64 {
 func (b *Inbox) take() (its []message, lost uint64) {
 	b.lock.Lock()
 	defer b.lock.Unlock()
-	its, b.its, b.bytes = b.its, nil, 0
+	its, b.its, b.bytes = b.its, make([]message, 0, len(b.its)), 0 // there will be about as many the next time
 	return its, b.lost
 }
 

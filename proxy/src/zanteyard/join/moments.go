@@ -123,10 +123,13 @@ func (c *core) mayStand(s *session, it *record.Transaction, follows bool) bool {
 }
 
 // mayFence says whether a fence may be offered next in the session. It needn't have begun after what is in front of it
-// had ended, if no moment is between.
-func (c *core) mayFence(s *session, it *record.Transaction) bool {
+// had ended, if no moment is between. But a fence that is told late, behind one that the audit's own connection made in
+// its place, may have been written in front of it: of two connections' fences the second began when the first had ended.
+func (c *core) mayFence(s *session, it *record.Transaction, follows bool) bool {
 	began, _ := span(it)
 	switch {
+	case !follows && began.Before(s.fence):
+		return false
 	case s.last.IsZero() || c.moments.between(s.last, began):
 		return true
 	case c.moments.between(began, s.last), began.Before(c.opened):

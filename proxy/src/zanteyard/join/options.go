@@ -15,7 +15,7 @@ import (
 // Options are the bounds of an audit. Zero values stand for the defaults.
 type Options struct {
 	Sessions int           // of the auditor: 1 to 64
-	Limit    int           // transactions that may remain at a time: at most 4,096
+	Limit    int           // transactions that may remain at a time: at most 4,096, with Snapshot 2,048
 	Every    int           // offered transactions after which the sessions should meet
 	Between  time.Duration // the least time between two meetings, unless the limit is near
 	Within   time.Duration // an offered transaction waits at most about this long for a round
@@ -27,6 +27,7 @@ type Options struct {
 	Texts    int           // bytes of statements that are kept
 	Reserve  int           // sessions without a connection that are kept open for the next ones
 	Budget   int           // of a round: nodes of the search
+	Snapshot bool          // what is offered is asked about snapshot isolation (docs/FOLDING.md)
 }
 
 func (o Options) withDefaults() Options {
@@ -45,7 +46,14 @@ func (o Options) withDefaults() Options {
 	}
 	number(&o.Sessions, 1, 64, 64)
 	number(&o.Limit, 1, 4096, 4096)
-	number(&o.Every, 1, 2560, 1<<30)
+	if o.Snapshot {
+		number(&o.Limit, 1, 2048, 2048) // each takes the room of two
+	}
+	every := 2560
+	if o.Snapshot {
+		every = 1280
+	}
+	number(&o.Every, 1, every, 1<<30)
 	number(&o.Rows, 1, 250_000, 1<<30)
 	number(&o.Texts, 1, 32<<20, 1<<40)
 	number(&o.Reserve, 1, 4, o.Sessions)

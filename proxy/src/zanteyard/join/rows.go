@@ -37,8 +37,22 @@ func (r *rows) makeRoom() {
 			r.written.push(old)
 			continue
 		}
+		r.drop(old)
+	}
+}
+
+// drop forgets the row, unless it is another one by now.
+func (r *rows) drop(old *row) {
+	if r.by[old.id] == old {
 		delete(r.by, old.id)
 	}
+}
+
+// renew has another row under the same key: this one was deleted, or its table emptied, and the key is inserted again.
+// Who inserts needn't see in its snapshot that the row is gone, so that an insert is no read of what it comes after.
+func (r *rows) renew(old *row) *row {
+	r.drop(old)
+	return r.get(old.id)
 }
 
 // number gives the row its key's number.
@@ -85,7 +99,7 @@ func (r *rows) forgetRead(least uint64) {
 		switch {
 		case it.last != nil: // it stands among the written ones
 		case it.used < least:
-			delete(r.by, it.id)
+			r.drop(it)
 		default:
 			kept = append(kept, it)
 		}

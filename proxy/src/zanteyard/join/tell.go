@@ -144,7 +144,7 @@ func (c *core) name(e *entry) {
 	case !c.hasRoom(it.Fence):
 		c.leave(it, noRoom)
 		return
-	case !it.Fence && !c.mayStand(s, &it, follows), it.Fence && !c.mayFence(s, &it):
+	case !it.Fence && !c.mayStand(s, &it, follows), it.Fence && !c.mayFence(s, &it, follows):
 		c.leave(it, acrossMoment)
 		return
 	}
@@ -268,7 +268,7 @@ func (c *core) decideUnclear(e *entry) {
 func (c *core) join(e *entry) bool {
 	w, s := e.writer, e.session
 	if w.place == 0 || w.fate != undecided || !w.fence || e.its.Outcome != record.Committed ||
-		s.closed && !s.isGone() || !c.mayFence(s, &e.its) || !c.hasRoom(true) || s.next > lastNumber {
+		s.closed && !s.isGone() || !c.mayFence(s, &e.its, false) || !c.hasRoom(true) || s.next > lastNumber {
 		if w.fate == undecided {
 			c.leaveWriter(w, noFence)
 		}

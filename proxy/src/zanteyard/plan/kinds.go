@@ -145,6 +145,8 @@ func setting(p *Plan, body node) {
 	switch name := strings.ToLower(body.text("name")); name {
 	case "transaction":
 		p.Level = levelOf(body.list("args"))
+	case "transaction snapshot":
+		p.TakesSnapshot = true
 	case "search_path", "role", "session_authorization":
 		p.Kind, p.ChangesNames = Set, true
 	default:

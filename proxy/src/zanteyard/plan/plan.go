@@ -84,10 +84,12 @@ type Plan struct {
 	Asked bool
 	// Level is what BEGIN or SET TRANSACTION sets; UnknownLevel where they leave it as it was.
 	Level record.Level
-	Chain bool   // COMMIT or ROLLBACK begins the next transaction at once
-	All   bool   // CLOSE ALL
-	Name  string // of a cursor, prepared statement or savepoint, for kinds that have one
-	Inner *Plan
+	// TakesSnapshot says that it is SET TRANSACTION SNAPSHOT: from there on the transaction reads by an older snapshot.
+	TakesSnapshot bool
+	Chain         bool   // COMMIT or ROLLBACK begins the next transaction at once
+	All           bool   // CLOSE ALL
+	Name          string // of a cursor, prepared statement or savepoint, for kinds that have one
+	Inner         *Plan
 	// Parts are the plans of several statements, as they were where the plan was made. For a text it is Tokens.Parts
 	// that has them.
 	Parts []*Plan

@@ -113,6 +113,7 @@ type Write struct {
 	Relation Relation
 	Key      Key
 	Deleted  bool // the row isn't there afterwards
+	Inserted bool // it wasn't there when the transaction first wrote it
 }
 
 // Commit is a committed transaction, as the replication slot tells it, in commit order.
@@ -122,7 +123,7 @@ type Commit struct {
 	Start   uint64 // of the commit record's beginning, 0 where the slot doesn't tell it
 	At      time.Time
 	Subs    []uint32   // its subtransactions, where they could be learned
-	Writes  []Write    // each row once; the last change decides Deleted
+	Writes  []Write    // each row once; the first change decides Inserted, the last one Deleted
 	Fence   bool       // it wrote the fence table's row
 	Emptied []Relation // tables that it truncated
 	Names   uint64     // how often tables' names had changed their meaning as it was read

@@ -14,6 +14,7 @@ import (
 	"github.com/jackc/pgconn"
 	"github.com/jackc/pgproto3/v2"
 
+	"zanteyard/loop"
 	"zanteyard/meeting"
 	"zanteyard/record"
 	"zanteyard/session"
@@ -26,6 +27,7 @@ type Options struct {
 	Database  string         // that is audited; connections to others are passed on without looking
 	Session   *session.Options
 	Room      *meeting.Room
+	Loops     *loop.Loops // that serve connections without TLS; nil: none
 	Log       func(string)
 	// Patience is how long a client may take for its startup, and the proxy to reach the server.
 	Patience time.Duration
@@ -38,7 +40,7 @@ type Server struct {
 	numbers atomic.Uint64
 
 	lock  sync.Mutex
-	conns map[net.Conn]struct{}
+	conns map[net.Conn]io.Closer
 	ended bool
 	all   sync.WaitGroup
 }
@@ -48,7 +50,7 @@ func New(options Options) *Server {
 	if options.Patience == 0 {
 		options.Patience = time.Minute
 	}
-	return &Server{options: options, targets: targets(options.Server), conns: map[net.Conn]struct{}{}}
+	return &Server{options: options, targets: targets(options.Server), conns: map[net.Conn]io.Closer{}}
 }
 
 // Serve takes connections until the listener is closed or ctx ends, then ends those that are there.
@@ -106,7 +108,7 @@ func (s *Server) enter(c net.Conn) bool {
 		c.Close()
 		return false
 	}
-	s.conns[c] = struct{}{}
+	s.conns[c] = c
 	s.all.Add(1)
 	return true
 }
@@ -123,7 +125,7 @@ func (s *Server) end() {
 	s.lock.Lock()
 	defer s.lock.Unlock()
 	s.ended = true
-	for c := range s.conns {
+	for _, c := range s.conns {
 		c.Close()
 	}
 }
@@ -157,16 +159,22 @@ func (s *Server) serve(ctx context.Context, raw net.Conn) {
 		return
 	}
 	raw.SetDeadline(time.Time{})
-	s.session(client, server, first.startup())
+	s.session(raw, client, server, first.startup())
 }
 
 // session passes messages on until a connection ends.
-func (s *Server) session(client, server net.Conn, start startup) {
-	n := session.New(s.numbers.Add(1), client, server, s.options.Session)
-	if start.replication || start.database != s.options.Database {
+func (s *Server) session(raw, client, server net.Conn, start startup) {
+	blind := start.replication || start.database != s.options.Database
+	where := address(raw)
+	var from, to session.Conn = client, server
+	if !blind && client == raw {
+		from, to = s.loops(raw, server)
+	}
+	n := session.New(s.numbers.Add(1), from, to, s.options.Session)
+	if blind {
 		n.Blind()
 	} else {
-		it := record.Connection{Number: n.Number(), ApplicationName: start.application, Address: address(client),
+		it := record.Connection{Number: n.Number(), ApplicationName: start.application, Address: where,
 			User: start.user, Database: start.database}
 		s.options.Session.Sink.Connection(it)
 		s.options.Room.Enter(n)
@@ -177,8 +185,26 @@ func (s *Server) session(client, server net.Conn, start startup) {
 		}()
 	}
 	if err := n.Run(); err != nil {
-		s.options.Log("connection " + address(client) + ": " + err.Error())
+		s.options.Log("connection " + where + ": " + err.Error())
 	}
+}
+
+// loops hands a connection's two sockets over to a loop, if both are plain.
+func (s *Server) loops(raw, server net.Conn) (session.Conn, session.Conn) {
+	if s.options.Loops == nil {
+		return raw, server
+	}
+	from, to, taken := s.options.Loops.Take(raw, server)
+	if !taken {
+		return raw, server
+	}
+	s.lock.Lock()
+	defer s.lock.Unlock()
+	s.conns[raw] = from
+	if s.ended {
+		from.Close()
+	}
+	return from, to
 }
 
 // address is where a client is, for people. One that connects by a socket of this machine has no name of its own there.

@@ -28,6 +28,7 @@ import (
 	"github.com/jackc/pgproto3/v2"
 
 	"zanteyard/cluster"
+	"zanteyard/loop"
 	"zanteyard/meeting"
 	"zanteyard/record"
 	"zanteyard/session"
@@ -135,7 +136,11 @@ func proxy(t *testing.T, target string, change func(*Options)) (int, *counted) {
 		t.Fatal(err)
 	}
 	sink := &counted{}
-	options := Options{Server: config, Database: "postgres", Room: meeting.NewRoom(time.Second),
+	its, err := loop.New()
+	if err != nil {
+		t.Fatal(err)
+	}
+	options := Options{Server: config, Database: "postgres", Room: meeting.NewRoom(time.Second), Loops: its,
 		Log: func(s string) { t.Log(s) },
 		Session: &session.Options{Sink: sink, ReadLimit: 100, Fence: session.NewFence("public.zanteyard_fence", 100),
 			Auditing: func() bool { return false }, Generation: func() uint64 { return 0 }, Defined: func() {},

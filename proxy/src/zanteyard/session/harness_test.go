@@ -4,6 +4,7 @@ import (
 	"bytes"
 	"context"
 	"errors"
+	"flag"
 	"fmt"
 	"net"
 	"os"
@@ -17,6 +18,7 @@ import (
 
 	"zanteyard/cluster"
 	"zanteyard/definitions"
+	"zanteyard/loop"
 	"zanteyard/record"
 	"zanteyard/wire"
 )
@@ -26,6 +28,9 @@ var (
 	theCluster   *cluster.Cluster
 	definitions_ *definitions.Definitions
 	missing      error
+	// loops_ serve all sessions of the tests, nil if each has goroutines of its own, as connections with TLS have.
+	loops_  *loop.Loops
+	without = flag.Bool("without-loop", false, "have each session be served by goroutines of its own")
 )
 
 const schema = `
@@ -65,6 +70,13 @@ SELECT setval('serials_id_seq', 1, false);
 
 func TestMain(m *testing.M) {
 	os.Exit(func() int {
+		if flag.Parse(); !*without {
+			var err error
+			if loops_, err = loop.New(); err != nil {
+				fmt.Fprintln(os.Stderr, err)
+				return 1
+			}
+		}
 		theCluster, missing = cluster.Start(nil, nil)
 		if missing != nil && !errors.Is(missing, cluster.ErrMissing) {
 			fmt.Fprintln(os.Stderr, missing)
@@ -230,8 +242,11 @@ func through(t testing.TB, user string, change func(*Options)) *proxied {
 	if pooler_ != 0 {
 		port = pooler_
 	}
-	server, err := net.Dial("tcp", fmt.Sprintf("127.0.0.1:%d", port))
-	if err != nil {
+	var server net.Conn
+	if pieces_ != nil {
+		far = inPieces{far, pieces_}
+		server = behindRelay(t, port)
+	} else if server, err = net.Dial("tcp", fmt.Sprintf("127.0.0.1:%d", port)); err != nil {
 		t.Fatal(err)
 	}
 	if _, err := server.Write(startupMessage(user)); err != nil {
@@ -245,7 +260,8 @@ func through(t testing.TB, user string, change func(*Options)) *proxied {
 		}
 	})
 	connections++
-	p.session = New(connections, near, server, options)
+	a, b := taken(near, server)
+	p.session = New(connections, a, b, options)
 	if early := early_; early != nil {
 		early_ = nil
 		if _, err := far.Write(early); err != nil {
@@ -255,6 +271,15 @@ func through(t testing.TB, user string, change func(*Options)) *proxied {
 	go func() { p.ended <- p.session.Run() }()
 	p.client = newClient(t, far)
 	return p
+}
+
+// taken are two connections that a loop serves, if there is one.
+func taken(client, server net.Conn) (Conn, Conn) {
+	if loops_ == nil {
+		return client, server
+	}
+	a, b, _ := loops_.Take(client, server)
+	return a, b
 }
 
 // settle waits until all that waits for a trial was tried, unless a transaction is open.

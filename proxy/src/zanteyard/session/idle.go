@@ -6,6 +6,7 @@ import (
 	"sync"
 	"time"
 
+	"zanteyard/loop"
 	"zanteyard/record"
 )
 
@@ -47,11 +48,33 @@ func (s *Session) rest() {
 			}
 		}
 		s.missed.Store(false)
-		if out := s.useIdle(); len(out) > 0 {
-			s.server.Write(out) // an error shows at the next read
+		if out := s.useIdle(); len(out) > 0 && !s.sendIdle(out) {
+			return
 		}
 		s.writes.Unlock()
 	}
+}
+
+// sendIdle sends the messages of an idle moment. If that would have a loop wait then somebody else does it, unlocks
+// writes, and uses what idle moment there is then. An error shows at the next read.
+func (s *Session) sendIdle(out []byte) bool {
+	server, is := s.server.(*loop.Conn)
+	if !is {
+		s.server.Write(out)
+		return true
+	}
+	n, err := server.TryWrite(out)
+	if err != loop.ErrWait {
+		return true
+	}
+	go func() {
+		server.Write(out[n:])
+		s.writes.Unlock()
+		if s.missed.Load() {
+			s.rest()
+		}
+	}()
+	return false
 }
 
 // useIdle gives the messages for an idle moment. Called with writes locked.

@@ -76,48 +76,50 @@ func TestSame(t *testing.T) {
 	needServer(t)
 	for _, x := range exchanges() {
 		x := x
-		t.Run(x.name, func(t *testing.T) {
-			user := x.user
-			if user == "" {
-				user = "postgres"
-			}
-			runs := 3
-			if x.once {
-				runs = 1
-			}
-			d := direct(t, user)
-			p := through(t, user, nil)
-			for run := 0; run < runs; run++ {
-				sql(t, fill)
-				var wanted [][][]byte
-				for _, s := range x.steps {
-					wanted = append(wanted, d.do(s))
-				}
-				sql(t, fill)
-				p.sink.take()
-				for i, s := range x.steps {
-					got := p.do(s)
-					if run == runs-1 && !x.once && s.until == 'Z' {
-						p.settle()
-					}
-					if x.once {
-						mask(got)
-						mask(wanted[i])
-					}
-					if !same(got, wanted[i]) {
-						t.Fatalf("run %d, step %d, sent %q\ngot\n%swanted\n%s", run, i, s.send, show(got), show(wanted[i]))
-					}
-				}
+		t.Run(x.name, func(t *testing.T) { exchangeSame(t, x, 3) })
+	}
+}
+
+// exchangeSame compares what is answered with what the server answers directly, some times over.
+func exchangeSame(t *testing.T, x exchange, runs int) {
+	user := x.user
+	if user == "" {
+		user = "postgres"
+	}
+	if x.once {
+		runs = 1
+	}
+	d := direct(t, user)
+	p := through(t, user, nil)
+	for run := 0; run < runs; run++ {
+		sql(t, fill)
+		var wanted [][][]byte
+		for _, s := range x.steps {
+			wanted = append(wanted, d.do(s))
+		}
+		sql(t, fill)
+		p.sink.take()
+		for i, s := range x.steps {
+			got := p.do(s)
+			if run == runs-1 && !x.once && s.until == 'Z' {
 				p.settle()
 			}
-			seen := 0
-			for _, tx := range p.sink.take() {
-				seen += len(tx.Reads)
+			if x.once {
+				mask(got)
+				mask(wanted[i])
 			}
-			if seen < x.sees {
-				t.Errorf("%d reads were seen in place of at least %d; left out: %q", seen, x.sees, p.sink.unseen)
+			if !same(got, wanted[i]) {
+				t.Fatalf("run %d, step %d, sent %q\ngot\n%swanted\n%s", run, i, s.send, show(got), show(wanted[i]))
 			}
-		})
+		}
+		p.settle()
+	}
+	seen := 0
+	for _, tx := range p.sink.take() {
+		seen += len(tx.Reads)
+	}
+	if seen < x.sees {
+		t.Errorf("%d reads were seen in place of at least %d; left out: %q", seen, x.sees, p.sink.unseen)
 	}
 }
 

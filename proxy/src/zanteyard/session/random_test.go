@@ -86,7 +86,8 @@ func forward(t *testing.T, change func(*Options)) (dial func() (*pgconn.PgConn, 
 			if change != nil {
 				change(options)
 			}
-			New(1, near, far, options).Run()
+			a, b := taken(near, far)
+			New(1, a, b, options).Run()
 		}()
 		c := config()
 		c.Port = uint16(listener.Addr().(*net.TCPAddr).Port)

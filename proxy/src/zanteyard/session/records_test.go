@@ -1,11 +1,14 @@
 package session
 
 import (
+	"context"
 	"reflect"
 	"strconv"
+	"strings"
 	"testing"
 	"time"
 
+	"github.com/jackc/pgconn"
 	"github.com/jackc/pgproto3/v2"
 
 	"zanteyard/record"
@@ -105,7 +108,9 @@ func TestRecords(t *testing.T) {
 			p := through(t, "postgres", func(o *Options) { o.Shared = nil })
 			p.warm(x.texts...)
 			sql(t, fill)
+			p.session.state.Lock()
 			place := p.session.place
+			p.session.state.Unlock()
 			for _, text := range x.texts {
 				p.query(text)
 			}
@@ -269,5 +274,44 @@ func TestBegan(t *testing.T) {
 				t.Errorf("%s: number %d began %v after all were sent", x.name, i, it.Began.Sub(sent))
 			}
 		}
+	}
+}
+
+// TestBorrowedSnapshot: a transaction that reads by a snapshot which another one exported may miss what its own
+// connection has committed before. None of its reads is told; what it writes is.
+func TestBorrowedSnapshot(t *testing.T) {
+	needServer(t)
+	sql(t, fill)
+	p := through(t, "postgres", nil)
+	p.warm("SELECT v FROM t WHERE id = 3", "UPDATE t SET v = 5 WHERE id = 3", "UPDATE t SET v = 6 WHERE id = 4")
+	ctx := context.Background()
+	other, err := pgconn.ConnectConfig(ctx, config())
+	if err != nil {
+		t.Fatal(err)
+	}
+	defer other.Close(ctx)
+	its, err := other.Exec(ctx, "BEGIN ISOLATION LEVEL REPEATABLE READ; SELECT pg_export_snapshot()").ReadAll()
+	if err != nil {
+		t.Fatal(err)
+	}
+	name := string(its[1].Rows[0][0])
+	p.query("UPDATE t SET v = 5 WHERE id = 3")
+	p.sink.take()
+	p.query("BEGIN ISOLATION LEVEL REPEATABLE READ")
+	p.query("SET TRANSACTION SNAPSHOT '" + name + "'")
+	p.query("SELECT v FROM t WHERE id = 3")
+	p.query("UPDATE t SET v = 6 WHERE id = 4")
+	p.query("COMMIT")
+	p.settle()
+	got := p.sink.take()
+	if len(got) != 1 || len(got[0].Reads) != 0 || got[0].Number == 0 {
+		t.Errorf("told: %+v", got)
+	}
+	found := false
+	for _, text := range p.sink.unseen {
+		found = found || strings.Contains(text, borrowed)
+	}
+	if !found {
+		t.Errorf("that it was left out isn't told: %q", p.sink.unseen)
 	}
 }

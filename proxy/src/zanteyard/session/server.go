@@ -227,7 +227,11 @@ func (s *Session) hidden(p *plan.Plan, values [][]byte, isBinary bool) {
 	}
 	reads, err := p.AppendReads(s.reads[:0], values, isBinary)
 	s.reads = reads
-	s.tx.read(reads, s.options.ReadLimit)
+	if s.tx.borrows {
+		s.options.Sink.Unseen(p.Shape, borrowed, true)
+	} else {
+		s.tx.read(reads, s.options.ReadLimit)
+	}
 	if err != nil {
 		s.options.Sink.Unseen(p.Shape, "hidden columns that can't be read", true)
 	}

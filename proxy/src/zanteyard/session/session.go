@@ -16,6 +16,7 @@ import (
 	"sync/atomic"
 	"time"
 
+	"zanteyard/loop"
 	"zanteyard/plan"
 	"zanteyard/record"
 	"zanteyard/wire"
@@ -54,7 +55,7 @@ type Options struct {
 type Session struct {
 	number         uint64
 	options        *Options
-	client, server net.Conn
+	client, server Conn
 
 	// writes is held over what is written to the server and the expectations for it, in one order. Who holds it may take
 	// state; never the other way round.
@@ -103,8 +104,13 @@ type Session struct {
 	reads    []record.Read
 }
 
+// Conn is a connection: a net.Conn, or one of a loop.
+type Conn interface {
+	io.ReadWriteCloser
+}
+
 // New makes a session of two connections, after the startup message was passed on. Its number has to be its own.
-func New(number uint64, client, server net.Conn, options *Options) *Session {
+func New(number uint64, client, server Conn, options *Options) *Session {
 	s := &Session{number: number, options: options, client: client, server: server, names: newNames()}
 	s.waiting.L = &s.state
 	s.encoding, s.standard, s.plain = true, true, true
@@ -122,6 +128,12 @@ func (s *Session) Blind() { s.blind.Store(true) }
 
 // Run passes messages on until one of the connections ends, and closes both.
 func (s *Session) Run() error {
+	defer s.over()
+	client, plain := s.client.(*loop.Conn)
+	server, plainToo := s.server.(*loop.Conn)
+	if plain && plainToo {
+		return s.served(client, server)
+	}
 	ended := make(chan error, 1)
 	go func() {
 		err := s.guarded(s.back)
@@ -130,15 +142,22 @@ func (s *Session) Run() error {
 		ended <- err
 	}()
 	err := s.guarded(s.forth)
-	// The server may still have answers for what was sent: it closes the connection after Terminate, or when it finds the
-	// client gone.
+	s.sendEnds(err)
+	return ending(err, <-ended)
+}
+
+// sendEnds ends what is sent to the server. It may still have answers for what was sent: it closes the connection after
+// Terminate, or when it finds the client gone.
+func (s *Session) sendEnds(err error) {
 	if half, ok := s.server.(interface{ CloseWrite() error }); ok && errors.Is(err, io.EOF) {
 		half.CloseWrite()
 	} else {
 		s.server.Close()
 	}
-	back := <-ended
-	s.over()
+}
+
+// ending says why a session has ended, by why each direction has.
+func ending(err, back error) error {
 	if err == nil || errors.Is(err, io.EOF) {
 		err = back
 	}
@@ -205,11 +224,7 @@ func (s *Session) send(in *wire.Reader, batch []byte, more int) error {
 	}
 	out := s.looked(batch, more)
 	_, err := s.server.Write(out)
-	s.toServer.release()
-	s.writes.Unlock()
-	if s.missed.Load() {
-		s.rest()
-	}
+	s.written()
 	for err == nil && more > 0 {
 		var part []byte
 		if part, more, err = in.Chunk(); err == nil {
@@ -224,6 +239,15 @@ func (s *Session) send(in *wire.Reader, batch []byte, more int) error {
 	return err
 }
 
+// written is called when all is written that was to be sent for some messages. Called with writes locked.
+func (s *Session) written() {
+	s.toServer.release()
+	s.writes.Unlock()
+	if s.missed.Load() {
+		s.rest()
+	}
+}
+
 // looked says what is sent for a batch of messages. Called with writes locked.
 func (s *Session) looked(batch []byte, more int) []byte {
 	s.state.Lock()
@@ -231,6 +255,24 @@ func (s *Session) looked(batch []byte, more int) []byte {
 	for s.replay.running {
 		s.waiting.Wait()
 	}
+	return s.lookAt(batch, more)
+}
+
+// lookedNow is looked without waiting. ok is false if it would have to wait: for a replay, for a meeting, for whoever
+// looks at something else of the session.
+func (s *Session) lookedNow(batch []byte) (out []byte, ok bool) {
+	if !s.state.TryLock() {
+		return nil, false
+	}
+	defer s.state.Unlock()
+	if s.replay.running || s.hold.Load() != nil && s.between() {
+		return nil, false
+	}
+	return s.lookAt(batch, 0), true
+}
+
+// lookAt is both without a wait. Called with writes and state locked.
+func (s *Session) lookAt(batch []byte, more int) []byte {
 	s.sent = clock()
 	s.queue.sent = s.sent
 	if s.blind.Load() || s.status == 0 {
@@ -258,12 +300,7 @@ func (s *Session) back() error {
 		if err != nil {
 			return err
 		}
-		if more > 0 {
-			err = s.backLong(in, batch, more)
-		} else {
-			err = s.pass(batch)
-		}
-		if err != nil {
+		if err := s.passLong(in, batch, more); err != nil {
 			return err
 		}
 		if s.blind.Load() {
@@ -272,9 +309,19 @@ func (s *Session) back() error {
 	}
 }
 
-// pass passes on some messages of the server's.
-func (s *Session) pass(batch []byte) error {
-	out, again, rest := s.answered(batch)
+// passLong passes on some messages of the server's, or the beginning of a long one and then the rest of it.
+func (s *Session) passLong(in *wire.Reader, batch []byte, more int) error {
+	if more > 0 {
+		return s.backLong(in, batch, more)
+	}
+	return s.pass(batch)
+}
+
+// pass passes on some whole messages of the server's.
+func (s *Session) pass(batch []byte) error { return s.passOn(s.answered(batch)) }
+
+// passOn does what answered has said.
+func (s *Session) passOn(out []byte, again, rest bool) error {
 	if again {
 		if err := s.sendAgain(); err != nil {
 			return err
@@ -296,6 +343,21 @@ func (s *Session) pass(batch []byte) error {
 func (s *Session) answered(batch []byte) (out []byte, again, rest bool) {
 	s.state.Lock()
 	defer s.state.Unlock()
+	return s.answers(batch)
+}
+
+// answeredNow is answered without waiting for whoever looks at something else of the session: ok is false then.
+func (s *Session) answeredNow(batch []byte) (out []byte, again, rest, ok bool) {
+	if !s.state.TryLock() {
+		return nil, false, false, false
+	}
+	defer s.state.Unlock()
+	out, again, rest = s.answers(batch)
+	return out, again, rest, true
+}
+
+// answers is both, called with state locked.
+func (s *Session) answers(batch []byte) (out []byte, again, rest bool) {
 	s.now = clock()
 	if s.blind.Load() {
 		return batch, false, false
@@ -340,7 +402,7 @@ func (s *Session) backLong(in *wire.Reader, begin []byte, more int) error {
 }
 
 // unseen passes all on that comes from here on.
-func (s *Session) unseen(to, from net.Conn, in *wire.Reader) error {
+func (s *Session) unseen(to, from Conn, in *wire.Reader) error {
 	if b := in.Buffered(); len(b) > 0 {
 		if _, err := to.Write(b); err != nil {
 			return err
@@ -355,7 +417,7 @@ func (s *Session) unseen(to, from net.Conn, in *wire.Reader) error {
 
 // lost says that an answer wasn't one that was expected: a fault of the proxy's. It goes on without rewriting.
 func (s *Session) lost(answer, message byte) {
-	s.options.Log("connection " + itoa(s.number) + ": an answer of type " + string(rune(answer)) +
+	go s.options.Log("connection " + itoa(s.number) + ": an answer of type " + string(rune(answer)) +
 		" to a message of type " + string(rune(message)) + "; it is passed on without looking from here on")
 	s.trust.broken = true
 	s.plain, s.encoding = false, false

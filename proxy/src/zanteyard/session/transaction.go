@@ -14,6 +14,9 @@ const (
 	mostVersions   = 4096 // the transaction's number and those of its subtransactions
 )
 
+// borrowed is why a read is left out.
+const borrowed = "read by another transaction's snapshot"
+
 // transaction is what is known of the transaction that runs.
 type transaction struct {
 	record.Transaction
@@ -22,6 +25,9 @@ type transaction struct {
 	failed  bool
 	leaving bool // COMMIT or PREPARE TRANSACTION was sent
 	asked   bool // the ask came back, and nothing has run since
+	// borrows says that it reads by a snapshot that another transaction exported, which may be older than what was
+	// answered before this one began. No read of it is told: its session's order would be owed for it, and isn't kept.
+	borrows bool
 }
 
 // asked is what a SELECT by one whole key asked for.
@@ -169,6 +175,7 @@ func (s *Session) did(p *plan.Plan, e *expectation, tag []byte) {
 	if p.Level != record.UnknownLevel {
 		t.Level = p.Level
 	}
+	t.borrows = t.borrows || p.TakesSnapshot
 	switch p.Kind {
 	case plan.Commit, plan.Rollback:
 		s.note(e)
@@ -258,6 +265,10 @@ func (s *Session) leftOut(p *plan.Plan, e *expectation) {
 func (s *Session) absent(p *plan.Plan, e *expectation) {
 	if s.status != 'T' {
 		s.options.Sink.Unseen(p.Shape, "a row that wasn't there, asked for by a transaction of one statement", true)
+		return
+	}
+	if s.tx.borrows {
+		s.options.Sink.Unseen(p.Shape, borrowed, true)
 		return
 	}
 	key := e.on.asked.key

@@ -28,8 +28,11 @@ func show(it record.Commit) string {
 	text := fmt.Sprintf("%d at %s:", it.Number, placeText(it.LSN))
 	for _, one := range it.Writes {
 		sign := ""
+		if one.Inserted {
+			sign = "+"
+		}
 		if one.Deleted {
-			sign = "-"
+			sign += "-"
 		}
 		text += fmt.Sprintf(" %s%d(%s)", sign, one.Relation, strings.ReplaceAll(string(one.Key), "\x00", ","))
 	}
@@ -53,13 +56,13 @@ func TestDecoders(t *testing.T) {
 	}{
 		{"insert", []string{`{"action":"I","xid":725,"lsn":"0/15524D0","schema":"public","table":"t","columns":[{"name":"id","value":1},` +
 			`{"name":"v","value":"a'\"b\\c é"},{"name":"n","value":null}],"pk":[{"name":"id"}]}`},
-			[]string{`table public.t: INSERT: id[integer]:1 v[text]:'a''"b\c é' n[numeric]:null`}, " 1(1)"},
+			[]string{`table public.t: INSERT: id[integer]:1 v[text]:'a''"b\c é' n[numeric]:null`}, " +1(1)"},
 		{"update", []string{`{"action":"U","xid":725,"lsn":"0/1","schema":"public","table":"t","columns":[{"name":"id","value":1},` +
 			`{"name":"v","value":"c"}],"identity":[{"name":"id","value":1}],"pk":[{"name":"id"}]}`},
 			[]string{`table public.t: UPDATE: id[integer]:1 v[text]:'c'`}, " 1(1)"},
 		{"a change of the key", []string{`{"action":"U","xid":725,"lsn":"0/1","schema":"public","table":"t","columns":[{"name":"id","value":2}],` +
 			`"identity":[{"name":"id","value":1}],"pk":[{"name":"id"}]}`},
-			[]string{`table public.t: UPDATE: old-key: id[integer]:1 new-tuple: id[integer]:2 v[text]:'it is a new-tuple: x'`}, " -1(1) 1(2)"},
+			[]string{`table public.t: UPDATE: old-key: id[integer]:1 new-tuple: id[integer]:2 v[text]:'it is a new-tuple: x'`}, " -1(1) +1(2)"},
 		{"delete and insert again", []string{`{"action":"D","xid":725,"lsn":"0/1","schema":"public","table":"t","identity":[{"name":"id","value":1}],` +
 			`"pk":[{"name":"id"}]}`, `{"action":"I","xid":725,"schema":"public","table":"t","columns":[{"name":"id","value":1}],"pk":[{"name":"id"}]}`},
 			[]string{`table public.t: DELETE: id[integer]:1`, `table public.t: INSERT: id[integer]:1`}, " 1(1)"},
@@ -76,18 +79,18 @@ func TestDecoders(t *testing.T) {
 			[]string{`table public.new: INSERT: id[integer]:1`}, ""},
 		{"odd names", []string{`{"action":"I","xid":725,"schema":"an \"odd\" one","table":"wei.rd","columns":[{"name":"a","value":true},` +
 			`{"name":"the [key]","value":"\u00e9\ud83d\ude00\n"}],"pk":[{"name":"the [key]"}]}`},
-			[]string{`table "an ""odd"" one"."wei.rd": INSERT: a[boolean]:true "the [key]"[text]:'é😀` + "\n'"}, " 5(é😀\n)"},
+			[]string{`table "an ""odd"" one"."wei.rd": INSERT: a[boolean]:true "the [key]"[text]:'é😀` + "\n'"}, " +5(é😀\n)"},
 		{"a fence", []string{`{"action":"U","xid":725,"schema":"public","table":"zanteyard_fence","columns":[{"name":"id","value":0},` +
 			`{"name":"n","value":7}],"identity":[{"name":"id","value":0}],"pk":[{"name":"id"}]}`},
 			[]string{`table public.zanteyard_fence: UPDATE: id[integer]:0 n[bigint]:7`}, " fence"},
 		{"truncate, after an insert", []string{`{"action":"I","xid":725,"schema":"public","table":"t","columns":[{"name":"id","value":1}],"pk":[{"name":"id"}]}`,
 			`{"action":"T","xid":725,"lsn":"0/1","schema":"public","table":"t"}`, `{"action":"T","xid":725,"schema":"public","table":"part"}`},
 			[]string{`table public.t: INSERT: id[integer]:1`, `table public.t, public.part: TRUNCATE: (no-flags)`},
-			" -1(1) emptied 1 emptied 9"},
+			" +-1(1) emptied 1 emptied 9"},
 		{"arrays and other types", []string{`{"action":"I","xid":725,"schema":"public","table":"t","columns":[{"name":"x","value":"{1,2}"},` +
 			`{"name":"id","value":-7},{"name":"b","value":"00ff"}],"pk":[{"name":"id"}]}`},
 			[]string{`table public.t: INSERT: x[integer[]]:'{1,2}' id[integer]:-7 b[bytea]:'\x00ff' c[timestamp with time zone]:'2026-01-01 00:00:00+00'`},
-			" 1(-7)"},
+			" +1(-7)"},
 		{"an application's message", []string{`{"action":"M","transactional":true,"prefix":"p","content":"[{\"x"}`},
 			[]string{`message: transactional: 1 prefix: p, sz: 1 content:x`}, ""},
 	} {
@@ -144,7 +147,7 @@ func TestManyWritesOfOneTransaction(t *testing.T) {
 	it.begin(1, 0, 0)
 	for round := 0; round < 2; round++ {
 		for n := 0; n < mostWrites+10; n++ {
-			it.write(1, record.Key(fmt.Sprint(n)), round == 1)
+			it.write(1, record.Key(fmt.Sprint(n)), round == 0, round == 1)
 		}
 	}
 	if commit := it.commit(1); len(commit.Writes) != mostWrites || !commit.Writes[5].Deleted || it.dropped != 20 {

@@ -74,7 +74,8 @@ func connect(ctx context.Context, options Options, replication bool) (*pgconn.Pg
 	return pgconn.ConnectConfig(ctx, config)
 }
 
-// create makes the slot with the first plugin that is there.
+// create makes the slot with the first plugin that is there and that the server lets us use: since 15.19 it has a list
+// of those (output_plugin_libraries), in which wal2json isn't by itself.
 func (r *Reader) create(ctx context.Context) error {
 	kind := "TEMPORARY "
 	if r.options.Permanent {
@@ -84,6 +85,7 @@ func (r *Reader) create(ctx context.Context) error {
 	if r.options.Plugin != "" {
 		plugins = []Plugin{r.options.Plugin}
 	}
+	refused := ErrNoPlugin
 	for _, plugin := range plugins {
 		rows, err := query(ctx, r.conn, fmt.Sprintf(`CREATE_REPLICATION_SLOT %s %sLOGICAL %s NOEXPORT_SNAPSHOT`,
 			quoted(r.options.Name), kind, plugin))
@@ -98,11 +100,13 @@ func (r *Reader) create(ctx context.Context) error {
 		case r.options.Permanent && hasCode(err, "42710"): // it is there from an earlier run: what it tells first is old
 			r.plugin, r.from = plugin, "0/0"
 			return r.known(ctx)
+		case hasCode(err, "42501"): // or the role may make no slot at all: then the next one is refused, too
+			refused = fmt.Errorf("make the replication slot: %w", err)
 		case !isMissing(err):
 			return fmt.Errorf("make the replication slot: %w", err)
 		}
 	}
-	return ErrNoPlugin
+	return refused
 }
 
 // known finds the plugin of a slot that is there, and whether it can be read.

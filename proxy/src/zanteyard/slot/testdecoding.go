@@ -67,10 +67,11 @@ func (d *testDecoding) change(text []byte) error {
 	old, hasOld := d.key(t, was)
 	key, hasKey := d.key(t, now)
 	if hasOld && (string(action) == "DELETE" || hasKey && old != key) {
-		d.open.write(t.Root, old, true)
+		d.open.write(t.Root, old, false, true)
 	}
 	if hasKey {
-		d.open.write(t.Root, key, false)
+		moved := hasOld && old != key
+		d.open.write(t.Root, key, string(action) == "INSERT" || moved, false)
 	}
 	return nil
 }

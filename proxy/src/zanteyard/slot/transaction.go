@@ -30,7 +30,7 @@ func (t *transaction) begin(number uint32, start, names uint64) {
 	*t = transaction{number: number, start: start, names: names, dropped: t.dropped}
 }
 
-func (t *transaction) write(relation record.Relation, key record.Key, deleted bool) {
+func (t *transaction) write(relation record.Relation, key record.Key, inserted, deleted bool) {
 	if i, found := t.find(relation, key); found {
 		t.writes[i].Deleted = deleted
 		return
@@ -42,7 +42,7 @@ func (t *transaction) write(relation record.Relation, key record.Key, deleted bo
 	if t.at != nil {
 		t.at[place{relation, key}] = len(t.writes)
 	}
-	t.writes = append(t.writes, record.Write{Relation: relation, Key: key, Deleted: deleted})
+	t.writes = append(t.writes, record.Write{Relation: relation, Key: key, Deleted: deleted, Inserted: inserted})
 }
 
 func (t *transaction) find(relation record.Relation, key record.Key) (int, bool) {

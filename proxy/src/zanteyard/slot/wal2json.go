@@ -224,10 +224,11 @@ func (w *wal2json) change(m *message) {
 	now, hasNow := w.key(t, m.columns)
 	was, hasWas := w.key(t, m.identity)
 	if m.action != 'I' && hasWas && (m.action == 'D' || hasNow && was != now) {
-		w.open.write(t.Root, was, true)
+		w.open.write(t.Root, was, false, true)
 	}
 	if m.action != 'D' && hasNow {
-		w.open.write(t.Root, now, false)
+		moved := m.action == 'U' && hasWas && was != now
+		w.open.write(t.Root, now, m.action == 'I' || moved, false)
 	}
 }
 

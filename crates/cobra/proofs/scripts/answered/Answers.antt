@@ -2,4 +2,4 @@ use Rattle.std.proofs.Common.{refl}
 use Rattle.cobra.proofs.scripts.answered.Goals as goal
 
 pub returns-in_ok-reply-in-Open : goal.returns-in_ok-reply-in-Open
-returns-in_ok-reply-in-Open g c = rw c.in-Open.is (c.answer_open.new.engine, c.in_ok-reply-in-Open.ensures, refl)
+returns-in_ok-reply-in-Open g c = rw c.in-Open.is (c.answer_open.new.audit, c.in_ok-reply-in-Open.ensures, refl)

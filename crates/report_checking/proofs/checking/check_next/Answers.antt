@@ -7,7 +7,7 @@ use Rattle.report_checking.specs.RightReports.{StopsAtWrong}
 use Rattle.report_checking.specs.declared.findings.Found.{Found}
 use Rattle.report_checking.specs.declared.findings.Found.TheVariants as found
 use Rattle.report_checking.specs.declared.findings.Fault.{Fault}
-use Rattle.report_checking.specs.declared.pairs.OpenScript.{OpenScript}
+use Rattle.report_checking.specs.declared.open_scripts.OpenScript.{OpenScript}
 use Rattle.report_checking.proofs.CheckedLines.{advances_on}
 use Rattle.report_checking.proofs.checking.check_next.Goals as goal
 

@@ -45,6 +45,15 @@ returns-in-Save-clause-owed c =
     let is = rw c.engine-in-Save.ensures at c.in_ok-saved_told-in-Save.ensures in
     rw c.in-Save.is (saved_owed c.args.engine.now c.in-Save.wanted c.in_ok-saved_told-in-Save.field-0 is)
 
+pub returns-in-BeginSearch-clause-owed : goal.returns-in-BeginSearch-clause-owed
+returns-in-BeginSearch-clause-owed c = rw c.in-BeginSearch.is (tt, out_of_place c.args.engine.now)
+
+pub returns-in-Collect-clause-owed : goal.returns-in-Collect-clause-owed
+returns-in-Collect-clause-owed c = rw c.in-Collect.is (tt, out_of_place c.args.engine.now)
+
+pub returns-in-Skip-clause-owed : goal.returns-in-Skip-clause-owed
+returns-in-Skip-clause-owed c = rw c.in-Skip.is (tt, out_of_place c.args.engine.now)
+
 pub returns-in-Start-clause-owed : goal.returns-in-Start-clause-owed
 returns-in-Start-clause-owed c = rw c.in-Start.is (tt, out_of_place c.args.engine.now)
 
@@ -94,6 +103,15 @@ returns-in-Show-clause-right c = rw c.in-Show.is (λ report new earned shows. ab
 
 pub returns-in-Save-clause-right : goal.returns-in-Save-clause-right
 returns-in-Save-clause-right c = rw c.in-Save.is (λ report new earned shows. absurd earned)
+
+pub returns-in-BeginSearch-clause-right : goal.returns-in-BeginSearch-clause-right
+returns-in-BeginSearch-clause-right c = rw c.in-BeginSearch.is (λ report new earned shows. absurd earned)
+
+pub returns-in-Collect-clause-right : goal.returns-in-Collect-clause-right
+returns-in-Collect-clause-right c = rw c.in-Collect.is (λ report new earned shows. absurd earned)
+
+pub returns-in-Skip-clause-right : goal.returns-in-Skip-clause-right
+returns-in-Skip-clause-right c = rw c.in-Skip.is (λ report new earned shows. absurd earned)
 
 pub returns-in-Start-clause-right : goal.returns-in-Start-clause-right
 returns-in-Start-clause-right c = rw c.in-Start.is (λ report new earned shows. absurd earned)
@@ -148,6 +166,15 @@ pub returns-in-Save-clause-alone : goal.returns-in-Save-clause-alone
 returns-in-Save-clause-alone c =
     let is = rw c.engine-in-Save.ensures at c.in_ok-saved_told-in-Save.ensures in
     rw c.in-Save.is (λ answer told. inr (inr (is ∙ sym told)))
+
+pub returns-in-BeginSearch-clause-alone : goal.returns-in-BeginSearch-clause-alone
+returns-in-BeginSearch-clause-alone c = rw c.in-BeginSearch.is (λ answer told. inr (inr (sym told)))
+
+pub returns-in-Collect-clause-alone : goal.returns-in-Collect-clause-alone
+returns-in-Collect-clause-alone c = rw c.in-Collect.is (λ answer told. inr (inr (sym told)))
+
+pub returns-in-Skip-clause-alone : goal.returns-in-Skip-clause-alone
+returns-in-Skip-clause-alone c = rw c.in-Skip.is (λ answer told. inr (inr (sym told)))
 
 pub returns-in-Start-clause-alone : goal.returns-in-Start-clause-alone
 returns-in-Start-clause-alone c = rw c.in-Start.is (λ answer told. inr (inr (sym told)))

@@ -13,6 +13,7 @@ import (
 	"net"
 	"os"
 	"os/signal"
+	"runtime"
 	"strings"
 	"sync"
 	"sync/atomic"
@@ -26,6 +27,7 @@ import (
 	"zanteyard/definitions"
 	"zanteyard/join"
 	"zanteyard/keys"
+	"zanteyard/loop"
 	"zanteyard/meeting"
 	"zanteyard/remote"
 	"zanteyard/server"
@@ -59,7 +61,8 @@ type flags struct {
 func parse(args []string, errors io.Writer) (flags, error) {
 	var f flags
 	set := flag.NewFlagSet("zanteyard-proxy", flag.ContinueOnError)
-	set.SetOutput(errors)
+	var told strings.Builder // its mistakes are in the error as well
+	set.SetOutput(&told)
 	set.StringVar(&f.listen, "listen", "127.0.0.1:6432", "`address` where clients connect; with a / it is a socket's path")
 	set.StringVar(&f.server, "server", "", "the server and database, as a `URL` or keywords, as libpq has them; "+
 		"user and password are for the audit's own connections")
@@ -78,6 +81,14 @@ func parse(args []string, errors io.Writer) (flags, error) {
 	set.Int64Var(&f.held, "held", 64<<20, "`bytes` of what sessions saw that may wait for the audit")
 	set.IntVar(&f.join.Sessions, "sessions", 64, "`number` of the auditor's sessions")
 	set.IntVar(&f.join.Limit, "limit", 4096, "`number` of transactions that may remain at a time")
+	set.Func("promise", "serializable, or snapshot: what is audited is asked about snapshot isolation, with half as many "+
+		"transactions", func(text string) error {
+		f.join.Snapshot = text == "snapshot"
+		if text != "snapshot" && text != "serializable" {
+			return fmt.Errorf("serializable or snapshot")
+		}
+		return nil
+	})
 	set.Float64Var(&f.join.Sample, "sample", 1, "the `part` of the connections that is audited")
 	set.DurationVar(&f.join.Between, "between", 2*time.Second, "the least `time` between two meetings")
 	set.Func("tables", "audit only these tables, given as `patterns` such as public.*, shop.orders", func(text string) (err error) {
@@ -95,6 +106,7 @@ func parse(args []string, errors io.Writer) (flags, error) {
 	set.BoolVar(&f.passing, "pass", false, "pass all on without looking, and audit nothing")
 	set.BoolVar(&f.version, "version", false, "print the version and end")
 	if err := set.Parse(args); err != nil {
+		fmt.Fprint(errors, strings.TrimPrefix(told.String(), err.Error()+"\n"))
 		return f, err
 	}
 	if set.NArg() > 0 {
@@ -122,7 +134,7 @@ func main() {
 	case errors.Is(err, flag.ErrHelp):
 		return
 	case err != nil:
-		fmt.Fprintln(os.Stderr, "zanteyard-proxy:", err)
+		fmt.Fprintln(shownLog{os.Stderr}, "zanteyard-proxy:", err)
 		os.Exit(2)
 	case f.version:
 		fmt.Println("zanteyard-proxy", build)
@@ -130,6 +142,7 @@ func main() {
 	}
 	log.SetFlags(log.LstdFlags | log.Lmsgprefix)
 	log.SetPrefix("zanteyard-proxy: ")
+	log.SetOutput(shownLog{os.Stderr})
 	ctx, stop := signal.NotifyContext(context.Background(), syscall.SIGINT, syscall.SIGTERM)
 	defer stop()
 	if err := run(ctx, f, os.Stdin, os.Stdout); err != nil {
@@ -164,7 +177,15 @@ func run(ctx context.Context, f flags, in io.Reader, out io.Writer) error {
 		Shared:    session.NewShared(),
 		Log:       func(text string) { log.Print(text) },
 	}
-	go fewProcessors(ctx)
+	// Go collects garbage when there is as much of it as of what is in use, which here is little. This counts as in use but
+	// takes no memory, since nothing is ever written to it: so there are some 16 MiB more of garbage, collected less often.
+	ballast := make([]byte, 16<<20)
+	defer runtime.KeepAlive(ballast)
+	loops, err := loop.New()
+	if err != nil {
+		return err
+	}
+	go fewProcessors(ctx, loops)
 	room := meeting.NewRoom(f.bound)
 	end, err := look(ctx, f, config, options, room, in, out)
 	if err != nil {
@@ -172,6 +193,7 @@ func run(ctx context.Context, f flags, in io.Reader, out io.Writer) error {
 	}
 	defer end()
 	s := server.New(server.Options{
+		Loops:     loops,
 		Server:    config,
 		ClientTLS: clientTLS,
 		Database:  config.Database,

@@ -24,6 +24,7 @@ func TestFlags(t *testing.T) {
 	}{
 		{"--server host=a", false}, {"--version", false}, {"", true}, {"--server host=a more", true}, {"--nothing", true},
 		{"--server host=a --hold 10ms --reads 5 --sample 0.5 --parameters", false}, {"--hold 5", true},
+		{"--server host=a --promise snapshot", false}, {"--server host=a --promise serial", true},
 	} {
 		if _, err := parse(strings.Fields(x.args), io.Discard); x.fails != (err != nil) {
 			t.Errorf("%q: %v", x.args, err)

@@ -6,6 +6,8 @@ import (
 	"runtime"
 	"syscall"
 	"time"
+
+	"zanteyard/loop"
 )
 
 const (
@@ -16,32 +18,43 @@ const (
 	calmLooks          = 20 // in a row
 )
 
-// fewProcessors has the program use as few processors at once as its traffic needs. While a processor is idle, Go wakes
-// a thread for each message that arrives, which takes longer than to pass the message on. With one processor the
-// program works as an event loop does: it takes what has arrived, one after another, and waits once for all. GOMAXPROCS
-// in the environment has it use so many, whatever the traffic. It returns when ctx ends.
-func fewProcessors(ctx context.Context) {
-	if os.Getenv("GOMAXPROCS") != "" {
-		return
-	}
+// fewProcessors has the program use as few processors at once as its traffic needs: one for the loop that passes
+// messages on, one for all else, and more of each when these are busy. While a processor is idle, Go wakes a thread for
+// each message that arrives for a goroutine, which takes longer than to deal with it; and a second loop takes some of
+// the messages that the first one would have dealt with together. GOMAXPROCS in the environment has the goroutines use
+// so many, whatever the traffic. It returns when ctx ends.
+func fewProcessors(ctx context.Context, loops *loop.Loops) {
 	most := runtime.NumCPU()
-	p := processors{now: 1, most: most}
-	runtime.GOMAXPROCS(p.now)
+	fixed := os.Getenv("GOMAXPROCS") != ""
+	passing, others := processors{now: 1, most: most}, processors{now: 1, most: most}
+	set := func() {
+		loops.Share(passing.now) // without a descriptor for one more those that are there go on
+		if !fixed {
+			runtime.GOMAXPROCS(passing.now + others.now)
+		}
+	}
+	set()
 	tick := time.NewTicker(lookAtUse)
 	defer tick.Stop()
-	last, used := time.Now(), processorTime()
+	last, used, busy := time.Now(), processorTime(), loops.Busy()
 	for {
 		select {
 		case <-ctx.Done():
 			return
 		case <-tick.C:
 		}
-		now, taken := time.Now(), processorTime()
-		before := p.now
-		if p.look(float64(taken-used) / float64(now.Sub(last))); p.now != before {
-			runtime.GOMAXPROCS(p.now)
+		now, taken, busyNow := time.Now(), processorTime(), loops.Busy()
+		wasPassing, wasOthers := passing.now, others.now
+		span, all, byLoops := float64(now.Sub(last)), float64(taken-used), float64(busyNow-busy)
+		if byLoops > all { // a loop was busy, but had no processor
+			byLoops = all
 		}
-		last, used = now, taken
+		passing.look(byLoops / span)
+		others.look((all - byLoops) / span)
+		if passing.now != wasPassing || others.now != wasOthers {
+			set()
+		}
+		last, used, busy = now, taken, busyNow
 	}
 }
 

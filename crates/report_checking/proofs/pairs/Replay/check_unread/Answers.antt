@@ -12,4 +12,4 @@ returns-clause-fair c =
 pub returns-clause-otherwise : goal.returns-clause-otherwise
 returns-clause-otherwise c =
     IfOk-weaker c.found_of.result (IsFoundOf c.in_ok-owed.owed c.args.stored.now) (IsOtherwise c.args.self.now.script c.args.command c.args.stored.now)
-    (λ got is. other_found c.args.self.now.script c.args.command c.args.stored.now c.in_ok-owed.owed c.in_ok-owed.ensures.alone c.requires.checked got is) c.found_of.ensures
+    (λ got is. other_found c.args.self.now.script c.args.command c.args.stored.now c.in_ok-owed.owed c.in_ok-owed.ensures.alone c.requires.checked c.requires.ended got is) c.found_of.ensures

@@ -1,0 +1,217 @@
+"""Whether the tests see small faults: each mutant is the code with one of its places changed.
+
+    /usr/bin/python3 bench/mutants.py python|go [--count 60] [--seed 1] [--processes 2] [--only FILE:LINE]
+
+Mutants of the Python package's sessions, live audits, notes and searches for killed clients, or of the proxy's joiner,
+are drawn by the seed, and each is run under the tests beside it, in a copy of the tree. One is found if a test fails,
+or none ends in its time. Prints a line for each that isn't found, which is to be read: it means the same, or a test is
+missing. The status is 1 if more than one in twenty isn't found."""
+import argparse
+import ast
+import collections
+import concurrent.futures
+import copy
+import glob
+import os
+import random
+import re
+import shutil
+import signal
+import subprocess
+import sys
+import tempfile
+
+TOP = os.path.dirname(os.path.dirname(os.path.abspath(__file__)))
+PYTHON, PROXY = os.path.join(TOP, "collectors", "python"), os.path.join(TOP, "proxy")
+FILES = {
+    "python": (
+        *("session/_*.py", "live/_backlog.py", "live/_session_pool.py", "live/_quiesce_coordinator.py"),
+        *("live/_audit.py", "live/_live_auditor.py", "live/_for_processes.py", "live/_pace.py"),
+        *("core/_crash_notes.py", "core/_tenancy.py", "core/_window.py", "remote/_crash_recovery.py"),
+    ),
+    "go": ("src/zanteyard/join/*.go",),
+}
+# Those that take a second or two come first.
+TESTS = (
+    *("transactions", "meetings", "places", "forks", "notes", "circumstances", "redacting", "processes", "no_harm"),
+    *("aborted", "joining", "live", "killed.Killed"),
+)
+SECONDS = 150.0  # for the tests of a mutant
+Mutant = collections.namedtuple("Mutant", "path line about text")
+COMPARED = {
+    ast.Lt: ast.LtE, ast.LtE: ast.Lt, ast.Gt: ast.GtE, ast.GtE: ast.Gt, ast.Eq: ast.NotEq, ast.NotEq: ast.Eq,
+    ast.Is: ast.IsNot, ast.IsNot: ast.Is, ast.In: ast.NotIn, ast.NotIn: ast.In,
+}
+GO = (  # what is changed, and into what
+    (r" < ", " <= "), (r" <= ", " < "), (r" > ", " >= "), (r" >= ", " > "), (r" == ", " != "), (r" != ", " == "),
+    (r" && ", " || "), (r" \|\| ", " && "), (r"\bif !", "if "), (r"\breturn true\b", "return false"),
+    (r"\breturn false\b", "return true"), (r" \+ 1\b", ""), (r" - 1\b", ""), (r"\bcontinue\b", "break"),
+    (r"^(\t+)([\w.\[\]]+)\+\+$", r"\1_ = \2"), (r"^(\t+)delete\(.*\)$", r"\1"), (r" \+= ", " -= "),
+)
+
+
+def changed(node):
+    """The ways in which a node may be changed: each gives what it is about, or None."""
+
+    def compare():
+        node.ops[0] = COMPARED[type(node.ops[0])]()
+        return "compares otherwise"
+
+    def junction():
+        node.op = ast.Or() if isinstance(node.op, ast.And) else ast.And()
+        return "and, or"
+
+    def condition():
+        node.test = ast.UnaryOp(ast.Not(), node.test)
+        return "the other branch"
+
+    def count():
+        node.value += 1
+        return f"{node.value - 1} is {node.value}"
+
+    def truth():
+        node.value = not node.value
+        return f"{not node.value} is {node.value}"
+
+    def call():
+        node.value = ast.Constant(None)
+        return "isn't called"
+
+    def assignment():
+        node.op = ast.Sub() if isinstance(node.op, ast.Add) else ast.Add()
+        return "plus, minus"
+
+    if isinstance(node, ast.Compare) and type(node.ops[0]) in COMPARED:
+        yield compare
+    if isinstance(node, ast.BoolOp):
+        yield junction
+    if isinstance(node, (ast.If, ast.IfExp, ast.While)):
+        yield condition
+    if isinstance(node, ast.Constant) and type(node.value) is int:
+        yield count
+    if isinstance(node, ast.Constant) and type(node.value) is bool:
+        yield truth
+    if isinstance(node, ast.Expr) and isinstance(node.value, ast.Call):
+        yield call
+    if isinstance(node, (ast.AugAssign, ast.BinOp)) and isinstance(node.op, (ast.Add, ast.Sub)):
+        yield assignment
+
+
+def is_of_annotation(source, node):
+    """Constants of a module are sizes and times; what the log is told is no matter of meaning."""
+    line = source[node.lineno - 1]
+    return "logger." in line or re.match(r"[A-Z_]+ ?[:,=]", line) or line.lstrip().startswith(("@", "raise "))
+
+
+def python_mutants(path):
+    with open(path, encoding="utf-8") as file:
+        text = file.read()
+    whole, source = ast.parse(text), text.splitlines()
+    for at, node in enumerate(ast.walk(whole)):
+        if not hasattr(node, "lineno") or is_of_annotation(source, node):
+            continue
+        for way, _ in enumerate(changed(node)):
+            mutated = copy.deepcopy(whole)
+            there = next(it for number, it in enumerate(ast.walk(mutated)) if number == at)
+            about = [*changed(there)][way]()
+            ast.fix_missing_locations(mutated)
+            yield Mutant(path, node.lineno, f"{source[node.lineno - 1].strip()}   ({about})", ast.unparse(mutated))
+
+
+def go_mutants(path):
+    with open(path, encoding="utf-8") as file:
+        lines = file.read().split("\n")
+    for at, line in enumerate(lines):
+        if line.lstrip().startswith("//") or '"' in line:
+            continue
+        code, slashes, comment = line.partition(" //")
+        for old, new in GO:
+            if re.search(old, code):
+                changed_line = re.sub(old, new, code, count=1) + slashes + comment
+                text = "\n".join([*lines[:at], changed_line, *lines[at + 1 :]])
+                yield Mutant(path, at + 1, f"{line.strip()}   ({changed_line.strip()})", text)
+
+
+def tests_of(kind, names):
+    """The calls that run them, one after another, until one fails."""
+    if kind == "go":
+        return [["go", "build", "zanteyard/join"], ["go", "test", "-failfast", "zanteyard/join"],
+                ["go", "test", "-failfast", "zanteyard/audit"]]
+    unittest = [sys.executable, "-W", "ignore", "-m", "unittest", "-f"]
+    return [[*unittest, f"tests.test_{name}"] for name in names]
+
+
+def fate(kind, names, mutant):
+    """Of a mutant: "found", "hangs", "lives", or "isn't one" where it can't even be compiled."""
+    home = PYTHON if kind == "python" else PROXY
+    with tempfile.TemporaryDirectory() as folder:
+        os.chmod(folder, 0o711)
+        tree = os.path.join(folder, os.path.relpath(home, TOP))
+        shutil.copytree(home, tree, ignore=shutil.ignore_patterns("__pycache__", "out"))
+        with open(os.path.join(tree, os.path.relpath(mutant.path, home)), "w", encoding="utf-8") as file:
+            file.write(mutant.text)
+        environment = {**os.environ, "TMPDIR": folder}
+        if kind == "go":
+            environment["GOPATH"] = os.pathsep.join(
+                tree if each == PROXY else each for each in os.environ["GOPATH"].split(os.pathsep)
+            )
+        for at, call in enumerate(tests_of(kind, names)):
+            status = status_of(call, tree, environment)
+            if status is None:
+                return "hangs"
+            if status != 0:
+                return "isn't one" if kind == "go" and at == 0 else "found"
+    return "lives"
+
+
+def status_of(call, tree, environment):
+    """None where it took too long: all that it has begun is ended."""
+    nothing = subprocess.DEVNULL
+    with subprocess.Popen(call, cwd=tree, env=environment, stdin=nothing, stdout=nothing, stderr=nothing,
+                          start_new_session=True) as process:
+        try:
+            return process.wait(SECONDS)
+        except subprocess.TimeoutExpired:
+            return None
+        finally:
+            try:
+                os.killpg(process.pid, signal.SIGKILL)
+            except ProcessLookupError:
+                pass
+
+
+def drawn(kind, count, seed, only):
+    home = os.path.join(PYTHON, "zanteyard") if kind == "python" else PROXY
+    paths = sorted({path for name in FILES[kind] for path in glob.glob(os.path.join(home, name))})
+    make = python_mutants if kind == "python" else go_mutants
+    every = [it for path in paths if not path.endswith("_test.go") for it in make(path)]
+    if only:
+        return [it for it in every if f"{os.path.basename(it.path)}:{it.line}" == only]
+    return random.Random(seed).sample(every, min(count, len(every)))
+
+
+def main():
+    parser = argparse.ArgumentParser(description=__doc__.splitlines()[0])
+    parser.add_argument("kind", choices=FILES)
+    parser.add_argument("--count", type=int, default=60)
+    parser.add_argument("--seed", type=int, default=1)
+    parser.add_argument("--processes", type=int, default=2)
+    parser.add_argument("--only", metavar="FILE:LINE", help="those of this line")
+    parser.add_argument("--tests", nargs="+", default=TESTS, metavar="NAME", help="of the Python package, as notes")
+    asked = parser.parse_args()
+    if asked.kind == "go":  # as proxy/env.sh has it
+        words = subprocess.run(["sh", "-c", ". ./env.sh && env"], cwd=PROXY, capture_output=True, text=True, check=True)
+        os.environ.update(line.split("=", 1) for line in words.stdout.splitlines() if re.match(r"(GO|CGO_)\w+=", line))
+    mutants, fates = drawn(asked.kind, asked.count, asked.seed, asked.only), collections.Counter()
+    with concurrent.futures.ThreadPoolExecutor(asked.processes) as threads:
+        for mutant, its in zip(mutants, threads.map(lambda it: fate(asked.kind, asked.tests, it), mutants)):
+            fates[its] += 1
+            if its in ("lives", "hangs"):
+                print(f"{its}: {os.path.relpath(mutant.path, TOP)}:{mutant.line}: {mutant.about}", flush=True)
+    print(", ".join(f"{count} {word}" for word, count in fates.most_common()))
+    seen = fates["found"] + fates["hangs"]
+    return 0 if 20 * seen >= 19 * (seen + fates["lives"]) else 1
+
+
+if __name__ == "__main__":
+    sys.exit(main())

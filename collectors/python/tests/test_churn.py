@@ -1,0 +1,57 @@
+"""Clients that come and go leave nothing behind in the process of the audit."""
+import gc
+import os
+import time
+import tracemalloc
+import unittest
+
+from zanteyard.core._outcome import RATHER_WAIT
+from zanteyard.live._live_auditor import LiveAuditor
+from zanteyard.program._auditor import PROGRAM
+from zanteyard.program._subprocess import AuditorApart
+from zanteyard.stores.memory import MemoryStore
+
+SOON = 300.0  # seconds
+CLIENTS, MOST = 1500, 150  # bytes of each that may stay
+
+
+@unittest.skipUnless(os.path.isfile(PROGRAM), f"{PROGRAM} is not built")
+class Churn(unittest.TestCase):
+    def test_what_stays_of_a_client(self):
+        """All that was done is taken in and forgotten, and then again: what has come in between is
+        what stays of the clients. One of them stays, so that there are meetings."""
+        store = MemoryStore()
+        with AuditorApart(8) as auditor:
+            live = LiveAuditor(auditor, policy=RATHER_WAIT, every=200, seconds=0.2)
+            self.stays = live.session(store.connect())
+            self.come_and_go(live, store)
+            tracemalloc.start()
+            self.addCleanup(tracemalloc.stop)
+            self.come_and_go(live, store)
+            before = tracemalloc.get_traced_memory()[0]
+            self.come_and_go(live, store)
+            self.come_and_go(live, store)
+            each = (tracemalloc.get_traced_memory()[0] - before) / (2 * CLIENTS)
+            live.leave_session(self.stays)
+            outcome = live.stop()
+        self.assertEqual(outcome.kind, "serial", outcome)
+        self.assertLess(each, MOST)
+
+    def come_and_go(self, live, store):
+        for at in range(CLIENTS):
+            session = live.session(store.connect())
+            session.run(lambda its: its.put(f"k{at % 50}", its.get(f"k{at % 50}")))
+            live.leave_session(session)
+        cuts, until = live.cuts, time.monotonic() + SOON
+        while live.cuts < cuts + 2 and time.monotonic() < until:  # of which one is of all of these
+            self.stays.run(lambda its: its.put("x", its.get("x")))
+            time.sleep(0.01)
+        self.assertGreaterEqual(live.cuts, cuts + 2)
+        with store.lock:
+            for versions in store.versions.values():
+                del versions[:-2]
+        gc.collect()
+
+
+if __name__ == "__main__":
+    unittest.main()

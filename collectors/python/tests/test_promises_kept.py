@@ -1,0 +1,173 @@
+"""Audits that ask for snapshot isolation and have a journal: the history is kept as it was offered, with the promise."""
+import contextlib
+import os
+import random
+import unittest
+
+from zanteyard import Auditor, AuditorApart, Logged, NoCutError
+from zanteyard.core.errors import JournalError
+from zanteyard.journal import _entries
+from zanteyard.journal._file import Journal
+from zanteyard.promises._keeping import KeptRewriting
+from zanteyard.promises._kinds import SNAPSHOT
+
+from .killing import MOMENTS, PLAIN, Killer, Log, once
+from .test_restarting import PROGRAM, WithJournal, kinds, steps
+
+SKEW = "write-skew"  # the fault of a store in memory that keeps snapshot isolation, and no more
+
+
+def log_of(fault, seed, rounds=3):
+    log = Log(random.Random(seed), fault)
+    for _ in range(rounds):
+        log.run(8)
+        log.meet()
+    return log.entries
+
+
+def plain(auditor):
+    """What remains, as lines have it."""
+    return [[*map(auditor.txn, txns)] for txns in auditor.history]
+
+
+class OfSnapshots(WithJournal):
+    def auditor(self, sessions=3, limit=512, **more):
+        return super().auditor(sessions, limit, **{"promise": "snapshot", **more})
+
+
+class Killed(OfSnapshots):
+    def test_each_line_at_each_moment(self):
+        """All is told as without a journal, and the journal leads to the same."""
+        entries = log_of(SKEW, 4, 2)
+        with Auditor(3, 512, PROGRAM, promise="snapshot") as whole:
+            wanted = [*steps(whole, entries, 12)]
+        self.assertTrue(any(hasattr(each, "fence") for each in wanted))
+        self.assertEqual({*kinds(wanted)}, {"serial"})
+        at, kills, step = 0, 1, 1 if PROGRAM != PLAIN else 9
+        while kills:
+            moment = MOMENTS[at % 4]
+            kills, self.path = 0, os.path.join(self.folder, f"{at}")
+            with self.subTest(line=at, moment=moment):
+                with Killer(once(at, moment)) as killer, self.auditor() as auditor:
+                    found = [*steps(auditor, entries, 12)]
+                    kills = killer.kills
+                self.assertEqual(found, wanted)
+                with self.resumed(promise="snapshot") as auditor:
+                    self.assertEqual(auditor.ask(["show"]), wanted[-1])
+                    self.assertEqual([auditor.marks, auditor.received, auditor.closed], wanted[-1][1:4])
+                    self.assertEqual(plain(auditor), plain(whole))
+                    self.assertEqual(auditor.outcome().kind, "serial")
+            at += step
+        self.assertGreater(at, len(entries))
+
+    def test_verdicts(self):
+        """Those of the same log, given whole to a program that nobody kills and that has no journal."""
+        dice = random.Random(7)
+        told = []
+        for seed in range(12):
+            fault = ("lost-update", SKEW, None)[seed % 3]
+            entries = log_of(fault, seed)
+            wanted = {}
+            for promise in ("snapshot", "serializable"):
+                with Auditor(3, 512, PROGRAM, promise=promise) as whole:
+                    for entry in entries:
+                        whole.offer(*entry)
+                    wanted[promise] = whole.round().kind
+            with Killer(lambda _: dice.choice(MOMENTS) if dice.random() < 0.05 else None, dice) as killer:
+                with self.auditor() as auditor:
+                    found = kinds([*steps(auditor, entries)])[-1]
+            self.assertEqual(found, wanted["snapshot"], (seed, fault))
+            with self.resumed() as auditor:
+                self.assertEqual(auditor.outcome().kind, found)
+            told.append((fault, wanted["snapshot"], wanted["serializable"], killer.kills > 0))
+            os.unlink(self.path)
+        self.assertIn(("lost-update", "violated", "violated", True), told)
+        self.assertIn((SKEW, "serial", "violated", True), told)
+        self.assertNotIn((SKEW, "violated"), [each[:2] for each in told])
+
+    def test_in_a_process_apart(self):
+        """Which is killed, and another one goes on for the same promise."""
+        entries = log_of(SKEW, 4, 2)
+        with AuditorApart(3, 512, PROGRAM, "run", journal=self.path, promise="snapshot") as auditor:
+            for at, entry in enumerate(entries):
+                if at % 10 == 5:
+                    auditor.process.kill()
+                    auditor.process.wait()
+                auditor.offer(*entry)
+                if at % 12 == 11:
+                    self.assertEqual(auditor.round().kind, "serial")
+                    with contextlib.suppress(NoCutError):
+                        auditor.truncate()
+            self.assertEqual(auditor.outcome().kind, "serial")
+
+    def test_what_has_begun(self):
+        """A cut that forgets a begin and not the commit: the transaction remains, without its reads."""
+        rewriting = KeptRewriting(SNAPSHOT)
+        begun = ["marks", [3, 2], [False, True]]
+        self.assertEqual(
+            rewriting.told(["save", "marks"], [begun]), ["marks", [1, 1], [False, True], [[0, 1]]]
+        )
+        star = 1 << 63
+        halves = [[[[5 + star, 0, 2]], [5]], [[[5, 0, 3], [6, "init"]], []], [[], []], [[[7, 1, 1]], [9 + star]]]
+        reply = ["offer", 0, 3, halves]
+        given = rewriting.told(["save", "remain", 0, 0], [reply])
+        self.assertEqual(given, ["offer", 0, 1, [[[], [5]], [[[5, 0, 1], [6, "init"]], []]]])
+        self.assertEqual(
+            rewriting.told(["save", "last", 0], [["last", [[0, 1, 0], [5, 1, 1], [5 + star, 1, 0]]]]),
+            ["last", [[5, 1, 0]]],
+        )
+        asked = [
+            *rewriting.asked(["resume", 2, 16, 2]),
+            *rewriting.asked(["marks", [1, 1], [False, True], [[0, 1]]]),
+            *rewriting.asked(["last", [[5, 1, 0]]]),
+            *rewriting.asked(given),
+            *rewriting.asked(["resumed"]),
+        ]
+        self.assertEqual(
+            asked,
+            [
+                ["resume", 2, 32, 2],
+                begun,
+                ["last", [[5, 1, 1]]],
+                ["last", [[5 + star, 0, 2]]],
+                ["offer", 0, 3, halves[:3]],
+                ["resumed"],
+            ],
+        )
+        self.assertEqual(rewriting.asked(["offer", 0, 3, [[[], []]]]), [["offer", 0, 6, [[[], []], [[], []]]]])
+
+    def test_what_isnt_split(self):
+        with self.assertRaisesRegex(JournalError, "isn't what it was given"):
+            KeptRewriting(SNAPSHOT).told(["save", "remain", 0, 0], [["offer", 0, 0, [[[], []], [[], [5]]]]])
+
+
+class Promises(OfSnapshots):
+    def test_another_promise_is_refused(self):
+        for ours, others in (("snapshot", "serializable"), ("serializable", "snapshot")):
+            self.path = os.path.join(self.folder, ours)
+            with self.auditor(promise=ours) as auditor:
+                auditor.offer(0, 0, Logged((), ["x"]))
+            with self.assertRaisesRegex(JournalError, "asks for .*, and can't go on with "):
+                self.resumed(promise=others)
+            with self.resumed() as auditor:  # whatever was asked for
+                self.assertEqual(auditor.promise.name, ours)
+                self.assertEqual(auditor.received, [1, 0, 0])
+
+    def test_earlier_journals(self):
+        """Which don't say what they ask for ask for serializability; what isn't known is refused."""
+        with self.auditor(promise="serializable"):
+            pass
+        with open(self.path, "rb") as file:
+            self.assertNotIn(b"promise", file.read())
+        head = _entries.Head(2, 16, "run", promise="causal")
+        lines = [b'["resume",2,16,2]', b'["marks",[0,0],[false,false]]', b'["resumed"]']
+        self.path += " of another"
+        journal = Journal(self.path)
+        journal.begin_anew(_entries.checkpoint(head, _entries.keys(0, ["fence"]), (), lines))
+        journal.close()
+        with self.assertRaisesRegex(JournalError, "promise causal"):
+            self.resumed()
+
+
+if __name__ == "__main__":
+    unittest.main()

@@ -1,0 +1,80 @@
+"""Texts that come from outside, made safe to show to a person.
+
+A key, a statement or the name of a file may hold anything: codes that move a terminal's cursor or
+clear its screen, line breaks behind which a line looks like one of ours, marks that turn the
+direction of writing around, characters that can't be seen. All of these are shown as escapes, such
+as \\x1b or \\u202e. Whatever is printed, logged or written as text goes through `shown`, or through
+a function here that does.
+"""
+
+from __future__ import annotations
+
+import html
+import sys
+import unicodedata
+from typing import Any, Optional, TextIO
+
+LONGEST = 4000  # characters of one text
+
+
+def shown(text: str) -> str:
+    """The whole text on one line. What can't be seen is an escape, line breaks and tabs too; spaces
+    stay, and other characters that look like one become one."""
+    return text if text.isprintable() else "".join(map(_one, text))
+
+
+def shown_lines(text: str) -> str:
+    """The same with line breaks kept, for a text that is made of lines of ours."""
+    return "\n".join(map(shown, text.split("\n")))
+
+
+def say(text: str, file: Optional[TextIO] = None, end: str = "\n", flush: bool = False) -> None:
+    """Prints one line. Raises what `print` does."""
+    print(shown(text), file=sys.stdout if file is None else file, end=end, flush=flush)
+
+
+def visible(text: str, longest: int = LONGEST) -> str:
+    """The text on one line: white space as single spaces, what can't be seen as an escape. A text
+    that is longer than `longest` characters is cut off, which ".." tells."""
+    return _cut(shown(" ".join(text[: longest * 4].split())), longest)
+
+
+def visible_lines(text: str, longest: int = LONGEST) -> str:
+    """The same, with its own line breaks and indentation kept."""
+    lines = text[: longest * 4].expandtabs(4).replace("\r\n", "\n").split("\n")
+    return _cut("\n".join(shown(line).rstrip() for line in lines).strip("\n"), longest)
+
+
+def html_text(text: Any) -> str:
+    """`shown`, for HTML."""
+    return html.escape(shown(str(text)))
+
+
+def html_lines(text: str) -> str:
+    """`shown_lines`, for HTML."""
+    return html.escape(shown_lines(text))
+
+
+def escaped(text: str, longest: int = LONGEST) -> str:
+    """`visible`, for HTML."""
+    return html.escape(visible(text, longest))
+
+
+def escaped_lines(text: str, longest: int = LONGEST) -> str:
+    """`visible_lines`, for HTML."""
+    return html.escape(visible_lines(text, longest))
+
+
+def _cut(text: str, longest: int) -> str:
+    return text if len(text) <= longest else text[:longest] + " .."
+
+
+def _one(sign: str) -> str:
+    if sign.isprintable():
+        return sign
+    if unicodedata.category(sign) == "Zs":
+        return " "  # of whatever width
+    code = ord(sign)
+    if code < 1 << 8:
+        return f"\\x{code:02x}"
+    return f"\\u{code:04x}" if code < 1 << 16 else f"\\U{code:08x}"

@@ -1,0 +1,227 @@
+ghost use Rattle.std.specs.Prelude.{◌≡◌, ◌∷◌};
+
+use session_clocks::{Addition, Graph};
+use std::alloc::Global;
+use std::process::Abort;
+use std::test::Fail;
+use test_histories::Relation;
+use txn::{Arc, TxnId};
+
+const SESSIONS: u8 = 4;
+
+// Transactions and arcs that are drawn for one graph.
+const DRAWN: usize = 60;
+
+// Arcs that are drawn behind a mark.
+const BEHIND_A_MARK: usize = 8;
+
+fn id(session: u8, number: u64) -> TxnId {
+    TxnId { session, number }
+}
+
+// A generator of numbers (Knuth's constants for 64 bits), whose high bits are taken.
+fn next(state: &mut u64, below: usize) -> usize {
+    *state = state
+        .wrapping_mul(6364136223846793005)
+        .wrapping_add(1442695040888963407);
+    (*state >> 33) as usize % below.max(1)
+}
+
+// The session's next transaction, behind the others of its session.
+fn add_node(
+    rt: &impl Abort,
+    graph: &mut Graph,
+    ids: &mut Vec<TxnId>,
+    session: u8,
+) -> Result<(), Fail> {
+    let numbers = graph.received();
+    assert!(rt; usize::from(session) < numbers.len());
+    assert!(rt; numbers[usize::from(session)] < u64::MAX);
+    let added = graph.add_node(session)?;
+    assert_eq!(rt; added.session, session);
+    ids.push(added)?;
+    Ok(())
+}
+
+// An arc between two that are there; whether it closes a cycle.
+fn add_arc(
+    rt: &impl Abort,
+    alloc: Global,
+    graph: &mut Graph,
+    from: TxnId,
+    to: TxnId,
+) -> Result<bool, Fail>
+    ensures { graph.new.marks ≡ graph.old.marks }
+{
+    let arc = Arc::Taken { from, to };
+    assert!(rt; graph.contains(arc.start()) && graph.contains(arc.end()));
+    Ok(graph.add_arc(alloc, arc)? == Addition::Cycle)
+}
+
+// What was drawn: the transactions, and the pairs that arcs join.
+#[derive(Drop)]
+struct Drawn {
+    ids: Vec<TxnId>,
+    pairs: Vec<(TxnId, TxnId)>,
+}
+
+fn pick(ids: &[TxnId], state: &mut u64) -> Result<TxnId, Fail> {
+    let found = ids.get(next(state, ids.len())).copied();
+    Ok(found.ok_or("no transaction")?)
+}
+
+// An arc between two of them, and whether it closes a cycle.
+fn draw_arc(
+    rt: &impl Abort,
+    alloc: Global,
+    graph: &mut Graph,
+    drawn: &mut Drawn,
+    state: &mut u64,
+) -> Result<(), Fail>
+    ensures { graph.new.marks ≡ graph.old.marks }
+{
+    let from = pick(&drawn.ids, state)?;
+    let to = pick(&drawn.ids, state)?;
+    let was_back = from == to || graph.reaches(to, from);
+    let is_cycle = add_arc(rt, alloc, graph, from, to)?;
+    assert_eq!(rt; is_cycle, was_back);
+    drawn.pairs.push((from, to))?;
+    Ok(())
+}
+
+// One more transaction, or an arc between two of them.
+fn draw_one(
+    rt: &impl Abort,
+    alloc: Global,
+    graph: &mut Graph,
+    drawn: &mut Drawn,
+    state: &mut u64,
+) -> Result<(), Fail> {
+    if drawn.ids.len() < 2 || next(state, 3) == 0 {
+        let session = (next(state, 4) % 4) as u8;
+        return add_node(rt, graph, &mut drawn.ids, session);
+    }
+    draw_arc(rt, alloc, graph, drawn, state)
+}
+
+// So many arcs.
+fn draw_arcs(
+    rt: &impl Abort,
+    alloc: Global,
+    graph: &mut Graph,
+    drawn: &mut Drawn,
+    state: &mut u64,
+) -> Result<(), Fail>
+    ensures { graph.new.marks ≡ graph.old.marks }
+{
+    for _turn in 0..BEHIND_A_MARK {
+        draw_arc(rt, alloc, graph, drawn, state)?;
+    }
+    Ok(())
+}
+
+// The closure of the pairs and of the sessions.
+fn closure_of(alloc: Global, drawn: &Drawn) -> Result<Relation, Fail> {
+    let mut reached = Relation::none(alloc, drawn.ids.as_slice())?;
+    for pair in &drawn.pairs {
+        reached.note(*pair);
+    }
+    for id in &drawn.ids {
+        for other in &drawn.ids {
+            if id.session == other.session && id.number < other.number {
+                reached.note((*id, *other));
+            }
+        }
+    }
+    reached.close();
+    Ok(reached)
+}
+
+// How many of a session reach the transaction, and which is the first that it reaches.
+fn assert_clocks(rt: &impl Abort, graph: &Graph, reached: &Relation, at: TxnId, session: u8) {
+    let numbers = graph.received();
+    assert!(rt; usize::from(session) < numbers.len());
+    let received = numbers[usize::from(session)];
+    assert!(rt; graph.contains(at));
+    let before = graph.before(at, session);
+    let after = graph.after(at, session);
+    for number in 0..received {
+        let other = id(session, number);
+        assert_eq!(rt; number < before, reached.contains((other, at)));
+        assert_eq!(rt; after <= number, reached.contains((at, other)));
+    }
+}
+
+fn assert_reached(rt: &impl Abort, graph: &Graph, reached: &Relation, ids: &[TxnId]) {
+    for at in ids {
+        for other in ids {
+            assert_eq!(rt; graph.reaches(*at, *other), reached.contains((*at, *other)));
+        }
+    }
+}
+
+fn assert_all_clocks(rt: &impl Abort, graph: &Graph, reached: &Relation, ids: &[TxnId]) {
+    for at in ids {
+        for session in 0..SESSIONS {
+            assert_clocks(rt, graph, reached, *at, session);
+        }
+    }
+}
+
+// All that the graph says is what the closure says.
+fn assert_same(rt: &impl Abort, alloc: Global, graph: &Graph, drawn: &Drawn) -> Result<(), Fail> {
+    let reached = closure_of(alloc, drawn)?;
+    assert_reached(rt, graph, &reached, &drawn.ids);
+    assert_all_clocks(rt, graph, &reached, &drawn.ids);
+    Ok(())
+}
+
+// Behind a mark arcs come, and go again.
+fn assert_back(
+    rt: &impl Abort,
+    alloc: Global,
+    graph: &mut Graph,
+    drawn: &mut Drawn,
+    state: &mut u64,
+) -> Result<(), Fail> {
+    let pairs = drawn.pairs.len();
+    graph.mark()?;
+    draw_arcs(rt, alloc, graph, drawn, state)?;
+    let more = drawn.pairs.len();
+    graph.mark()?;
+    draw_arcs(rt, alloc, graph, drawn, state)?;
+    assert_same(rt, alloc, graph, drawn)?;
+    graph.back();
+    drawn.pairs.truncate(more);
+    assert_same(rt, alloc, graph, drawn)?;
+    graph.back();
+    drawn.pairs.truncate(pairs);
+    assert_same(rt, alloc, graph, drawn)
+}
+
+// None drawn yet.
+fn nothing(alloc: Global) -> Drawn {
+    Drawn {
+        ids: Vec::new(alloc),
+        pairs: Vec::new(alloc),
+    }
+}
+
+fn assert_drawn(rt: &impl Abort, alloc: Global, seed: u64) -> Result<(), Fail> {
+    let mut graph = Graph::new(alloc, &[0; SESSIONS as usize])?;
+    let mut drawn = nothing(alloc);
+    let mut state = seed;
+    for _turn in 0..DRAWN {
+        draw_one(rt, alloc, &mut graph, &mut drawn, &mut state)?;
+    }
+    assert_same(rt, alloc, &graph.clone()?, &drawn)?;
+    assert_back(rt, alloc, &mut graph, &mut drawn, &mut state)
+}
+
+#[test]
+fn clocks_say_what_the_closure_says(rt: HostRuntime) -> Result<(), Fail> {
+    for seed in 0..500 {
+        assert_drawn(&rt, rt.alloc(), seed)?;
+    }
+    Ok(())
+}

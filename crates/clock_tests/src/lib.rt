@@ -1,0 +1,5 @@
+//! Tests of session clocks beside a plain closure, by their public calls alone.
+#![tactic(auto)]
+
+#[cfg(test)]
+mod closures;

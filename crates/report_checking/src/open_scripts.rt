@@ -1,0 +1,147 @@
+//! Scripts whose engine is open.
+ghost use Rattle.std.specs.Prelude.{◌≡◌, false, IfOk};
+ghost use Rattle.log_text.specs.Replies.{HasKindOfOrder};
+ghost use Rattle.round_state.specs.declared.steps.Step.TheVariants as step;
+ghost use Rattle.report_checking.specs.Owing.{BeginsSearch, FinishesWhere, IsOfEngine, IsStep, OwesBeside, searched_after};
+ghost use Rattle.report_checking.specs.Reading.{Leads, IsOwedBy, IsToldOf, OfRight, OwesText, IsAlone, EarnsWhere, GivesWhere, EarnsBeside, GivesBeside};
+
+use crate::findings::Owed;
+use crate::owed::{owed_finish, owed_open, owed_step};
+use crate::replayed::Replayed;
+use log_text::{Command, Reply, Version};
+use round_state::Step;
+use std::alloc::Global;
+use txn::{NoMemory, Refusal};
+
+/// A script whose engine is open, for lines of this version.
+#[derive(Drop)]
+pub(crate) struct OpenScript {
+    engine: Replayed,
+    version: Version,
+    /// A search was begun for the round that is open, and isn't collected yet.
+    searched: bool,
+}
+
+/// Whether a search goes on, if one did: it does for as long as its round is open.
+#[tactic(auto, using(crate::proofs::OwedReplies::lasts_open, crate::proofs::OwedReplies::lasts_closed))]
+fn lasts(searched: bool, engine: &Replayed) -> bool
+    ensures { result ≡ searched_after searched engine.now.asked }
+{
+    if engine.has_round() { searched } else { false }
+}
+
+impl OpenScript {
+    pub(crate) fn new(engine: Replayed, version: Version) -> OpenScript
+        ensures { result ≡ record { engine = engine; version = version; searched = false } }
+    {
+        OpenScript {
+            engine,
+            version,
+            searched: false,
+        }
+    }
+
+    /// Whether a search was begun that isn't collected yet.
+    pub(crate) fn is_searched(&self) -> bool
+        ensures { result ≡ self.now.searched }
+    {
+        self.searched
+    }
+
+    /// The search is over.
+    pub(crate) fn end_search(&mut self)
+        ensures { self.new ≡ record self.old { searched = false } }
+    {
+        self.searched = false;
+    }
+
+    /// What is owed to the beginning of a search.
+    fn begin_search(&mut self) -> Reply
+        ensures begins { BeginsSearch self.old.engine.asked self.old.searched result self.new.searched }
+        ensures kind { HasKindOfOrder result }
+        ensures same { (self.new.engine ≡ self.old.engine) × (self.new.version ≡ self.old.version) }
+    {
+        if !self.engine.has_round() {
+            return Reply::No(Refusal::NoRound);
+        }
+        if self.searched {
+            return Reply::No(Refusal::RoundOpen);
+        }
+        self.searched = true;
+        Reply::Done
+    }
+
+    /// What is owed to a finish where it may be made, and else this refusal.
+    fn finish_where(
+        &mut self,
+        alloc: Global,
+        may: bool,
+        refusal: Refusal,
+        stored: &[u8],
+    ) -> Result<Owed, NoMemory>
+        ensures owed { IfOk result (IsOwedBy (λ answer. Leads self.old.engine self.new.engine (λ before after. FinishesWhere may refusal self.old.searched before answer self.new.searched after))) }
+        ensures version { self.new.version ≡ self.old.version }
+        ensures right { IfOk result (λ owed. OfRight (EarnsWhere may self.old.engine) stored.now (λ text. OwesText text owed)) }
+        ensures alone { IfOk result (IsAlone (GivesWhere may refusal self.old.engine)) }
+    {
+        if may {
+            self.searched = false;
+            owed_finish(&mut self.engine, alloc, stored)
+        } else {
+            Ok(Owed::Reply(Reply::No(refusal)))
+        }
+    }
+
+    /// What is owed to who gives the search and the round up.
+    fn skip(&mut self, alloc: Global) -> Result<Owed, NoMemory>
+        ensures owed { IfOk result (IsOwedBy (λ answer. Leads self.old.engine self.new.engine (λ before after. IsStep before step.Abandon answer after × (self.new.searched ≡ false)))) }
+        ensures version { self.new.version ≡ self.old.version }
+        ensures told { IfOk result (IsToldOf self.old.engine step.Abandon) }
+    {
+        self.searched = false;
+        owed_step(&mut self.engine, alloc, Step::Abandon)
+    }
+
+    /// What is owed to a command that is about the engine alone. A search goes on beside it, for as long as its round is open.
+    fn owed_by_engine(
+        &mut self,
+        alloc: Global,
+        command: Command,
+        stored: &[u8],
+    ) -> Result<Owed, NoMemory>
+        requires { IsOfEngine command }
+        ensures owed { IfOk result (IsOwedBy (λ answer. Leads self.old.engine self.new.engine (λ before after. OwesBeside self.old.version self.old.searched before command answer self.new.searched after))) }
+        ensures version { self.new.version ≡ self.old.version }
+        ensures right { IfOk result (λ owed. OfRight (EarnsBeside self.old.searched self.old.engine command) stored.now (λ text. OwesText text owed)) }
+        ensures alone { IfOk result (IsAlone (GivesBeside self.old.version self.old.searched self.old.engine command)) }
+    {
+        let owed = owed_open(&mut self.engine, alloc, self.version, command, stored)?;
+        self.searched = lasts(self.searched, &self.engine);
+        Ok(owed)
+    }
+
+    /// What is owed to a command.
+    pub(crate) fn owed(
+        &mut self,
+        alloc: Global,
+        command: Command,
+        stored: &[u8],
+    ) -> Result<Owed, NoMemory>
+        ensures owed { IfOk result (IsOwedBy (λ answer. Leads self.old.engine self.new.engine (λ before after. OwesBeside self.old.version self.old.searched before command answer self.new.searched after))) }
+        ensures version { self.new.version ≡ self.old.version }
+        ensures right { IfOk result (λ owed. OfRight (EarnsBeside self.old.searched self.old.engine command) stored.now (λ text. OwesText text owed)) }
+        ensures alone { IfOk result (IsAlone (GivesBeside self.old.version self.old.searched self.old.engine command)) }
+    {
+        match command {
+            Command::BeginSearch { .. } => Ok(Owed::Reply(self.begin_search())),
+            Command::Collect { .. } => {
+                self.finish_where(alloc, self.searched, Refusal::NoRound, stored)
+            }
+            Command::Skip => self.skip(alloc),
+            Command::Finish { .. } => {
+                self.finish_where(alloc, !self.searched, Refusal::RoundOpen, stored)
+            }
+            command => self.owed_by_engine(alloc, command, stored),
+        }
+    }
+}

@@ -1,0 +1,101 @@
+package join
+
+import (
+	"encoding/json"
+	"fmt"
+	"testing"
+
+	"zanteyard/record"
+)
+
+// TestAsManyReadsAsTheAuditorTakes: of a transaction of 256 reads none is left out, of one of 257 one is, and counted;
+// so it is with writes.
+func TestAsManyReadsAsTheAuditorTakes(t *testing.T) {
+	for _, x := range []struct{ did, left int }{{255, 0}, {256, 0}, {257, 1}, {300, 44}} {
+		b := newBench(t, Options{Sessions: 2})
+		b.connect(1, 2)
+		var reads []record.Read
+		var keys []string
+		for i := 0; i < x.did; i++ {
+			keys = append(keys, fmt.Sprint("k", i))
+			reads = append(reads, read(keys[i], 5))
+		}
+		b.tell(1, 0, record.Transaction{Reads: reads})
+		b.commit(1001, keys...)
+		b.tell(2, 1, record.Transaction{Number: 1001})
+		b.settle()
+		var readers, writers []any
+		for _, line := range b.lines[1:] {
+			var it []any
+			if err := json.Unmarshal([]byte(line), &it); err != nil {
+				t.Fatal(err)
+			}
+			did := it[3].([]any)[0].([]any)
+			if it[1].(float64) == 0 {
+				readers = append(readers, did[0].([]any)...)
+			} else {
+				writers = append(writers, did[1].([]any)...)
+			}
+		}
+		if len(readers) != x.did-x.left || len(writers) != x.did-x.left {
+			t.Errorf("of %d reads and writes there are %d and %d", x.did, len(readers), len(writers))
+		}
+		n := b.core.counts
+		if n.leftReads[tooMany] != uint64(x.left) || n.leftWrites["more than 256 writes of one transaction"] != uint64(x.left) {
+			t.Errorf("of %d are left out %v and %v", x.did, n.leftReads, n.leftWrites)
+		}
+	}
+}
+
+// TestFencesAreCountedApart: a fence is offered, and neither its read nor its write is the application's.
+func TestFencesAreCountedApart(t *testing.T) {
+	c := newBench(t, Options{Sessions: 2}).core
+	c.counts.put(&entry{its: record.Transaction{Fence: true}}, &resolution{})
+	c.counts.put(&entry{its: record.Transaction{Reads: []record.Read{read("a", 5)}}}, &resolution{})
+	if n := c.counts; n.offered != 2 || n.fences != 1 || n.readsOffered != 1 {
+		t.Errorf("offered are %d, of them fences %d, with reads %d", n.offered, n.fences, n.readsOffered)
+	}
+}
+
+// TestWhatIsFoldedTakesNoRoom: nobody asks for its writer by number any more.
+func TestWhatIsFoldedTakesNoRoom(t *testing.T) {
+	b := newBench(t, Options{Sessions: 2})
+	b.commit(1001, "a")
+	w := b.core.writers[1001]
+	if w == nil || w.place == 0 {
+		t.Fatalf("the writer is %v", w)
+	}
+	b.core.fold(w, byOthers)
+	if its := b.core.writers[1001]; its != nil || w.fate != folded || len(w.writes) != 0 {
+		t.Errorf("it is still there: %v", its)
+	}
+}
+
+// TestFencesDontAskForMeetings: only what the application did counts from one meeting to the next.
+func TestFencesDontAskForMeetings(t *testing.T) {
+	b := newBench(t, Options{Sessions: 2})
+	b.connect(1)
+	b.tell(1, 0, record.Transaction{Fence: true, Number: 1001})
+	if b.core.since != 0 {
+		t.Errorf("after a fence it is %d", b.core.since)
+	}
+	b.tell(1, 1, record.Transaction{Reads: []record.Read{read("a", 5)}})
+	if b.core.since != 1 {
+		t.Errorf("after a transaction it is %d", b.core.since)
+	}
+}
+
+// TestRowsOfManyVersionsAreLookedAtAgain: as long as one has older versions, a later trim may forget them.
+func TestRowsOfManyVersionsAreLookedAtAgain(t *testing.T) {
+	b := newBench(t, Options{Sessions: 2})
+	b.commit(1001, "a", "b")
+	b.commit(1002, "a")
+	b.commit(1003, "a")
+	r := b.core.rows
+	for i := 0; i < 2; i++ {
+		r.trim(func(*version) bool { return false })
+		if len(r.many) != 1 {
+			t.Errorf("after %d looks that forget nothing there are %d", i+1, len(r.many))
+		}
+	}
+}

@@ -1,0 +1,177 @@
+package session
+
+import (
+	"zanteyard/loop"
+	"zanteyard/wire"
+)
+
+// mostNow is how many bytes of a client's are looked at by a loop. To parse a long statement takes time.
+const mostNow = 16 << 10
+
+// direction is one of a session's two directions while a loop serves it. What has to wait is done by a goroutine, which
+// then takes all that comes, until nothing is there to be read.
+type direction struct {
+	session  *Session
+	from, to *loop.Conn
+	waits    bool // reading waits
+	in       *wire.Reader
+	// now takes some messages as far as that is possible without waiting, and gives what is left to be done.
+	now func(d *direction, batch []byte, more int) (left func() error, err error)
+	// later takes them, waiting where it has to.
+	later func(in *wire.Reader, batch []byte, more int) error
+	// blind passes all on without looking.
+	blind func(in *wire.Reader) error
+	turn  func()
+	ended chan error
+}
+
+// Read is for its reader.
+func (d *direction) Read(p []byte) (int, error) {
+	if d.waits {
+		return d.from.Read(p)
+	}
+	return d.from.TryRead(p)
+}
+
+func (s *Session) direction(from, to *loop.Conn) *direction {
+	d := &direction{session: s, from: from, to: to, ended: make(chan error, 1)}
+	d.in = wire.NewReader(d)
+	d.turn = func() {
+		if err := s.guarded(d.take); err != nil {
+			d.end(err)
+		}
+	}
+	return d
+}
+
+// served has a loop pass messages on.
+func (s *Session) served(client, server *loop.Conn) error {
+	forth, back := s.direction(client, server), s.direction(server, client)
+	forth.now, forth.later = (*direction).forth, s.send
+	forth.blind = func(in *wire.Reader) error { return s.unseen(server, client, in) }
+	back.now, back.later = (*direction).back, s.passLong
+	back.blind = func(in *wire.Reader) error { return s.unseen(client, server, in) }
+	server.Serve(back.turn)
+	client.Serve(forth.turn)
+	var err, backErr error
+	for left := 2; left > 0; left-- {
+		select {
+		case err = <-forth.ended:
+			s.sendEnds(err)
+		case backErr = <-back.ended:
+			client.Close()
+			server.Close()
+		}
+	}
+	client.Free()
+	server.Free()
+	return ending(err, backErr)
+}
+
+// take is called by the loop when there is something to read.
+func (d *direction) take() error {
+	batch, more, err := d.in.Whole()
+	if err == loop.ErrWait {
+		return nil
+	}
+	if err != nil {
+		return err
+	}
+	left, err := d.now(d, batch, more)
+	if err == nil && left == nil && d.session.blind.Load() {
+		left = func() error { return nil }
+	}
+	if left != nil {
+		d.from.Leave()
+		go d.away(left)
+	}
+	return err
+}
+
+// away does what has to wait. It gives the direction back to the loop when there is nothing to be read.
+func (d *direction) away(left func() error) {
+	var given bool
+	err := d.session.guarded(func() (err error) {
+		d.waits = true
+		err = left()
+		for err == nil {
+			if d.session.blind.Load() {
+				return d.blind(d.in)
+			}
+			var batch []byte
+			var more int
+			d.waits = false
+			if batch, more, err = d.in.Whole(); err == loop.ErrWait {
+				given = true
+				return nil
+			}
+			d.waits = true
+			if err == nil {
+				err = d.later(d.in, batch, more)
+			}
+		}
+		return err
+	})
+	if given {
+		d.from.Serve(d.turn)
+	} else {
+		d.end(err)
+	}
+}
+
+func (d *direction) end(err error) {
+	d.from.Leave()
+	d.ended <- err
+}
+
+// sendLater is for what waits for somebody else, or takes long.
+func (d *direction) sendLater(batch []byte, more int) func() error {
+	return func() error { return d.session.send(d.in, batch, more) }
+}
+
+// forth takes messages of the client's.
+func (d *direction) forth(batch []byte, more int) (left func() error, err error) {
+	s := d.session
+	if more > 0 || len(batch) > mostNow || s.greeting.Load() != nil || !s.writes.TryLock() {
+		return d.sendLater(batch, more), nil
+	}
+	out, ok := s.lookedNow(batch)
+	if !ok {
+		s.writes.Unlock()
+		return d.sendLater(batch, more), nil
+	}
+	n, err := d.to.TryWrite(out)
+	if err == loop.ErrWait {
+		return func() error {
+			_, err := d.to.Write(out[n:])
+			s.written()
+			return err
+		}, nil
+	}
+	s.written()
+	return nil, err
+}
+
+// back takes messages of the server's.
+func (d *direction) back(batch []byte, more int) (left func() error, err error) {
+	s := d.session
+	if more > 0 {
+		return func() error { return s.passLong(d.in, batch, more) }, nil
+	}
+	out, again, rest, ok := s.answeredNow(batch)
+	if !ok {
+		return func() error { return s.pass(batch) }, nil
+	}
+	if again {
+		return func() error { return s.passOn(out, again, rest) }, nil
+	}
+	if rest {
+		s.rest()
+	}
+	n, err := d.to.TryWrite(out)
+	if err == loop.ErrWait {
+		return func() error { return s.passOn(out[n:], false, false) }, nil
+	}
+	s.toClient.release()
+	return nil, err
+}
