@@ -79,7 +79,8 @@ def strange_text(draws):
         count = draws.choice([1, DEEPEST, DEEPEST + 1, 5000])
         return b'["a",' + b"[" * count + b"]" * count + b"]"
     if kind == 2:
-        return b'["a",%s]' % draws.choice([b"9" * draws.randrange(1, 6000), b"-" + b"8" * 19, b"1e400", b"NaN", b"-0", b"1e18"])
+        bounds = [b"9223372036854775807", b"9223372036854775808", b"-9223372036854775808", b"1e18", b"1e19", b"-1e19"]
+        return b'["a",%s]' % draws.choice([*bounds, b"9" * draws.randrange(1, 6000), b"1e400", b"NaN", b"Infinity", b"-0"])
     if kind == 3:
         return b'["a",{"%s":%s}]' % (draws.choice([b"logged", b"b"]), draws.choice([b"null", b"[]", b"1", b"[" + b"0," * 9 + b"0]", b"[[],[],0,0,0,0,0,[],[],0]"]))
     if kind == 4:
