@@ -19,6 +19,7 @@ import time
 TOP = os.path.dirname(os.path.dirname(os.path.abspath(__file__)))
 sys.path.insert(0, os.path.join(TOP, "collectors", "python"))
 
+from zanteyard.core._shared_key import ENVIRONMENT, make_key  # noqa: E402
 from zanteyard import Auditor, AuditClient, AuditServer, LiveAuditor, Policy, Session  # noqa: E402
 from zanteyard.stores.memory import MemoryStore  # noqa: E402
 from zanteyard.trial.redis_server import RedisServer, redis_server  # noqa: E402
@@ -115,7 +116,11 @@ def main():
     if asked.clients * asked.transactions > 4000:
         return parser.error("at most 4,000 transactions in all: the auditor forgets nothing here")
     kinds = [(kind, noted) for noted in (False, True) for kind in ("none", "socket", "redis")]
-    with tempfile.NamedTemporaryFile("w", suffix=".py") as file, RedisServer(keeps=False) as redis:
+    with tempfile.TemporaryDirectory() as folder, tempfile.NamedTemporaryFile(
+        "w", suffix=".py"
+    ) as file, RedisServer(keeps=False) as redis:
+        make_key(f"{folder}/key")
+        os.environ[ENVIRONMENT] = f"{folder}/key"
         file.write(f"#!{sys.executable}\n{SAYS_OK}")
         file.flush()
         program = f"{file.name}.sh"

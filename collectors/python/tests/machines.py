@@ -16,6 +16,7 @@ from zanteyard.program._auditor import PROGRAM
 from zanteyard.trial.postgres_server import PostgresServer, program
 from zanteyard.trial.redis_server import redis_server
 
+from . import shared_key  # noqa: F401  (whose key all have)
 from .owed import are_right
 from .plain_sql import run_sql
 
@@ -88,7 +89,7 @@ class Machines(unittest.TestCase):
     def daemon(self, *more, sessions=8, every=60):
         folder = self.folder_of_its_own()
         self.log = f"{folder}/log"
-        call = [sys.executable, "-m", "zanteyard", "serve", "--journal", f"{self.folder}/audit", "--redis", self.redis.dsn]
+        call = [sys.executable, "-m", "zanteyard", "serve", "--journal", f"{self.folder}/audit", "--redis", self.redis.dsn, "--store", self.cluster.dsn]
         call += ["--audit", "bank", "--sessions", str(sessions), "--every", str(every), "--rather-wait", "--round-seconds", "600"]
         call += ["--silence", str(self.silence), "--script", f"{self.folder}/script.{len(self.daemons)}", *more]
         with open(self.log, "wb") as log:

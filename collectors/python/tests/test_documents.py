@@ -31,6 +31,7 @@ ELSEWHERE = {
     r"zanteyard (watch|prepare) .*": "test_watch_run and test_watch_prepare, over servers of their own",
     r"zanteyard proxy .*": "test_watch_remote, over servers of its own",
     r"zanteyard serve .*": "test_serving and test_machines, over folders and a Redis of their own",
+    r"zanteyard key .*": "test_hostile_redis, in a folder of its own",
     r"zanteyard audit postgres .*": "test_commands, with less time",
     r"zanteyard audit (mariadb|redis|sqlite) .*": "test_stores, with less time",
     r"/usr/bin/python3 examples/store_faults\.py .*": "test_stores, which compares the tables",

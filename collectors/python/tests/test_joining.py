@@ -32,6 +32,7 @@ from zanteyard.core._tenancy import Tenancy
 
 from zanteyard.trial.redis_server import redis_server
 
+from . import shared_key  # noqa: F401  (whose key all have)
 from .test_live import WithProgram, add_one
 
 try:

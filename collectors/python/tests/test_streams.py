@@ -10,12 +10,13 @@ import unittest
 from unittest import mock
 
 from zanteyard import AuditClient, Auditor, LiveAuditor, Policy
+from zanteyard.core._shared_key import Signer
 from zanteyard.core.errors import AuditTakenError, JournalError, OtherVersionError, ProgramEndedError, ProgramLateError
 from zanteyard.remote._live_state import LiveState, StateFile
 from zanteyard.stores.memory import MemoryStore
 from zanteyard.trial.redis_server import redis_server
 
-from . import test_live
+from . import shared_key, test_live
 from .machines import knows_save
 from .test_live import add_one
 from .test_processes import TwoProcesses
@@ -26,7 +27,7 @@ try:
 
     from zanteyard.trial.redis_server import RedisServer
     from zanteyard.core._redis_wire import answers
-    from zanteyard.remote._stream_ends import Appender, Gap, Reader
+    from zanteyard.remote._stream_ends import Appender, Gap, Reader, opener
     from zanteyard.remote._stream_messages import ClientsEnd
     from zanteyard.remote._live_state import identity
     from zanteyard.remote.streams import StreamServer
@@ -34,6 +35,7 @@ except ImportError:
     redis = None
 
 SKIP = not (redis and redis_server())
+SIGNER = Signer(shared_key.KEY, "a test")
 WHY = "Redis or redis-py isn't installed (nothing went over streams)"
 
 
@@ -446,7 +448,8 @@ class Ends(WithRedis, unittest.TestCase):
     """A stream has each message once, in order, or it is known that some are missing."""
 
     def ends(self):
-        appender, reader = Appender(self.redis.dsn, "a stream"), Reader(self.redis.dsn, "a stream")
+        appender = Appender(self.redis.dsn, "a stream", SIGNER)
+        reader = Reader(self.redis.dsn, "a stream", opener(SIGNER))
         self.addCleanup(appender.close)
         self.addCleanup(reader.close)
         return appender, reader
@@ -457,7 +460,7 @@ class Ends(WithRedis, unittest.TestCase):
         while True:
             received = reader.receive(0.2)
             if received is not None:
-                found.append(received[1][0])
+                found.append(received[1][1])
             elif len(found) >= count or time.monotonic() > until:
                 return found
 
@@ -474,24 +477,24 @@ class Ends(WithRedis, unittest.TestCase):
 
         with mock.patch("zanteyard.remote._stream_ends.answers", loses_answers):
             for count in range(10):
-                self.assertTrue(appender.flush(appender.put(count), SOON, insists=True))
+                self.assertTrue(appender.flush(appender.put("a", count), SOON, insists=True))
         self.assertEqual((self.heard(reader, 10), len(lost)), ([*range(10)], 3))
 
     def test_a_redis_that_lost_its_end_is_told_again(self):
         appender, reader = self.ends()
-        self.assertTrue(appender.flush(appender.put(0), SOON))
+        self.assertTrue(appender.flush(appender.put("a", 0), SOON))
         copy = self.tells.dump("a stream")
         for count in range(1, 5):
-            self.assertTrue(appender.flush(appender.put(count), SOON))
+            self.assertTrue(appender.flush(appender.put("a", count), SOON))
         self.tells.restore("a stream", 0, copy, replace=True)
         self.tells.client_kill_filter(skipme=True, _type="normal")
-        self.assertTrue(appender.flush(appender.put(5), SOON, insists=True))
+        self.assertTrue(appender.flush(appender.put("a", 5), SOON, insists=True))
         self.assertEqual(self.heard(reader, 6), [*range(6)])
 
     def test_what_nobody_tells_again_is_missing(self):
         appender, reader = self.ends()
         for count in range(3):
-            self.assertTrue(appender.flush(appender.put(count), SOON))
+            self.assertTrue(appender.flush(appender.put("a", count), SOON))
         self.tells.xdel("a stream", "2-0")
         with self.assertRaisesRegex(Gap, "2 to 2"):
             self.heard(reader, 3)
@@ -501,7 +504,7 @@ class Ends(WithRedis, unittest.TestCase):
 
         def put(first):
             for count in range(100):
-                self.assertTrue(appender.flush(appender.put(first + count), SOON))
+                self.assertTrue(appender.flush(appender.put("a", first + count), SOON))
 
         threads = [threading.Thread(target=put, args=(1000 * at,)) for at in range(8)]
         for each in threads:
@@ -531,18 +534,18 @@ class Ends(WithRedis, unittest.TestCase):
 
     def test_a_redis_that_is_away_is_waited_for_by_nobody_twice(self):
         appender, _ = self.ends()
-        appender.flush(appender.put(0), 5.0)
+        appender.flush(appender.put("a", 0), 5.0)
         self.redis.stop()
         self.addCleanup(self.redis.start)
-        appender.flush(appender.put(1), 0.2)
+        appender.flush(appender.put("a", 1), 0.2)
         began = time.monotonic()
         for count in range(100):
-            self.assertFalse(appender.flush(appender.put(count), 0.2))
+            self.assertFalse(appender.flush(appender.put("a", count), 0.2))
         self.assertLess(time.monotonic() - began, 10.0)  # else it takes 20 s
 
     def test_a_redis_that_hangs_is_waited_for_by_nobody_twice(self):
         """It takes connections, and answers nothing."""
-        client = ClientsEnd(self.redis.dsn, "bank", "a client")
+        client = ClientsEnd(self.redis.dsn, "bank", "a client", shared_key.KEY)
         self.addCleanup(client.close)
         client.begin()  # which tries it again and again
         self.assertTrue(client.appender.flush(client.put("note"), 5.0))
@@ -562,11 +565,11 @@ class Ends(WithRedis, unittest.TestCase):
                 tells.config_set("requirepass", "secret")
             for password, is_there in (("secret", True), ("wrong", False)):
                 url = f"unix://:{password}@{locked.socket}?db=0"
-                appender = Appender(url, "a stream")
-                self.assertEqual(appender.flush(appender.put(0), SOON if is_there else 1.0), is_there)
+                appender = Appender(url, "a stream", SIGNER)
+                self.assertEqual(appender.flush(appender.put("a", 0), SOON if is_there else 1.0), is_there)
                 appender.close()
-        appender = Appender("rediss://127.0.0.1:1/0", "a stream")
-        self.assertFalse(appender.flush(appender.put(0), 1.0))
+        appender = Appender("rediss://127.0.0.1:1/0", "a stream", SIGNER)
+        self.assertFalse(appender.flush(appender.put("a", 0), 1.0))
 
     def test_a_url_that_is_none_is_a_redis_that_can_not_be_reached_and_its_password_is_told_nowhere(self):
         logging.getLogger("zanteyard").setLevel(logging.NOTSET)

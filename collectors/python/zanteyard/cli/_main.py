@@ -11,6 +11,7 @@ import traceback
 from typing import Any, Callable, Iterator, List, Mapping, NoReturn, Optional, Sequence
 
 from ..core._private_files import private
+from ..core._shared_key import make_key
 from ..core._version import VERSION
 from ..core._visible import say, shown as safe
 from ..core.errors import (
@@ -160,6 +161,9 @@ def parser() -> argparse.ArgumentParser:
     served = command("serve", serve_command.run, "audits as a daemon, for clients that come and go")
     served.epilog = serve_command.STATUS_WORDS
     serve_command.add_arguments(served)
+    key = command("key", _key, "makes a key that processes of several machines share")
+    key.epilog = "The exit status is 0 where it was made, else 2."
+    key.add_argument("file", metavar="FILE", help="which isn't there yet; its owner alone may use it")
     journal = command("journal", _journal, "tells what a journal says that a killed process left")
     journal.add_argument("journal", metavar="JOURNAL", help="its file (docs/JOURNAL.md)")
     audit = command("audit", _audit, "audits clients of a store while they run")
@@ -382,6 +386,11 @@ def _write(page: str, path: str) -> None:
 
 def _origin() -> str:
     return origin_of(find_program()).sentence()
+
+
+def _key(asked: Any) -> int:
+    make_key(asked.file)
+    return 0
 
 
 def _status(run: ScriptRun) -> int:

@@ -14,9 +14,11 @@ from ..watch._web import Answer, WebServer
 KINDS = ("serial", "pending", "violated", "spent")
 
 
-def families(live: LiveAuditor, clients: int = 0, redis_up: Any = None) -> Iterator[Family]:
+def families(
+    live: LiveAuditor, clients: int = 0, redis_up: Any = None, refused: int = 0
+) -> Iterator[Family]:
     """`clients` are the processes of clients that are heard; `redis_up` tells whether the Redis can
-    be reached, None where there is none."""
+    be reached, None where there is none; so many messages there were `refused`."""
     outcome, figures, auditor = live.outcome, live.figures, live.auditor
     whole = sum(outcome_before.audited for outcome_before in live.earlier)
 
@@ -67,6 +69,8 @@ def families(live: LiveAuditor, clients: int = 0, redis_up: Any = None) -> Itera
     yield one("program_restarts_total", "counter", about, restarts)
     if redis_up is not None:
         yield one("redis_up", "gauge", "1 where the Redis can be reached.", bool(redis_up))
+        about = "Messages and clients in the Redis that weren't signed with the key."
+        yield one("redis_refused_total", "counter", about, refused)
 
 
 class MetricsServer(WebServer):

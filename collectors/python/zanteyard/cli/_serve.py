@@ -1,9 +1,10 @@
 """`zanteyard serve`: an audit that goes on as a daemon, for clients that come and go.
 
 docs/OPERATION.md says how it is run. Its exit status says what ended it: 0 it was stopped, and all
-was serial by then; 1 the audit is violated; 2 it can't begin, by a mistake in the call, the journal
-or the Redis; 3 it was stopped, and was pending; 4 something wasn't audited, or not decided, or the
-collector's own transactions alone have no order.
+was serial by then; 1 the audit is violated; 2 it can't begin or go on, by a mistake in the call,
+the journal or the Redis, or since another one has the audit; 3 it was stopped, and was pending; 4
+something wasn't audited, or not decided, a fault of the daemon's own ended it, or the collector's
+own transactions alone have no order.
 """
 
 from __future__ import annotations
@@ -16,6 +17,7 @@ import os
 import signal
 import sys
 import threading
+import traceback
 from typing import Any, List, Optional
 
 from ..core._outcome import (
@@ -30,7 +32,8 @@ from ..core._outcome import (
     Outcome,
 )
 from ..core._private_files import private
-from ..core.errors import ZanteyardError
+from ..core._shared_key import ENVIRONMENT as KEY
+from ..core.errors import AuditTakenError, StrangeRedisError, ZanteyardError
 from ..explain._shrinking import from_start, refuted
 from ..explain._violation_text import tell_violation
 from ..journal._file import Journal
@@ -46,7 +49,7 @@ JOURNAL, SOCKET, VIOLATION = "audit.journal", "audit.socket", "violation"
 STATUSES = {SERIAL: 0, VIOLATED: 1, COLLECTOR: 4, PENDING: 3, UNDECIDED: 4, INCOMPLETE: 4}
 STATUS_WORDS = (
     "The exit status says what ended it: 0 it was stopped, serial by then; 1 violated; 2 it can't "
-    "begin; 3 it was stopped, pending; 4 something wasn't audited, or not decided, or the "
+    "begin, or another one has the audit; 3 it was stopped, pending; 4 something wasn't audited, or not decided, or the "
     "collector's own transactions have no order."
 )
 LOOKS = 0.2  # seconds between two looks at whether it is over
@@ -68,6 +71,26 @@ def add_arguments(command: argparse.ArgumentParser) -> None:
     )
     command.add_argument(
         "--audit", metavar="NAME", default="audit", help="whose streams these are (audit)"
+    )
+    command.add_argument(
+        "--key",
+        metavar="FILE",
+        help=f"with --redis: the key that clients have, too (what the environment's {KEY} names); "
+        "`zanteyard key FILE` makes one",
+    )
+    command.add_argument(
+        "--store",
+        metavar="DSN",
+        action="append",
+        default=[],
+        help="with --redis: a PostgreSQL of clients, which is asked what became of the commits of "
+        "one that is gone; as often as there are",
+    )
+    command.add_argument(
+        "--store-table",
+        metavar="TABLE",
+        default="zanteyard",
+        help="the collector's table there (zanteyard)",
     )
     command.add_argument(
         "--sessions",
@@ -157,7 +180,9 @@ def _audit(asked: Any, stack: contextlib.ExitStack, stopped: threading.Event) ->
     how = "goes on" if auditor.is_resumed else "begins"
     about = auditor.promise.title
     logger.info("the audit %s for %s %s; it keeps %s", live.name, about, how, asked.journal)
-    while not (live.is_over or stopped.wait(LOOKS)):
+    faults: List[str] = []
+    _end_at_faults(faults)
+    while not (live.is_over or _failure(server) or faults or stopped.wait(LOOKS)):
         pass
     outcome = _end(server, live)
     logger.info("%s", outcome)
@@ -165,7 +190,29 @@ def _audit(asked: Any, stack: contextlib.ExitStack, stopped: threading.Event) ->
         logger.warning("nothing was handed in: no client has done anything here")
     if outcome.is_violated:
         _tell(asked, auditor, outcome)
+        return STATUSES[VIOLATED]
+    if _failure(server) or faults:
+        logger.error("it ends: %s", faults[0] if faults else _failure(server))
+        return 2 if isinstance(_failure(server), (AuditTakenError, StrangeRedisError)) else 4
     return STATUSES.get(outcome.whole.kind, 4)
+
+
+def _failure(server: Any) -> Optional[Exception]:
+    """By which it serves no more."""
+    failure: Optional[Exception] = getattr(server, "failure", None)
+    return failure
+
+
+def _end_at_faults(faults: List[str]) -> None:
+    """A thread that ends by an exception leaves a daemon that only looks well."""
+
+    def note(raised: Any) -> None:
+        words = "".join(traceback.format_exception(*raised[:3]))
+        logger.error("a thread ended by an exception: %s", words)
+        name = raised.exc_type.__name__
+        faults.append(f"a thread ended by {name}: {raised.exc_value}")
+
+    threading.excepthook = note
 
 
 def _auditor(asked: Any) -> Auditor:
@@ -195,9 +242,13 @@ def _server(asked: Any, live: LiveAuditor) -> Any:
     try:
         if asked.redis is None:
             return AuditServer(live, os.path.join(asked.journal, SOCKET))
-        from ..remote.streams import StreamServer  # redis-py needn't be there else
+        # redis-py needn't be there else
+        from ..remote._listed_stores import ListedStores
+        from ..remote.streams import StreamServer
 
-        return StreamServer(live, asked.redis, asked.audit, asked.silence)
+        stores = ListedStores(asked.store, [asked.store_table])
+        more: Any = {"key": asked.key, "stores": stores}
+        return StreamServer(live, asked.redis, asked.audit, asked.silence, **more)
     except BaseException:
         live.lose(ZanteyardError("nobody can be let in"))
         live.stop(1.0)
@@ -207,7 +258,8 @@ def _server(asked: Any, live: LiveAuditor) -> Any:
 def _figures(live: LiveAuditor, server: Any) -> str:
     if isinstance(server, AuditServer):
         return text_of(families(live, server.clients))
-    return text_of(families(live, len(server.heard), server.is_up))
+    refused = server.refused.total
+    return text_of(families(live, len(server.heard), server.is_up, refused))
 
 
 def _end(server: Any, live: LiveAuditor) -> Outcome:

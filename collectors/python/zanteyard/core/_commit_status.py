@@ -37,6 +37,12 @@ def find_out(asks: Any, ticket: Any, seconds: float, is_dead: bool = True) -> Co
     if asks is None or ticket is None:
         return UNKNOWN
     kind, *how = asks
+    if len(how) == 1 and isinstance(how[0], list):  # one of these is the client's, if any is
+        for one in how[0]:
+            its = find_out(one, ticket, seconds / len(how[0]), is_dead)
+            if its != UNKNOWN:
+                return its
+        return UNKNOWN
     try:
         module = importlib.import_module(MODULES[kind])
         status: CommitStatus = module.asked(*how, ticket=ticket, seconds=seconds, **more)

@@ -99,6 +99,14 @@ class AuditTakenError(AuditLostError):
     """Another auditor has the audit of this name."""
 
 
+class StrangeRedisError(AuditLostError):
+    """The Redis has something else under a name where the audit keeps its own."""
+
+
+class KeyFileError(ZanteyardError, OSError):
+    """The file with the key that clients and the auditor share can't be used."""
+
+
 class MissingError(AuditLostError):
     """The audit goes on, but for what a process of clients may have done that isn't heard of any
     more; which sessions these are, and from which transactions on."""

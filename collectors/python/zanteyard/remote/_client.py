@@ -31,16 +31,24 @@ LEAVING = 30.0  # seconds for sessions to end their transactions
 class AuditClient(LocalSessions):
     """In place of a LiveAuditor, in a process of clients: theirs is behind the AuditServer at this
     path; or, where the address is a redis:// or rediss:// URL, behind the StreamServer of the audit
-    of this name in that Redis. `leave` ends it, once its sessions do nothing more. What a process
-    did last that is killed is found in its notes (`core/_crash_notes.py`, `_stream_client.py`).
+    of this name in that Redis, which has the same `key`: the path of a file, or else what the
+    environment's ZANTEYARD_KEY says. `leave` ends it, once its sessions do nothing more. What a
+    process did last that is killed is found in its notes (`core/_crash_notes.py`,
+    `_stream_client.py`).
     Raises OSError where nobody is there, ProgramEndedError where nobody answers, and
-    OtherVersionError where the auditor's process is of a version that this one doesn't understand.
-    With `redacts` no values and no constants of statements leave this process, nor are they in
-    notes. For threads."""
+    OtherVersionError where the auditor's process is of a version that this one doesn't understand;
+    KeyFileError, an OSError, if the key can't be used. With `redacts` no values and no constants of
+    statements leave this process, nor are they in notes. For threads."""
 
-    def __init__(self, address: str, audit: str = "audit", redacts: bool = False) -> None:
+    def __init__(
+        self,
+        address: str,
+        audit: str = "audit",
+        redacts: bool = False,
+        key: Optional[str] = None,
+    ) -> None:
         self.redacts = redacts
-        self._door = door_to(address, audit)
+        self._door = door_to(address, audit, key)
         self._messages = self._door.messages
         run_name, self.is_named, self.token, most, policy = self._door.welcome()
         super().__init__(run_name, Policy(*policy))
@@ -231,7 +239,8 @@ class AuditClient(LocalSessions):
             self._messages.tell("unnoted", seconds=ANSWERING)
             return None
         self._notes[notes] = which
-        if not self._messages.tell("noted", which, StoreCalls(store).asks(), seconds=ANSWERING):
+        asks = self._door.asks(StoreCalls(store).asks())
+        if not self._messages.tell("noted", which, asks, seconds=ANSWERING):
             self._messages.tell("noted", which, None, seconds=ANSWERING)  # it can't be told how
         if self._is_gone:
             notes.end()

@@ -7,10 +7,11 @@ import contextlib
 import functools
 import os
 from multiprocessing.connection import Client
-from typing import Any, Dict, Protocol
+from typing import Any, Dict, Optional, Protocol
 
 from ..core._crash_notes import FORKED, CrashNotes
 from ..core._private_files import check_folder
+from ..core._shared_key import shared_key
 from ..core._version import FORM, VERSION
 from ..core.errors import OtherVersionError, ProgramEndedError
 from ._messages import Messages
@@ -30,17 +31,20 @@ class Door(Protocol):
     def notes(self, which: int, outbox: Outbox) -> Any:
         """Where a session notes what it does, as Notes do. Raises OSError."""
 
+    def asks(self, asks: Any) -> Any:
+        """What the auditor's process is told of how a store is asked, as plain values."""
+
     def note_fork(self) -> None:
         """Before it is done. Raises OSError where it can't be noted."""
 
 
-def door_to(address: str, audit: str) -> Door:
+def door_to(address: str, audit: str, key: Optional[str]) -> Door:
     """A URL is a Redis's, with the audit of this name there; else it is a socket's path. Raises
-    OSError where nobody is there."""
+    OSError where nobody is there, KeyFileError if the key's file can't be used."""
     if "://" in address:
         from ._stream_client import StreamDoor  # redis-py needn't be there else
 
-        return StreamDoor(address, audit)
+        return StreamDoor(address, audit, shared_key(key))
     return SocketDoor(address)
 
 
@@ -82,6 +86,9 @@ class SocketDoor:
         tell = functools.partial(outbox.put_behind, "unnoted")
         sent: Dict[int, int] = outbox.sent
         return CrashNotes(f"{self._notes_path}-{which}", sent, tell)
+
+    def asks(self, asks: Any) -> Any:
+        return asks
 
     def note_fork(self) -> None:
         flags = os.O_WRONLY | os.O_CREAT | os.O_CLOEXEC

@@ -10,7 +10,7 @@ from typing import Any, Callable, Optional
 from ._connecting import ANSWERING, welcomed
 from ._outbox import Outbox
 from ._stream_ends import RedisLink, asked
-from ._stream_messages import ClientsEnd
+from ._stream_messages import HELLO, ClientsEnd
 from ._stream_names import HERE
 
 
@@ -20,12 +20,12 @@ GOING = 1.0  # seconds for the Redis to forget who wasn't let in
 class StreamDoor:
     """Raises OSError where the Redis can't be reached."""
 
-    def __init__(self, url: str, audit: str) -> None:
+    def __init__(self, url: str, audit: str, key: bytes) -> None:
         client = secrets.token_hex(8)
-        self.messages, self._wait = ClientsEnd(url, audit, client), 0.0
+        self.messages, self._wait = ClientsEnd(url, audit, client, key), 0.0
         self._link = RedisLink(url)
         try:
-            self.messages.send("hello", socket.gethostname(), os.getpid(), seconds=ANSWERING)
+            self.messages.send(HELLO, socket.gethostname(), os.getpid(), seconds=ANSWERING)
             names = self.messages.names
             asked(self._link, [("HSET", names.clients, client, HERE)], ANSWERING)
         except BaseException:
@@ -42,13 +42,18 @@ class StreamDoor:
 
     def welcome(self) -> Any:
         try:
-            *welcome, _ = welcomed(self.messages)
+            *welcome, admission = welcomed(self.messages)
+            self.messages.let_in(admission)
         except BaseException:
             self._go_away()
             raise
         self._link.close()
         self._wait = welcome[-1][0]  # of the policy
         return welcome
+
+    def asks(self, asks: Any) -> Any:
+        """The kind of store and its table; which server that is the daemon was told as it began."""
+        return (asks[0], asks[-1]) if asks is not None and asks[0] == "postgres" else None
 
     def notes(self, which: int, outbox: Outbox) -> StreamNotes:
         """Their order among all that the process tells says that nothing of them is missing."""

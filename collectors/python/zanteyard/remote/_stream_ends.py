@@ -4,12 +4,14 @@ One process appends to a stream, and gives each message its number, from 1 witho
 entry's id. Redis takes an id once, and only behind those that it has: so where an answer was lost
 the message is given again, and where a Redis has lost what it had, all that the other end hasn't
 confirmed is. What was confirmed is forgotten here, and trimmed there by who reads it.
+
+Each entry is signed. Whoever reads deletes one that isn't, and counts it.
 """
 
 from __future__ import annotations
 
 import logging
-import marshal
+import re
 import threading
 import time
 from collections import deque
@@ -20,11 +22,15 @@ import redis
 
 from ..core._locks import give_back, take
 from ..core._redis_wire import BROKEN, Command, answers, connected, interrupt, limit
+from ..core._shared_key import Signer
+from ..core.errors import StrangeRedisError
+from ._message_text import LONGEST, NoMessageError, message_of, text_of
 
 MOST = 512  # entries that are sent, or read, at once
 AGAIN = 0.25  # seconds after which a Redis that can't be reached is tried again
 ENDING = 1.0  # seconds for another thread to see that nothing is asked any more
-FIELD = b"m"  # of an entry: what it has
+FIELD, SIGNATURE = b"m", b"s"  # of an entry: the message, and its signature
+NUMBERED = re.compile(rb"([1-9][0-9]{0,18})-0")  # an entry's id
 logger = logging.getLogger("zanteyard")
 
 
@@ -117,27 +123,34 @@ class Appender:
     is for good, or None where it can't be found out; else it is made again."""
 
     def __init__(
-        self, url: str, key: str, is_over: Optional[Callable[[RedisLink, float], Any]] = None
+        self,
+        url: str,
+        key: str,
+        signer: Signer,
+        is_over: Optional[Callable[[RedisLink, float], Any]] = None,
     ) -> None:
         self.key, self._link, self._is_over = key, RedisLink(url), is_over
+        self.signer = signer
         self._sending, self._numbering = threading.Lock(), threading.Lock()
-        self._kept: Deque[Tuple[int, bytes]] = deque()  # what isn't confirmed
+        self._kept: Deque[Tuple[int, bytes, bytes]] = deque()  # what isn't confirmed, signed
         self.last = 0  # number that was given
         self.there = 0  # up to which Redis has all
         self.confirmed = 0
         self._may_make = True  # the stream
         self.is_gone = False
+        self.is_barred = False  # something else has the stream's name
 
     def begin_behind(self, number: int) -> None:
         """Where another process has written before: from the next number on."""
         self.last = self.there = self.confirmed = number
 
     def put(self, *message: Any) -> int:
-        """Gives its number. Raises ValueError where it is no plain value."""
-        text = marshal.dumps(message)
+        """Gives its number. Raises TypeError or ValueError where it is no plain value, or is too
+        long."""
+        text = text_of(message)
         with self._numbering:
             self.last += 1
-            self._kept.append((self.last, text))
+            self._kept.append((self.last, text, self.signer.sign(self.last, text)))
             return self.last
 
     def confirm(self, number: int) -> None:
@@ -200,9 +213,11 @@ class Appender:
         replies = self._link.ask([self._append(*each) for each in rest], seconds)
         if replies is None:
             return False
-        for (number, _), answer in zip(rest, replies):
+        for (number, _, _), answer in zip(rest, replies):
             if answer is None:
                 return self._is_lost(seconds)
+            if is_of_another_type(answer):
+                return self._give_up(answer)
             if isinstance(answer, redis.ResponseError) and "equal or smaller" not in str(answer):
                 self._link.fail(answer)  # it has no memory left, or takes no writes
                 return False
@@ -210,9 +225,9 @@ class Appender:
         self._may_make = False
         return True
 
-    def _append(self, number: int, text: bytes) -> Command:
+    def _append(self, number: int, text: bytes, signature: bytes) -> Command:
         only = () if self._may_make else ("NOMKSTREAM",)
-        return ("XADD", self.key, *only, f"{number}-0", FIELD, text)
+        return ("XADD", self.key, *only, f"{number}-0", FIELD, text, SIGNATURE, signature)
 
     def _find_place(self, seconds: float) -> bool:
         """After the connection was lost: up to where Redis has it, which may be less than it had.
@@ -221,6 +236,8 @@ class Appender:
         if replies is None:
             return False
         if isinstance(replies[0], redis.ResponseError):
+            if is_of_another_type(replies[0]):
+                return self._give_up(replies[0])
             if "no such key" not in str(replies[0]):
                 self._link.fail(replies[0])
                 return False
@@ -229,6 +246,12 @@ class Appender:
         last = int(figures[b"last-generated-id"].split(b"-")[0])
         self.there, self._may_make = min(self.last, max(last, self.confirmed)), False
         return True
+
+    def _give_up(self, error: object) -> bool:
+        """Something else has the stream's name, and stays there."""
+        logger.error("%r can't be a stream of the audit's: %s", self.key, error)
+        self.is_gone = self.is_barred = True
+        return False
 
     def _is_lost(self, seconds: float) -> bool:
         """The stream isn't there any more."""
@@ -241,12 +264,21 @@ class Appender:
 
 
 class Reader:
-    """The end that reads. For one thread."""
+    """The end that reads. For one thread. `opens(number, text, signature)` gives the message, or
+    raises NoMessageError if nobody who has the key has sent it; `refuse(count)` is told of those.
+    """
 
-    def __init__(self, url: str, key: str, last: int = 0, has_gaps: bool = False) -> None:
-        """Behind the message of this number. Where it `has_gaps` what is missing isn't waited
-        for."""
-        self.key, self.last, self._has_gaps = key, last, has_gaps
+    def __init__(
+        self,
+        url: str,
+        key: str,
+        opens: Callable[[int, bytes, bytes], Any],
+        refuse: Callable[[int], object] = bool,
+        has_gaps: bool = False,
+    ) -> None:
+        """Where it `has_gaps` what is missing isn't waited for."""
+        self.key, self.last, self._has_gaps = key, 0, has_gaps
+        self._opens, self._refuse = opens, refuse
         self._link = RedisLink(url)
         self._found: Deque[Tuple[int, Any]] = deque()
         self.read_at = time.monotonic()  # when Redis has answered last
@@ -278,26 +310,66 @@ class Reader:
         if replies is None:
             time.sleep(min(seconds, AGAIN))
             return
+        if is_of_another_type(replies[0]):
+            raise Gap(f"from {self.last + 1} on: {self.key!r} is no stream")
         if isinstance(replies[0], redis.ResponseError):
             self._link.fail(replies[0])
             return
         self.read_at = time.monotonic()
         for _, entries in replies[0] or ():
-            self._found.extend(map(entry, entries))
+            refused = [each[0] for each in entries if not self._has_taken(*each)]
+            if refused:
+                self._refuse(len(refused))
+                self._link.ask([("XDEL", self.key, *refused)], seconds + 5.0)
+
+    def _has_taken(self, id: bytes, fields: Any) -> bool:
+        try:
+            self._found.append(opened(id, fields, self._opens))
+        except NoMessageError:
+            return False
+        return True
 
 
-def entry(reply: Any) -> Tuple[int, Any]:
-    """A message's number, and the message."""
-    name, fields = reply
-    return int(name.split(b"-")[0]), marshal.loads(fields[1])
+def opened(id: bytes, fields: Any, opens: Callable[[int, bytes, bytes], Any]) -> Tuple[int, Any]:
+    """An entry's number, and its message. Raises NoMessageError."""
+    numbered = NUMBERED.fullmatch(id)
+    if numbered is None or not fields or len(fields) != 4 or [*fields[::2]] != [FIELD, SIGNATURE]:
+        raise NoMessageError("it isn't as an entry of the audit's")
+    number, text = int(numbered[1]), fields[1]
+    if len(text) > LONGEST:
+        raise NoMessageError(f"it takes {len(text)} bytes")
+    return number, opens(number, text, fields[3])
 
 
-def asked(link: RedisLink, commands: List[Command], seconds: float) -> List[Any]:
-    """Raises OSError where Redis can't be reached, or refuses one of them."""
+def opener(*signers: Signer) -> Callable[[int, bytes, bytes], Any]:
+    """What one of these has signed."""
+
+    def opens(number: int, text: bytes, signature: bytes) -> Any:
+        if not any(signer.is_signed(number, text, signature) for signer in signers):
+            raise NoMessageError("it isn't signed with the audit's key")
+        return message_of(text)
+
+    return opens
+
+
+def is_of_another_type(reply: object) -> bool:
+    return isinstance(reply, redis.ResponseError) and str(reply).startswith("WRONGTYPE")
+
+
+def asked(
+    link: RedisLink, commands: List[Command], seconds: float, of_any_type: bool = False
+) -> List[Any]:
+    """Raises OSError where Redis can't be reached, or refuses one of them; StrangeRedisError if
+    something else has the name of what they are about, unless it may be `of_any_type`."""
     replies = link.ask(commands, seconds)
     if replies is None:
         raise OSError("the Redis with the audit's streams can't be reached")
-    for each in replies:
+    for command, each in zip(commands, replies):
+        if is_of_another_type(each) and of_any_type:
+            continue
+        if is_of_another_type(each):
+            name = command[1] if len(command) > 1 else command[0]
+            raise StrangeRedisError(f"the Redis has another type of value at {name!r}")
         if isinstance(each, redis.ResponseError):
             raise OSError(f"the Redis with the audit's streams refuses it: {each}")
     return replies

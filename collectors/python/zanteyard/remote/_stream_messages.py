@@ -14,14 +14,18 @@ import time
 from collections import deque
 from typing import Any, Callable, Deque, Optional, Tuple
 
-from ._stream_ends import AGAIN, Appender, Reader, RedisLink
+from ..core._shared_key import Signer
+from ._message_text import NoMessageError
+from ._stream_ends import AGAIN, Appender, Gap, Reader, RedisLink, opener
 from ._stream_names import StreamKeys
 
 SENDING = 2.0  # seconds in which Redis has to take what is sent, before it is left for later
 BEAT = 1.0  # seconds between two signs of life
 UNHEARD = 60  # of these, after which none is given any more that nobody hears
 PAUSE = 0.25  # seconds in which the other end is listened to
-KEPT, BYE, BEATS = "kept", "bye", "beat"
+KEPT, BYE, BEATS, HELLO = "kept", "bye", "beat", "hello"
+BEFORE = (HELLO, BEATS)  # what a process may tell before it is let in
+UP, DOWN = "client to auditor", "auditor to client"  # what a signature is for
 
 
 class StreamMessages:
@@ -58,10 +62,11 @@ class StreamMessages:
 class ClientsEnd(StreamMessages):
     """What the auditor has taken for good is told to who hands over, as `taken`."""
 
-    def __init__(self, url: str, audit: str, client: str) -> None:
-        self.names, self.client = StreamKeys(audit), client
-        up = Appender(url, self.names.up(client), self._is_buried)
-        super().__init__(up, Reader(url, self.names.down(client), has_gaps=True))
+    def __init__(self, url: str, audit: str, client: str, key: bytes) -> None:
+        self.names, self.client, self._key = StreamKeys(audit), client, key
+        up = Appender(url, self.names.up(client), signer_up(key, audit, client), self._is_buried)
+        down = opener(Signer(key, DOWN, audit, client))
+        super().__init__(up, Reader(url, self.names.down(client), down, has_gaps=True))
         self._made_in = os.getpid()
         self._logged: Deque[Tuple[int, int]] = deque()  # messages, and of how many transactions
         self._next: Optional[Any] = None
@@ -76,6 +81,11 @@ class ClientsEnd(StreamMessages):
 
     def begin(self) -> None:
         self._beating.start()
+
+    def let_in(self, admission: str) -> None:
+        """All from here on is signed for this admission, and is worth nothing in another one."""
+        audit = self.names.audit
+        self.appender.signer = signer_up(self._key, audit, self.client, admission)
 
     def put(self, *message: Any) -> int:
         if self._is_over and message[0] in ("logged", "note"):
@@ -110,7 +120,10 @@ class ClientsEnd(StreamMessages):
         self.reader.close()
 
     def _listen(self) -> None:
-        numbered = self.reader.receive(PAUSE)
+        try:
+            numbered = self.reader.receive(PAUSE)
+        except Gap as gap:
+            raise EOFError(f"the auditor's messages are missing {gap}") from gap
         if numbered is None:
             return
         message: Any = numbered[1]
@@ -144,14 +157,24 @@ class ClientsEnd(StreamMessages):
 
 class AuditorsEnd(StreamMessages):
     """Of one client's process, heard by a thread of its own. `before_given` is called before a
-    message is sent that gives it places."""
+    message is sent that gives it places; `refuse(count)` for messages that aren't the process's
+    own."""
 
     def __init__(
-        self, url: str, audit: str, client: str, before_given: Callable[[], object]
+        self,
+        url: str,
+        audit: str,
+        client: str,
+        before_given: Callable[[], object],
+        key: bytes,
+        admission: str,
+        refuse: Callable[[int], object] = bool,
     ) -> None:
         names = StreamKeys(audit)
-        super().__init__(Appender(url, names.down(client)), Reader(url, names.up(client)))
-        self.client, self._before_given = client, before_given
+        down = Appender(url, names.down(client), Signer(key, DOWN, audit, client))
+        opens = up_opener(key, audit, client, admission)
+        super().__init__(down, Reader(url, names.up(client), opens, refuse))
+        self.client, self._before_given, self.admission = client, before_given, admission
 
     def tell(self, *message: Any, seconds: float = SENDING) -> bool:
         """Whether it is told, be it later: what it gives is then nobody else's. What the process
@@ -180,6 +203,40 @@ class AuditorsEnd(StreamMessages):
         super().close()
         self.appender.close()
         self.reader.close()
+
+
+def signer_up(key: bytes, audit: str, client: str, admission: str = "") -> Signer:
+    """Of what a process tells; before it is let in it has no admission."""
+    return Signer(key, UP, audit, client, admission)
+
+
+def up_opener(
+    key: bytes, audit: str, client: str, admission: str
+) -> Callable[[int, bytes, bytes], Any]:
+    """What a process tells by this admission, or has told before it was let in. So what it told by
+    another one can't be put into its stream again."""
+    by_it, before = opener(signer_up(key, audit, client, admission)), hello_opener(key, audit, client)
+
+    def opens(number: int, text: bytes, signature: bytes) -> Any:
+        try:
+            return by_it(number, text, signature)
+        except NoMessageError:
+            return before(number, text, signature)
+
+    return opens
+
+
+def hello_opener(key: bytes, audit: str, client: str) -> Callable[[int, bytes, bytes], Any]:
+    """What a process tells before it is let in."""
+    opens_any = opener(signer_up(key, audit, client))
+
+    def opens(number: int, text: bytes, signature: bytes) -> Any:
+        message = opens_any(number, text, signature)
+        if message[0] not in BEFORE:
+            raise NoMessageError("it isn't let in")
+        return message
+
+    return opens
 
 
 def is_awaited(kind: str, *more: Any) -> bool:

@@ -14,6 +14,7 @@ from ..live._live_auditor import PAUSE, LiveAuditor
 from ..session._place import Place
 from ._client_process import ClientProcess
 from ._crash_recovery import Noted
+from ._listed_stores import ListedStores
 from ._stream_ends import Gap
 from ._stream_messages import BYE, KEPT, AuditorsEnd
 
@@ -43,9 +44,11 @@ class StreamProcess(ClientProcess):
         lock: Any,
         bury: Bury,
         on_their_way: int,
+        stores: ListedStores,
     ) -> None:
         super().__init__(live, messages)
-        self._on_their_way = on_their_way
+        self._on_their_way, self._stores = on_their_way, stores
+        self.notes_path = messages.admission  # in a file's place
         self.ends, self._silence, self._lock, self._bury = messages, silence, lock, bury
         self.others_again: Callable[[], bool] = lambda: False  # whether streams are heard again
         self.takes_writes: Callable[[], bool] = lambda: True  # whether the Redis does
@@ -80,6 +83,8 @@ class StreamProcess(ClientProcess):
             if not self._hears_rest:
                 time.sleep(PAUSE)
                 return
+        if self.ends.appender.is_barred and not self._is_buried:
+            raise self._cut_off("nothing can be told to it")
         try:
             numbered = self.ends.next()
         except Gap as gap:
@@ -222,7 +227,7 @@ class StreamProcess(ClientProcess):
 
     def _noted(self) -> Noted:
         return {
-            session: [(note, self.asks.get(which)) for _, which, note in notes]
+            session: [(note, self._stores.asks(self.asks.get(which))) for _, which, note in notes]
             for session, notes in self._notes.items()
         }
 
@@ -263,6 +268,7 @@ class StreamProcess(ClientProcess):
         group = self.group
         is_gone = self._has_left or (self.is_over and not self._is_buried)
         return {
+            "admission": self.messages.admission,
             "left": is_gone,
             "buried": self._is_buried,
             "handled": self.handled,

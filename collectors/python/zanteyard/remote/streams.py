@@ -16,19 +16,26 @@ from __future__ import annotations
 
 import logging
 import os
+import re
+import secrets
 import socket
 import threading
 import time
-from typing import Any, Dict, List
+from typing import Any, Dict, List, Optional
 
 from ..core._outcome import Outcome
+from ..core._shared_key import shared_key
 from ..core._version import FORM, VERSION
 from ..core.errors import AuditLostError, AuditTakenError, JournalError, MissingError
+from ..core.errors import StrangeRedisError
 from ..live._live_auditor import LiveAuditor
 from ..session._place import Place
+from ._listed_stores import ListedStores
 from ._live_state import LiveState, StateFile, identity
-from ._stream_ends import RedisLink, asked
-from ._stream_messages import AuditorsEnd
+from ._message_text import NoMessageError
+from ._refused import Refused
+from ._stream_ends import RedisLink, asked, opened
+from ._stream_messages import AuditorsEnd, hello_opener
 from ._stream_names import HERE, StreamKeys
 from ._stream_process import ON_THEIR_WAY, SILENCE, StreamProcess
 
@@ -40,15 +47,21 @@ WRITES = 3.0  # seconds behind its last word in which the Redis is taken for one
 WAITS = 5.0  # seconds for an answer of the Redis
 KEPT_AT_LEAST = 30 * 24 * 3600  # seconds, of what nobody deletes where an audit isn't gone on with
 CLOSING = 30.0  # seconds for all processes to leave
+CLIENT = re.compile(rb"[0-9a-f]{16}")  # what a client's process is called
+WRITTEN = re.compile(rb"[0-9]{1,18}")  # how many times a state was
+COMING = 1024  # clients that are looked at at once
 
 
 class StreamServer:
     """The audit of this name in the Redis of this URL, for which no more than one auditor is let
     in. A process of which nothing was heard for `silence` seconds is given up. At most so many
     transactions of a session are `on_their_way` before its client waits, or the audit gives way:
-    that bounds what the Redis keeps. Raises OSError where the Redis can't be reached,
-    AuditTakenError where another auditor has the audit, and JournalError where an audit can't be
-    gone on with. For threads."""
+    that bounds what the Redis keeps. `key` is the path of the file with the key that clients have,
+    too, or else what the environment's ZANTEYARD_KEY says; what isn't signed with it is `refused`,
+    and counted. The commits of `stores` alone are asked about. Raises OSError where the Redis can't
+    be reached, KeyFileError, AuditTakenError where another auditor has the audit,
+    StrangeRedisError, and JournalError where an audit can't be gone on with. Where `failure` is
+    an exception it has ended by itself, by that one. For threads."""
 
     def __init__(
         self,
@@ -57,7 +70,11 @@ class StreamServer:
         audit: str = "audit",
         silence: float = SILENCE,
         on_their_way: int = ON_THEIR_WAY,
+        key: Optional[str] = None,
+        stores: Optional[ListedStores] = None,
     ) -> None:
+        self._key, self._stores = shared_key(key), stores or ListedStores()
+        self.refused, self.failure = Refused(), None  # type: Refused, Optional[Exception]
         self.url, self.names, self._live = url, StreamKeys(audit), live
         self._silence, self._on_their_way = silence, on_their_way
         self._link = RedisLink(url)
@@ -72,6 +89,7 @@ class StreamServer:
         self._ours = live.token.encode()  # beside each client that is let in
         self._trimmed_at = self._held_at = 0.0
         self._downs: Dict[str, int] = {}
+        self._scanned: Any = 0  # how far a hash with more than may be clients is looked at
         self._take_audit()
         try:
             if live.auditor.is_resumed:
@@ -120,6 +138,8 @@ class StreamServer:
         return outcome
 
     def _trim_last(self) -> None:
+        if self.failure is not None:  # its streams may be another auditor's by now
+            return
         try:
             with self._lock:
                 self._trim()
@@ -130,7 +150,7 @@ class StreamServer:
         try:
             if self._holds():
                 asked(self._link, [("DEL", self.names.auditor)], WAITS)
-        except OSError:
+        except (OSError, StrangeRedisError):
             pass  # it ends by itself
         for process in self._processes.values():
             process.messages.close()
@@ -167,8 +187,8 @@ class StreamServer:
                 asked(self._link, [mine], WAITS)
                 return
             if time.monotonic() > until:
-                other = (holder or b"").decode(errors="replace")
-                raise AuditTakenError(f"{self.names.audit}: another auditor has it ({other})")
+                other = (holder or b"")[:200].decode(errors="replace")
+                raise AuditTakenError(f"{self.names.audit}: another auditor has it ({other!r})")
             time.sleep(TICK)
 
     def _holds(self) -> bool:
@@ -180,9 +200,8 @@ class StreamServer:
             return
         (holder,) = asked(self._link, [("GET", self.names.auditor)], WAITS)
         if holder not in (None, self._holder):  # None: the Redis was away for too long, or lost it
-            other = holder.decode(errors="replace")
-            self._live.lose(AuditTakenError(f"another auditor has taken the audit: {other}"))
-            return
+            other = holder[:200].decode(errors="replace")
+            raise AuditTakenError(f"another auditor has taken the audit: {other!r}")
         mine = ("SET", self.names.auditor, self._holder, "PX", int(1000 * HELD))
         newest = f"{self._live.token} {self._written}"
         written = ("SET", self.names.written, newest, "EX", KEPT_AT_LEAST)
@@ -192,42 +211,88 @@ class StreamServer:
     # the thread
 
     def _serve(self) -> None:
-        while not self._is_closing:
-            try:
-                self._hold_on()
-                self._let_in()
-                for process in [*self._processes.values()]:
-                    process.messages.go_on()
-                if time.monotonic() >= self._trimmed_at + TRIMS:
-                    with self._lock:
-                        self._trim()
-            except OSError as error:
-                logger.debug("%s", error)  # which its link has told once
-            except JournalError as error:
-                self._live.lose(error)
-            time.sleep(TICK)
+        try:
+            while not self._is_closing:
+                self._step()
+                time.sleep(TICK)
+        except Exception as error:  # a daemon that looks well would be dead
+            self._fail(error)
+
+    def _step(self) -> None:
+        try:
+            self._hold_on()
+            self._let_in()
+            for process in [*self._processes.values()]:
+                process.messages.go_on()
+            if time.monotonic() >= self._trimmed_at + TRIMS:
+                with self._lock:
+                    self._trim()
+        except OSError as error:
+            logger.debug("%s", error)  # which its link has told once
+        except JournalError as error:
+            self._live.lose(error)
+
+    def _fail(self, error: Exception) -> None:
+        """Nothing more is heard, and nothing more of it audited."""
+        logger.error("the audit's streams are served no more: %s", str(error) or repr(error))
+        self.failure, self._is_left = error, True
+        for process in [*self._processes.values()]:
+            process.is_left_to_others = True
+        self._live.lose(error)
 
     def _let_in(self) -> None:
-        (fields,) = asked(self._link, [("HGETALL", self.names.clients)], WAITS)
+        (count,) = asked(self._link, [("HLEN", self.names.clients)], WAITS)
+        if count > COMING:
+            scan = ("HSCAN", self.names.clients, self._scanned, "COUNT", COMING)
+            ((self._scanned, fields),) = asked(self._link, [scan], WAITS)
+        else:
+            (fields,) = asked(self._link, [("HGETALL", self.names.clients)], WAITS)
         for field, word in zip(fields[::2], fields[1::2]):
+            if not CLIENT.fullmatch(field):
+                self._refuse_client(field)
+                continue
             client = field.decode()
             if client in self._processes:
                 continue
             if word == HERE:
-                with self._lock:
-                    process = self._add(client)
-                    self._save()
-                asked(self._link, [("HSET", self.names.clients, client, self._ours)], WAITS)
-                process.thread.start()
+                self._let_one_in(client)
             else:  # it was of another run
-                ends = AuditorsEnd(self.url, self.names.audit, client, bool)
+                ends = AuditorsEnd(self.url, self.names.audit, client, bool, self._key, "")
                 self._bury(ends, True)
                 ends.close()
                 asked(self._link, [("DEL", self.names.rest(client))], WAITS)
 
-    def _add(self, client: str) -> StreamProcess:
-        ends = AuditorsEnd(self.url, self.names.audit, client, self._save)
-        more = (self._lock, self._bury, self._on_their_way)
+    def _let_one_in(self, client: str) -> None:
+        """If it has the key."""
+        try:
+            is_there = self._says_hello(client)
+        except (NoMessageError, StrangeRedisError):
+            self._refuse_client(client.encode())
+            return
+        if not is_there:
+            return
+        with self._lock:
+            process = self._add(client, secrets.token_hex(16))
+            self._save()
+        asked(self._link, [("HSET", self.names.clients, client, self._ours)], WAITS)
+        process.thread.start()
+
+    def _says_hello(self, client: str) -> bool:
+        """Whether it has told something by now. Raises NoMessageError if somebody else has."""
+        first = ("XRANGE", self.names.up(client), "-", "+", "COUNT", 1)
+        (entries,) = asked(self._link, [first], WAITS)
+        for id, fields in entries or ():
+            opened(id, fields, hello_opener(self._key, self.names.audit, client))
+        return bool(entries)
+
+    def _refuse_client(self, field: bytes) -> None:
+        self.refused.count(1)
+        asked(self._link, [("HDEL", self.names.clients, field)], WAITS)
+
+    def _add(self, client: str, admission: str) -> StreamProcess:
+        more: Any = (self._save, self._key, admission, self.refused.count)
+        ends = AuditorsEnd(self.url, self.names.audit, client, *more)
+        more = (self._lock, self._bury, self._on_their_way, self._stores)
         process = StreamProcess(self._live, ends, self._silence, *more)
         process.others_again, process.takes_writes = self._is_heard_again, self._takes_writes
         self._processes[client] = process
@@ -257,8 +322,8 @@ class StreamServer:
             if confirmed > self._downs.get(client, 0):
                 self._downs[client] = confirmed
                 commands.append(("XTRIM", self.names.down(client), "MINID", f"{confirmed + 1}-0"))
-        if commands:
-            asked(self._link, commands, WAITS)
+        if commands:  # a process whose stream is something else is given up by who reads it
+            asked(self._link, commands, WAITS, of_any_type=True)
         for _, process in kept:
             process.tell_kept()
         done = [client for client, process in self._processes.items() if self._is_done(process)]
@@ -292,7 +357,7 @@ class StreamServer:
         link = RedisLink(self.url)
         try:
             rest = ("XRANGE", up, f"{ends.reader.last + 1}-0", "+", "COUNT", 1)
-            _, rest_entries = asked(link, [("WATCH", up), rest], WAITS)
+            _, rest_entries = asked(link, [("WATCH", up), rest], WAITS, of_any_type=True)
             if rest_entries and not whatever:
                 return False
             # It may have that name by now, from a process of the auditor's that is gone.
@@ -366,7 +431,7 @@ class StreamServer:
             live.lose(AuditLostError(state.failure))
         lent: List[Place] = []
         for client, of_client in state.clients.items():
-            lent += self._add(client).begin_behind(of_client)
+            lent += self._add(client, of_client["admission"]).begin_behind(of_client)
         left = [Place(*plain) for plain in state.left]
         groups = [process.group for process in self._processes.values()]
         taken = [number for group in groups for number in group.numbers()]
@@ -387,8 +452,10 @@ class StreamServer:
         """A folder that was brought back, or a copy, doesn't know what clients were told since: who
         went on with it might give a session of theirs to others."""
         (newest,) = asked(self._link, [("GET", self.names.written)], WAITS)
-        newest_token, _, written = (newest or b"").decode().rpartition(" ")
-        if newest_token == token and int(written) > self._written:
+        token_of_newest, _, written = (newest or b"").rpartition(b" ")
+        if newest is not None and not WRITTEN.fullmatch(written):
+            raise StrangeRedisError(f"the Redis has something else at {self.names.written!r}")
+        if token_of_newest == token.encode() and int(written) > self._written:
             assert self._file is not None
             why = "is older than what its audit came to: begin another one, in another folder"
             raise JournalError(f"{self._file.path} {why}")

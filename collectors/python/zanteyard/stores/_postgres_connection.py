@@ -32,6 +32,15 @@ def connected(dsn: str, seconds: float) -> Any:
     return within(seconds, lambda: psycopg2.connect(dsn, **more), closed)
 
 
+def to_its_server(dsn: str, connection: Any) -> str:
+    """What leads to the server that this connection has, where the dsn names several: another one
+    may be a standby, or know nothing of what was done here."""
+    words, info = extensions.parse_dsn(dsn), connection.info
+    if "hostaddr" in words or not info.host:
+        return dsn
+    return str(extensions.make_dsn(dsn, host=info.host, port=info.port))
+
+
 def closed(late: Any) -> None:
     if late is not None:
         late.close()

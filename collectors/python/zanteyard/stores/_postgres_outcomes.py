@@ -12,7 +12,7 @@ from ..core._commit_status import UNKNOWN, CommitStatus
 from ..core._own_keys import FLAG
 from ..core._records import Name
 from ._postgres_connection import answer, reached
-from .postgres import AGE, FIRST, LIVES, OVERWRITE, TRANSACTION
+from .postgres import AGE, FIRST, LIVES, OVERWRITE, TRANSACTION, XACT_STATUS
 
 # A pooled connection may be another client's by now: the transaction, or the statement of the
 # collector's own, has to be the killed process's. Where that very statement is what it ran last,
@@ -22,7 +22,7 @@ MAKES = FIRST[: FIRST.index(TRANSACTION)].rstrip()
 RUNS_STILL = f"""SELECT state = 'idle', position(%s IN query) > 0, position(%s IN query) > 0
     FROM pg_stat_activity WHERE pid = %s AND {AGE} = %s"""
 WHOSE = f"SELECT {LIVES}"
-WHAT_BECAME = f"""SELECT pg_xact_status(%s::text::xid8), {LIVES}"""
+WHAT_BECAME = f"""SELECT {XACT_STATUS}, {LIVES}"""
 ITS_ROW = """SELECT value FROM {table} WHERE key = %s AND run = %s AND session = %s
     AND number = %s"""
 THE_ROW = """SELECT (run, session, number) = (%s::text, %s::int, %s::bigint), value FROM {table}

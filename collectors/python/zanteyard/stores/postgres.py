@@ -14,7 +14,7 @@ from psycopg2 import errors, extensions
 
 from ..core._records import Name, StoredValue
 from ..core.errors import AbortedError, NameTakenError, OutcomeUnknownError
-from ._postgres_connection import connected, environment, outcome_told
+from ._postgres_connection import connected, environment, outcome_told, to_its_server
 from .levels import checked_level
 
 TABLE = """CREATE TABLE IF NOT EXISTS {table} (
@@ -41,7 +41,9 @@ KEPT = f"""concat_ws(chr(10), concat_ws(' ', before.session, before.number, befo
     chr(10)))"""
 FIRST = f"""INSERT INTO {{table}} VALUES (%s, %s, %s, %s, %s) ON CONFLICT (key) DO NOTHING
     {TRANSACTION}"""
-STATUS = """SELECT pg_xact_status(%s::text::xid8), EXISTS (SELECT 1 FROM {table}
+# A standby may not have heard of it yet.
+XACT_STATUS = "CASE WHEN pg_is_in_recovery() THEN NULL ELSE pg_xact_status(%s::text::xid8) END"
+STATUS = f"""SELECT {XACT_STATUS}, EXISTS (SELECT 1 FROM {{table}}
     WHERE key = %s AND run = %s AND session = %s AND number = %s)"""
 CLAIM = """WITH mine AS (INSERT INTO {table} VALUES (%s, %s, %s, %s, %s)
     ON CONFLICT (key) DO NOTHING RETURNING value)
@@ -51,10 +53,14 @@ CLAIM_ALL = """INSERT INTO {table} SELECT DISTINCT %s || run, '', run, -1, 0 FRO
     WHERE session >= 0 ON CONFLICT (key) DO NOTHING"""
 READING = "SET TRANSACTION ISOLATION LEVEL SERIALIZABLE, READ ONLY; "
 # The server's process of a connection and since when it is, and what changes whenever the server
-# is started or has crashed, after which it may give a transaction's number to another one.
+# is started or has crashed, after which it may give a transaction's number to another one; and
+# which database and table these are.
 AGE = "extract(epoch FROM backend_start)::text"
 LIVES = """concat_ws(' ', extract(epoch FROM pg_postmaster_start_time()),
-    (SELECT extract(epoch FROM stats_reset) FROM pg_stat_bgwriter))"""
+    (SELECT extract(epoch FROM stats_reset) FROM pg_stat_bgwriter),
+    (SELECT system_identifier FROM pg_control_system()),
+    (SELECT oid FROM pg_database WHERE datname = current_database()),
+    (SELECT tableoid FROM {table} LIMIT 1))"""
 LIFE = f"""SELECT pg_backend_pid(),
     (SELECT {AGE} FROM pg_stat_activity WHERE pid = pg_backend_pid()), {LIVES}"""
 CONFLICTS = (errors.SerializationFailure, errors.DeadlockDetected, errors.LockNotAvailable)
@@ -112,6 +118,7 @@ class PostgresStore:
         checked_level("postgres", level)
         self.dsn, self.level, self.table, self.patience = dsn, level, quoted(table), patience
         self.connection: Any = None
+        self._its_dsn = dsn  # of the server that the connection has, or had last
         self.transaction_id: Optional[str] = None
         self.written: Tuple[Any, ...] = ()  # the key that was written last, and the name beside it
         self.statement: Optional[str] = None  # what was run last, as the server got it
@@ -126,11 +133,12 @@ class PostgresStore:
         """Opens the connection, and raises psycopg2's errors where it can't."""
         self.is_hung_up = False
         self.connection = connected(self.dsn, self.patience if seconds is None else seconds)
+        self._its_dsn = to_its_server(self.dsn, self.connection)
         self.connection.autocommit = True  # transactions are begun here, on the way of a statement
         self.life = (self.connection.info.backend_pid, None, None)
         if self.is_asked:
             try:
-                self.life = self.send(LIFE).fetchone()
+                self.life = self.send(LIFE.format(table=self.table)).fetchone()
             except psycopg2.Error:
                 pass  # then less is found out
 
@@ -186,7 +194,7 @@ class PostgresStore:
         return None if row is None else (row[0], row[1:])
 
     def read_all(self, keys: Sequence[str]) -> Dict[str, StoredValue]:
-        rows = self.ask(READ_ALL, (keys,), is_reading=True)
+        rows = self.ask(READ_ALL, ([*keys],), is_reading=True)
         return {row[0]: (row[1], row[2:]) for row in rows}
 
     def write(self, key: str, value: Any, name: Name) -> None:
@@ -264,7 +272,7 @@ class PostgresStore:
         if self.transaction_id is None:
             return "unknown"
         values = (self.transaction_id, *self.written)
-        return outcome_told(self.dsn, STATUS.format(table=self.table), values, seconds)
+        return outcome_told(self._its_dsn, STATUS.format(table=self.table), values, seconds)
 
     def asks(self) -> Any:
         """For another process of this machine; the environment's words for what the dsn lacks."""

@@ -1,0 +1,51 @@
+"""What became of a commit is asked of the server that the client was connected to."""
+import os
+import tempfile
+import time
+import unittest
+
+from zanteyard.trial.postgres_server import PostgresServer, program
+
+try:
+    import psycopg2
+
+    from zanteyard.stores._postgres_connection import first_row
+    from zanteyard.stores.postgres import STATUS, PostgresStore, prepare
+except ImportError:
+    psycopg2 = None
+
+from .waiting import SOON
+
+
+@unittest.skipUnless(psycopg2 and program("initdb"), "PostgreSQL or psycopg2 isn't installed (no server was asked)")
+class Hosts(unittest.TestCase):
+    def test_another_host_of_the_same_name_is_not_asked(self):
+        """The first of two can't be reached as the client connects, and can be a moment later: its numbers of transactions
+        are others."""
+        with tempfile.TemporaryDirectory() as folder, PostgresServer() as first, PostgresServer() as second:
+            prepare(first.dsn)
+            prepare(second.dsn)
+            away = f"{folder}/away"
+            store = PostgresStore(f"host={away},{second.folder} user=postgres dbname=postgres", patience=SOON)
+            store.begin()
+            store.write("x", "1", ("run", 0, 0))
+            store.commit()
+            os.symlink(first.folder, away)
+            self.assertEqual(store.outcome_within(SOON), "committed")
+            store.begin()
+            store.write("x", "2", ("run", 0, 1))
+            self.assertEqual(store.outcome_within(1.0), "unknown")
+            store.rollback()
+            store.close()
+
+    def test_a_server_in_recovery_says_nothing(self):
+        self.assertIn("pg_is_in_recovery()", STATUS)
+        with PostgresServer() as server:
+            prepare(server.dsn)
+            text = STATUS.format(table="zanteyard").replace("pg_is_in_recovery()", "true")
+            row = first_row(server.dsn, text, ("1", "x", "run", 0, 0), time.monotonic() + SOON)
+            self.assertEqual(row, (None, False))
+
+
+if __name__ == "__main__":
+    unittest.main()

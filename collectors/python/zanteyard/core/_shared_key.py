@@ -1,0 +1,73 @@
+"""The key that processes of several machines share, by which they know what others of them sent.
+
+It is a file whose bytes are the key, as they are, which its owner alone may use. The proxy reads
+the same form.
+"""
+
+from __future__ import annotations
+
+import hmac
+import json
+import os
+import secrets
+import stat
+from typing import Optional
+
+from .errors import KeyFileError
+
+LEAST = 16  # bytes
+MOST = 4096
+ENVIRONMENT = "ZANTEYARD_KEY"  # the environment's name for the file's path
+
+
+def make_key(path: str) -> None:
+    """A new one, in a file that isn't there yet. Raises KeyFileError."""
+    flags = os.O_WRONLY | os.O_CREAT | os.O_EXCL | os.O_CLOEXEC
+    try:
+        with open(os.open(path, flags, 0o600), "w", encoding="ascii") as file:
+            file.write(secrets.token_hex(32))
+            file.flush()
+            os.fsync(file.fileno())
+    except OSError as error:
+        raise KeyFileError(f"the key {path} can't be made: {error.strerror}") from error
+
+
+def read_key(path: str) -> bytes:
+    """Raises KeyFileError if it can't be read, if others than its owner may use the file, or if it
+    is too short."""
+    try:
+        with open(os.open(path, os.O_RDONLY | os.O_CLOEXEC | os.O_NONBLOCK), "rb") as file:
+            mode = os.fstat(file.fileno()).st_mode
+            key = file.read(MOST + 1) if stat.S_ISREG(mode) else b""
+    except OSError as error:
+        raise KeyFileError(f"the key {path} can't be read: {error.strerror}") from error
+    if mode & 0o077:
+        raise KeyFileError(f"others than its owner may use the key {path}: chmod 600 it")
+    if not LEAST <= len(key) <= MOST:
+        raise KeyFileError(f"the key {path} must be a file of {LEAST} to {MOST} bytes")
+    return key
+
+
+def shared_key(path: Optional[str]) -> bytes:
+    """That of this file, or of the one that the environment names. Raises KeyFileError."""
+    path = path or os.environ.get(ENVIRONMENT)
+    if not path:
+        raise KeyFileError(
+            f"clients and the auditor need a key to know each other by: {ENVIRONMENT} names its "
+            "file, which `zanteyard key FILE` makes"
+        )
+    return read_key(path)
+
+
+class Signer:
+    """Signs numbered messages of one sender to one receiver. What is signed for another purpose,
+    another audit, another process or another admission has another signature."""
+
+    def __init__(self, key: bytes, *purpose: str) -> None:
+        self._key = hmac.digest(key, json.dumps(purpose).encode("ascii"), "sha256")
+
+    def sign(self, number: int, text: bytes) -> bytes:
+        return hmac.digest(self._key, b"%d " % number + text, "sha256")
+
+    def is_signed(self, number: int, text: bytes, signature: bytes) -> bool:
+        return hmac.compare_digest(self.sign(number, text), signature)

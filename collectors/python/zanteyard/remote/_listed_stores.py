@@ -1,0 +1,45 @@
+"""The stores that a daemon may ask what became of a commit: those that it was started with.
+
+A client tells only which table of which kind of store it had. Nobody who can write to the Redis can
+have the daemon open a connection that it wasn't started for, nor run a statement of theirs.
+"""
+
+from __future__ import annotations
+
+from typing import Any, List, Sequence
+
+from ..core.errors import ZanteyardError
+
+POSTGRES = "postgres"
+
+
+class ListedStores:
+    """`dsns` are of PostgreSQL, each with the `tables` of collectors. Raises ZanteyardError if one
+    can't be understood, without its words, since they may have a password."""
+
+    def __init__(self, dsns: Sequence[str] = (), tables: Sequence[str] = ("zanteyard",)) -> None:
+        self._words: List[Any] = []
+        self._tables: List[str] = []
+        if not dsns:
+            return
+        try:
+            from psycopg2 import Error, extensions
+        except ImportError:
+            raise ZanteyardError("psycopg2, which a store needs, isn't installed") from None
+        from ..stores.postgres import quoted
+
+        self._tables = [quoted(table) for table in tables]
+        for at, dsn in enumerate(dsns, 1):
+            try:
+                self._words.append(dict(extensions.parse_dsn(dsn)))
+            except Error:
+                raise ZanteyardError(f"store {at} is no connection string of PostgreSQL's") from None
+
+    def asks(self, told: Any) -> Any:
+        """How that is asked, in the form of `core._commit_status`: each of the list in turn. None
+        where the list has none."""
+        if not isinstance(told, (tuple, list)) or len(told) != 2 or told[0] != POSTGRES:
+            return None
+        tables = [table for table in self._tables if table == told[1]]
+        each: List[Any] = [(POSTGRES, words, {}, table) for table in tables for words in self._words]
+        return (POSTGRES, each) if each else None

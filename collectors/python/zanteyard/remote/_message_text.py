@@ -1,0 +1,96 @@
+"""What messages over a Redis look like: JSON, of plain values, within bounds.
+
+What was logged is kept as bytes in a process, and written out in a message, so that nobody reads
+another one's bytes but by this. Whatever a text is, reading it takes time and memory in proportion
+to its length.
+"""
+
+from __future__ import annotations
+
+import json
+import marshal
+from typing import Any, Dict, List, Tuple
+
+from ..core._records import Logged, as_bytes
+
+LONGEST = 1 << 24  # bytes of a message
+DEEPEST = 12  # lists in one another
+GREATEST = 1 << 63  # a number's size is below this
+LOGGED = "logged"  # of an object: the fields of what was logged, null where nothing is
+FIELDS = len(Logged._fields)
+LISTS = [Logged._fields.index(name) for name in ("reads", "writes", "tried_reads", "tried_writes")]
+
+
+class NoMessageError(ValueError):
+    """It is no message, or one past the bounds."""
+
+
+def text_of(message: Any) -> bytes:
+    """Raises TypeError or ValueError if it has other than plain values."""
+    text = _ENCODER.encode(message).encode("ascii")
+    if len(text) > LONGEST:
+        raise ValueError(f"it takes {len(text)} bytes, which is more than {LONGEST}")
+    return text
+
+
+def message_of(text: bytes) -> Any:
+    """A tuple, of tuples, that isn't empty and begins with a word. Raises NoMessageError."""
+    if len(text) > LONGEST:
+        raise NoMessageError(f"it takes {len(text)} bytes")
+    try:
+        message = _frozen([_DECODER.decode(text.decode("ascii"))], DEEPEST + 1)[0]
+    except (ValueError, TypeError, RecursionError) as error:
+        raise NoMessageError(str(error)) from None
+    if not isinstance(message, tuple) or not message or not isinstance(message[0], str):
+        raise NoMessageError("it is no list that begins with a word")
+    return message
+
+
+def _written_out(value: Any) -> Dict[str, Any]:
+    """Bytes are what this process has logged."""
+    if not isinstance(value, bytes):
+        raise TypeError(f"{type(value).__name__} is no plain value")
+    return {LOGGED: marshal.loads(value) if value else None}
+
+
+def _logged(value: Dict[str, Any]) -> Any:
+    if [*value] != [LOGGED]:
+        raise NoMessageError("it has an object that isn't known")
+    fields = value[LOGGED]
+    if fields is None:
+        return b""
+    if type(fields) is not list or len(fields) != FIELDS:
+        raise NoMessageError("what was logged has other fields")
+    lists = [fields[at] for at in LISTS]
+    if not all(type(each) is list for each in lists):
+        raise NoMessageError("what was logged has something else for a list")
+    _freeze(fields, DEEPEST)
+    for at in LISTS:
+        fields[at] = [*fields[at]]
+    return as_bytes(Logged._make(fields))
+
+
+def _frozen(value: List[Any], deep: int) -> Tuple[Any, ...]:
+    """Lists as tuples, no more than so many in one another, with no number past the bounds."""
+    if not deep:
+        raise NoMessageError("it has too many lists in one another")
+    _freeze(value, deep)
+    return tuple(value)
+
+
+def _freeze(value: List[Any], deep: int) -> None:
+    """What is in it."""
+    for at, each in enumerate(value):
+        kind = type(each)
+        if kind is list:
+            value[at] = _frozen(each, deep - 1)
+        elif (kind is int or kind is float) and not -GREATEST < each < GREATEST:
+            raise NoMessageError("it has a number that is too great")
+
+
+def _no_number(word: str) -> float:
+    raise NoMessageError(f"{word} is no number")
+
+
+_ENCODER = json.JSONEncoder(separators=(",", ":"), allow_nan=False, default=_written_out)
+_DECODER = json.JSONDecoder(object_hook=_logged, parse_constant=_no_number)
