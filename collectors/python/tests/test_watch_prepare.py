@@ -10,7 +10,7 @@ from zanteyard.cli._main import main
 from zanteyard.trial.postgres_server import PostgresServer, program
 from zanteyard.watch import _facts as facts
 from zanteyard.watch import _hosts as hosts
-from zanteyard.watch._database import Database, without_password
+from zanteyard.watch._database import Database, DatabaseError, without_password
 from zanteyard.watch._facts import Server
 from zanteyard.watch._patterns import table_patterns
 from zanteyard.watch._prepare import host_name, is_ready, report
@@ -86,6 +86,12 @@ class Hosts(unittest.TestCase):
             ("host=a password=b", "the server given"),
         ):
             self.assertEqual(without_password(url), wanted)
+
+    @unittest.skipIf(psycopg2 is None, "psycopg2 is not installed")
+    def test_several_servers_are_refused(self):
+        for url in ("postgresql://a,b/c", "host=a,b", "host=a hostaddr=127.0.0.1,127.0.0.2"):
+            with self.assertRaisesRegex(DatabaseError, "names several"):
+                Database(url)
 
     def test_names_as_sql_has_them(self):
         for name, wanted in (("a_1", "a_1"), ("A", '"A"'), ('a"b', '"a""b"'), ("1a", '"1a"')):

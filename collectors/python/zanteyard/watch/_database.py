@@ -29,12 +29,25 @@ class Database:
 
     def __init__(self, url: str, **more: Any) -> None:
         self._driver = _driver()
+        if self._hosts(url) > 1:
+            raise DatabaseError("an audit has one server, and the URL names several")
         limits: Dict[str, Any] = {"connect_timeout": CONNECTING, "application_name": "zanteyard"}
         try:
             self._connection = self._driver.connect(url, **{**limits, **more})
             self._connection.autocommit = True
         except self._driver.Error as error:
             raise _told(error) from None
+
+    def _hosts(self, url: str) -> int:
+        """How many servers a URL names: of several, one might be read, and another one be used."""
+        try:
+            if self._driver.__name__ == "psycopg2":
+                its = self._driver.extensions.parse_dsn(url)
+            else:
+                its = self._driver.conninfo.conninfo_to_dict(url)
+        except self._driver.Error as error:
+            raise _told(error) from None
+        return max(str(its.get(name, "")).count(",") + 1 for name in ("host", "hostaddr"))
 
     def run(self, text: str, values: Sequence[Any] = ()) -> List[Sequence[Any]]:
         """The rows that the statement returns; an empty list if it returns none."""

@@ -151,11 +151,28 @@ func main() {
 	}
 }
 
+// hosts is how many servers a connection string names. The ways to one server, with TLS and without, count once.
+func hosts(config *pgconn.Config) int {
+	type place struct {
+		host string
+		port uint16
+	}
+	its := map[place]bool{{config.Host, config.Port}: true}
+	for _, f := range config.Fallbacks {
+		its[place{f.Host, f.Port}] = true
+	}
+	return len(its)
+}
+
 // run is the program: it passes traffic on until ctx ends, and talks with its parent by in and out.
 func run(ctx context.Context, f flags, in io.Reader, out io.Writer) error {
 	config, err := pgconn.ParseConfig(f.server)
 	if err != nil {
 		return fmt.Errorf("--server: %w", err)
+	}
+	if !f.passing && hosts(config) > 1 {
+		return errors.New("--server: an audit has one server, and several are named: connections could be with one of them " +
+			"while another one's log is read")
 	}
 	var clientTLS *tls.Config
 	if f.certificate != "" || f.key != "" {

@@ -32,6 +32,29 @@ func TestFlags(t *testing.T) {
 	}
 }
 
+// Of several servers one might be read, and another one be connected to.
+func TestSeveralServers(t *testing.T) {
+	for _, x := range []struct {
+		server           string
+		passing, refused bool
+	}{
+		{"host=127.0.0.1,127.0.0.2", false, true},
+		{"postgresql://127.0.0.1:5432,127.0.0.1:1/", false, true},
+		{"host=127.0.0.1,127.0.0.2", true, false},
+		{"host=127.0.0.1", false, false}, // sslmode=prefer: two ways to one server
+	} {
+		f, err := parse([]string{"--server", x.server, "--listen", "/none/such"}, io.Discard)
+		if err != nil {
+			t.Fatal(err)
+		}
+		f.passing = x.passing
+		err = run(context.Background(), f, strings.NewReader(""), io.Discard)
+		if err == nil || strings.Contains(err.Error(), "several") != x.refused {
+			t.Errorf("%+v: %v", x, err)
+		}
+	}
+}
+
 // program is the proxy with a parent.
 type program struct {
 	t      *testing.T
