@@ -79,6 +79,7 @@ class Database:
 def _driver() -> Any:
     try:
         import psycopg2
+        import psycopg2.extensions
 
         return psycopg2
     except ImportError:
