@@ -3,6 +3,7 @@ import json
 import os
 import shutil
 import signal
+import socket
 import subprocess
 import sys
 import tempfile
@@ -220,7 +221,15 @@ class Command(InAFolder):
         ended = self.begin(self.url)
         out, errors = ended.communicate(timeout=120)
         self.assertEqual((ended.returncode, out), (2, ""))
-        self.assertIn("wal_level is replica, and has to be logical", errors)
+        first, second, *_ = errors.splitlines()  # a line for each thing that it lacks
+        self.assertEqual(
+            first, "mistake: the server lacks something; `zanteyard prepare URL` shows all of it"
+        )
+        self.assertEqual(
+            second,
+            "  wal_level is replica, and has to be logical: ALTER SYSTEM SET wal_level = 'logical'; "
+            "then restart the server",
+        )
         self.assertNotIn("secret", errors)
 
     def test_2_from_its_begin_to_a_signal(self):
@@ -262,6 +271,18 @@ class Command(InAFolder):
             ended = self.begin(*words)
             ended.communicate(timeout=120)
             self.assertEqual(ended.returncode, 2, words)
+
+    def test_4_b_an_address_that_is_taken(self):
+        with socket.socket() as taken:
+            taken.bind(("127.0.0.1", 0))
+            taken.listen()
+            address = f"127.0.0.1:{taken.getsockname()[1]}"
+            for option in ("--page", "--metrics"):
+                with self.subTest(option=option):
+                    ended = self.begin(self.url, option, address)
+                    out, errors = ended.communicate(timeout=120)
+                    self.assertEqual((ended.returncode, out), (2, ""))
+                    self.assertEqual(errors, f"mistake: {address}: Address already in use\n")
 
     def test_5_prepare(self):
         with Database(self.url) as database:

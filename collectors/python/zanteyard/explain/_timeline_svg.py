@@ -12,10 +12,10 @@ from ..core._records import ABORTED, ShownId
 from ..core._visible import html_text
 from ._report import IN_ONE_SESSION, Link, Step, Story
 
-WIDTH, GAP, LANE_GAP = 264.0, 120.0, 76.0  # of a box, and between boxes, in the picture's units
+WIDTH, GAP, LANE_GAP = 316.0, 110.0, 76.0  # of a box, and between boxes, in the picture's units
 LINE, PADDING, LEFT = 18.0, 8.0, 100.0
 APART = 9.0  # half of what lies between arcs that leave an edge and those that come to it
-MOST_LETTERS = 38  # of a line in a box
+MOST_LETTERS = 40  # of a line in a box: they fit in DejaVu Sans, which is wide
 Point = Tuple[float, float]
 
 

@@ -148,7 +148,8 @@ def tell(line: str) -> None:
 
 
 def _mistake(told: str) -> int:
-    say(f"mistake: {told}", file=sys.stderr, flush=True)
+    for line in f"mistake: {told}".split("\n"):
+        say(line, file=sys.stderr, flush=True)
     return MISTAKE
 
 
@@ -171,7 +172,8 @@ def prepared(url: str) -> List[str]:
     if not lacks:
         return []
     told = "the server lacks something; `zanteyard prepare URL` shows all of it"
-    return [told, *(f"  {visible(one.sentence)}: {visible(one.remedy)}" for one in lacks)]
+    each = (": ".join(filter(None, (one.sentence, one.remedy))) for one in lacks)
+    return [told, *(f"  {visible(line)}" for line in each)]
 
 
 def call_of(proxy: str, asked: Any) -> Tuple[Sequence[str], Dict[str, str]]:

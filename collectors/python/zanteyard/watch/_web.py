@@ -172,7 +172,10 @@ class WebServer:
             def log_message(self, *_: object) -> None:
                 """Who looks isn't logged."""
 
-        self._server = _Server((host, port), Handler)
+        try:
+            self._server = _Server((host, port), Handler)
+        except OSError as error:  # which doesn't say where by itself
+            raise OSError(error.errno, error.strerror, address) from error
         self.port = self._server.server_port
         threading.Thread(target=self._server.serve_forever, args=(0.1,), daemon=True).start()
 
