@@ -2,6 +2,7 @@
 
 from __future__ import annotations
 
+from importlib import import_module
 from typing import Any, Dict, List, Sequence
 from urllib.parse import urlsplit, urlunsplit
 
@@ -42,9 +43,9 @@ class Database:
         """How many servers a URL names: of several, one might be read, and another one be used."""
         try:
             if self._driver.__name__ == "psycopg2":
-                its = self._driver.extensions.parse_dsn(url)
+                its = import_module("psycopg2.extensions").parse_dsn(url)
             else:
-                its = self._driver.conninfo.conninfo_to_dict(url)
+                its = import_module("psycopg.conninfo").conninfo_to_dict(url)
         except self._driver.Error as error:
             raise _told(error) from None
         return max(str(its.get(name, "")).count(",") + 1 for name in ("host", "hostaddr"))
@@ -79,7 +80,6 @@ class Database:
 def _driver() -> Any:
     try:
         import psycopg2
-        import psycopg2.extensions
 
         return psycopg2
     except ImportError:
