@@ -163,7 +163,7 @@ def parser() -> argparse.ArgumentParser:
     serve_command.add_arguments(served)
     key = command("key", _key, "makes a key that processes of several machines share")
     key.epilog = "The exit status is 0 where it was made, else 2."
-    key.add_argument("file", metavar="FILE", help="which isn't there yet; its owner alone may use it")
+    key.add_argument("file", metavar="FILE", help="a new file, for its owner alone")
     journal = command("journal", _journal, "tells what a journal says that a killed process left")
     journal.add_argument("journal", metavar="JOURNAL", help="its file (docs/JOURNAL.md)")
     audit = command("audit", _audit, "audits clients of a store while they run")

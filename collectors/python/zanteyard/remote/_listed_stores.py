@@ -33,7 +33,8 @@ class ListedStores:
             try:
                 self._words.append(dict(extensions.parse_dsn(dsn)))
             except Error:
-                raise ZanteyardError(f"store {at} is no connection string of PostgreSQL's") from None
+                told = f"store {at} is no connection string of PostgreSQL's"
+                raise ZanteyardError(told) from None
 
     def asks(self, told: Any) -> Any:
         """How that is asked, in the form of `core._commit_status`: each of the list in turn. None
@@ -41,5 +42,7 @@ class ListedStores:
         if not isinstance(told, (tuple, list)) or len(told) != 2 or told[0] != POSTGRES:
             return None
         tables = [table for table in self._tables if table == told[1]]
-        each: List[Any] = [(POSTGRES, words, {}, table) for table in tables for words in self._words]
+        each: List[Any] = []
+        for table in tables:
+            each += [(POSTGRES, words, {}, table) for words in self._words]
         return (POSTGRES, each) if each else None

@@ -215,7 +215,8 @@ def up_opener(
 ) -> Callable[[int, bytes, bytes], Any]:
     """What a process tells by this admission, or has told before it was let in. So what it told by
     another one can't be put into its stream again."""
-    by_it, before = opener(signer_up(key, audit, client, admission)), hello_opener(key, audit, client)
+    by_it = opener(signer_up(key, audit, client, admission))
+    before = hello_opener(key, audit, client)
 
     def opens(number: int, text: bytes, signature: bytes) -> Any:
         try:
