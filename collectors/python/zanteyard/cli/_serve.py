@@ -49,7 +49,7 @@ JOURNAL, SOCKET, VIOLATION = "audit.journal", "audit.socket", "violation"
 STATUSES = {SERIAL: 0, VIOLATED: 1, COLLECTOR: 4, PENDING: 3, UNDECIDED: 4, INCOMPLETE: 4}
 STATUS_WORDS = (
     "The exit status says what ended it: 0 it was stopped, serial by then; 1 violated; 2 it can't "
-    "begin, or another one has the audit; 3 it was stopped, pending; 4 something wasn't audited, or "
+    "begin, or another one has it; 3 it was stopped, pending; 4 something wasn't audited, or "
     "not decided, or the collector's own transactions have no order."
 )
 LOOKS = 0.2  # seconds between two looks at whether it is over
