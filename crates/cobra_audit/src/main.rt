@@ -20,7 +20,7 @@ use std::env::Args;
 use std::io::ErrorKind;
 use std::process::ExitCode;
 use std::thread::{Scope, Threads};
-use std::{env, thread};
+use std::{env, io, thread};
 
 const VERSION: &str = "cobra_audit 0.1.0\n";
 
