@@ -88,13 +88,14 @@ class Runs(InAFolder):
             [
                 "serial: 8 of 11 transactions were checked, in 2 rounds",
                 "  15 of 19 rows read were checked, 6 of 9 rows written",
+                "  besides, 1 transaction read and wrote no row that was seen",
                 "  not checked",
                 "             3 transactions  committed by others than the proxy",
                 "             4 rows read     its version isn't known",
                 "             3 rows written  committed by others than the proxy",
                 "  statements that weren't seen in full",
                 "         times first    what wasn't seen, and the statement",
-                f"             7 {told[8].split()[1]} an aggregate",
+                f"             7 {told[9].split()[1]} an aggregate",
                 "                          SELECT count(*) FROM orders WHERE customer = $1",
             ],
         )

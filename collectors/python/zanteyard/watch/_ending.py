@@ -57,6 +57,8 @@ def lines_of(status: Status) -> Iterator[str]:
         f"  {seen.reads:,} of {seen.whole_reads:,} rows read were checked, "
         f"{seen.writes:,} of {seen.whole_writes:,} rows written"
     )
+    if seen.empty:
+        yield f"  besides, {counted(seen.empty, 'transaction')} read and wrote no row that was seen"
     yield from _left_out(seen)
     yield from _shapes(seen)
 

@@ -201,10 +201,13 @@ def _shares(status: Status) -> Iterator[str]:
         ("Writes", seen.writes, seen.whole_writes, "rows that were written"),
     ):
         yield from _bar(name, part, whole, f"{_share(part, whole)}: {part:,} of {whole:,} {what}")
+    if seen.empty:
+        its = counted(seen.empty, "transaction")
+        yield f"<p>Besides, {its} read and wrote no row that was seen.</p>"
     if seen.shapes:
         shapes = counted(len(seen.shapes), "shape")
         yield (
-            f"<p>Besides, {counted(seen.unseen_count, 'statement')} of {shapes} read or wrote "
+            f"<p>{counted(seen.unseen_count, 'statement')} of {shapes} read or wrote "
             "something that wasn’t seen. They are listed below. What isn’t seen may hide a "
             "violation, and makes none up.</p>"
         )

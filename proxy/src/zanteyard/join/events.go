@@ -121,21 +121,24 @@ func (Stopped) event()      {}
 func (Coverage) event()     {}
 func (Transactions) event() {}
 
-func (j *Joiner) coverageEvent() Coverage {
+// coverageEvent is how the audit stands. The last one before another audit has what the inbox counts begin anew.
+func (j *Joiner) coverageEvent(isLast bool) Coverage {
 	c := j.core
 	n := &c.counts
+	unseen, gone, lost := j.inbox.counted(isLast)
+	n.lost = lost
 	it := Coverage{
 		At: time.Now(), Committed: n.committed, Offered: n.offered, Fences: n.fences, Aborted: n.aborted, Empty: n.empty,
 		Folded: copyOf(n.folded), Reads: n.reads, ReadsOffered: n.readsOffered, ReadsOwn: n.own, ReadsLeft: copyOf(n.leftReads),
 		Writes: n.writes, WritesOffered: n.writesOffered, WritesLeft: copyOf(n.leftWrites),
-		Unseen: j.inbox.shapes(), Connections: len(c.connections), ConnectionsEver: n.ever,
+		Unseen: unseen, Connections: len(c.connections), ConnectionsEver: n.ever,
 		Lag: c.lag(), Rows: len(c.rows.by), Rounds: n.rounds, StatementsDropped: n.dropped, Lost: n.lost, SubsLost: n.unread,
 		Remaining: c.remaining(),
 	}
 	if n.lost > 0 {
 		it.Folded["told faster than they could be taken in"] = n.lost
 	}
-	for reason, n := range j.inbox.losses() {
+	for reason, n := range gone {
 		it.Folded[reason] = n
 	}
 	if remotes, is := j.meeter.(interface{ Remotes() Remotes }); is {

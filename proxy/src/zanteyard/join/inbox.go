@@ -121,13 +121,6 @@ func (b *Inbox) Lose(reason string, n uint64) {
 	b.gone[reason] += n
 }
 
-// losses are those that were counted.
-func (b *Inbox) losses() map[string]uint64 {
-	b.lock.Lock()
-	defer b.lock.Unlock()
-	return copyOf(b.gone)
-}
-
 // take empties the inbox.
 func (b *Inbox) take() (its []message, lost uint64) {
 	b.lock.Lock()
@@ -143,15 +136,20 @@ func (b *Inbox) Close() {
 	b.its, b.bytes, b.closed = nil, 0, true
 }
 
-// shapes are what was left out, the most frequent first.
-func (b *Inbox) shapes() []Unseen {
+// counted is what was counted for this audit: the shapes of what was left out, the most frequent first, the losses by
+// their reasons, and how many transactions were dropped. With `isLast` all of it is counted anew, for the next audit.
+func (b *Inbox) counted(isLast bool) (its []Unseen, gone map[string]uint64, lost uint64) {
 	b.lock.Lock()
-	its := make([]Unseen, 0, len(b.unseen)+1)
+	its = make([]Unseen, 0, len(b.unseen)+1)
 	for _, one := range b.unseen {
 		its = append(its, *one)
 	}
 	if b.outside != nil {
 		its = append(its, *b.outside)
+	}
+	gone, lost = copyOf(b.gone), b.lost
+	if isLast {
+		b.unseen, b.outside, b.gone, b.lost = map[unseenKey]*Unseen{}, nil, nil, 0
 	}
 	b.lock.Unlock()
 	sort.Slice(its, func(i, j int) bool {
@@ -160,5 +158,5 @@ func (b *Inbox) shapes() []Unseen {
 		}
 		return its[i].Shape+its[i].Reason < its[j].Shape+its[j].Reason
 	})
-	return its
+	return its, gone, lost
 }

@@ -1,6 +1,7 @@
 package join
 
 import (
+	"fmt"
 	"testing"
 
 	"zanteyard/record"
@@ -18,4 +19,32 @@ func TestInboxWakes(t *testing.T) {
 	if len(b.wake) == 0 {
 		t.Error("a full inbox doesn't wake the joiner")
 	}
+}
+
+// TestInboxCountsAnew: an audit isn't told what was counted for the one before it, and nothing that was is lost.
+func TestInboxCountsAnew(t *testing.T) {
+	b := NewInbox(sizeOf(&record.Transaction{}))
+	count := func(n uint64) {
+		b.UnseenMany("a", "why", true, n)
+		for shape := 0; shape < mostShapes; shape++ {
+			b.Unseen(fmt.Sprint(shape), "why", true)
+		}
+		b.Lose("gone", n)
+		b.Transaction(record.Transaction{})
+		b.Transaction(record.Transaction{}) // there is no room for it
+	}
+	wanted := func(when string, isLast bool, shapes int, most, gone, lost uint64) {
+		t.Helper()
+		its, losses, dropped := b.counted(isLast)
+		if len(its) != shapes || shapes > 0 && its[0].Count != most || losses["gone"] != gone || dropped != lost {
+			t.Errorf("%s: %d shapes, the first %v; lost %v and %d", when, len(its), its, losses, dropped)
+		}
+	}
+	count(3)
+	_, dropped := b.take()
+	wanted("while it runs", false, mostShapes+1, 3, 3, dropped)
+	wanted("as it ends", true, mostShapes+1, 3, 3, dropped)
+	wanted("at the next one's begin", false, 0, 0, 0, 0)
+	count(2)
+	wanted("in the next one", false, mostShapes+1, 2, 2, 1)
 }

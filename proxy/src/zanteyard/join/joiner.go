@@ -138,7 +138,7 @@ func (j *Joiner) Run(ctx context.Context) error {
 	close(j.done)
 	j.inbox.Close()
 	if j.core != nil {
-		j.output.Event(j.coverageEvent())
+		j.output.Event(j.coverageEvent(false))
 	}
 	j.output.Event(Ended{Reason: err.Error()})
 	return err
@@ -235,6 +235,7 @@ func (j *Joiner) tick(ctx context.Context) error {
 	j.empty()
 	if j.again {
 		j.again = false
+		j.output.Event(j.coverageEvent(true))
 		j.output.Event(Restarted{At: now})
 		if err := j.begin(ctx); err != nil {
 			return err
@@ -258,7 +259,7 @@ func (j *Joiner) tick(ctx context.Context) error {
 	}
 	if now.Sub(j.coverage) >= each {
 		j.coverage = now
-		j.output.Event(j.coverageEvent())
+		j.output.Event(j.coverageEvent(false))
 	}
 	if j.failed != nil {
 		return j.failed

@@ -79,7 +79,7 @@ func (j *Joiner) endMeeting() {
 	j.meeting = meeting{}
 	if isLast {
 		j.stopping = false
-		j.output.Event(j.coverageEvent())
+		j.output.Event(j.coverageEvent(false))
 		j.output.Event(Stopped{At: j.core.now})
 	}
 }

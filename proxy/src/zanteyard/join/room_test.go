@@ -189,7 +189,7 @@ func TestInbox(t *testing.T) {
 		b.Unseen(string(rune('a'+n%7))+string(rune(n)), "a reason", true)
 		b.Unseen("the same", "a reason", true)
 	}
-	shapes := b.shapes()
+	shapes, _, _ := b.counted(false)
 	total := uint64(0)
 	for _, one := range shapes {
 		total += one.Count
