@@ -12,6 +12,7 @@ from zanteyard.core._own_keys import FLAG
 from zanteyard.live._backlog import Backlog
 from zanteyard.core.errors import AuditLostError
 from zanteyard.remote._crash_recovery import CrashedProcess
+from zanteyard.remote._listed_stores import ListedStores
 from zanteyard.stores.memory import MemoryStore
 from zanteyard.core._crash_notes import CrashNote
 from zanteyard.live._session_pool import SessionPool
@@ -372,7 +373,8 @@ class HeardAgain(unittest.TestCase):
             backlog, ends = Backlog(8), mock.Mock()
             backlog.begin_behind(3, 5, 5)
             live = mock.Mock(next_number=backlog.next_number, is_taken=backlog.is_taken)
-            process = StreamProcess(live, ends, 10.0, threading.RLock(), bool, 8)
+            more = (threading.RLock(), bool, 8, ListedStores())
+            process = StreamProcess(live, ends, 10.0, *more)
             process.group.add(Place(3, begun, must_join=True))
             process._at = 1
             process._take_logged([(0.0, 3, 4, (), b"")], 0)
