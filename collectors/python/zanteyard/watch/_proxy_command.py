@@ -9,6 +9,7 @@ import sys
 from typing import Any
 
 from ..core._visible import say
+from ..promises._kinds import SERIALIZABLE
 from ._command import LISTEN, MISTAKE, URL, call_of, place
 from ._patterns import add_tables_option
 from ._proxy import find_proxy
@@ -50,7 +51,7 @@ def add_arguments(command: argparse.ArgumentParser) -> None:
         "--redact", action="store_true",
         help="sends no parameters and no constants of statements",
     )
-    command.set_defaults(sample=None)
+    command.set_defaults(sample=None, promise=SERIALIZABLE.name)  # both are the audit's to ask
 
 
 def run(asked: Any) -> int:
