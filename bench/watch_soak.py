@@ -5,9 +5,9 @@
 
 Each work is an application with tables of its own: `skew` reads two rows and writes one, `lost`
 reads a quantity and writes it one less, `bank` keeps a rule over a range, `shop` has joins, upserts,
-counts, savepoints, cursors and deletes, `tpcb`, `update`, `select` and `mixed` (four of five only
-read) are pgbench's. All run at once, --clients connections each, with a pause of up to --pause milliseconds
-behind each transaction; pgbench makes --rate transactions a second.
+counts, savepoints, cursors and deletes, `tpcb`, `update` and `select` are pgbench's. All run at once,
+--clients connections each, with a pause of up to --pause milliseconds behind each transaction; each
+pgbench makes --rate transactions a second.
 
 Beside them, without the proxy: somebody writes the same rows, columns and indexes come and go,
 tables are rewritten by VACUUM FULL, and connections of the applications are ended by the server. With
@@ -145,7 +145,6 @@ PGBENCH = {
     "tpcb": ("-b", "tpcb-like"),
     "update": ("-b", "simple-update"),
     "select": ("-b", "select-only"),
-    "mixed": ("-b", "select-only@4", "-b", "simple-update@1"),
 }
 TABLES = {"skew": "skew_rows", "lost": "lost_stock", "bank": "bank_moves", "shop": "shop_items"}
 AGAIN = (errors.SerializationFailure, errors.DeadlockDetected, errors.UniqueViolation)
