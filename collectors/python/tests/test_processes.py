@@ -60,7 +60,7 @@ class Elsewhere(TwoProcesses, test_live.Meetings):
         live.session, stop = self.client.session, live.stop
 
         def leave_and_stop():
-            self.client.leave(60.0)  # a meeting may hold its sessions, where other programs run, too
+            self.client.leave(120.0)  # a meeting may hold its sessions for 60
             self.server.close()
             return stop()
 
