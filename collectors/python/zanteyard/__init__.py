@@ -49,7 +49,6 @@ from .core.errors import (
     ProgramMissingError,
     ProgramTooOldError,
     RefusedError,
-    RoundTooLongError,
     ScriptMistakeError,
     StoreLateError,
     StoreUnfitError,
@@ -83,7 +82,6 @@ __all__ = [
     # what is raised
     *("AbortedError", "AuditLostError", "FolderUnfitError", "FullError", "NameTakenError"),
     *("JournalError", "JournalDamagedError", "JournalInUseError", "JournalVersionError"),
-    "RoundTooLongError",
     *("NoCutError", "NoMemoryError", "OtherVersionError", "OutcomeUnknownError"),
     "ProgramEndedError",
     *("ProgramLateError", "ProgramMissingError", "ProgramTooOldError"),

@@ -15,14 +15,13 @@ from ..core._window import SESSIONS, Coverage
 from ..core.errors import AuditLostError, FullError, MissingError, NoCutError, NotAnchoredError
 from ..explain._shrinking import is_collectors_own
 from ..program._auditor import Auditor
-from ..program._intake import Fragment, never_came
+from ..program._intake import MEANWHILE, Fragment, never_came
 from ..program._subprocess import AuditorApart
 from ._backlog import Backlog, HandedIn
 from ._figures import Figures
 from ._fragments import fragments
 
 logger = logging.getLogger("zanteyard")
-MEANWHILE = 0.04  # seconds, in which more transactions come while a round is made
 AnyAuditor = Union[Auditor, AuditorApart]
 
 
@@ -62,6 +61,7 @@ class Audit:
         self._closed: Set[int] = {*closed}
         # What waits with its session, which is to join behind a fence that isn't taken in yet.
         self._held: Dict[int, List[HandedIn]] = {}
+        self._is_searched = False  # a round, while which no session joins
 
     @property
     def handed_in(self) -> int:
@@ -177,7 +177,10 @@ class Audit:
 
     def _let_join(self) -> None:
         """Those whose fences have read from what was taken in; one may have read from another's,
-        and those that are new join in the order of their numbers."""
+        and those that are new join in the order of their numbers. None while a round is
+        searched."""
+        if self._is_searched:
+            return
         while not self.is_violated:
             ready = [session for session in sorted(self._held) if self._may_join(session)]
             if not ready:
@@ -306,17 +309,23 @@ class Audit:
         )
         if wrong is not None:
             raise wrong
+        if goes_on:
+            self._let_join()
 
     def _go_on_while_it_is_made(self) -> Optional[Exception]:
         """Takes in what waits until the report is there. What that raises is told behind it."""
         wrong: Optional[Exception] = None
         self._auditor.begin_round()
-        while not self._auditor.has_round(MEANWHILE):
-            try:
-                if wrong is None:
-                    self._take_in_what_fits()
-            except Exception as error:
-                wrong = error
+        self._is_searched = True
+        try:
+            while not self._auditor.has_round(MEANWHILE):
+                try:
+                    if wrong is None:
+                        self._take_in_what_fits()
+                except Exception as error:
+                    wrong = error
+        finally:
+            self._is_searched = False
         return wrong
 
     def _awaited(self) -> Dict[int, int]:
@@ -327,26 +336,16 @@ class Audit:
 
     def _cut_or_none(self, report: Report, no_cut: Optional[str]) -> str:
         """In words: what was forgotten, or else this, if there is such a reason for none."""
-        if no_cut and not self._auditor.cuts_by_itself:
-            return f"no cut: {no_cut}"
-        cuts = self._figures.cuts
-        cut = self._cut(report)
-        return f"no cut: {no_cut}" if no_cut and self._figures.cuts == cuts else cut
+        return f"no cut: {no_cut}" if no_cut else self._cut(report)
 
     def _cut(self, report: Report) -> str:
         """In words."""
         if report.kind not in (SERIAL, PENDING):
             return "no cut"
-        forgets_nothing = "no cut: this cobra_audit forgets nothing"
-        if not self._auditor.can_cut:
-            return forgets_nothing
         try:
             cut = self._auditor.truncate()
-        except NoCutError as error:
-            if not self._auditor.can_cut:
-                return forgets_nothing
-            is_none = str(error).endswith("NoCut")
-            return "no cut: no fence is settled" if is_none else f"no cut: {error}"
+        except NoCutError:
+            return "no cut: no fence is settled"
         self._figures.cuts += 1
         self._figures.cut_at = time.monotonic()
         self._forget_clients()
