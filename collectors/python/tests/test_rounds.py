@@ -448,6 +448,33 @@ class BelowALiveAudit(WithMadeUp):
         outcome = live.stop()
         self.assertEqual((outcome.kind, outcome.audited, outcome.failure), ("serial", 18, None))
 
+    def test_rounds_and_clients_are_told_as_values(self):
+        rounds, clients, lines = [], [], []
+        auditor = self.auditor()
+        its = {"every": 10000, "seconds": 0.0, "tell": lines.append, "on_round": rounds.append}
+        live = LiveAuditor(auditor, **its, on_client=clients.append, policy=Policy(60.0))
+        session = live.session(MemoryStore().connect())
+        for count in range(1, 4):
+            session.run(add_one)
+            self.wait_for(lambda: len(rounds) >= count)  # noqa: B023
+        live.stop()
+        self.assertEqual([told.report.number for told in rounds], [*range(1, len(rounds) + 1)])
+        self.assertEqual([*map(str, rounds)], lines)
+        last = rounds[-1]
+        self.assertEqual((last.report.kind, last.transactions, last.remaining), ("serial", 3, 3))
+        self.assertEqual((last.cut, clients[0]), (None, (1, 0, 0, False)))
+        self.assertEqual(str(clients[0]), "client 1 begins session 0 with 0.0")
+
+    def test_what_a_callback_raises_harms_nothing(self):
+        calls = {name: lambda told: 1 // 0 for name in ("tell", "on_round", "on_client")}
+        live = LiveAuditor(self.auditor(), **calls)
+        session = live.session(MemoryStore().connect())
+        with self.assertLogs("zanteyard", "ERROR") as told:
+            session.run(add_one)
+            outcome = live.stop()
+        self.assertEqual((outcome.kind, outcome.failure), ("serial", None))
+        self.assertEqual(len(told.output), 1)
+
     def test_a_program_that_ends(self):
         live, _ = self.live(ends=2)
         session = live.session(MemoryStore().connect())

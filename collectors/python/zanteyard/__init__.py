@@ -60,6 +60,7 @@ from .explain._shrinking import audited, from_start, smaller
 from .explain._violation_text import tell_violation
 from .explain._words import words
 from .live._live_auditor import LiveAuditor
+from .live._told import ClientTold, RoundTold
 from .program._auditor import Auditor
 from .program._subprocess import AuditorApart
 from .remote._client import AuditClient
@@ -75,7 +76,7 @@ __all__ = [
     *("LiveAuditor", "AuditServer", "AuditClient"),
     *("Policy", "RATHER_LOSE_THE_AUDIT", "RATHER_WAIT"),
     # what came of it
-    *("Outcome", "Pending", "Report"),
+    *("Outcome", "Pending", "Report", "RoundTold", "ClientTold"),
     # what is told of a violation
     *("Explanation", "audited", "dot_text", "draw", "explain_history", "from_start", "reasons"),
     *("smaller", "tell_violation", "words"),

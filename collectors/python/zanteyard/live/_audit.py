@@ -5,11 +5,11 @@ from __future__ import annotations
 import logging
 import time
 from collections import Counter
-from typing import Any, Callable, Dict, Iterable, List, Optional, Sequence, Set, Tuple, Union
+from typing import Any, Dict, Iterable, List, Optional, Sequence, Set, Tuple, Union
 
 from ..core._outcome import COLLECTOR, PENDING, RUNNING, SERIAL, VIOLATED, Outcome, kind_of
 from ..core._own_keys import FENCE, LONGEST
-from ..core._records import AuditId, Pending, Report, StoreId, unpacked
+from ..core._records import AuditId, Cut, Pending, Report, StoreId, unpacked
 from ..core._tenancy import Tenancy
 from ..core._window import SESSIONS, Coverage
 from ..core.errors import AuditLostError, FullError, MissingError, NoCutError, NotAnchoredError
@@ -20,6 +20,7 @@ from ..program._subprocess import AuditorApart
 from ._backlog import Backlog, HandedIn
 from ._figures import Figures
 from ._fragments import fragments
+from ._told import ClientTold, RoundTold, Teller
 
 logger = logging.getLogger("zanteyard")
 AnyAuditor = Union[Auditor, AuditorApart]
@@ -35,7 +36,7 @@ class Audit:
         auditor: AnyAuditor,
         backlog: Backlog,
         figures: Figures,
-        tell: Callable[[str], None],
+        teller: Teller,
         run_name: str,
         coverage: Coverage,
         counted: int = 0,
@@ -44,7 +45,7 @@ class Audit:
         closed: Iterable[int] = (),
     ) -> None:
         self._auditor, self._backlog, self._figures = auditor, backlog, figures
-        self._tell, self._coverage, self._counted = tell, coverage, counted
+        self._teller, self._coverage, self._counted = teller, coverage, counted
         self.earlier = earlier
         self.name = f"{run_name}, audit {len(earlier) + 1}" if earlier else run_name
         self.began = time.monotonic()
@@ -154,8 +155,7 @@ class Audit:
     def _tell_first(self, session: int, number: int, joins: bool) -> None:
         client = self._tenancy.first_of(session, number)
         if client is not None:
-            how = "joins as" if joins else "goes on in" if number else "begins"
-            logger.info("client %d %s session %d with %d.%d", client, how, session, session, number)
+            self._teller.client(ClientTold(client, session, number, joins))
 
     # sessions that join
 
@@ -296,17 +296,14 @@ class Audit:
         figures.kinds[report.kind] = figures.kinds.get(report.kind, 0) + 1
         if figures.awaited is not None:
             figures.awaited = self._awaited()
-        cut = self._cut_or_none(report, no_cut)
+        cut, no_cut = (None, no_cut) if no_cut else self._cut(report)
         now = time.monotonic()
         rate = (count - self._told_of) / max(now - figures.told_at, 0.001)
         figures.told_at, self._told_of = now, count
         figures.lag = max(figures.lag, self._behind)
         figures.told_behind, self._behind = self._behind, 0.0
-        self._tell(
-            f"round {report.number}: {report.kind}; {count} transactions, "
-            f"{rate:.0f} a second, {figures.told_behind:.2f} s behind; "
-            f"{self._auditor.remaining} remain; {cut}"
-        )
+        its = (report, count, rate, figures.told_behind, self._auditor.remaining, cut, no_cut)
+        self._teller.round(RoundTold(*its))
         if wrong is not None:
             raise wrong
         if goes_on:
@@ -334,22 +331,18 @@ class Audit:
         reads = never_came(self._auditor.history, self._auditor.marks)
         return dict(Counter(read.source[0] for read in reads))
 
-    def _cut_or_none(self, report: Report, no_cut: Optional[str]) -> str:
-        """In words: what was forgotten, or else this, if there is such a reason for none."""
-        return f"no cut: {no_cut}" if no_cut else self._cut(report)
-
-    def _cut(self, report: Report) -> str:
-        """In words."""
+    def _cut(self, report: Report) -> Tuple[Optional[Cut], str]:
+        """What was forgotten; or None, and why, if that isn't told by the verdict."""
         if report.kind not in (SERIAL, PENDING):
-            return "no cut"
+            return None, ""
         try:
             cut = self._auditor.truncate()
         except NoCutError:
-            return "no cut: no fence is settled"
+            return None, "no fence is settled"
         self._figures.cuts += 1
         self._figures.cut_at = time.monotonic()
         self._forget_clients()
-        return f"cut at {cut.fence[0]}.{cut.fence[1]}: {cut.gone} forgotten"
+        return cut, ""
 
     def _forget_clients(self) -> None:
         marks = self._auditor.marks
