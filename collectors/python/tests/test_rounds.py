@@ -100,14 +100,19 @@ class Run:
         for _ in range(self.dice.randrange(6)):
             self.store.execute()
 
+    def go_on(self):
+        """While a round is searched."""
+        self.execute()
+        self.overlapped += self.offer()
+        if self.dice.random() < 0.1:
+            self.close()
+
     def round(self):
         counts = [*map(len, self.history)]
         self.auditor.begin_round()
+        self.go_on()
         while not self.auditor.has_round(0.0):
-            self.execute()
-            self.overlapped += self.offer()
-            if self.dice.random() < 0.1:
-                self.close()
+            self.go_on()
         report = self.auditor.last_round()
         self.test.assertEqual([*report.counts], counts)
         whole = verdict_of(self.history, counts)
@@ -177,8 +182,6 @@ class Overlapping(unittest.TestCase):
 
 @unittest.skipUnless(os.access(PROGRAM, os.X_OK), "cobra_audit isn't built")
 class OverlappingByTheProgram(Overlapping):
-    AT_LEAST = 0  # its searches may end before anything comes
-
     def program(self, folder, seed):
         return PROGRAM
 
