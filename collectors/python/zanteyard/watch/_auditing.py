@@ -52,6 +52,7 @@ class Auditing:
         self.promise = promise
         self.audits = 0
         self._round = 0  # the last one's number
+        self._uncounted = 0  # rounds that were skipped, and which the program doesn't count
         self._refusal = b""  # the last reply that was one
         self.run_name = uuid.uuid4().hex
         self._program: Union[Pipes, SupervisedProgram, None] = None
@@ -93,7 +94,7 @@ class Auditing:
     def _begin(self, line: bytes) -> None:
         self.end()
         self.audits += 1
-        self._round = 0
+        self._round = self._uncounted = 0
         if self.journal is None:
             self._program = begun(self.path, self.promise)
             return
@@ -125,11 +126,15 @@ class Auditing:
             while report is None and not search.is_skipped:
                 search.pause(SECONDS)
                 report = search.look()
-            if report is None:
-                report = ["report", self._round + 1, "spent", self._reply_to(["show"])[2]]
+            if report is not None:
+                self._round = report[1] + self._uncounted
+            else:
+                self._round += 1
+                self._uncounted += not isinstance(self._program, SupervisedProgram)
+                report = ["report", 0, "spent", self._reply_to(["show"])[2]]
         except RefusedError:
             return self._refusal
-        self._round = report[1]
+        report[1] = self._round
         return written(report).encode()
 
     def _reply_to(self, line: Sequence[Any]) -> List[Any]:
