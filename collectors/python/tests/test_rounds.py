@@ -437,6 +437,41 @@ class BelowALiveAudit(WithMadeUp):
         outcome = live.stop()
         self.assertEqual((outcome.kind, outcome.audited, outcome.failure), ("serial", 21, None))
 
+    def test_who_joins_waits_and_holds_up_nobody(self):
+        """A session that a client has joined is taken in behind the report, with all it did."""
+        for kind in (Auditor, AuditorApart):
+            with self.subTest(kind=kind):
+                self.ended = os.path.join(self.folder, f"ended {kind.__name__}")
+                self.end_searches()
+                live, auditor = self.live(kind, waits=self.ended)
+                live._pace.seconds = 600.0
+                store = MemoryStore()
+                stays = live.session(store.connect())
+                stays.run(add_one)
+                live._pace.every = 1
+                self.wait_for(lambda: live.cuts)  # from here on sessions may join
+                live._pace.every, live._pace.seconds = 10000, 0.0
+                os.remove(self.ended)
+                stays.run(add_one)
+                self.wait_for(lambda: self.lines()[-1][0] in ("search", "offer"))
+                rounds, others = live.rounds, [live.session(store.connect()) for _ in range(2)]
+                for _ in range(5):
+                    for session in (stays, *others):
+                        session.run(add_one)
+                numbers = [session.number for session in others]
+                self.wait_for(lambda: auditor.received[0] == live.next_number(0))
+                time.sleep(0.2)
+                self.assertEqual(live.rounds, rounds)
+                joined = max(numbers)
+                self.assertEqual([line for line in self.lines() if line[:2] == ["join", joined]], [])
+                self.end_searches()
+                self.wait_for(lambda: len(auditor.received) > joined and auditor.received[joined] > 5)
+                self.assertNotIn("RoundOpen", str(live.failure))
+                outcome = live.stop()
+                self.assertEqual((outcome.kind, outcome.audited, outcome.failure),
+                                 ("serial", outcome.handed_in, None))
+                auditor.end()
+
     def test_no_more_is_taken_in_than_there_is_room_for(self):
         live, _ = self.live(limit=24, waits=self.ended)
         session = live.session(MemoryStore().connect())
