@@ -16,6 +16,7 @@ import unittest
 from zanteyard import FENCE, Auditor, AuditorApart, LiveAuditor, Logged, NoCutError, NoMemoryError
 from zanteyard import Policy, ProgramEndedError
 from zanteyard.core.errors import NotAnchoredError
+from zanteyard.journal import _writer as journal_writer
 from zanteyard.program._auditor import PROGRAM
 from zanteyard.program._check_report import by_turns
 from zanteyard.program._intake import EFFORTS
@@ -194,6 +195,8 @@ class OverlappingWhereProgramsDie(Overlapping):
     def setUp(self):
         logging.getLogger("zanteyard").setLevel(logging.ERROR)
         self.addCleanup(logging.getLogger("zanteyard").setLevel, logging.NOTSET)
+        self.addCleanup(setattr, journal_writer, "GROWS", journal_writer.GROWS)
+        journal_writer.GROWS = 150  # bytes, after which the journal is written anew
 
     def auditor(self, folder, sessions, limit, seed):
         more = {"journal": f"{folder}/journal"}
@@ -376,6 +379,7 @@ class SearchesThatDoNotEnd(WithMadeUp):
             self.wait_for(lambda: live.figures.kinds.get("spent", 0) >= count)  # noqa: B023
         self.assertEqual((live.report.kind, live.failure), ("spent", None))
         self.end_searches()
+        session.run(add_one)
         outcome = live.stop()
         self.assertEqual((outcome.kind, outcome.audited), ("serial", outcome.handed_in))
 

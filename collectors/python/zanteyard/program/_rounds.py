@@ -47,8 +47,8 @@ class Rounds(Lines):
         self._search, self._may_be_open = None, False
 
     def _search_next(self) -> None:
-        self.effort, self._may_be_open = self._efforts.popleft(), True
-        self._begun_with = [*self.received]
+        self._search, self._may_be_open = None, True
+        self.effort, self._begun_with = self._efforts.popleft(), [*self.received]
         asked = (*self.effort, GUIDED)
         self._search = SearchedRound(self._ask_of_round, asked, self.round_seconds)
 
@@ -65,14 +65,18 @@ class Rounds(Lines):
     def _has_report(self) -> bool:
         with self.lock:
             if self._report is None:
-                if self._search is None:  # it was begun in a process that is gone
+                if self._search is None:  # in a process that is gone, or an interrupt has ended it
                     self._begin_search(EFFORTS)
                 self._look()
             return self._report is not None
 
     def _look(self) -> None:
         assert self._search is not None
-        reply = self._search.look()
+        try:
+            reply = self._search.look()
+        except NoRoundError:
+            self._search, self._may_be_open = None, False
+            return
         if reply is not None:
             report = Report(*reply[1:])
             self._told = report.number + self._uncounted
