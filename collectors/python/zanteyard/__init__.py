@@ -49,7 +49,6 @@ from .core.errors import (
     ProgramMissingError,
     ProgramTooOldError,
     RefusedError,
-    RoundTooLongError,
     ScriptMistakeError,
     StoreLateError,
     StoreUnfitError,
@@ -61,6 +60,7 @@ from .explain._shrinking import audited, from_start, smaller
 from .explain._violation_text import tell_violation
 from .explain._words import words
 from .live._live_auditor import LiveAuditor
+from .live._told import ClientTold, RoundTold
 from .program._auditor import Auditor
 from .program._subprocess import AuditorApart
 from .remote._client import AuditClient
@@ -76,14 +76,13 @@ __all__ = [
     *("LiveAuditor", "AuditServer", "AuditClient"),
     *("Policy", "RATHER_LOSE_THE_AUDIT", "RATHER_WAIT"),
     # what came of it
-    *("Outcome", "Pending", "Report"),
+    *("Outcome", "Pending", "Report", "RoundTold", "ClientTold"),
     # what is told of a violation
     *("Explanation", "audited", "dot_text", "draw", "explain_history", "from_start", "reasons"),
     *("smaller", "tell_violation", "words"),
     # what is raised
     *("AbortedError", "AuditLostError", "FolderUnfitError", "FullError", "NameTakenError"),
     *("JournalError", "JournalDamagedError", "JournalInUseError", "JournalVersionError"),
-    "RoundTooLongError",
     *("NoCutError", "NoMemoryError", "OtherVersionError", "OutcomeUnknownError"),
     "ProgramEndedError",
     *("ProgramLateError", "ProgramMissingError", "ProgramTooOldError"),

@@ -12,9 +12,8 @@ from ..core._outcome import RATHER_LOSE_THE_AUDIT
 from ..core._records import as_bytes, unpacked
 from ..core._window import Coverage
 from ._auditor import Auditor
-from ._intake import Effort, Fragment
+from ._intake import Fragment
 from ._resuming import Reopened
-from ._running import RunningAuditor
 
 logger = logging.getLogger("zanteyard")
 
@@ -56,14 +55,6 @@ class OfPacked(Auditor):
         return as_bytes(logged), left_out
 
 
-class OfPackedRunning(OfPacked, RunningAuditor):
-    """The same over this cobra_live."""
-
-    def __init__(self, *arguments: Any, running: str, **more: Any) -> None:
-        self.running = running
-        super().__init__(*arguments, **more)
-
-
 class Telling(logging.Handler):
     """Keeps the log's lines, with their levels."""
 
@@ -100,18 +91,13 @@ class Served:
         audits: int,
         coverage: Optional[Coverage],
         has_sessions: bool,
-        running: str,
         promise: str,
     ) -> None:
         if journal is not None:
             self._tell_log()
         settings: Any = (sessions, limit, program, run_name, script, RATHER_LOSE_THE_AUDIT)
         settings += (journal, round_seconds, promise)
-        more: Any = {"audits": audits, "coverage": coverage}
-        if running:
-            self.auditor = OfPackedRunning(*settings, **more, running=running)
-        else:
-            self.auditor = OfPacked(*settings, **more)
+        self.auditor = OfPacked(*settings, audits=audits, coverage=coverage)
         if has_sessions:
             self.auditor.note_sessions()
 
@@ -130,9 +116,9 @@ class Served:
         refused = {session for session, _, _ in self.auditor.offer_all(fragments, joining)}
         return refused, self.auditor.left_out, self.auditor.remaining
 
-    def last_round(self, efforts: Sequence[Effort]) -> Any:
+    def last_round(self) -> Any:
         """The report, how many reads were left out, and how many transactions remain."""
-        report = self.auditor.last_round(efforts)
+        report = self.auditor.last_round()
         return report, self.auditor.left_out, self.auditor.remaining
 
     def truncate(self) -> Any:
