@@ -8,7 +8,7 @@ import unittest
 
 from tests import test_watch_audit, test_watch_run, test_watch_whole
 from tests import watch_feed as feed
-from zanteyard.cli._main import parser
+from zanteyard.cli._commands import parser
 from zanteyard.core._records import AuditId
 from zanteyard.program._binaries import PROGRAM
 from zanteyard.promises._kinds import SNAPSHOT
@@ -20,7 +20,7 @@ from zanteyard.watch._explaining import Explaining
 from zanteyard.watch._figures import families
 from zanteyard.watch._intake import Intake
 from zanteyard.watch._live_page import whole_page
-from zanteyard.watch._proxy import proxy_path
+from zanteyard.watch._proxy_program import proxy_path
 from zanteyard.watch._retained import Retained
 from zanteyard.watch._run import Plan, Run
 from zanteyard.watch._violation_page import violation_page

@@ -23,7 +23,7 @@ from ._ending import STATUS_WORDS
 from ._facts import create, findings, server_of
 from ._patterns import add_tables_option
 from ._prepare import host_name
-from ._proxy import find_proxy
+from ._proxy_program import find_proxy
 from ._run import Plan, Run, stopped_by_signals
 from ._sharing import add_sharing, mistake_of, words_of
 from ._supervising import CantBeginError
