@@ -16,7 +16,7 @@ from zanteyard.core.errors import ProgramMissingError
 from zanteyard.program._binaries import PROGRAM
 from zanteyard.trial.postgres_server import PostgresServer, program
 from zanteyard.watch._database import Database, DatabaseError
-from zanteyard.watch._proxy import build_of, find_proxy, proxy_path
+from zanteyard.watch._proxy_program import build_of, find_proxy, proxy_path
 from zanteyard.watch._run import Plan, Run
 from zanteyard.watch._supervising import CantBeginError
 
@@ -121,6 +121,30 @@ class Runs(InAFolder):
     def test_a_proxy_that_cant_begin(self):
         with self.assertRaisesRegex(CantBeginError, "the proxy ended with status 3"):
             self.run_of([("exit", 3)], is_done=lambda its: False)
+
+    def test_an_audit_that_cant_begin(self):
+        """The proxy goes on, but an audit of that server won't begin by itself."""
+        ended = feed.event("ended", at=feed.AT, reason="read the catalog: no password supplied")
+        wanted = "^the audit can't begin: read the catalog: no password supplied$"
+        with self.assertRaisesRegex(CantBeginError, wanted):
+            self.run_of([ended], is_done=lambda its: False)
+
+    def test_an_audit_that_waits_for_a_transaction_begins_later(self):
+        blocked = feed.event("ended", at=feed.AT, reason="a transaction is open", blocked=True)
+        told, status = self.run_of(
+            [blocked, ("await", "restart"), *SERIAL],
+            is_done=lambda its: its.kind == "serial" and its.seen.reads,
+        )
+        self.assertEqual(status, 4)
+        self.assertTrue(any("a transaction is open" in line for line in told), told)
+
+    def test_an_audit_that_had_begun_is_tried_again(self):
+        ended = feed.event("ended", at=feed.AT, reason="the slot was lost")
+        told, status = self.run_of(
+            [feed.started(), feed.OPEN, ended, ("await", "restart"), *SERIAL],
+            is_done=lambda its: its.kind == "serial" and its.seen.reads,
+        )
+        self.assertEqual(status, 4)
 
     def test_a_proxy_that_dies_is_replaced(self):
         told, status = self.run_of(

@@ -131,11 +131,9 @@ def run(asked: Any) -> int:
         call, program, title, origin_of(program).sentence(), environment,
         page=asked.page, metrics=asked.metrics, journal=asked.journal, save=asked.save,
         round_seconds=asked.round_seconds, for_seconds=asked.seconds, redacts=asked.redact,
-        promise=ASKED[asked.promise],
+        promise=ASKED[asked.promise], listen=asked.listen,
     )
     watch = Run(plan, tell)
-    about = plan.promise.title
-    logger.info("applications connect to %s; they are watched for %s", asked.listen, about)
     with stopped_by_signals(watch):
         try:
             return watch.run()

@@ -62,6 +62,7 @@ class Watching:
         self._violated: Optional[bytes] = None  # a report that hasn't been seen to
         self._is_stopping = self._has_started = False
         self._has_given_up = False  # the proxy ended its audit, and hasn't begun another one
+        self.cant_begin = ""  # why the first audit of all couldn't
         self._restart_at: Optional[float] = None  # by the monotonic clock
         self._ends = 0  # of audits, one soon after another
         self._ended_at = float("-inf")
@@ -243,7 +244,7 @@ class Watching:
         elif name == "ended":
             if not self.stopped.is_set():  # else it was told to end
                 self._has_given_up = True
-                self._lose(text(event.get("reason")) or "the proxy gave it up")
+                self._given_up(event)
         elif name == "stopped":
             self.stopped.set()
         elif name == GONE:
@@ -253,6 +254,14 @@ class Watching:
             self._restart_at = None  # the next one begins an audit by itself
             if self._is_stopping:
                 self.stopped.set()
+
+    def _given_up(self, event: Event) -> None:
+        """One that has never begun lacks something, unless it only waited for a transaction."""
+        reason = text(event.get("reason")) or "the proxy gave it up"
+        if self._has_started or event.get("blocked") is True:
+            self._lose(reason)
+        else:
+            self.cant_begin = self.cant_begin or reason
 
     def _warn(self, told: str) -> None:
         """In the log only if it hasn't said the same for a while."""
