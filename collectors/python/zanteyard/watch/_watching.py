@@ -19,7 +19,7 @@ from ._intake import Intake
 from ._pending import waiting_reads
 from ._redacting import without_values
 from ._retained import Retained
-from ._violations import Held, keys_of, last_writers
+from ._violations import Held
 
 OK, REPORT, CUT = b'["ok"]', b'["report",', b'["cut",'
 TRUNCATE, ROUND = b'["truncate"', b'["round"'
@@ -180,8 +180,7 @@ class Watching:
         report, self._violated = json.loads(self._violated), None
         sentence = self.auditing.promise.sentence("violated")
         logger.error("VIOLATED: %s; an explanation follows", sentence)
-        keys = keys_of(report[4])
-        held = Held(self._retained, keys, last_writers(self.auditing.ask(SHOW), keys))
+        held = Held(self._retained, report, self.auditing.ask(SHOW))
         self.explaining.begin(
             report,
             held,
