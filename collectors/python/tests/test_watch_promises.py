@@ -197,7 +197,7 @@ class OverAServer(test_watch_whole.Whole):
         self.until(skew, lambda status: is_done(status) or status.violations)
         told = self.finish()
         self.assertEqual(self.status, 0, told)
-        self.assertRegex(told, "serial: .* transactions were checked for snapshot isolation, in ")
+        self.assertRegex(told, "(?m)^kept: .* transactions were checked for snapshot isolation, in ")
 
     def test_read_committed_loses_updates(self):
         one, other = self.connect(), self.connect()

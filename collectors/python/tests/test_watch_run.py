@@ -14,6 +14,7 @@ import urllib.request
 from tests import watch_feed as feed
 from zanteyard.core.errors import ProgramMissingError
 from zanteyard.program._binaries import PROGRAM
+from zanteyard.promises._kinds import SNAPSHOT
 from zanteyard.trial.postgres_server import PostgresServer, program
 from zanteyard.watch._database import Database, DatabaseError
 from zanteyard.watch._proxy_program import build_of, find_proxy, proxy_path
@@ -99,6 +100,16 @@ class Runs(InAFolder):
                 "                          SELECT count(*) FROM orders WHERE customer = $1",
             ],
         )
+
+    def test_a_promise_that_is_kept(self):
+        """Which says nothing of a serial order."""
+        with self.assertLogs("zanteyard", "INFO") as logged:
+            told, status = self.run_of(SERIAL, promise=SNAPSHOT)
+        self.assertEqual(status, 0)
+        wanted = "kept: 8 of 11 transactions were checked for snapshot isolation, in 2 rounds"
+        self.assertEqual(told[0], wanted)
+        self.assertTrue(any("round 1: kept, of " in line for line in logged.output))
+        self.assertFalse(any("serial" in line for line in [*logged.output, *told]))
 
     def test_a_violated_one_is_kept(self):
         folder = os.path.join(self.folder, "found")

@@ -13,6 +13,7 @@ from typing import Callable, Dict, List, Optional, Sequence
 from ..core.errors import JournalError, ProgramEndedError, RoundTooLongError, ZanteyardError
 from ._auditing import Auditing, refusal_of
 from ._board import Board
+from ._ending import word_of
 from ._explaining import Explaining
 from ._feed import Event, Item, answered_of, command, text, whole
 from ._intake import Intake
@@ -157,7 +158,7 @@ class Watching:
         logger.log(
             logging.INFO if is_due else logging.DEBUG,
             "round %d: %s, of %d transactions, %d of them remembered; %.1f s behind",
-            number, kind, seen.taken, seen.remaining, seen.behind,
+            number, word_of(kind, self.auditing.promise), seen.taken, seen.remaining, seen.behind,
         )
         if kind == "violated":
             self._violated = reply
