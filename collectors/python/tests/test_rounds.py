@@ -308,6 +308,17 @@ class WhileARoundIsSearched(WithMadeUp):
         found = sorted(report()[:3] for report in reports)
         self.assertEqual(found, [(1, "serial", [1, 0]), (2, "serial", [1, 1])])
 
+    def test_one_that_nobody_took_is_not_told_for_another(self):
+        auditor = self.auditor()
+        auditor.offer(0, 0, WRITES)
+        auditor.begin_round()
+        self.assertTrue(auditor.has_round(SECONDS))
+        auditor.offer(0, 1, WRITES)
+        auditor.begin_round()
+        self.assertEqual(auditor.last_round().counts, [2, 0])
+        auditor.last_round(((7, 0, 1),))
+        self.assertEqual(auditor.effort, (7, 0, 1))
+
     def test_a_session_that_joins_waits_for_it(self):
         auditor = self.auditor(waits=self.ended)
         auditor.offer(0, 0, FIRST_FENCE)
