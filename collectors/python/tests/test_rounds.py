@@ -333,6 +333,18 @@ class WhileARoundIsSearched(WithMadeUp):
         with self.assertRaises(NotAnchoredError):
             auditor.join(3, 0, WRITES)
 
+    def test_who_waits_for_it_begins_none(self):
+        """Though somebody else has its report by then."""
+        auditor = self.auditor(waits=self.ended)
+        auditor.offer(0, 0, FIRST_FENCE)
+        report = self.beside(auditor.round)
+        self.wait_for(lambda: ["begin"] in self.lines())
+        joined = self.beside(lambda: auditor.join(2, 0, NEXT_FENCE))
+        self.end_searches()
+        self.assertEqual(report().counts, [1, 0])
+        self.assertIsNone(joined())
+        self.assertEqual(self.lines().count(["begin"]), 1)
+
     def test_a_cut_waits_for_it(self):
         auditor = self.auditor(waits=self.ended)
         auditor.offer_all([(0, 0, [FIRST_FENCE]), (1, 0, [NEXT_FENCE])])
