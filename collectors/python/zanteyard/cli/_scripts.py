@@ -73,9 +73,9 @@ def _add_promise(command: argparse.ArgumentParser) -> None:
 
 
 def _nodes(text: str) -> int:
-    nodes = int(text)
+    nodes = int(text) if text.isdecimal() else 0
     if not 1 <= nodes <= MORE[-1][0]:
-        raise argparse.ArgumentTypeError(f"1 to {MORE[-1][0]}")
+        raise argparse.ArgumentTypeError(f"{text!r} is no whole number from 1 to {MORE[-1][0]:,}")
     return nodes
 
 
