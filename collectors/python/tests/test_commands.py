@@ -20,6 +20,7 @@ from zanteyard.cli.audit import stopped_by_signals
 from zanteyard.cli._commands import COMMANDS, parser
 from zanteyard.cli._main import main
 from zanteyard.core._outcome import Outcome
+from zanteyard.program import _binaries
 from zanteyard.program._binaries import ProgramOrigin, find_program, found_live, program_path
 from zanteyard.core._version import VERSION
 
@@ -456,6 +457,16 @@ class Programs(unittest.TestCase):
             ):
                 with self.subTest(its=its):
                     self.assertEqual(found_live(its), wanted)
+
+    def test_one_without_proofs_says_that_it_is_slow(self):
+        """In its version, and where clients wait for it."""
+        slow = "some 300 times slower than a proved one"
+        self.assertIn(f"NOT PROVED, built for a first try; {slow}", ProgramOrigin("p", False).sentence())
+        for is_proved, wanted in ((False, f" (it was built without proofs, and is {slow})"), (True, ""), (None, "")):
+            with mock.patch.object(_binaries, "origin_of", return_value=ProgramOrigin("p", is_proved)):
+                self.assertEqual(_binaries.slowness_of("p"), wanted)
+        with mock.patch.object(_binaries, "origin_of", side_effect=OSError):
+            self.assertEqual(_binaries.slowness_of("p"), "")
 
     def test_its_origin_is_told(self):
         self.assertEqual(ProgramOrigin("p", True, "kit", "abc").sentence(), "p: proved by kit, commit abc")
