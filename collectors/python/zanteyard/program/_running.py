@@ -98,7 +98,7 @@ class RunningAuditor(Auditor):
     def _hold(self, fragment: Fragment, joins: bool, refused: List[Fragment]) -> bool:
         """Whether it was held, or refused for want of room, as is what comes behind such a one. Of
         anything else only the program can say what is wrong with it."""
-        session, first, txns, _ = its = self._covered(fragment)
+        session, first, txns, *_ = its = self._covered(fragment)
         body = [*map(self.txn, txns)]
         if any(one[0] == session for one in refused):
             refused.append(fragment)
@@ -418,6 +418,7 @@ class RunningAuditor(Auditor):
         its = self.history[line.session]
         del its[len(its) - line.length :]
         self.left_out -= line.fragment[3]
+        self.from_before -= line.fragment[4]
         if line.is_new:
             for each in (self.history, self.marks, self.closed):
                 each.pop()
