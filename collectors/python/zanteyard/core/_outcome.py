@@ -103,7 +103,7 @@ class Outcome:
         if self.left_out:
             parts.append(f"{self.left_out} reads weren't checked")
         if self.from_before:
-            parts.append(f"{self.from_before} reads were of versions from before the audit")
+            parts.append(words_of_before(self.from_before))
         for read in self.pending[:3]:
             reader, source = (".".join(map(str, id)) for id in (read.reader, read.source))
             parts.append(f"{reader} read {read.key} from {source}, which never came")
@@ -115,6 +115,12 @@ class Outcome:
 
 
 KINDS = {"spent": UNDECIDED}
+
+
+def words_of_before(reads: int) -> str:
+    """So many of which the audit knows no writer."""
+    what = "1 read was of a version" if reads == 1 else f"{reads} reads were of versions"
+    return f"{what} from before the audit"
 
 
 def kind_of(report: Optional[Report], failure: Optional[Exception], is_whole: bool) -> str:
