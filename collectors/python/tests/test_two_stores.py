@@ -12,7 +12,8 @@ import unittest
 from unittest import mock
 
 from zanteyard import AuditClient, Auditor, AuditorApart, AuditServer, LiveAuditor, Policy, Session, StoreUnfitError
-from zanteyard.core._store_identity import LONGEST, UNTOLD, AuditedStore, StoreIdentity, checked, identity_of
+from zanteyard.core._store_identity import LONGEST, UNSURE, UNTOLD, AuditedStore, StoreIdentity
+from zanteyard.core._store_identity import checked, identity_of
 from zanteyard.core.errors import AuditLostError
 from zanteyard.remote._client_process import ClientProcess
 from zanteyard.stores import sqlite
@@ -359,6 +360,17 @@ class Redis(Pairs, Quiet):
         session.run(count)
         self.assertEqual(session.met, UNTOLD)
 
+    def test_one_that_takes_no_writes_can_not_tell_it_yet(self):
+        admin = redis.Redis.from_url(self.one.dsn)
+        self.addCleanup(admin.close)
+        admin.config_set("maxmemory", "1")
+        store = self.opened(("redis", self.one.dsn))
+        self.assertEqual(store.identity(), UNSURE)
+        admin.config_set("maxmemory", "0")
+        self.assertEqual(store.identity(), UNSURE)  # of the connection that is still there
+        store.hang_up()
+        self.assertRegex(store.identity().known, "^redis [0-9a-f]{16} 0 zanteyard:$")
+
     def test_another_one_knows_nothing_of_a_commit(self):
         from zanteyard.stores.redis import asked
 
@@ -582,12 +594,19 @@ class InMemory(Quiet):
         self.assertEqual(auditor.outcome().kind, "serial")
 
     def test_what_is_no_identity(self):
-        for told in (3, ("a",), ("a", 3), ("a", "b" * (LONGEST + 1)), b"ab"):
-            with self.subTest(told=str(told)[:20]), self.assertRaises((ValueError, TypeError)):
+        for told in (3, ("a",), ("a", 3), (3, "a"), b"ab"):
+            with self.subTest(told=told), self.assertRaises((ValueError, TypeError)):
                 identity_of(told)
         self.assertEqual(identity_of(["a", "b"]), StoreIdentity("a", "b"))
-        with self.assertRaises(ValueError):
-            checked(None, "a")
+        for one in (("a" * LONGEST, "a" * (LONGEST + 1)), (None, "a"), ("a", None)):
+            with self.assertRaises(ValueError):
+                checked(*one)
+
+    def test_what_is_too_long_to_be_sent(self):
+        one, other = (identity_of(StoreIdentity(f"{'a' * LONGEST}{last}", f"{'b' * LONGEST}{last}")) for last in "cd")
+        self.assertNotEqual(one.known, other.known)
+        self.assertEqual((one.shown, identity_of(f"{'a' * LONGEST}c").known), ("b" * LONGEST, one.known))
+        checked(*one)
 
     def test_what_a_name_has_of_control_characters_is_shown(self):
         audited = AuditedStore()
@@ -619,6 +638,24 @@ class InMemory(Quiet):
             with self.assertRaises(StoreUnfitError):
                 b.run(count)
             live.stop()
+
+    def test_one_that_can_not_tell_it_now_is_asked_again(self):
+        """As a Redis whose memory is full. Nothing is audited by then, and the application goes on."""
+        first, _ = self.stores()
+        store = Told(first, UNSURE)
+        asked = []
+        store.hang_up = lambda: asked.append(store.told)
+        auditor = self.auditor()
+        session = Session(auditor, 0, store)
+        session.run(count)
+        session.run(count)
+        self.assertEqual((asked, auditor.audited_store.identity), ([], None))
+        session.meet_at, store.told = 0.0, "bank"
+        session.run(count)
+        self.assertEqual((len(asked), session.met, session.unmet), (1, StoreIdentity("bank", "bank"), None))
+        outcome = auditor.outcome()
+        self.assertEqual(outcome.kind, "incomplete")
+        self.assertIn("it can't tell now which one it is", str(outcome.failure))
 
     # where the auditor's process doesn't answer
 

@@ -7,6 +7,7 @@ that is told is the audit's, and no other one is let in.
 
 from __future__ import annotations
 
+import hashlib
 import logging
 import os
 import socket
@@ -27,18 +28,27 @@ class StoreIdentity(NamedTuple):
     shown: str
 
 
-# Of a store that doesn't tell which one it is.
+# Of a store that doesn't tell which one it is; and of one that couldn't tell it this time, as where
+# its memory is full.
 UNTOLD = StoreIdentity("", "a store that doesn't tell which one it is")
+UNSURE = StoreIdentity("?", "a store that can't tell now which one it is")
 
 
 def identity_of(told: Any) -> StoreIdentity:
     """Of what a store's `identity` gave: a StoreIdentity, one text for both, or None."""
-    if type(told) is StoreIdentity:
+    if type(told) is StoreIdentity and len(told.known) <= LONGEST >= len(told.shown):
         return told
     if told is None:
         return UNTOLD
     known, shown = (told, told) if isinstance(told, str) else told
-    return checked(known, shown)
+    return checked(bounded(known), shown[:LONGEST])
+
+
+def bounded(known: str) -> str:
+    """What is longer than may be sent is known by its sum."""
+    if len(known) <= LONGEST:
+        return known
+    return f"sum {hashlib.sha256(known.encode(errors='surrogatepass')).hexdigest()}"
 
 
 def checked(known: Any, shown: Any) -> StoreIdentity:

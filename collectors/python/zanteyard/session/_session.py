@@ -16,7 +16,7 @@ from typing import Any, Callable, Iterator, List, Optional
 from ..core._crash_notes import CrashNotes
 from ..core._forks import keep
 from ..core._locks import give_back, take
-from ..core._store_identity import StoreIdentity
+from ..core._store_identity import UNSURE, StoreIdentity
 from ..core._stores import Store
 from ..core.errors import (
     AbortedError,
@@ -91,6 +91,7 @@ class Session(OwnTransactions):
         # then isn't audited.
         self.met: Optional[StoreIdentity] = None
         self.unmet: Optional[Exception] = None
+        self.is_unsure = False  # which one it is couldn't be told
         self.meet_at = 0.0  # when the auditor is asked again
         self.wait = getattr(getattr(auditor, "policy", None), "wait", 30.0)
         # Held by a transaction from its begin to its end, and by a meeting.
@@ -294,6 +295,8 @@ class Session(OwnTransactions):
         if self.met is not None or not hasattr(self.auditor, "meet_store"):
             return
         is_first, began = self.unmet is None, time.monotonic()
+        if self.is_unsure and began >= self.meet_at:
+            self.hang_up()  # the next connection is asked anew
         identity = self.calls.identity()
         self.connecting = time.monotonic() - began
         self.meet_store(identity)
@@ -306,8 +309,10 @@ class Session(OwnTransactions):
         """Whether it is the audit's is known behind this: `met`, or `unmet`."""
         if time.monotonic() < self.meet_at:
             return
-        self.met = None
+        self.met, self.is_unsure = None, identity == UNSURE
         try:
+            if self.is_unsure:
+                raise ProgramLateError("it can't tell now which one it is")
             self.auditor.meet_store(identity)
             self.met, self.unmet = identity, None
         except StoreUnfitError as error:

@@ -22,7 +22,7 @@ from pymysql.constants import SERVER_STATUS
 
 from ..core._commit_status import CommitStatus
 from ..core._records import Name, StoredValue
-from ..core._store_identity import StoreIdentity, known_of
+from ..core._store_identity import UNSURE, StoreIdentity, known_of
 from ..core._timeouts import LateError, within
 from ..core.errors import AbortedError, NameTakenError, OutcomeUnknownError
 from ._mariadb_connection import close_connection, limit, limited
@@ -77,6 +77,7 @@ RUN = "zanteyard run "  # before a run's name: the key of the row that says whos
 LAST = "zanteyard last "  # before a store's token: the key of the row that tells its outcomes
 STORE = "zanteyard store"  # the key of the row that tells this table from others
 NO_TABLE = 1146
+BARRED = (1044, 1045, 1142, 1143, 1290)  # no such right, or nothing may be written at all
 WRITING = 1.0  # seconds for that row, where it isn't there
 logger = logging.getLogger("zanteyard")
 
@@ -169,7 +170,7 @@ class MariaDBStore:
 
     def identity(self) -> Optional[StoreIdentity]:
         """By a row of its own that is written once, and when the table was made. None where that
-        can't be written or read."""
+        may not be written or read."""
         if self.is_hung_up:
             self.close()
         if not self.is_connected:
@@ -197,8 +198,8 @@ class MariaDBStore:
         except pymysql.MySQLError as error:
             if self.is_broken_at(connection, error) or code_of(error) == NO_TABLE:
                 raise
-            logger.info("which store this MariaDB is can't be found out: %s", error)
-            return None
+            logger.warning("which store this MariaDB is can't be found out: %s", error)
+            return None if code_of(error) in BARRED else UNSURE
         called = f"{schema or current}.{name}"
         host = self.dsn.get("unix_socket") or f"{connection.host}:{connection.port}"
         known = f"mariadb {token} {made} {called.casefold() if folds else called}"

@@ -14,7 +14,7 @@ import psycopg2
 from psycopg2 import errors, extensions
 
 from ..core._records import Name, StoredValue
-from ..core._store_identity import StoreIdentity
+from ..core._store_identity import UNSURE, StoreIdentity
 from ..core.errors import AbortedError, NameTakenError, OutcomeUnknownError
 from ._postgres_connection import connected, environment, outcome_told, to_its_server
 from .levels import checked_level
@@ -72,6 +72,7 @@ LIVES = f"""concat_ws(' ', extract(epoch FROM pg_postmaster_start_time()),
 LIFE = f"""SELECT pg_backend_pid(),
     (SELECT {AGE} FROM pg_stat_activity WHERE pid = pg_backend_pid()), {LIVES},
     concat_ws(' ', {SYSTEM}, {DATABASE_OID}, {TABLE_OID}), current_database()"""
+BARRED = (errors.InsufficientPrivilege, errors.UndefinedFunction, errors.FeatureNotSupported)
 CONFLICTS = (errors.SerializationFailure, errors.DeadlockDetected, errors.LockNotAvailable)
 PATIENCE = 5.0  # seconds for a connection, and for an outcome
 ATTEMPTS = 10  # at the first row of a key: each fails only where another client has just made it
@@ -172,8 +173,10 @@ class PostgresStore:
         except psycopg2.Error as error:
             if connection.closed or isinstance(error, errors.UndefinedTable):
                 raise
-            logger.info("which store this PostgreSQL is can't be found out: %s", str(error).strip())
-            return (connection.info.backend_pid, None, None), None  # then less is found out
+            message = str(error).strip()
+            logger.warning("which store this PostgreSQL is can't be found out: %s", message)
+            unknown = None if isinstance(error, BARRED) else UNSURE
+            return (connection.info.backend_pid, None, None), unknown  # then less is found out
         *life, known, database = cursor.fetchone()
         info = connection.info
         where = f"database {database} of the PostgreSQL at {info.host}:{info.port}"

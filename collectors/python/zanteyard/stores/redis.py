@@ -21,7 +21,7 @@ import redis
 from ..core._commit_status import CommitStatus
 from ..core._records import Name, StoredValue
 from ..core._redis_wire import BROKEN, Command, answers, connected, limit, replies
-from ..core._store_identity import StoreIdentity
+from ..core._store_identity import UNSURE, StoreIdentity
 from ..core.errors import AbortedError, NameTakenError, OutcomeUnknownError, StoreUnfitError
 from .levels import COMPARED, SINGLE, WATCHED, checked_level
 
@@ -31,6 +31,7 @@ LAST = "zanteyard last "  # before a store's token: the key that tells its outco
 STORE = "zanteyard store"  # the key that tells this Redis, its number and the prefix from others
 PATIENCE = 5.0  # seconds for a connection, and for an outcome
 MARK = "zanteyard "  # before each text: what another program writes hasn't it
+BARRED = redis.exceptions.NoPermissionError
 logger = logging.getLogger("zanteyard")
 
 
@@ -122,9 +123,10 @@ class RedisStore:
         lost then are lost writes, and no other store's."""
         key, mine = f"{self.prefix}{STORE}", self.token or secrets.token_hex(8)
         asked: List[Command] = [("INFO", "memory"), ("SET", key, mine, "NX"), ("GET", key)]
-        memory, _, told = answers(connection, asked)
+        memory, done, told = answers(connection, asked)
         self.see_that_nothing_is_dropped(memory)
-        self._identity = None
+        is_barred = isinstance(told, BARRED) or (told is None and isinstance(done, BARRED))
+        self._identity = None if is_barred else UNSURE
         if isinstance(told, str):
             self.token, number = told, getattr(connection, "db", 0)
             where = f"database {number} of the Redis {_place(connection)}"
@@ -133,7 +135,9 @@ class RedisStore:
 
     def identity(self) -> Optional[StoreIdentity]:
         """By a key of its own that is written once, and stays where the server is started anew or
-        another one takes its place. None where that can't be written or read."""
+        another one takes its place. None where that may not be written or read."""
+        if self.is_hung_up:
+            self.close()
         if self.connection is None:
             self.connect()
         return self._identity
