@@ -8,7 +8,7 @@ import time
 from dataclasses import dataclass
 from typing import Any, List, Optional, Tuple
 
-from ..core._outcome import RATHER_LOSE_THE_AUDIT, RATHER_WAIT, Outcome
+from ..core._outcome import RATHER_LOSE_THE_AUDIT, RATHER_WAIT, Outcome, words_of_before
 from ..core._visible import say
 from ..explain._charts import RoundSeen
 from ..explain._html import page_of
@@ -64,6 +64,8 @@ class LiveRun:
     def page(self, origin: str) -> str:
         """The run on a page."""
         about = f"{kind_of(self.asked).name}, {self.asked.workload} at {self._level()}"
+        if self.outcome.from_before:
+            about += f"; {words_of_before(self.outcome.from_before)}"
         return page_of(self.story or self._other_story(), about, origin, self.seen)
 
     def _level(self) -> str:
