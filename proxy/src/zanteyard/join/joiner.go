@@ -82,7 +82,7 @@ type Joiner struct {
 	asking     bool // a question for subtransactions is under way
 	warned     sync.Mutex
 	warnings   map[string]time.Time // when they were told last
-	given      time.Time // when fragments were given out
+	given      time.Time            // when fragments were given out
 	coverage   time.Time
 	forgot     time.Time
 }
