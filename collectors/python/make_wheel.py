@@ -26,7 +26,7 @@ from typing import Iterator, List, Optional, Sequence
 
 HERE = os.path.dirname(os.path.abspath(__file__))
 TOP = os.path.normpath(os.path.join(HERE, "../.."))
-PROGRAMS = ("cobra_audit", "cobra_check", "cobra_live")  # each a crate of this name
+PROGRAMS = ("cobra_audit", "cobra_check")  # each a crate of this name
 PROXY = os.path.join(TOP, "proxy", "out", "zanteyard-proxy")  # where its build.sh puts it
 LGPL = "/usr/share/common-licenses/LGPL-2.1"  # of the C library, which is linked into the proxy
 SLOWER = 300  # times, as docs/RUNNING.md measured it
@@ -91,8 +91,6 @@ def unproved(name: str, folder: str) -> str:
         if name == "cobra_check":  # lines with their replies
             turn = '["begin"]\n["ok"]\n["finish",1,0,1]\n["report",1,"serial",[0],[]]\n'
             file.write('["open",1,4096]\n["ok"]\n' + (turn + '["rebuild"]\n["ok"]\n') * 400000)
-        elif name == "cobra_live":
-            file.write('["open",1,4096,4096,0,1]\n' + '["close",1]\n' * 3000000)
         else:
             file.write('["open",1,4096]\n')
             file.writelines(f'["offer",0,{it},[[[],[{it + 1}]]]]\n' for it in range(4000))
@@ -135,11 +133,8 @@ def taken_from(trying: "subprocess.Popen[bytes]", name: str, folder: str) -> str
 
 def all_unproved(names: Sequence[str], folder: str) -> List[str]:
     """Side by side: each takes a minute of a processor, or two."""
-    print(
-        f"building without proofs: {', '.join(names)} (a minute or two on an idle machine). What is "
-        f"built so has its checks compiled in, and is some {SLOWER} times slower than what is proved",
-        flush=True,
-    )
+    print(f"building without proofs: {', '.join(names)} (a minute or two on an idle machine)")
+    print(f"(with its checks compiled in: some {SLOWER} times slower than what is proved)", flush=True)
     with ThreadPoolExecutor(len(names)) as building:
         return list(building.map(lambda name: unproved(name, folder), names))
 
@@ -222,7 +217,7 @@ def arguments(words: Optional[Sequence[str]]) -> argparse.Namespace:
     asked.add_argument(
         "--auditor-alone",
         action="store_true",
-        help="with --unproved: leaves out the checker and the running auditor",
+        help="with --unproved: leaves out the checker of stored replies",
     )
     return asked.parse_args(words)
 

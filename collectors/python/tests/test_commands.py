@@ -21,7 +21,7 @@ from zanteyard.cli._commands import COMMANDS, parser
 from zanteyard.cli._main import main
 from zanteyard.core._outcome import Outcome
 from zanteyard.program import _binaries
-from zanteyard.program._binaries import ProgramOrigin, find_program, found_live, program_path
+from zanteyard.program._binaries import ProgramOrigin, find_program, program_path
 from zanteyard.core._version import VERSION
 
 TOP = os.path.normpath(os.path.join(os.path.dirname(os.path.abspath(__file__)), "../../.."))
@@ -434,29 +434,6 @@ class Programs(unittest.TestCase):
         self.assertTrue(program_path({}).endswith("cobra_audit"))
         with self.assertRaisesRegex(Exception, "/no/such isn't there"):
             find_program({"COBRA_AUDIT": "/no/such"})
-
-    def test_which_running_auditor_is_started(self):
-        """The one that is named, or that is there beside the auditor that is named."""
-        with tempfile.TemporaryDirectory() as folder:
-            audit, live = (os.path.join(folder, it) for it in ("cobra_audit", "cobra_live"))
-            audit_built, live_built = (
-                os.path.join(folder, f"crates/{it}/out/{it}") for it in ("cobra_audit", "cobra_live")
-            )
-            self.assertEqual(found_live({"COBRA_AUDIT": audit}), "")
-            with open(live, "wb"):
-                self.assertEqual(found_live({"COBRA_AUDIT": audit}), "")  # it can't be started
-            os.chmod(live, 0o700)
-            os.makedirs(os.path.dirname(live_built))
-            self.assertEqual(found_live({"COBRA_AUDIT": audit_built}), "")
-            os.symlink(live, live_built)
-            for its, wanted in (
-                ({"COBRA_AUDIT": audit}, live),
-                ({"COBRA_AUDIT": audit_built}, live_built),
-                ({"COBRA_AUDIT": audit, "COBRA_LIVE": live_built}, live_built),
-                ({"COBRA_AUDIT": audit_built, "COBRA_LIVE": audit}, ""),
-            ):
-                with self.subTest(its=its):
-                    self.assertEqual(found_live(its), wanted)
 
     def test_one_without_proofs_says_that_it_is_slow(self):
         """In its version, and where clients wait for it."""

@@ -53,7 +53,6 @@ if TYPE_CHECKING:
         ProgramMissingError,
         ProgramTooOldError,
         RefusedError,
-        RoundTooLongError,
         ScriptMistakeError,
         StoreLateError,
         StoreUnfitError,
@@ -65,6 +64,7 @@ if TYPE_CHECKING:
     from .explain._violation_text import tell_violation
     from .explain._words import words
     from .live._live_auditor import LiveAuditor
+    from .live._told import ClientTold, RoundTold
     from .program._auditor import Auditor
     from .program._subprocess import AuditorApart
     from .remote._client import AuditClient
@@ -86,7 +86,7 @@ _PLACES = {
         "JournalError JournalInUseError JournalVersionError NameTakenError NoCutError "
         "NoMemoryError OtherVersionError OutcomeUnknownError ProgramEndedError "
         "ProgramLateError ProgramMissingError ProgramTooOldError RefusedError "
-        "RoundTooLongError ScriptMistakeError StoreLateError StoreUnfitError ZanteyardError"
+        "ScriptMistakeError StoreLateError StoreUnfitError ZanteyardError"
     ),
     "explain._graphviz": "dot_text draw",
     "explain._reasons": "Explanation explain_history reasons",
@@ -94,6 +94,7 @@ _PLACES = {
     "explain._violation_text": "tell_violation",
     "explain._words": "words",
     "live._live_auditor": "LiveAuditor",
+    "live._told": "ClientTold RoundTold",
     "program._auditor": "Auditor",
     "program._subprocess": "AuditorApart",
     "remote._client": "AuditClient",
@@ -122,14 +123,13 @@ __all__ = [
     *("LiveAuditor", "AuditServer", "AuditClient"),
     *("Policy", "RATHER_LOSE_THE_AUDIT", "RATHER_WAIT"),
     # what came of it
-    *("Outcome", "Pending", "Report"),
+    *("Outcome", "Pending", "Report", "RoundTold", "ClientTold"),
     # what is told of a violation
     *("Explanation", "audited", "dot_text", "draw", "explain_history", "from_start", "reasons"),
     *("smaller", "tell_violation", "words"),
     # what is raised
     *("AbortedError", "AuditLostError", "FolderUnfitError", "FullError", "NameTakenError"),
     *("JournalError", "JournalDamagedError", "JournalInUseError", "JournalVersionError"),
-    "RoundTooLongError",
     *("NoCutError", "NoMemoryError", "OtherVersionError", "OutcomeUnknownError"),
     "ProgramEndedError",
     *("ProgramLateError", "ProgramMissingError", "ProgramTooOldError"),

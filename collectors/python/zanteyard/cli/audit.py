@@ -7,16 +7,14 @@ import argparse
 import contextlib
 import glob
 import itertools
-import logging
 import os
 import signal
-import sys
 import threading
 import time
 from dataclasses import dataclass
 from typing import Any, Iterator, List, Optional, Tuple
 
-from ..core._outcome import RATHER_LOSE_THE_AUDIT, RATHER_WAIT, Outcome
+from ..core._outcome import RATHER_LOSE_THE_AUDIT, RATHER_WAIT, Outcome, words_of_before
 from ..core._visible import say
 from ..explain._charts import RoundSeen
 from ..explain._html import page_of
@@ -24,6 +22,7 @@ from ..explain._report import Story, story_of
 from ..explain._shrinking import from_start, refuted
 from ..explain._violation_text import tell_violation
 from ..live._live_auditor import LiveAuditor
+from ..live._told import RoundTold
 from ..program._subprocess import AuditorApart
 from ..promises._kinds import LIVE as PROMISES
 from ..remote._server import AuditServer
@@ -36,7 +35,6 @@ from ..trial.workloads import EVERY_WORKLOAD, ChurningClients, ClientProcesses, 
 
 PAGE_SECONDS = 5.0  # that finding the reasons for the page may take
 STAYING, CHURNING = 8, 16  # clients at a time, where nothing else is asked for
-logger = logging.getLogger("zanteyard")
 
 
 @dataclass(frozen=True)
@@ -72,6 +70,8 @@ class LiveRun:
     def page(self, origin: str) -> str:
         """The run on a page."""
         about = f"{kind_of(self.asked).name}, {self.asked.workload} at {self._level()}"
+        if self.outcome.from_before:
+            about += f"; {words_of_before(self.outcome.from_before)}"
         return page_of(self.story or self._other_story(), about, origin, self.seen)
 
     def _level(self) -> str:
@@ -151,20 +151,16 @@ def _beside(
 
 
 class _Rounds:
-    """Tells each round, and keeps what was seen of it."""
+    """Keeps what was seen of each."""
 
     def __init__(self) -> None:
-        self.live: Optional[LiveAuditor] = None
         self.began = time.monotonic()
         self.seen: List[RoundSeen] = []
 
-    def tell(self, line: str) -> None:
-        say(line, flush=True)
-        live = self.live
-        if live is not None and live.report is not None and line.startswith("round"):
-            at = time.monotonic() - self.began
-            remaining, behind = live.auditor.remaining, live.told_behind
-            self.seen.append(RoundSeen(at, live.report.kind, remaining, behind, live.taken_in))
+    def see(self, told: RoundTold) -> None:
+        at = time.monotonic() - self.began
+        kind, taken = told.report.kind, told.transactions
+        self.seen.append(RoundSeen(at, kind, told.remaining, told.behind, taken))
 
 
 def audited_run(
@@ -174,12 +170,11 @@ def audited_run(
     audit."""
     policy = RATHER_WAIT if asked.rather_wait else RATHER_LOSE_THE_AUDIT
     rounds, story = _Rounds(), None
-    if asked.churn:
-        _tell_clients()
     promise = asked.promise
     with AuditorApart(asked.clients, journal=asked.audit_journal, promise=promise) as auditor:
-        live = LiveAuditor(auditor, every=asked.every, policy=policy, tell=rounds.tell)
-        rounds.live = live
+        more: Any = {"on_client": _say} if asked.churn else {}  # what each did first
+        its = {"every": asked.every, "policy": policy, "tell": _say, "on_round": rounds.see}
+        live = LiveAuditor(auditor, **its, **more)
         clients = _beside(asked, make_store, live, stop or threading.Event())
         outcome = live.stop()
         if live.is_violated:
@@ -193,12 +188,8 @@ def audited_run(
         return live, outcome, clients, story, tuple(rounds.seen)
 
 
-def _tell_clients() -> None:
-    """What each did first, which the log tells."""
-    handler = logging.StreamHandler(sys.stdout)
-    handler.addFilter(lambda record: record.getMessage().startswith("client "))
-    logger.addHandler(handler)
-    logger.setLevel(logging.INFO)
+def _say(told: object) -> None:
+    say(str(told), flush=True)
 
 
 def _unused(name: str) -> str:

@@ -80,7 +80,7 @@ def add_arguments(command: argparse.ArgumentParser) -> None:
     )
     command.add_argument(
         "--round-seconds", type=float, default=60.0, metavar="S",
-        help="seconds that a round may take, before the audit is given up (60)",
+        help="seconds that the search of a round may take, before it is skipped (60)",
     )
     command.add_argument(
         "--log", type=level, metavar="LEVEL", default="INFO", help="the log's level (INFO)"

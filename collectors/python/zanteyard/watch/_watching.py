@@ -10,7 +10,7 @@ import threading
 import time
 from typing import Callable, Dict, List, Optional, Sequence
 
-from ..core.errors import JournalError, ProgramEndedError, RoundTooLongError, ZanteyardError
+from ..core.errors import JournalError, ProgramEndedError, ZanteyardError
 from ._auditing import Auditing, refusal_of
 from ._board import Board
 from ._ending import word_of
@@ -126,7 +126,7 @@ class Watching:
                 self._see_to_violation()
         except RefusedLineError as error:
             self._lose(str(error))
-        except (ProgramEndedError, JournalError, RoundTooLongError) as error:
+        except (ProgramEndedError, JournalError) as error:
             self._lose(str(error).rstrip(": "))
         self.board.restarted(self.auditing.restarts)
 
