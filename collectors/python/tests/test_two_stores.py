@@ -722,6 +722,20 @@ class OverJournals(Quiet):
         self.addCleanup(resumed.end)
         self.assertEqual(resumed.audited_store.identity, store.identity)
 
+    def test_that_of_a_runs_next_audit_knows_it(self):
+        for kind in (Auditor, AuditorApart):
+            with self.subTest(kind=kind.__name__):
+                path = f"{self.folder}/{kind.__name__}"
+                store = MemoryStore()
+                auditor = self.auditor(kind=kind, journal=path)
+                Session(auditor, 0, store.connect()).run(count)
+                self.assertTrue(wait_until(lambda: auditor.received[0] == 1))
+                auditor.start_anew()
+                auditor.end()
+                resumed = Auditor.resumed(path, PLAIN)
+                self.addCleanup(resumed.end)
+                self.assertEqual((resumed.audits, resumed.audited_store.identity), (2, store.identity))
+
     def test_one_of_before_any_client_came_knows_none(self):
         path = f"{self.folder}/journal"
         self.auditor(journal=path).end()

@@ -85,7 +85,7 @@ class AuditorApart(Intake):
         settings = (self.sessions, self.limit, self.path, self.run_name)
         files = (self.script_path, self.journal, self.round_seconds)
         more = (self.audits, coverage, self.has_sessions, self.running, self.promise.name)
-        self._begin_process("open", *settings, *files, *more)
+        self._begin_process("open", *settings, *files, *more, self._store_to_note())
 
     def _found_running(self) -> str:
         """The cobra_live that makes the rounds; an empty string where it is cobra_audit."""

@@ -106,6 +106,7 @@ class Served:
         has_sessions: bool,
         running: str,
         promise: str,
+        store: Optional[StoreIdentity],
     ) -> None:
         if journal is not None:
             self._tell_log()
@@ -116,6 +117,8 @@ class Served:
             self.auditor = OfPackedRunning(*settings, **more, running=running)
         else:
             self.auditor = OfPacked(*settings, **more)
+        if store is not None:
+            self.auditor.audited_store.first(store)
         if has_sessions:
             self.auditor.note_sessions()
 
