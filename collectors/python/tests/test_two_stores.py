@@ -558,17 +558,18 @@ class InMemory(Quiet):
 
     def test_a_meeting_writes_nothing_elsewhere(self):
         first, second = self.stores()
-        live = self.live(every=4)
+        live = self.live()
         session = live.session(first)
         session.run(count)
         session.store = second
-        for _ in range(8):
-            session.run(count)
-        self.assertTrue(wait_until(lambda: live.is_over))
+        met = live._coordinator.meet(SOON, 600.0)
+        self.assertIn("two stores behind one auditor", str(met.failure))
+        self.assertEqual([*second.shared.versions], [])
+        session.store = first
+        session.run(count)
+        self.assertIsNone(live._coordinator.meet(SOON, 600.0).failure)
         outcome = live.stop()
-        self.assertEqual(outcome.kind, "incomplete")
-        self.assertIn("two stores behind one auditor", str(outcome))
-        self.assertEqual([*second.shared.versions], ["x"])
+        self.assertEqual(outcome.kind, "serial", outcome)
 
     def test_one_that_tells_nothing_is_let_in_and_not_beside_one_that_tells(self):
         first, second = self.stores()
