@@ -25,7 +25,7 @@ from typing import Iterator, List, Optional, Sequence
 
 HERE = os.path.dirname(os.path.abspath(__file__))
 TOP = os.path.normpath(os.path.join(HERE, "../.."))
-PROGRAMS = ("cobra_audit", "cobra_check", "cobra_live")  # each a crate of this name
+PROGRAMS = ("cobra_audit", "cobra_check")  # each a crate of this name
 PROXY = os.path.join(TOP, "proxy", "out", "zanteyard-proxy")  # where its build.sh puts it
 LGPL = "/usr/share/common-licenses/LGPL-2.1"  # of the C library, which is linked into the proxy
 PATIENCE = 600  # seconds in which a build without proofs has to have come to its run
@@ -87,8 +87,6 @@ def unproved(name: str, folder: str) -> str:
         if name == "cobra_check":  # lines with their replies
             turn = '["begin"]\n["ok"]\n["finish",1,0,1]\n["report",1,"serial",[0],[]]\n'
             file.write('["open",1,4096]\n["ok"]\n' + (turn + '["rebuild"]\n["ok"]\n') * 400000)
-        elif name == "cobra_live":
-            file.write('["open",1,4096,4096,0,1]\n' + '["close",1]\n' * 3000000)
         else:
             file.write('["open",1,4096]\n')
             file.writelines(f'["offer",0,{it},[[[],[{it + 1}]]]]\n' for it in range(4000))

@@ -33,7 +33,7 @@ LONG = [
     for each in (
         *("machines", "stores", "killed", "journal_kills", "streams", "faults"),
         *("restarting", "postgres_live", "bank", "shrinking", "examples", "live", "no_harm"),
-        *("running", "proxy_drivers", "watch_whole"),
+        *("rounds", "proxy_drivers", "watch_whole"),
     )
 ]
 ENDING = 10.0  # seconds for a process to tell where its threads stand

@@ -118,12 +118,6 @@ class CallsApart(Calls):
     AUDITOR = AuditorApart
 
 
-class CallsApartByTurns(Calls):
-    """Over cobra_audit, also where there is a cobra_live."""
-
-    AUDITOR = staticmethod(lambda *its, **more: AuditorApart(*its, running="", **more))
-
-
 class Journals(Calls):
     """The same by a journal, with a program that is killed now and then."""
 

@@ -14,9 +14,10 @@ import urllib.request
 from tests import watch_feed as feed
 from zanteyard.core.errors import ProgramMissingError
 from zanteyard.program._binaries import PROGRAM
+from zanteyard.promises._kinds import SNAPSHOT
 from zanteyard.trial.postgres_server import PostgresServer, program
 from zanteyard.watch._database import Database, DatabaseError
-from zanteyard.watch._proxy import build_of, find_proxy, proxy_path
+from zanteyard.watch._proxy_program import build_of, find_proxy, proxy_path
 from zanteyard.watch._run import Plan, Run
 from zanteyard.watch._supervising import CantBeginError
 
@@ -100,6 +101,16 @@ class Runs(InAFolder):
             ],
         )
 
+    def test_a_promise_that_is_kept(self):
+        """Which says nothing of a serial order."""
+        with self.assertLogs("zanteyard", "INFO") as logged:
+            told, status = self.run_of(SERIAL, promise=SNAPSHOT)
+        self.assertEqual(status, 0)
+        wanted = "kept: 8 of 11 transactions were checked for snapshot isolation, in 2 rounds"
+        self.assertEqual(told[0], wanted)
+        self.assertTrue(any("round 1: kept, of " in line for line in logged.output))
+        self.assertFalse(any("serial" in line for line in [*logged.output, *told]))
+
     def test_a_violated_one_is_kept(self):
         folder = os.path.join(self.folder, "found")
         parts = [feed.started(), feed.OPEN, *feed.LOST_UPDATE, *feed.ROUND, feed.coverage()]
@@ -121,6 +132,30 @@ class Runs(InAFolder):
     def test_a_proxy_that_cant_begin(self):
         with self.assertRaisesRegex(CantBeginError, "the proxy ended with status 3"):
             self.run_of([("exit", 3)], is_done=lambda its: False)
+
+    def test_an_audit_that_cant_begin(self):
+        """The proxy goes on, but an audit of that server won't begin by itself."""
+        ended = feed.event("ended", at=feed.AT, reason="read the catalog: no password supplied")
+        wanted = "^the audit can't begin: read the catalog: no password supplied$"
+        with self.assertRaisesRegex(CantBeginError, wanted):
+            self.run_of([ended], is_done=lambda its: False)
+
+    def test_an_audit_that_waits_for_a_transaction_begins_later(self):
+        blocked = feed.event("ended", at=feed.AT, reason="a transaction is open", blocked=True)
+        told, status = self.run_of(
+            [blocked, ("await", "restart"), *SERIAL],
+            is_done=lambda its: its.kind == "serial" and its.seen.reads,
+        )
+        self.assertEqual(status, 4)
+        self.assertTrue(any("a transaction is open" in line for line in told), told)
+
+    def test_an_audit_that_had_begun_is_tried_again(self):
+        ended = feed.event("ended", at=feed.AT, reason="the slot was lost")
+        told, status = self.run_of(
+            [feed.started(), feed.OPEN, ended, ("await", "restart"), *SERIAL],
+            is_done=lambda its: its.kind == "serial" and its.seen.reads,
+        )
+        self.assertEqual(status, 4)
 
     def test_a_proxy_that_dies_is_replaced(self):
         told, status = self.run_of(

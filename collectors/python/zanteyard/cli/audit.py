@@ -4,8 +4,6 @@ and what can't be at a violation. `zanteyard audit` and `examples/postgres_live.
 from __future__ import annotations
 
 import argparse
-import logging
-import sys
 import time
 from dataclasses import dataclass
 from typing import Any, List, Optional, Tuple
@@ -18,6 +16,7 @@ from ..explain._report import Story, story_of
 from ..explain._shrinking import from_start, refuted
 from ..explain._violation_text import tell_violation
 from ..live._live_auditor import LiveAuditor
+from ..live._told import RoundTold
 from ..program._subprocess import AuditorApart
 from ..promises._kinds import LIVE as PROMISES
 from ..remote._server import AuditServer
@@ -30,7 +29,6 @@ from ..trial.workloads import EVERY_WORKLOAD, ChurningClients, ClientProcesses, 
 
 PAGE_SECONDS = 5.0  # that finding the reasons for the page may take
 STAYING, CHURNING = 8, 16  # clients at a time, where nothing else is asked for
-logger = logging.getLogger("zanteyard")
 
 
 @dataclass(frozen=True)
@@ -115,20 +113,16 @@ def _beside(asked: Any, make_store: MakesStore, live: LiveAuditor) -> Clients:
 
 
 class _Rounds:
-    """Tells each round, and keeps what was seen of it."""
+    """Keeps what was seen of each."""
 
     def __init__(self) -> None:
-        self.live: Optional[LiveAuditor] = None
         self.began = time.monotonic()
         self.seen: List[RoundSeen] = []
 
-    def tell(self, line: str) -> None:
-        say(line, flush=True)
-        live = self.live
-        if live is not None and live.report is not None and line.startswith("round"):
-            at = time.monotonic() - self.began
-            remaining, behind = live.auditor.remaining, live.told_behind
-            self.seen.append(RoundSeen(at, live.report.kind, remaining, behind, live.taken_in))
+    def see(self, told: RoundTold) -> None:
+        at = time.monotonic() - self.began
+        kind, taken = told.report.kind, told.transactions
+        self.seen.append(RoundSeen(at, kind, told.remaining, told.behind, taken))
 
 
 def audited_run(
@@ -137,12 +131,11 @@ def audited_run(
     """The clients beside the auditor, and what became of the audit."""
     policy = RATHER_WAIT if asked.rather_wait else RATHER_LOSE_THE_AUDIT
     rounds, story = _Rounds(), None
-    if asked.churn:
-        _tell_clients()
     promise = asked.promise
     with AuditorApart(asked.clients, journal=asked.audit_journal, promise=promise) as auditor:
-        live = LiveAuditor(auditor, every=asked.every, policy=policy, tell=rounds.tell)
-        rounds.live = live
+        more: Any = {"on_client": _say} if asked.churn else {}  # what each did first
+        its = {"every": asked.every, "policy": policy, "tell": _say, "on_round": rounds.see}
+        live = LiveAuditor(auditor, **its, **more)
         clients = _beside(asked, make_store, live)
         outcome = live.stop()
         if live.is_violated:
@@ -157,12 +150,8 @@ def audited_run(
         return live, outcome, clients, story, tuple(rounds.seen)
 
 
-def _tell_clients() -> None:
-    """What each did first, which the log tells."""
-    handler = logging.StreamHandler(sys.stdout)
-    handler.addFilter(lambda record: record.getMessage().startswith("client "))
-    logger.addHandler(handler)
-    logger.setLevel(logging.INFO)
+def _say(told: object) -> None:
+    say(str(told), flush=True)
 
 
 def _script() -> str:

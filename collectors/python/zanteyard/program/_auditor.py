@@ -16,8 +16,8 @@ from ..core._tenancy import Tenancy
 from ..core._window import Coverage
 from ..core.errors import (
     AuditLostError,
+    BadLineError,
     FullError,
-    NoCutError,
     ProgramEndedError,
     ProgramTooOldError,
     RefusedError,
@@ -26,11 +26,12 @@ from ..journal._entries import Head
 from ..promises._kinds import SERIALIZABLE
 from ..promises._rewriting import Rewriting
 from ._binaries import PROGRAM as PROGRAM
-from ._intake import EFFORTS, GUIDED, Effort, Fragment
-from ._lines import BAD_LINE, ENDED, TOO_OLD, Lines, written
+from ._intake import Fragment
+from ._lines import ENDED, TOO_OLD, written
 from ._pipes import Pipes
 from ._rewritten_pipes import RewrittenPipes, begun
 from ._resuming import Reopened, journaled, reopened
+from ._rounds import Rounds
 from ._supervised import SupervisedProgram
 
 
@@ -38,7 +39,7 @@ UNKNOWN = "the process that audited has ended, and what its sessions did last is
 logger = logging.getLogger("zanteyard")
 
 
-class Auditor(Lines):
+class Auditor(Rounds):
     """The program cobra_audit. For threads: each call is one line and its reply. What sessions hand
     in (`take`) never raises; all other calls raise ProgramEndedError where the program is gone and
     RefusedError where it refuses a line.
@@ -49,10 +50,10 @@ class Auditor(Lines):
     needs one of its own, and has it where none is given. `script` names a file to which every line
     goes that the program was given, so that it can be given them again. `policy` says how long
     sessions wait. `journal` names a file that isn't there yet (docs/JOURNAL.md): where the program
-    dies, or takes more than `round_seconds` for a round, if that is given, another one is brought
-    where it stood. Then all calls raise JournalError where the journal can't be written. `promise`
-    is "serializable" or "snapshot" (docs/PROMISES.md); under the latter there is room for half as
-    many."""
+    dies, another one is brought where it stood. Then all calls raise JournalError where the journal
+    can't be written. A round whose search takes more than `round_seconds`, 60 where none are given,
+    is skipped, and told as spent. `promise` is "serializable" or "snapshot" (docs/PROMISES.md);
+    under the latter there is room for half as many."""
 
     rewriting: Optional[Rewriting] = None  # of a finished history, where it is asked about another
     # promise than serializability
@@ -102,8 +103,7 @@ class Auditor(Lines):
         # Of each key that a forgotten transaction wrote, the last that did.
         self.base: Dict[str, AuditId] = {}
         self._tenancy = Tenancy()  # of clients, by their first transactions
-        self.can_cut = True  # until the program says that it doesn't know the command
-        self.effort = EFFORTS[0]  # of the last round
+        self._have_no_round()
         self.audits += 1
         self.script_failure: Optional[OSError] = None
         try:
@@ -124,9 +124,7 @@ class Auditor(Lines):
         """Raises ProgramTooOldError where the program doesn't know of what was aborted."""
         try:
             self.ask(["open", self.sessions, self.limit, FORM])
-        except RefusedError as error:
-            if not str(error).endswith(BAD_LINE):
-                raise
+        except BadLineError as error:
             raise ProgramTooOldError(f"{self.path} {TOO_OLD}") from error
 
     def _started(self, journal: Union[str, Reopened, None]) -> Union[Pipes, SupervisedProgram]:
@@ -134,7 +132,7 @@ class Auditor(Lines):
             return RewrittenPipes(self.path, self.rewriting)
         if journal is None:
             return begun(self.path, self.promise)
-        program = journaled(self.path, journal, self._head, self.names, self.round_seconds)
+        program = journaled(self.path, journal, self._head, self.names)
         program.keeping.is_of_sessions |= self.has_sessions
         program.keeping.store = self._store()
         return program
@@ -156,6 +154,7 @@ class Auditor(Lines):
         self.journal = reopened_audit.journal.path  # from the next audit on
         kept, state = reopened_audit.kept, reopened_audit.state
         self.audits, self.left_out = kept.head.audit, kept.head.left_out
+        self._have_no_round(kept.head.rounds)
         self.from_before = kept.head.from_before
         if kept.head.store is not None:
             self.audited_store.first(checked(*kept.head.store))
@@ -270,7 +269,7 @@ class Auditor(Lines):
         self, fragments: Sequence[Fragment], joining: Container[int] = ()
     ) -> List[Fragment]:
         refused, wrong = [], None
-        with self.lock:
+        with self._between_rounds(bool(joining)):
             moved = [self._covered(fragment) for fragment in fragments]
             texts = [self._offer_of(fragment, fragment[0] in joining) for fragment in moved]
             self._begin_to_ask()
@@ -352,29 +351,20 @@ class Auditor(Lines):
         self.ask(["close", session])
         self.closed[session] = True
 
-    def last_round(self, efforts: Sequence[Effort] = EFFORTS) -> Report:
-        for self.effort in efforts:
-            report = Report(*self.ask(["round", *self.effort, GUIDED])[1:])
-            if report.kind != "spent":
-                break
-        return report
-
     def truncate(self) -> Cut:
         """Has the auditor forget what the last round found settled. The lines keep in which order
         what remains stands to it. Raises NoCutError where nothing is."""
         text = written(["truncate"])
-        with self.lock:
+        with self._between_rounds():
             self._begin_to_ask()
             (reply,) = self._replies_to([text])
             reply, refusal = self._settled(text, reply)
             cut = self._forget(*reply[1:]) if refusal is None else None
             self._be_in_step()
-        if cut is not None:
-            return cut
-        if isinstance(refusal, NoCutError):
+        if cut is None:
+            assert refusal is not None
             raise refusal
-        self.can_cut = "BadLine" not in str(refusal)
-        raise NoCutError(str(refusal)) from refusal
+        return cut
 
     def _forget(
         self,

@@ -13,9 +13,8 @@ from ..core._records import as_bytes, unpacked
 from ..core._store_identity import StoreIdentity
 from ..core._window import Coverage
 from ._auditor import Auditor
-from ._intake import Effort, Fragment
+from ._intake import Fragment
 from ._resuming import Reopened
-from ._running import RunningAuditor
 
 logger = logging.getLogger("zanteyard")
 
@@ -60,14 +59,6 @@ class OfPacked(Auditor):
         return as_bytes(logged), left_out
 
 
-class OfPackedRunning(OfPacked, RunningAuditor):
-    """The same over this cobra_live."""
-
-    def __init__(self, *arguments: Any, running: str, **more: Any) -> None:
-        self.running = running
-        super().__init__(*arguments, **more)
-
-
 class Telling(logging.Handler):
     """Keeps the log's lines, with their levels."""
 
@@ -104,7 +95,6 @@ class Served:
         audits: int,
         coverage: Optional[Coverage],
         has_sessions: bool,
-        running: str,
         promise: str,
         store: Optional[StoreIdentity],
     ) -> None:
@@ -112,11 +102,7 @@ class Served:
             self._tell_log()
         settings: Any = (sessions, limit, program, run_name, script, RATHER_LOSE_THE_AUDIT)
         settings += (journal, round_seconds, promise)
-        more: Any = {"audits": audits, "coverage": coverage}
-        if running:
-            self.auditor = OfPackedRunning(*settings, **more, running=running)
-        else:
-            self.auditor = OfPacked(*settings, **more)
+        self.auditor = OfPacked(*settings, audits=audits, coverage=coverage)
         if store is not None:
             self.auditor.audited_store.first(store)
         if has_sessions:
@@ -144,9 +130,9 @@ class Served:
         refused = {session for session, _, _ in self.auditor.offer_all(fragments, joining)}
         return refused, self._figures()
 
-    def last_round(self, efforts: Sequence[Effort]) -> Any:
+    def last_round(self) -> Any:
         """The report, and the figures."""
-        return self.auditor.last_round(efforts), self._figures()
+        return self.auditor.last_round(), self._figures()
 
     def _figures(self) -> Tuple[int, int, int]:
         """How many reads were left out, how many were of versions from before, and how many

@@ -25,7 +25,7 @@ func encode(it join.Event) ([]byte, error) {
 	case join.Warning:
 		return object("warning", it.At, map[string]any{"text": it.Text})
 	case join.Ended:
-		return object("ended", time.Now(), map[string]any{"reason": it.Reason})
+		return object("ended", time.Now(), map[string]any{"reason": it.Reason, "blocked": it.Blocked})
 	case join.Restarted:
 		return object("restarted", it.At, nil)
 	case join.Stopped:

@@ -33,8 +33,12 @@ type Warning struct {
 	Text string
 }
 
-// Ended tells that the audit has ended; traffic goes on.
-type Ended struct{ Reason string }
+// Ended tells that the audit has ended; traffic goes on. Blocked: it couldn't begin, since a transaction of before is still
+// open; once that has ended, the next one can.
+type Ended struct {
+	Reason  string
+	Blocked bool
+}
 
 // Restarted tells that a new audit begins with the next line.
 type Restarted struct{ At time.Time }
