@@ -558,17 +558,18 @@ class InMemory(Quiet):
 
     def test_a_meeting_writes_nothing_elsewhere(self):
         first, second = self.stores()
-        live = self.live(every=4)
+        live = self.live()
         session = live.session(first)
         session.run(count)
         session.store = second
-        for _ in range(8):
-            session.run(count)
-        self.assertTrue(wait_until(lambda: live.is_over))
+        met = live._coordinator.meet(SOON, 600.0)
+        self.assertIn("two stores behind one auditor", str(met.failure))
+        self.assertEqual([*second.shared.versions], [])
+        session.store = first
+        session.run(count)
+        self.assertIsNone(live._coordinator.meet(SOON, 600.0).failure)
         outcome = live.stop()
-        self.assertEqual(outcome.kind, "incomplete")
-        self.assertIn("two stores behind one auditor", str(outcome))
-        self.assertEqual([*second.shared.versions], ["x"])
+        self.assertEqual(outcome.kind, "serial", outcome)
 
     def test_one_that_tells_nothing_is_let_in_and_not_beside_one_that_tells(self):
         first, second = self.stores()
@@ -721,6 +722,20 @@ class OverJournals(Quiet):
         resumed = Auditor.resumed(path, PLAIN)
         self.addCleanup(resumed.end)
         self.assertEqual(resumed.audited_store.identity, store.identity)
+
+    def test_that_of_a_runs_next_audit_knows_it(self):
+        for kind in (Auditor, AuditorApart):
+            with self.subTest(kind=kind.__name__):
+                path = f"{self.folder}/{kind.__name__}"
+                store = MemoryStore()
+                auditor = self.auditor(kind=kind, journal=path)
+                Session(auditor, 0, store.connect()).run(count)
+                self.assertTrue(wait_until(lambda: auditor.received[0] == 1))
+                auditor.start_anew()
+                auditor.end()
+                resumed = Auditor.resumed(path, PLAIN)
+                self.addCleanup(resumed.end)
+                self.assertEqual((resumed.audits, resumed.audited_store.identity), (2, store.identity))
 
     def test_one_of_before_any_client_came_knows_none(self):
         path = f"{self.folder}/journal"

@@ -302,6 +302,7 @@ class Auditor(Rounds):
         with self.lock:
             if isinstance(self.program, SupervisedProgram):
                 self.program.keeping.is_of_sessions = True
+                self.program.keeping.store = self._store()
                 self.program.keeping.note_figures()
 
     def _covered(self, fragment: Fragment) -> Tuple[Any, ...]:

@@ -60,7 +60,7 @@ class AuditorApart(Intake):
         settings = (self.sessions, self.limit, self.path, self.run_name)
         files = (self.script_path, self.journal, self.round_seconds)
         more = (self.audits, coverage, self.has_sessions, self.promise.name)
-        self._begin_process("open", *settings, *files, *more)
+        self._begin_process("open", *settings, *files, *more, self._store_to_note())
 
     def _begin_process(self, name: str, *arguments: Any) -> None:
         """With this call."""

@@ -96,12 +96,15 @@ class Served:
         coverage: Optional[Coverage],
         has_sessions: bool,
         promise: str,
+        store: Optional[StoreIdentity],
     ) -> None:
         if journal is not None:
             self._tell_log()
         settings: Any = (sessions, limit, program, run_name, script, RATHER_LOSE_THE_AUDIT)
         settings += (journal, round_seconds, promise)
         self.auditor = OfPacked(*settings, audits=audits, coverage=coverage)
+        if store is not None:
+            self.auditor.audited_store.first(store)
         if has_sessions:
             self.auditor.note_sessions()
 
