@@ -90,7 +90,7 @@ class NameTakenError(ZanteyardError, ValueError):
 
 class StoreUnfitError(ZanteyardError, ValueError):
     """The store drops what it was given, by its settings: what is found missing would be told as a
-    fault. Nothing has begun."""
+    fault. Or it is another store than the one that the audit is about. Nothing has begun."""
 
 
 class FolderUnfitError(ZanteyardError):

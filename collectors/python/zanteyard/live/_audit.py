@@ -56,6 +56,7 @@ class Audit:
         self._behind = 0.0  # seconds that one of them waited, at most, since the last round
         self.report: Optional[Report] = None
         self.left_out = 0  # reads whose source the audit isn't about
+        self.from_before = 0  # reads of versions that were there before this audit
         self._pending: Tuple[Pending, ...] = ()
         self._is_collectors_own = False
         self.missing: Optional[MissingError] = None  # what may have been done, and never comes
@@ -96,6 +97,7 @@ class Audit:
             self.name,
             self.left_out,
             self.earlier,
+            self.from_before,
         )
 
     # what waits
@@ -291,7 +293,7 @@ class Audit:
         no_cut, count = no_cut or self.why_no_cut, self.taken_in
         wrong = self._go_on_while_it_is_made() if goes_on else None
         self.report = report = self._auditor.last_round()
-        self.left_out = self._auditor.left_out
+        self.left_out, self.from_before = self._auditor.left_out, self._auditor.from_before
         figures = self._figures
         figures.rounds += 1
         figures.kinds[report.kind] = figures.kinds.get(report.kind, 0) + 1

@@ -11,6 +11,7 @@ from typing import Any, Container, Dict, List, Optional, Sequence, Tuple, Union
 from ..core._outcome import RATHER_LOSE_THE_AUDIT, Policy
 from ..core._own_keys import FENCE, FORM
 from ..core._records import ABORTED, AuditId, Cut, Logged, Report
+from ..core._store_identity import checked
 from ..core._tenancy import Tenancy
 from ..core._window import Coverage
 from ..core.errors import (
@@ -93,6 +94,7 @@ class Auditor(Rounds):
 
     def _start(self, coverage: Optional[Coverage]) -> None:
         self.coverage, self.left_out = coverage, 0  # reads whose source the audit isn't about
+        self.from_before = 0
         self.numbers: Dict[str, int] = {FENCE: 0}
         self.names = [FENCE]  # of each key, by its name; and the other way
         self.history = [[] for _ in range(self.sessions)]  # what was taken in and isn't forgotten
@@ -132,13 +134,20 @@ class Auditor(Rounds):
             return begun(self.path, self.promise)
         program = journaled(self.path, journal, self._head, self.names)
         program.keeping.is_of_sessions |= self.has_sessions
+        program.keeping.store = self._store()
         return program
 
     def _head(self) -> Head:
         """For the journal."""
         coverage = asdict(self.coverage) if self.coverage is not None else None
         plain = (self.sessions, self.limit, self.run_name, self.audits, coverage)
-        return Head(*plain, joined=self._tenancy.joined(), promise=self.promise.name)
+        more = (self._tenancy.joined(), self.promise.name, self.from_before, self._store())
+        return Head(*plain, 0, 0, False, *more)
+
+    def _store(self) -> Optional[List[str]]:
+        """Which this run is about, as the journal has it; None where no client has told it yet."""
+        identity = self.audited_store.identity
+        return [*identity] if identity is not None else None
 
     def _go_on_by(self, reopened_audit: Reopened) -> None:
         """Where the program of this journal stood."""
@@ -146,6 +155,9 @@ class Auditor(Rounds):
         kept, state = reopened_audit.kept, reopened_audit.state
         self.audits, self.left_out = kept.head.audit, kept.head.left_out
         self._have_no_round(kept.head.rounds)
+        self.from_before = kept.head.from_before
+        if kept.head.store is not None:
+            self.audited_store.first(checked(*kept.head.store))
         self.coverage = reopened_audit.coverage
         self.names[:] = kept.names
         self.numbers.update((name, number) for number, name in enumerate(kept.names))
@@ -191,7 +203,7 @@ class Auditor(Rounds):
             return written(["close", session]), None
         number, logged = offered
         fragment = self._covered((session, number, [logged]))
-        self._note_left_out(fragment[3])
+        self._note_figures(*fragment[3:])
         return self._offer_of(fragment), fragment
 
     def _begin_take(self, asked: Tuple[str, Any]) -> None:
@@ -219,14 +231,14 @@ class Auditor(Rounds):
         return refusal
 
     def _offer_of(self, fragment: Tuple[Any, ...], joins: bool = False) -> str:
-        session, first, txns, _ = fragment
+        session, first, txns, *_ = fragment
         where = ["offer", session, first]
         if joins:  # as a new one, or as one that comes back
             where = ["join", session] if session >= self.sessions else ["join", session, first]
         return written([*where, [*map(self.txn, txns)]])
 
     def _keep_history(self, fragment: Tuple[Any, ...], joins: bool = False) -> None:
-        session, _, txns, left_out = fragment
+        session, _, txns, left_out, from_before = fragment
         if session == len(self.history):  # which has joined
             self.marks.append(0)
             self.closed.append(False)
@@ -237,6 +249,7 @@ class Auditor(Rounds):
             self.closed[session] = False
         self.history[session] += txns
         self.left_out += left_out
+        self.from_before += from_before
         if self.is_resumed:  # there are no sessions that count them
             self.taken_in += len(txns)
 
@@ -260,7 +273,7 @@ class Auditor(Rounds):
             moved = [self._covered(fragment) for fragment in fragments]
             texts = [self._offer_of(fragment, fragment[0] in joining) for fragment in moved]
             self._begin_to_ask()
-            self._note_left_out(sum(covered[3] for covered in moved))
+            self._note_figures(*(sum(covered[at] for covered in moved) for at in (3, 4)))
             replies = self._replies_to(texts)
             for fragment, covered, text, reply in zip(fragments, moved, texts, replies):
                 _, refusal = self._settled(text, reply)
@@ -275,25 +288,35 @@ class Auditor(Rounds):
             raise wrong
         return refused
 
-    def _note_left_out(self, more: int) -> None:
-        """In the journal with the lines that leave out so many reads more, if these are taken."""
+    def _note_figures(self, left_out: int, from_before: int) -> None:
+        """In the journal with the lines that leave out so many reads more, and have so many more
+        from before, if these are taken; and the store that they are about."""
         if isinstance(self.program, SupervisedProgram):
-            self.program.keeping.left_out = self.left_out + more
+            keeping = self.program.keeping
+            keeping.left_out = self.left_out + left_out
+            keeping.from_before = self.from_before + from_before
+            keeping.store = self._store()
 
     def note_sessions(self) -> None:
         super().note_sessions()
         with self.lock:
             if isinstance(self.program, SupervisedProgram):
                 self.program.keeping.is_of_sessions = True
+                self.program.keeping.store = self._store()
                 self.program.keeping.note_figures()
 
     def _covered(self, fragment: Fragment) -> Tuple[Any, ...]:
-        """The fragment as the audit sees it, and how many reads were left out."""
+        """The fragment as the audit sees it, how many reads were left out, and how many are of
+        versions that were there before."""
         session, first, txns = fragment
-        if self.coverage is None:
-            return session, first, txns, 0
-        moved = [self._moved(logged) for logged in txns]
-        return session, first, [logged for logged, _ in moved], sum(count for _, count in moved)
+        left_out = 0
+        if self.coverage is not None:
+            moved = [self._moved(logged) for logged in txns]
+            txns, left_out = [logged for logged, _ in moved], sum(count for _, count in moved)
+        return session, first, txns, left_out, sum(map(self._from_before, txns))
+
+    def _from_before(self, logged: Any) -> int:
+        return int(logged.from_before)
 
     def _moved(self, logged: Any) -> Tuple[Any, int]:
         assert self.coverage is not None

@@ -14,6 +14,7 @@ from typing import Any, Container, Deque, Dict, Iterator, List, Optional, Sequen
 from ..core._locks import give_back, take
 from ..core._outcome import RATHER_LOSE_THE_AUDIT, VIOLATED, Outcome, Policy, kind_of
 from ..core._records import AuditId, AuditNaming, History, Logged, Pending, Report
+from ..core._store_identity import AuditedStore, StoreIdentity
 from ..core._window import Coverage
 from ..core.errors import FullError, ProgramEndedError, ProgramLateError, RefusedError
 from ..promises._kinds import ASKED, SERIALIZABLE
@@ -53,6 +54,7 @@ class Intake:
 
     history: History  # of each session what was taken in and isn't forgotten
     has_sessions = False  # which hand in to it
+    from_before = 0  # reads of versions that were there before this audit
     live_called: Optional[AuditNaming] = None  # how a live audit tells transactions
 
     def __init__(
@@ -80,6 +82,7 @@ class Intake:
         self.run_name: str = run_name if run_name is not None else fresh_name()
         self.made_in = os.getpid()
         self.token = secrets.token_hex(12)  # of this run alone, also where its name isn't
+        self.audited_store = AuditedStore()
         self.audits = 0
         self._waiting: Deque[Tuple[Any, ...]] = deque()
         self.is_ended = False  # by who has made it
@@ -282,6 +285,11 @@ class Intake:
 
     # what sessions call
 
+    def meet_store(self, identity: StoreIdentity) -> None:
+        """Raises StoreUnfitError where that isn't the store that this run is about, which is the
+        first that is told."""
+        self.audited_store.meet(identity)
+
     def _begin_count(self) -> None:
         self.failure: Optional[Exception] = None
         self.taken_in, self._is_round_begun = 0, False
@@ -401,7 +409,8 @@ class Intake:
         pending = tuple(never_came(self.history, self.marks)) if is_pending else ()
         kind = kind_of(report, self.failure, is_whole)
         handed_in = max(self.handed_in, self.taken_in)
-        return Outcome(kind, self.taken_in, handed_in, self.failure, pending, report, self.run_name)
+        more = (self.failure, pending, report, self.run_name)
+        return Outcome(kind, self.taken_in, handed_in, *more, from_before=self.from_before)
 
 
 def never_came(

@@ -18,6 +18,7 @@ from typing import Any, Container, List, Optional, Sequence, Tuple, Union
 from ..core._outcome import RATHER_LOSE_THE_AUDIT, Policy
 from ..core._own_keys import FENCE
 from ..core._records import Cut, History, Logged, Report, as_bytes, unpacked
+from ..core._store_identity import StoreIdentity
 from ..core._window import Coverage
 from ..core.errors import (
     FullError,
@@ -54,12 +55,12 @@ class AuditorApart(Intake):
     _connection: Any = None
 
     def _start(self, coverage: Optional[Coverage]) -> None:
-        self.remaining, self.left_out = 0, 0
+        self._figures = (0, 0, 0)
         self.audits += 1
         settings = (self.sessions, self.limit, self.path, self.run_name)
         files = (self.script_path, self.journal, self.round_seconds)
         more = (self.audits, coverage, self.has_sessions, self.promise.name)
-        self._begin_process("open", *settings, *files, *more)
+        self._begin_process("open", *settings, *files, *more, self._store_to_note())
 
     def _begin_process(self, name: str, *arguments: Any) -> None:
         """With this call."""
@@ -108,13 +109,13 @@ class AuditorApart(Intake):
         """What a process was asked that has ended. It may have done that, and told nobody."""
         if name == "offer_all":
             received = self._ask("get", "received")
-            fragments, joining = arguments
+            fragments, joining, *store = arguments
             left = [
                 fragment
                 for fragment in fragments
                 if fragment[0] >= len(received) or _end(fragment) > received[fragment[0]]
             ]
-            arguments = (left, joining)
+            arguments = (left, joining, *store)
         if name == "close" and self._ask("get", "closed")[arguments[0]]:
             return None
         if name == "truncate":
@@ -194,7 +195,8 @@ class AuditorApart(Intake):
         if kind == "close":
             call: Any = ("close", (session,))
         else:
-            call = ("offer_all", ([self._plain((session, offered[0], offered[1:]))], ()))
+            fragments = [self._plain((session, offered[0], offered[1:]))]
+            call = ("offer_all", (fragments, (), self._store_to_note()))
         return ForkingPickler.dumps(call), session, *offered[:1]
 
     def _begin_take(self, asked: Any) -> None:
@@ -209,7 +211,7 @@ class AuditorApart(Intake):
             failure: RefusedError = result  # whatever it is, it was read to its end
             return failure
         if kind == "offer":
-            refused, self.left_out, self.remaining = result
+            refused, self._figures = result
             if refused:
                 return FullError(
                     f"there is no room for transaction {asked[2]} of session {asked[1]}"
@@ -226,10 +228,27 @@ class AuditorApart(Intake):
     ) -> List[Fragment]:
         """Their transactions may be packed."""
         joins = [session for session, _, _ in fragments if session in joining]
-        answer = self._call("offer_all", [*map(self._plain, fragments)], joins)
-        refused, self.left_out, self.remaining = answer
+        plain = [*map(self._plain, fragments)]
+        refused, self._figures = self._call("offer_all", plain, joins, self._store_to_note())
         self.sessions = max([self.sessions, *(session + 1 for session in joins)])
         return [fragment for fragment in fragments if fragment[0] in refused]
+
+    def _store_to_note(self) -> Optional[StoreIdentity]:
+        """For the journal, if there is one."""
+        return self.audited_store.identity if self.journal is not None else None
+
+    @property
+    def left_out(self) -> int:
+        return self._figures[0]
+
+    @property
+    def from_before(self) -> int:  # type: ignore[override]
+        return self._figures[1]
+
+    @property
+    def remaining(self) -> int:
+        """How many transactions were taken in and aren't forgotten."""
+        return self._figures[2]
 
     @property
     def vacant(self) -> List[int]:
@@ -261,12 +280,13 @@ class AuditorApart(Intake):
 
     def _take_report(self) -> Report:
         report: Report
-        report, self.left_out, self.remaining = self._call("last_round")
+        report, self._figures = self._call("last_round")
         return report
 
     def truncate(self) -> Cut:
         cut: Cut
-        cut, self.remaining = self._call("truncate")
+        cut, remaining = self._call("truncate")
+        self._figures = (*self._figures[:2], remaining)
         return cut
 
     @property
