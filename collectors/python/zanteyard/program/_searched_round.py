@@ -26,7 +26,7 @@ class SearchedRound:
     def __init__(self, ask: Ask, asked: Sequence[Any], seconds: float) -> None:
         """What is behind the word in a line of a round; the search may take so many seconds."""
         self._ask, self._search, self._seconds = ask, ["search", *asked], seconds
-        self._waits, self.is_skipped = [*WAITS], False
+        self._waits, self.is_skipped, self._is_late = [*WAITS], False, False
         self._began = time.monotonic()
         ask(BEGIN)
         try:
@@ -45,9 +45,11 @@ class SearchedRound:
             return None
         if reply[0] == REPORT:
             return reply
-        if time.monotonic() > self._began + self._seconds:
+        if self._is_late:
             self._ask(SKIP)
             self.is_skipped = True
+        # At the next look only: the program may have been stopped, and not have searched at all.
+        self._is_late = time.monotonic() > self._began + self._seconds
         return None
 
     def _search_again(self, error: NoMemoryError) -> None:
