@@ -3,6 +3,7 @@ import io
 import os
 import re
 import shlex
+import signal
 import subprocess
 import sys
 import tempfile
@@ -14,9 +15,12 @@ from zanteyard.trial import _demo as demo
 from zanteyard.program._auditor import PROGRAM
 from zanteyard.trial.postgres_server import program
 from zanteyard.trial.store_kinds import KINDS
+from zanteyard.cli import audit
+from zanteyard.cli.audit import stopped_by_signals
 from zanteyard.cli._commands import COMMANDS, parser
 from zanteyard.cli._main import main
 from zanteyard.core._outcome import Outcome
+from zanteyard.program import _binaries
 from zanteyard.program._binaries import ProgramOrigin, find_program, program_path
 from zanteyard.core._version import VERSION
 
@@ -362,6 +366,19 @@ sys.exit(main(sys.argv[2:]))
                 self.assertEqual(ended.stderr.splitlines(), ["interrupted"])
                 self.assertEqual((ended.returncode, ended.stdout), (4, ""))
 
+    def test_numbers_that_are_none(self):
+        """Python's names of functions are nobody's business."""
+        for words, wanted in (
+            (("check", "a", "--nodes", "abc"), "argument --nodes: 'abc' is no whole number from 1 to 16,777,216"),
+            (("check", "a", "--nodes", "0"), "argument --nodes: '0' is no whole number from 1 to 16,777,216"),
+            (("audit", "sqlite", "--clients", "-3"), "argument --clients: '-3' is no whole number from 2 to 64"),
+            (("import", "csv", "a", "-o", "b", "--first", "x"), "argument --first: 'x' is no whole number from 1 on"),
+        ):
+            with self.subTest(words=words):
+                status, out, err = run(*words)
+                self.assertEqual((status, out), (2, ""))
+                self.assertTrue(err.endswith(f"error: {wanted}\n"), err)
+
     def test_what_is_interrupted_later(self):
         for name, place, told in (
             ("check", "zanteyard.cli._scripts._run_of", "undecided: it was interrupted\n"),
@@ -373,12 +390,60 @@ sys.exit(main(sys.argv[2:]))
                     self.assertEqual(run(*words), (4, "", told))
 
 
+class Signals(unittest.TestCase):
+    """`zanteyard audit` at Ctrl-C and the like."""
+
+    def test_the_first_one_is_noted_and_the_second_one_ends_the_program(self):
+        seen = []
+        for number in (signal.SIGTERM, signal.SIGINT):
+            before = signal.signal(number, lambda *its: seen.append(its[0]))
+            self.addCleanup(signal.signal, number, before)
+        with stopped_by_signals() as stop:
+            self.assertFalse(stop.is_set())
+            signal.raise_signal(signal.SIGTERM)
+            self.assertTrue(stop.is_set())
+            self.assertEqual(seen, [])
+            signal.raise_signal(signal.SIGINT)
+            signal.raise_signal(signal.SIGTERM)
+            self.assertEqual(seen, [signal.SIGINT, signal.SIGTERM])
+        signal.raise_signal(signal.SIGTERM)
+        self.assertEqual(len(seen), 3)
+
+    def test_what_nohup_wants_stays(self):
+        before = signal.signal(signal.SIGHUP, signal.SIG_IGN)
+        self.addCleanup(signal.signal, signal.SIGHUP, before)
+        with stopped_by_signals() as stop:
+            signal.raise_signal(signal.SIGHUP)
+            self.assertFalse(stop.is_set())
+
+    def test_a_violation_found_before_stays(self):
+        with tempfile.TemporaryDirectory() as folder:
+            path = os.path.join(folder, "violation")
+            self.assertEqual(audit._unused(path), path)
+            for name, wanted in (("violation.jsonl", "-2"), ("violation-2.dot", "-3"), ("violation-4.txt", "-3")):
+                with open(os.path.join(folder, name), "w", encoding="utf-8"):
+                    pass
+                self.assertEqual(audit._unused(path), path + wanted)
+            os.symlink("/dev/full", os.path.join(folder, "other.jsonl"))  # nothing was kept there
+            self.assertEqual(audit._unused(os.path.join(folder, "other")), os.path.join(folder, "other"))
+
+
 class Programs(unittest.TestCase):
     def test_which_program_is_started(self):
         self.assertEqual(program_path({"COBRA_AUDIT": "/no/such"}), "/no/such")
         self.assertTrue(program_path({}).endswith("cobra_audit"))
         with self.assertRaisesRegex(Exception, "/no/such isn't there"):
             find_program({"COBRA_AUDIT": "/no/such"})
+
+    def test_one_without_proofs_says_that_it_is_slow(self):
+        """In its version, and where clients wait for it."""
+        slow = "some 300 times slower than a proved one"
+        self.assertIn(f"NOT PROVED, built for a first try; {slow}", ProgramOrigin("p", False).sentence())
+        for is_proved, wanted in ((False, f" (it was built without proofs, and is {slow})"), (True, ""), (None, "")):
+            with mock.patch.object(_binaries, "origin_of", return_value=ProgramOrigin("p", is_proved)):
+                self.assertEqual(_binaries.slowness_of("p"), wanted)
+        with mock.patch.object(_binaries, "origin_of", side_effect=OSError):
+            self.assertEqual(_binaries.slowness_of("p"), "")
 
     def test_its_origin_is_told(self):
         self.assertEqual(ProgramOrigin("p", True, "kit", "abc").sentence(), "p: proved by kit, commit abc")

@@ -128,6 +128,24 @@ class Package(unittest.TestCase):
         with open(f"{self.folder}/zanteyard-lost-update.html", encoding="utf-8") as file:
             self.assertIn("These transactions can't have run one at a time", file.read())
 
+    def test_a_first_try(self):
+        """./try.sh, with the auditor that these tests have."""
+        folder = os.path.join(self.folder, "try")
+        its = {**self.environment, "COBRA_AUDIT": os.path.abspath(PROGRAM)}
+        for _ in range(2):  # a second one makes its folder anew
+            ended = subprocess.run(
+                [f"{TOP}/try.sh", folder], env=its, capture_output=True, text=True, timeout=900
+            )
+            self.assertEqual(ended.returncode, 0, ended.stdout + ended.stderr)
+            self.assertRegex(ended.stdout, "(?m)^counter at autocommit: violated: ")
+            self.assertRegex(ended.stdout, "(?m)^  so n.* can come first$")
+            self.assertIn(f"The violation's page is {folder}/violation.html", ended.stdout)
+            with open(f"{folder}/violation.html", encoding="utf-8") as file:
+                self.assertIn("These transactions can't have run one at a time", file.read())
+        ended = subprocess.run([f"{TOP}/try.sh", self.folder], env=its, capture_output=True, text=True)
+        self.assertEqual(ended.returncode, 1)
+        self.assertIn(f"{self.folder} is there, and no earlier try's", ended.stderr)
+
     def test_python_dash_m_is_the_same(self):
         ended = self.run_it(f"{self.folder}/venv/bin/python", "-m", "zanteyard", "--version")
         self.assertEqual(ended.stdout, self.zanteyard("--version").stdout)

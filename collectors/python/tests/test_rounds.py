@@ -282,15 +282,20 @@ class WhileARoundIsSearched(WithMadeUp):
 
     def test_sessions_hand_in_meanwhile(self):
         """Those of another thread, though a third one waits for the round."""
-        auditor = self.auditor(waits=self.ended)
-        auditor.take(0, 0, WRITES)
-        report = self.beside(auditor.round)
-        self.wait_for(lambda: ["search", *EFFORTS[0], "guided"] in self.lines())
-        auditor.take(0, 1, WRITES)
-        auditor.take(1, 0, READS)
-        self.assertEqual((auditor.taken_in, auditor.failure), (3, None))
-        self.end_searches()
-        self.assertEqual(report().counts, [1, 0])
+        for kind in (Auditor, AuditorApart):
+            with self.subTest(kind=kind):
+                self.ended = os.path.join(self.folder, f"ended {kind.__name__}")
+                auditor = self.auditor(kind=kind, waits=self.ended, more={"policy": Policy(SECONDS)})
+                auditor.take(0, 0, WRITES)
+                report = self.beside(auditor.round)
+                self.wait_for(lambda: ["search", *EFFORTS[0], "guided"] in self.lines())
+                for number in range(1, 20):
+                    auditor.take(0, number, WRITES)
+                    auditor.take(1, number - 1, READS)
+                self.assertEqual((auditor.taken_in, auditor.failure), (39, None))
+                self.end_searches()
+                self.assertEqual(report().counts, [1, 0])
+                auditor.end()
 
     def test_each_caller_has_a_round_of_its_own(self):
         auditor = self.auditor(waits=self.ended)
@@ -302,6 +307,17 @@ class WhileARoundIsSearched(WithMadeUp):
         self.end_searches()
         found = sorted(report()[:3] for report in reports)
         self.assertEqual(found, [(1, "serial", [1, 0]), (2, "serial", [1, 1])])
+
+    def test_one_that_nobody_took_is_not_told_for_another(self):
+        auditor = self.auditor()
+        auditor.offer(0, 0, WRITES)
+        auditor.begin_round()
+        self.assertTrue(auditor.has_round(SECONDS))
+        auditor.offer(0, 1, WRITES)
+        auditor.begin_round()
+        self.assertEqual(auditor.last_round().counts, [2, 0])
+        auditor.last_round(((7, 0, 1),))
+        self.assertEqual(auditor.effort, (7, 0, 1))
 
     def test_a_session_that_joins_waits_for_it(self):
         auditor = self.auditor(waits=self.ended)

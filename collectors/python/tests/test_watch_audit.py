@@ -225,9 +225,17 @@ class SearchesThatDoNotEnd(unittest.TestCase):
                     self.assertEqual(auditing.ask(b'["round",64,0,1]'), wanted)
                     self.assertEqual(auditing.restarts, 0)
                     os.remove(ended)
-                    refused = b'["no",10,"RoundOpen"]'
+                    refused = b'["no",10,"RoundOpen"]'  # by whatever began one
                     self.assertEqual(auditing.ask(b'["begin"]'), OK)
                     self.assertEqual(auditing.ask(b'["round",64,0,1]'), refused)
+
+    def test_one_that_finds_no_memory_leaves_no_round_open(self):
+        with tempfile.TemporaryDirectory() as folder:
+            auditing = Auditing(made_up(folder, wants_memory=3))
+            self.addCleanup(auditing.end)
+            self.assertEqual(auditing.ask(b'["open",1,8,2]'), OK)
+            self.assertEqual(auditing.ask(b'["round",64,0,1]'), b'["no",16,"NoMemory"]')
+            self.assertEqual(auditing.ask(b'["round",64,0,1]'), b'["report",1,"serial",[0],[]]')
 
 
 if __name__ == "__main__":

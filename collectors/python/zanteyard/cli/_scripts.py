@@ -16,6 +16,7 @@ from ..explain._script_times import ScriptTimes, read_times
 from ..explain._scripts import MORE, ScriptRun, Verdict
 from ..program._binaries import find_program
 from ..promises._kinds import ASKED
+from ._progress import Progress
 from ._told import STATUSES, tell, tell_with_page
 
 
@@ -73,9 +74,9 @@ def _add_promise(command: argparse.ArgumentParser) -> None:
 
 
 def _nodes(text: str) -> int:
-    nodes = int(text)
+    nodes = int(text) if text.isdecimal() else 0
     if not 1 <= nodes <= MORE[-1][0]:
-        raise argparse.ArgumentTypeError(f"1 to {MORE[-1][0]}")
+        raise argparse.ArgumentTypeError(f"{text!r} is no whole number from 1 to {MORE[-1][0]:,}")
     return nodes
 
 
@@ -118,15 +119,14 @@ def _run_of(asked: Any) -> ScriptRun:
 
 def check(asked: Any) -> int:
     is_told = False
-    with _run_of(asked) as run:
-        for verdict in run.verdicts(_lines(asked.script)):
+    with _run_of(asked) as run, Progress("line") as progress:
+        for verdict in run.verdicts(progress.of(_lines(asked.script))):
             if verdict.kind == "violated":
                 asked.status = STATUSES[verdict.kind]  # which nothing can change
-            say(_where(verdict), end=" ")
             if verdict.kind == "violated" and is_told:
-                say("violated, still")
+                say(f"{_where(verdict)} violated, still")
                 continue
-            tell(_story(verdict, run, asked.seconds), asked.all)
+            tell(_story(verdict, run, asked.seconds), asked.all, _where(verdict))
             is_told = verdict.kind == "violated"
         _tell_no_cuts(run)
         _tell_resumed(run)
@@ -134,8 +134,8 @@ def check(asked: Any) -> int:
 
 
 def explain(asked: Any) -> int:
-    with _run_of(asked) as run:
-        for verdict in run.verdicts(_lines(asked.script)):
+    with _run_of(asked) as run, Progress("line") as progress:
+        for verdict in run.verdicts(progress.of(_lines(asked.script))):
             if verdict.kind == "violated":
                 break  # violated is final
         assert run.verdict is not None

@@ -14,9 +14,11 @@ from ._statuses import UNDECIDED as UNDECIDED
 from ._statuses import complain as complain
 
 
-def tell(story: Story, tells_all: bool = False) -> None:
+def tell(story: Story, tells_all: bool = False, lead: str = "") -> None:
+    """In words. `lead` begins the first line."""
     for line in story_lines(story, tells_all):
-        say(line)
+        say(f"{lead} {line}" if lead else line)
+        lead = ""
 
 
 def tell_with_page(
@@ -35,9 +37,7 @@ def tell_with_page(
             write(page_of(story, about, origin()), path)
         except OSError as error:
             why_not = error
-    if lead:
-        say(lead, end=" ")
-    tell(story, tells_all)
+    tell(story, tells_all, lead)
     if why_not is not None:
         raise why_not
     if path is not None:

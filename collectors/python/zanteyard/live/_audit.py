@@ -15,7 +15,7 @@ from ..core._window import SESSIONS, Coverage
 from ..core.errors import AuditLostError, FullError, MissingError, NoCutError, NotAnchoredError
 from ..explain._shrinking import is_collectors_own
 from ..program._auditor import Auditor
-from ..program._intake import MEANWHILE, Fragment, never_came
+from ..program._intake import Fragment, never_came
 from ..program._subprocess import AuditorApart
 from ._backlog import Backlog, HandedIn
 from ._figures import Figures
@@ -23,6 +23,7 @@ from ._fragments import fragments
 from ._told import ClientTold, RoundTold, Teller
 
 logger = logging.getLogger("zanteyard")
+MEANWHILE = 0.04  # seconds, in which more transactions come while a round is searched
 AnyAuditor = Union[Auditor, AuditorApart]
 
 

@@ -23,6 +23,7 @@ from ..core._records import AuditId, Logged
 from ..core._stores import Store
 from ..core._window import Coverage
 from ..core.errors import AuditLostError, MissingError
+from ..program._binaries import slowness_of
 from ..program._subprocess import AuditorApart
 from ..session._local_sessions import PATIENCE
 from ..session._place import Place
@@ -199,7 +200,8 @@ class LiveAuditor(ForProcesses):
         if room < self._backlog.most:  # it may be quick, and hold as many as it can
             why = self._audit.why_no_cut or "the next cut hasn't come"
             return f"the auditor has room for {room} transactions more, {waits}, and {why}"
-        return f"the auditor can't keep up: {waits}"
+        slow = slowness_of(getattr(self.auditor, "path", ""))
+        return f"the auditor can't keep up: {waits}{slow}"
 
     def _renew(self, session: Session) -> Optional[Place]:
         # Where nothing is audited nobody waits for it.

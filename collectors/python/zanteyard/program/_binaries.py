@@ -26,6 +26,10 @@ BUILT = os.path.join(CRATES, AUDITOR, "out", AUDITOR)
 CHECKER_BUILT = os.path.join(CRATES, CHECKER, "out", CHECKER)
 
 
+# What is built without proofs has its checks compiled in, and nothing optimized.
+SLOW = "some 300 times slower than a proved one"
+
+
 @dataclass(frozen=True)
 class ProgramOrigin:
     """How a program was made. `is_proved` is None where nobody noted it."""
@@ -43,7 +47,7 @@ class ProgramOrigin:
         if not self.is_as_noted:
             return f"{self.path}: NOT THE FILE THAT WAS PACKED (its sha256 is another one)"
         if not self.is_proved:
-            return f"{self.path}: NOT PROVED, built for a first try"
+            return f"{self.path}: NOT PROVED, built for a first try; {SLOW}"
         return f"{self.path}: proved by {self.kit}, commit {self.commit}"
 
 
@@ -98,6 +102,15 @@ def origin_of(path: str) -> ProgramOrigin:
     return ProgramOrigin(
         path, bool(note["proved"]), note["kit"], note["commit"], noted == sha256_of(path)
     )
+
+
+def slowness_of(path: str) -> str:
+    """Words for whoever finds this program slow: it may be for want of proofs. Else empty."""
+    try:
+        is_proved = origin_of(path).is_proved
+    except (OSError, ValueError, KeyError):
+        return ""
+    return f" (it was built without proofs, and is {SLOW})" if is_proved is False else ""
 
 
 def sha256_of(path: str) -> str:

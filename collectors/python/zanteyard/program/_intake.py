@@ -29,11 +29,17 @@ EFFORTS = ((4096, 0, 1), (65536, 4, max(1, min(16, os.cpu_count() or 1))))
 GUIDED = "guided"  # the search that each round asks for: it finds more than the plain one
 SECONDS = 60.0  # for the answer to a line that no client waits for
 ROUND_SECONDS = 60.0  # that a round's search may take, where nothing else is asked for
-MEANWHILE = 0.04  # seconds between two looks at a round, in which sessions hand in
+# A search is looked for again after an eighth of the time that it has taken, in these bounds.
+SHARE, LEAST_PAUSE, LONGEST_PAUSE = 8, 0.0005, 0.02
 LATEST = 10.0  # seconds after which an answer that no client waits for isn't waited for any more
 Effort = Tuple[int, int, int]  # nodes, depth, workers
 Fragment = Tuple[int, int, Sequence[Any]]  # session, number of the first, transactions
 logger = logging.getLogger("zanteyard")
+
+
+def pause_after(seconds: float) -> float:
+    """After how many seconds more a search is looked for again that has taken so many."""
+    return min(LONGEST_PAUSE, max(LEAST_PAUSE, seconds / SHARE))
 
 
 def fresh_name() -> str:
@@ -182,8 +188,9 @@ class Intake:
             if not self._is_round_begun:
                 self._begin_search(efforts)
             self._is_round_begun = False  # after an interrupt another one is begun
-            while not self.has_round(MEANWHILE):
-                pass
+            began = time.monotonic()
+            while not self.has_round(0.0):
+                time.sleep(pause_after(time.monotonic() - began))  # others take the lock
             return self._take_report()
 
     def note_sessions(self) -> None:

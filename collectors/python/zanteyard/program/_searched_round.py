@@ -7,12 +7,11 @@ import time
 from typing import Any, Callable, List, Optional, Sequence
 
 from ..core.errors import BadLineError, NoMemoryError, ProgramTooOldError
+from ._intake import pause_after
 
 Ask = Callable[[Sequence[Any]], List[Any]]  # gives a line, and has its reply; raises RefusedError
 BEGIN, COLLECT, SKIP = ["begin"], ["collect"], ["skip"]
 REPORT = "report"
-SHARE = 8  # a search is looked for again after an eighth of the time that it has taken
-LEAST_PAUSE, LONGEST_PAUSE = 0.0005, 0.02  # seconds
 WAITS = (0.1, 0.5)  # seconds after which a search that was refused memory is given again
 TOO_OLD = (
     "this cobra_audit is of an earlier version than the package, and can't search beside a script: "
@@ -60,5 +59,4 @@ class SearchedRound:
 
     def pause(self, seconds: float) -> None:
         """Until the next look, for so many seconds at most."""
-        taken = time.monotonic() - self._began
-        time.sleep(min(LONGEST_PAUSE, max(LEAST_PAUSE, taken / SHARE), max(0.0, seconds)))
+        time.sleep(max(0.0, min(seconds, pause_after(time.monotonic() - self._began))))
