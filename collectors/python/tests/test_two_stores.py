@@ -16,6 +16,7 @@ from zanteyard import StoreUnfitError
 from zanteyard.core._store_identity import LONGEST, UNSURE, UNTOLD, AuditedStore, StoreIdentity
 from zanteyard.core._store_identity import checked, identity_of
 from zanteyard.core.errors import AuditLostError
+from zanteyard.remote._live_state import StateFile
 from zanteyard.stores import sqlite
 from zanteyard.stores.memory import MemoryStore
 from zanteyard.trial.mariadb_server import OPTIONS, MariaDBServer, mariadbd
@@ -779,12 +780,13 @@ class OverJournals(Quiet):
                 live = self.live(self.auditor(journal=path), elsewhere=True)
                 streams = StreamServer(live, server.dsn, silence=SOON)
                 with AuditClient(server.dsn) as client:
-                    session = client.session(MemoryStore().connect())
+                    store = MemoryStore()
+                    session = client.session(store.connect())
+                    session.begin().rollback()
+                    self.assertEqual(StateFile(path).read().store, store.identity)  # before it was answered
                     if takes:
                         session.run(count)
-                        self.assertTrue(wait_until(lambda: live.taken_in == 1))
-                    else:
-                        session.begin().rollback()
+                        self.assertTrue(wait_until(lambda: live.taken_in == 2))
                     streams.leave()
                     live.auditor.end()
                     again = self.live(Auditor.resumed(path, PLAIN), elsewhere=True)
@@ -793,7 +795,7 @@ class OverJournals(Quiet):
                         with self.assertRaisesRegex(StoreUnfitError, "the store in memory"):
                             other.session(MemoryStore().connect()).run(count)
                         session.run(count)
-                        self.assertTrue(wait_until(lambda: again.taken_in == 2))
+                        self.assertTrue(wait_until(lambda: again.taken_in == session.begun))
                         client.leave()
                     outcome = again.stop()
                     self.assertEqual(outcome.kind, "serial", outcome)
