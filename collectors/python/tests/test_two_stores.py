@@ -283,7 +283,8 @@ class Postgres(Pairs, Quiet):
                 auditor = self.auditor()
                 with self.assertLogs("zanteyard", logging.WARNING) as told:
                     Session(auditor, 0, weak).run(count)
-                self.assertIn("doesn't tell which one it is", told.output[0])
+                self.assertIn("permission denied for function pg_control_system", told.output[0])
+                self.assertIn("doesn't tell which one it is", told.output[1])
                 with self.assertRaisesRegex(StoreUnfitError, "a store that doesn't tell which one it is"):
                     Session(auditor, 1, self.opened(("postgres", self.server.dsn))).run(count)
             finally:
