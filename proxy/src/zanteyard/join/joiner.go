@@ -113,6 +113,11 @@ func (j *Joiner) Advance(place uint64) error { return j.give(fromSlot{place: pla
 
 func (j *Joiner) give(it fromSlot) error {
 	select {
+	case <-j.done: // with room in the channel as well, either would be taken
+		return errEnded
+	default:
+	}
+	select {
 	case j.told <- it:
 		return nil
 	case <-j.done:
