@@ -2,6 +2,7 @@
 and what becomes of a search that takes too long, finds no memory, or dies with its program. Over a
 program that is made up, whose searches end anywhere between lines, and over the real one."""
 
+import itertools
 import json
 import logging
 import os
@@ -20,11 +21,10 @@ from zanteyard.journal import _writer as journal_writer
 from zanteyard.program._auditor import PROGRAM
 from zanteyard.program._check_report import by_turns
 from zanteyard.program._intake import EFFORTS
-from zanteyard.program._pipes import Pipes
 from zanteyard.stores.memory import MemoryStore
 
 from .built import path_of
-from .killing import MOMENTS, Killer
+from .killing import BEFORE, MOMENTS, Killer
 from .made_up_programs import made_up
 
 sys.path.insert(0, os.path.join(os.path.dirname(os.path.abspath(__file__)), "../../../bench"))
@@ -333,6 +333,18 @@ class WhileARoundIsSearched(WithMadeUp):
         with self.assertRaises(NotAnchoredError):
             auditor.join(3, 0, WRITES)
 
+    def test_who_waits_for_it_begins_none(self):
+        """Though somebody else has its report by then."""
+        auditor = self.auditor(waits=self.ended)
+        auditor.offer(0, 0, FIRST_FENCE)
+        report = self.beside(auditor.round)
+        self.wait_for(lambda: ["begin"] in self.lines())
+        joined = self.beside(lambda: auditor.join(2, 0, NEXT_FENCE))
+        self.end_searches()
+        self.assertEqual(report().counts, [1, 0])
+        self.assertIsNone(joined())
+        self.assertEqual(self.lines().count(["begin"]), 1)
+
     def test_a_cut_waits_for_it(self):
         auditor = self.auditor(waits=self.ended)
         auditor.offer_all([(0, 0, [FIRST_FENCE]), (1, 0, [NEXT_FENCE])])
@@ -376,10 +388,12 @@ class SearchesThatDoNotEnd(WithMadeUp):
                     self.assertEqual(auditor.round()[:3], (1, "spent", [1, 0]))
                     outcome = auditor.outcome()
                     self.assertEqual((outcome.kind, outcome.failure), ("undecided", None))
+                    self.assertIsNone(process.poll())
+                    if journal and kind == Auditor:
+                        auditor.program.process.kill()  # another one goes on, without that round
                     auditor.take(1, 0, READS)
                     self.end_searches()
                     self.assertEqual(auditor.round()[:3], (3, "serial", [1, 1]))
-                    self.assertIsNone(process.poll())
                     auditor.end()
         if journal:
             with Auditor.resumed(journal, made_up(self.folder)) as resumed:
@@ -417,22 +431,36 @@ class SearchesThatDoNotEnd(WithMadeUp):
         self.assertEqual(auditor.round()[:3], (1, "serial", [2, 0]))
 
     def test_a_program_that_dies_over_each_search(self):
-        """With a journal: not for ever."""
-        more = {"journal": os.path.join(self.folder, "journal")}
-        auditor = self.auditor(more=more, seed=0)
+        """With a journal: not for ever, also where it has answered that it searches."""
+        for every in (1, 2):
+            with self.subTest(every=every):
+                more = {"journal": os.path.join(self.folder, f"journal {every}")}
+                auditor = self.auditor(more=more, waits=self.ended)
+                auditor.offer(0, 0, WRITES)
+                collects = itertools.count(1)
+
+                def plan(lines):
+                    is_collect = lines == [b'["collect"]']
+                    return BEFORE if is_collect and next(collects) % every == 0 else None  # noqa: B023
+
+                with Killer(plan), self.assertRaises(ProgramEndedError):
+                    auditor.round()
+                self.assertEqual(auditor.program.restarts, 7)
+                auditor.end()
+
+    def test_a_program_that_dies_behind_a_search_without_memory(self):
+        """The next one is given the search once."""
+        auditor = self.auditor(more={"journal": f"{self.folder}/journal"}, wants_memory=1)
         auditor.offer(0, 0, WRITES)
+        searches = itertools.count(1)
 
-        def ask(pipes, lines, ask=Pipes.ask):
-            lines = [*lines]
-            if lines == [b'["collect"]']:
-                pipes.process.kill()
-            ask(pipes, lines)
+        def plan(lines):
+            is_search = lines[0].startswith(b'["search"') and len(lines) == 1
+            return BEFORE if is_search and next(searches) == 2 else None
 
-        self.addCleanup(setattr, Pipes, "ask", Pipes.ask)
-        Pipes.ask = ask
-        with self.assertRaises(ProgramEndedError):
-            auditor.round()
-        self.assertEqual(auditor.program.restarts, 7)
+        with Killer(plan) as killer:
+            self.assertEqual(auditor.round()[:3], (1, "serial", [1, 0]))
+        self.assertEqual((killer.kills, auditor.program.restarts), (1, 1))
 
 
 class BelowALiveAudit(WithMadeUp):

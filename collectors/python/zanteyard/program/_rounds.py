@@ -107,14 +107,16 @@ class Rounds(Lines):
                 yield
             return
         while True:
-            while self._search is not None:
-                self._await_report(SECONDS)
             with self.lock:
-                if self._search is None:
+                if self._search is not None:
+                    self._look()
+                search = self._search
+                if search is None:
                     if self._may_be_open:
                         self._leave_round()
                     yield
                     return
+            search.pause(SECONDS)
 
     def _ask_of_round(self, line: Sequence[Any]) -> List[Any]:
         return self._collect() if line == COLLECT else self.ask(line)
