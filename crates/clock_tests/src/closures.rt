@@ -86,13 +86,7 @@ fn has_grown(graph: &Graph, before: &Relation, ids: &[TxnId], id: TxnId) -> bool
 }
 
 // All those are told of, and no others.
-fn assert_told(
-    rt: &impl Abort,
-    graph: &Graph,
-    before: &Relation,
-    ids: &[TxnId],
-    told: &[TxnId],
-) {
+fn assert_told(rt: &impl Abort, graph: &Graph, before: &Relation, ids: &[TxnId], told: &[TxnId]) {
     for id in ids {
         assert_eq!(rt; told.contains(id), has_grown(graph, before, ids, *id));
     }
