@@ -134,7 +134,7 @@ def taken_from(trying: "subprocess.Popen[bytes]", name: str, folder: str) -> str
 def all_unproved(names: Sequence[str], folder: str) -> List[str]:
     """Side by side: each takes a minute of a processor, or two."""
     print(f"building without proofs: {', '.join(names)} (a minute or two on an idle machine)")
-    print(f"(with its checks compiled in: some {SLOWER} times slower than what is proved)", flush=True)
+    print(f"(checks are compiled in: some {SLOWER} times slower than what is proved)", flush=True)
     with ThreadPoolExecutor(len(names)) as building:
         return list(building.map(lambda name: unproved(name, folder), names))
 
@@ -170,6 +170,7 @@ def stage(folder: str, programs: Sequence[str], is_proved: bool) -> None:
         shutil.copy(os.path.join(HERE, name), folder)
     for name in ("LICENSE", "LICENSES.md"):
         shutil.copy(os.path.join(TOP, name), folder)
+    shutil.copytree(os.path.join(TOP, "docs"), os.path.join(package, "docs"))  # errors name them
     inside = os.path.join(package, "program", "bin")
     os.mkdir(inside)
     for path in programs:

@@ -9,6 +9,7 @@ import unittest
 import zipfile
 
 import make_wheel
+from zanteyard.cli._commands import COMMANDS
 from zanteyard.program._auditor import PROGRAM
 from zanteyard.program._binaries import BUILT
 from zanteyard.core._version import VERSION
@@ -127,6 +128,15 @@ class Package(unittest.TestCase):
         self.assertEqual(ended.returncode, 1, ended.stderr)
         with open(f"{self.folder}/zanteyard-lost-update.html", encoding="utf-8") as file:
             self.assertIn("These transactions can't have run one at a time", file.read())
+
+    def test_it_has_the_documents_that_help_and_errors_name(self):
+        folder = self.zanteyard("help").stdout.split("\nDocuments: ")[1].strip()
+        self.assertTrue(folder.startswith(f"{self.folder}/venv/"), folder)
+        self.assertEqual(sorted(os.listdir(folder)), sorted(os.listdir(f"{TOP}/docs")))
+        for command in COMMANDS:
+            text = self.zanteyard("help", command).stdout
+            for name in re.findall(r"docs/([A-Z_]+\.md)", text):
+                self.assertTrue(os.path.isfile(f"{folder}/{name}"), name)
 
     def test_a_first_try(self):
         """./try.sh, with the auditor that these tests have."""

@@ -819,6 +819,7 @@ class Redis(Each, unittest.TestCase):
         with RedisServer() as server:
             stores = [redis_store.RedisStore(server.dsn) for _ in range(2)]
             auditor, (a, b) = self.sessions(*stores)
+            [store.connect() for store in stores]  # before that it would be asked again which store it is
             redis.Redis.from_url(server.dsn).config_set("maxmemory", 1)
             with self.assertRaisesRegex(AbortedError, "OOM|discarded"):
                 a.run(lambda t: (t.put("x", "1"), t.put("y", "1")), attempts=1)

@@ -11,11 +11,12 @@ import threading
 import unittest
 from unittest import mock
 
-from zanteyard import AuditClient, Auditor, AuditorApart, AuditServer, LiveAuditor, Policy, Session, StoreUnfitError
+from zanteyard import AbortedError, AuditClient, Auditor, AuditorApart, AuditServer, LiveAuditor, Policy, Session
+from zanteyard import StoreUnfitError
 from zanteyard.core._store_identity import LONGEST, UNSURE, UNTOLD, AuditedStore, StoreIdentity
 from zanteyard.core._store_identity import checked, identity_of
 from zanteyard.core.errors import AuditLostError
-from zanteyard.remote._client_process import ClientProcess
+from zanteyard.remote._live_state import StateFile
 from zanteyard.stores import sqlite
 from zanteyard.stores.memory import MemoryStore
 from zanteyard.trial.mariadb_server import OPTIONS, MariaDBServer, mariadbd
@@ -282,7 +283,8 @@ class Postgres(Pairs, Quiet):
                 auditor = self.auditor()
                 with self.assertLogs("zanteyard", logging.WARNING) as told:
                     Session(auditor, 0, weak).run(count)
-                self.assertIn("doesn't tell which one it is", told.output[0])
+                self.assertIn("permission denied for function pg_control_system", told.output[0])
+                self.assertIn("doesn't tell which one it is", told.output[1])
                 with self.assertRaisesRegex(StoreUnfitError, "a store that doesn't tell which one it is"):
                     Session(auditor, 1, self.opened(("postgres", self.server.dsn))).run(count)
             finally:
@@ -649,47 +651,73 @@ class InMemory(Quiet):
         auditor = self.auditor()
         session = Session(auditor, 0, store)
         session.run(count)
-        session.run(count)
         self.assertEqual((asked, auditor.audited_store.identity), ([], None))
-        session.meet_at, store.told = 0.0, "bank"
+        store.told = "bank"
         session.run(count)
-        self.assertEqual((len(asked), session.met, session.unmet), (1, StoreIdentity("bank", "bank"), None))
+        self.assertEqual((asked, session.met, session.unmet), (["bank"], StoreIdentity("bank", "bank"), None))
         outcome = auditor.outcome()
         self.assertEqual(outcome.kind, "incomplete")
         self.assertIn("it can't tell now which one it is", str(outcome.failure))
 
+    def test_what_was_aborted_before_it_could_tell_is_no_loss(self):
+        first, _ = self.stores()
+        store = Told(first, UNSURE)
+        auditor = self.auditor()
+        session = Session(auditor, 0, store)
+        with self.assertRaises(AbortedError), session.transaction() as transaction:
+            transaction.get("x")
+            transaction.put("x", "1")
+            raise AbortedError("for a test")
+        store.told = "bank"
+        session.run(count)
+        outcome = auditor.outcome()
+        self.assertEqual((outcome.kind, outcome.audited), ("serial", 2), outcome)
+        nothing = auditor.history[0][0]
+        self.assertEqual((nothing.outcome, *map(list, nothing.did), nothing.is_undone), ("aborted", [], [], False))
+
+    def test_one_that_was_never_reached_is_nobodys(self):
+        class Away(NoWord):
+            def __init__(self):
+                pass
+
+            def begin(self):
+                raise ConnectionError("for a test")
+
+        first, _ = self.stores()
+        auditor = self.auditor()
+        session = Session(auditor, 0, Away())
+        with self.assertRaises(ConnectionError):
+            session.run(count)
+        session.store = first
+        session.run(count)
+        self.assertEqual((auditor.outcome().kind, session.met), ("serial", first.shared.identity))
+
     # where the auditor's process doesn't answer
 
-    def test_nobody_is_let_in_unlooked(self):
-        first, second = self.stores()
-        answers = ClientProcess._take_store
-        live = self.live(policy=Policy(0.05, begins_anew=False))
-        with AuditServer(live, f"{self.folder}/audit") as server, AuditClient(server.path) as client:
-            client._store_answers._at_first = 0.0
-            session = client.session(first)
-            with mock.patch.dict(server._processes[0]._deeds, {"store": lambda *_: None}):
-                session.run(count)  # the application goes on
-                self.assertIsInstance(session.unmet, AuditLostError)
-            self.assertTrue(wait_until(lambda: live.lost is not None or live.is_over))
-            self.assertIn("whether the store is the audit's isn't known", str(live.lost))
-        self.assertEqual(live.stop().kind, "incomplete")
-        self.assertIs(ClientProcess._take_store, answers)
-
-    def test_a_refusal_that_comes_late_stops_nobody(self):
-        first, second = self.stores()
+    def late(self, second):
+        """What came of two clients, of which the second has a store before it is told whether it may."""
+        first = MemoryStore()
         live = self.live(self.auditor(3), policy=Policy(0.05, pause=0.01))
         with AuditServer(live, f"{self.folder}/audit") as server:
             with AuditClient(server.path) as one, AuditClient(server.path) as other:
-                one.session(first).run(count)
-                other._store_answers._at_first = 0.0
-                session = other.session(second)
-                with mock.patch.dict(server._processes[1]._deeds, {"store": lambda *_: None}):
-                    session.run(count)
-                session.meet_at = 0.0
-                self.assertTrue(wait_until(lambda: session.run(count) or isinstance(session.unmet, StoreUnfitError)))
-                session.run(count)
-        outcome = live.stop()
-        self.assertEqual(outcome.kind, "incomplete")
+                one.session(first.connect()).run(count)
+                session, never = other.session(second or first.connect()), {"store": lambda *_: None}
+                with mock.patch.dict(server._processes[1]._deeds, never):
+                    for _ in range(3):
+                        session.run(count)
+        return live.stop()
+
+    def test_a_client_goes_on_and_nothing_of_it_is_lost(self):
+        outcome = self.late(None)
+        self.assertEqual((outcome.kind, outcome.audited), ("serial", 4), outcome)
+
+    def test_nothing_is_taken_of_another_store(self):
+        second = MemoryStore().connect()
+        outcome = self.late(second)
+        self.assertEqual(second.shared.versions["x"][-1][0], "3")  # the application's
+        self.assertEqual(outcome.kind, "incomplete", outcome)
+        self.assertIn("two stores behind one auditor", str(outcome))
+        self.assertEqual(outcome.audited, 1, outcome)
 
 
 class OverJournals(Quiet):
@@ -753,12 +781,13 @@ class OverJournals(Quiet):
                 live = self.live(self.auditor(journal=path), elsewhere=True)
                 streams = StreamServer(live, server.dsn, silence=SOON)
                 with AuditClient(server.dsn) as client:
-                    session = client.session(MemoryStore().connect())
+                    store = MemoryStore()
+                    session = client.session(store.connect())
+                    session.begin().rollback()
+                    self.assertEqual(StateFile(path).read().store, store.identity)  # before it was answered
                     if takes:
                         session.run(count)
-                        self.assertTrue(wait_until(lambda: live.taken_in == 1))
-                    else:
-                        session.begin().rollback()
+                        self.assertTrue(wait_until(lambda: live.taken_in == 2))
                     streams.leave()
                     live.auditor.end()
                     again = self.live(Auditor.resumed(path, PLAIN), elsewhere=True)
@@ -767,7 +796,7 @@ class OverJournals(Quiet):
                         with self.assertRaisesRegex(StoreUnfitError, "the store in memory"):
                             other.session(MemoryStore().connect()).run(count)
                         session.run(count)
-                        self.assertTrue(wait_until(lambda: again.taken_in == 2))
+                        self.assertTrue(wait_until(lambda: again.taken_in == session.begun))
                         client.leave()
                     outcome = again.stop()
                     self.assertEqual(outcome.kind, "serial", outcome)

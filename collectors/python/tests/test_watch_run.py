@@ -89,6 +89,7 @@ class Runs(InAFolder):
             [
                 "serial: 8 of 11 transactions were checked, in 2 rounds",
                 "  15 of 19 rows read were checked, 6 of 9 rows written",
+                "  4 of the rows read were from before the audit",
                 "  besides, 1 transaction read and wrote no row that was seen",
                 "  not checked",
                 "             3 transactions  committed by others than the proxy",
@@ -96,7 +97,7 @@ class Runs(InAFolder):
                 "             3 rows written  committed by others than the proxy",
                 "  statements that weren't seen in full",
                 "         times first    what wasn't seen, and the statement",
-                f"             7 {told[9].split()[1]} an aggregate",
+                f"             7 {told[10].split()[1]} an aggregate",
                 "                          SELECT count(*) FROM orders WHERE customer = $1",
             ],
         )
@@ -195,6 +196,7 @@ class Runs(InAFolder):
         for line in (
             "zanteyard_transactions_taken_total 8",
             'zanteyard_rounds_total{kind="serial"} 1',
+            "zanteyard_reads_from_before_total 4",
             'zanteyard_reads_left_out_total{reason="its version isn\'t known"} 4',
             "zanteyard_violated 0",
             "zanteyard_auditing 1",

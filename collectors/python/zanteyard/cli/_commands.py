@@ -4,6 +4,7 @@ command was asked for."""
 from __future__ import annotations
 
 import argparse
+import os
 import textwrap
 from typing import Any, Callable, Mapping, NamedTuple, NoReturn, Optional, Sequence
 
@@ -249,12 +250,22 @@ def parser(named: Optional[str] = None) -> argparse.ArgumentParser:
         if named is None or name == named:
             its.fill(command)
         _end(command, its.example)
-    whole.epilog = _paragraphs(
+    texts = [
         "`zanteyard help COMMAND` shows what a command takes. `zanteyard demo` is the one to begin "
         "with.",
         STATUS_WORDS,
-    )
+    ]
+    folder = documents()
+    whole.epilog = _paragraphs(*texts) + (f"\n\nDocuments: {folder}" if folder else "")
     return whole
+
+
+def documents() -> str:
+    """The folder `docs` that help and errors name: in the wheel, else in a clone; or empty."""
+    package = os.path.dirname(os.path.dirname(os.path.abspath(__file__)))
+    places = (os.path.join(package, "docs"), os.path.join(package, "../../../docs"))
+    found = (os.path.normpath(it) for it in places if os.path.isfile(f"{it}/FORMATS.md"))
+    return next(found, "")
 
 
 def _add(commands: Any, name: str, about: str) -> argparse.ArgumentParser:

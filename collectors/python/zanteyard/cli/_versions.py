@@ -2,6 +2,7 @@
 
 from __future__ import annotations
 
+import os
 from typing import Iterator
 
 from ..core._version import VERSION
@@ -11,6 +12,7 @@ from ..watch._proxy_program import build_of
 
 def version_lines() -> Iterator[str]:
     yield f"zanteyard {VERSION}"
-    yield f"auditor {origin_of(program_path()).sentence()}"
-    yield f"checker {origin_of(checker_path()).sentence()}"
+    for name, path in (("auditor", program_path()), ("checker", checker_path())):
+        is_there = os.path.isfile(path)
+        yield f"{name} {origin_of(path).sentence() if is_there else f'{path}: not there'}"
     yield f"proxy {build_of()}"

@@ -154,10 +154,16 @@ class AuditClient(LocalSessions):
     # what sessions call
 
     def meet_store(self, identity: StoreIdentity) -> None:
-        """Raises StoreUnfitError where it isn't the store that the audit is about, ProgramLateError
-        where the auditor's process doesn't say so in time; not where nothing more is audited."""
-        if not self._is_over:
-            self._store_answers.meet(identity, self.policy.wait)
+        """Raises StoreUnfitError where it isn't the store that the audit is about; not where
+        nothing more is audited. Where the auditor's process doesn't say so in time it is told, in
+        front of all that is done there, that this goes on: then it takes none of that, if it is
+        another one."""
+        if self._is_over or self._store_answers.meet(identity, self.policy.wait):
+            return
+        try:
+            self._messages.hand_on("assumed", *identity)
+        except OSError as error:
+            self._lose(f"whether the store is the audit's isn't known: {error}")
 
     def take(self, session: int, number: int, logged: Logged) -> None:
         """Hands over what a transaction did; waits for room as long as the policy says."""

@@ -38,6 +38,7 @@ class ClientProcess:
         self._has_all_noted = True
         self._deeds: Dict[str, Callable[..., None]] = {
             "answer": self.group.take_answer,
+            "assumed": self._take_assumed,
             "back": self._take_back,
             "forget": self._forget,
             "join": self._begin_join,
@@ -227,6 +228,10 @@ class ClientProcess:
         """Which store a client there has; it is told which one the audit is about."""
         first = self._live.audited_store.first(checked(known, shown))
         self.messages.tell("store", *first)
+
+    def _take_assumed(self, known: Any, shown: Any) -> None:
+        """It goes on in this store, as it hasn't been told in time whether it may."""
+        self._live.audited_store.meet(checked(known, shown))
 
     def _take_back(self, place: Sequence[Any]) -> None:
         given_back = Place(*place)

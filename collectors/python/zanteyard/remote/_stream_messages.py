@@ -47,6 +47,10 @@ class StreamMessages:
         if self.appender.is_gone:
             raise OSError("the other end is gone")
 
+    def hand_on(self, *message: Any) -> None:
+        """In front of all that is sent later, and with that."""
+        self.put(*message)
+
     def tell(self, *message: Any, seconds: float = SENDING) -> bool:
         """Whether Redis has it by then."""
         try:

@@ -16,14 +16,13 @@ from typing import Any, Callable, Iterator, List, Optional
 from ..core._crash_notes import CrashNotes
 from ..core._forks import keep
 from ..core._locks import give_back, take
-from ..core._store_identity import UNSURE, StoreIdentity
+from ..core._store_identity import UNSURE, UNTOLD, StoreIdentity
 from ..core._stores import Store
 from ..core.errors import (
     AbortedError,
     AuditLostError,
     NameTakenError,
     OutcomeUnknownError,
-    ProgramLateError,
     StoreLateError,
     StoreUnfitError,
     ZanteyardError,
@@ -92,7 +91,6 @@ class Session(OwnTransactions):
         self.met: Optional[StoreIdentity] = None
         self.unmet: Optional[Exception] = None
         self.is_unsure = False  # which one it is couldn't be told
-        self.meet_at = 0.0  # when the auditor is asked again
         self.wait = getattr(getattr(auditor, "policy", None), "wait", 30.0)
         # Held by a transaction from its begin to its end, and by a meeting.
         self.turn = threading.Lock()
@@ -290,16 +288,20 @@ class Session(OwnTransactions):
 
     def identify_store(self) -> None:
         """Before the first transaction. Another store than the audit's is refused, as often as it
-        is tried. Where the auditor doesn't answer in time it is asked again after a while, and what
-        is done by then isn't audited; a refusal stops nobody any more then."""
+        is tried. One that tells nothing may not be there at all: that is seen once it has begun."""
         if self.met is not None or not hasattr(self.auditor, "meet_store"):
             return
         is_first, began = self.unmet is None, time.monotonic()
-        if self.is_unsure and began >= self.meet_at:
+        if self.is_unsure:
             self.hang_up()  # the next connection is asked anew
         identity = self.calls.identity()
         self.connecting = time.monotonic() - began
-        self.meet_store(identity)
+        if identity != UNTOLD:
+            self.meet_store(identity)
+            self.refuse_store(is_first)
+
+    def refuse_store(self, is_first: bool) -> None:
+        """If it is another one, and nothing was done there before."""
         if is_first and isinstance(self.unmet, StoreUnfitError):
             error, self.unmet = self.unmet, None
             self.hang_up()  # the next one may be over another connection, and lead elsewhere
@@ -307,19 +309,16 @@ class Session(OwnTransactions):
 
     def meet_store(self, identity: StoreIdentity) -> None:
         """Whether it is the audit's is known behind this: `met`, or `unmet`."""
-        if time.monotonic() < self.meet_at:
-            return
         self.met, self.is_unsure = None, identity == UNSURE
+        if self.is_unsure:
+            self.unmet = AuditLostError("whether the store is the audit's isn't known: it can't "
+                                        "tell now which one it is")
+            return
         try:
-            if self.is_unsure:
-                raise ProgramLateError("it can't tell now which one it is")
             self.auditor.meet_store(identity)
             self.met, self.unmet = identity, None
         except StoreUnfitError as error:
             self.unmet = error
-        except ProgramLateError as error:
-            self.unmet = AuditLostError(f"whether the store is the audit's isn't known: {error}")
-            self.meet_at = time.monotonic() + AGAIN
 
     def see_store(self, holds: bool) -> None:
         """As a transaction has begun, over a connection which may be another one than before, and
@@ -327,10 +326,12 @@ class Session(OwnTransactions):
         written there."""
         if not hasattr(self.auditor, "meet_store"):
             return
+        is_first = self.met is None and self.unmet is None
         try:
             identity = self.calls.identity()
             if identity != self.met:
                 self.meet_store(identity)
+                self.refuse_store(is_first)
             if self.unmet is not None and not holds:
                 raise self.unmet
         except BaseException:

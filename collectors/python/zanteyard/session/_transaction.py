@@ -266,8 +266,8 @@ class Transaction:
             if self.holds:
                 session.used_at = time.monotonic()
             if not (is_last and any(map(is_dropped_if_unknown, writes))):
-                unclear = session.unlooked or (self.unclear if outcome != "aborted" else None)
-                if unclear is not None:
+                unclear = session.unlooked or self.unclear
+                if unclear is not None and outcome != "aborted":  # else it did nothing
                     self.note_unclear(outcome, is_last, unclear)
                     session.miss(self.number, unclear)
                 elif not session.tell(self.hand_in, reads, writes, outcome, is_last):
@@ -310,7 +310,8 @@ class Transaction:
             auditor.take(number, self.number, logged)
 
     def logged(self, reads: Iterable[Read], writes: Iterable[str], outcome: str) -> Logged:
-        tried_reads, tried_writes = self.undone() if outcome == "aborted" else ([], [])
+        is_told = outcome == "aborted" and self.session.unlooked is None
+        tried_reads, tried_writes = self.undone() if is_told else ([], [])
         statements = tuple(self.statements.items())
         if outcome != "committed":
             deeds: Set[Deed] = {*reads, *tried_reads}
