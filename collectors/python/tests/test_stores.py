@@ -234,8 +234,12 @@ class Each:
                     own = f"{folder}/zanteyard-"
                     self.assertTrue(self.left_in(own))
                     running.send_signal(number)
-                    running.stdout.read()
-                self.assertEqual(running.returncode, 128 + number if number == signal.SIGHUP else -number)
+                    told = running.stdout.read()
+                if number == signal.SIGHUP:  # the audit ends with what it has seen
+                    self.assertEqual(running.returncode, 0, told)
+                    self.assertIn(b": serial: ", told)
+                else:
+                    self.assertEqual(running.returncode, -number)
                 self.assertTrue(eventually(lambda: not self.left_in(own)), self.left_in(own))
 
     def left_in(self, own):
