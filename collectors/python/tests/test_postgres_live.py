@@ -85,6 +85,7 @@ class PostgresLive(unittest.TestCase):
         all that had come by its begin, of which nothing was forgotten; and the script is right line by line."""
         from zanteyard.stores.postgres import PostgresStore, prepare
 
+        beside = 0  # offers, in all: an audit that is soon violated may have none
         for workload, level, by_processes in OVERLAPPING:
             with self.subTest(workload=workload, level=level, by_processes=by_processes):
                 table = f"{workload}_{level.replace(' ', '_')}_{by_processes}"
@@ -98,7 +99,8 @@ class PostgresLive(unittest.TestCase):
                 self.assertEqual([(tuple(it[3]), it[2]) for it in reports], told)
                 self.assertEqual(told[-1][1], kind)
                 self.assertEqual(verdicts(log_in(lines, replies), told, PROGRAM), told)
-                self.assertGreater(self.came_beside(lines), 0)
+                beside += self.came_beside(lines)
+        self.assertGreater(beside, 0)
 
     @staticmethod
     def searched(folder, store, workload, by_processes):
