@@ -2,11 +2,12 @@
 # Installs those of Debian's packages in packages.txt that are missing, if it runs as root where apt-get reaches an archive.
 # It fails never: what can't be installed is named in one line, and the tests that want it are skipped with a word.
 #
-#     ./install_packages.sh
+#     ./install_packages.sh            all of them, as ./test.sh wants them
+#     ./install_packages.sh wheel      those of one line of packages.txt, as ./try.sh wants them
 set -uo pipefail
 cd "$(dirname "$0")"
 missing() { # the packages of packages.txt that aren't installed, one a line
-    sed -n 's/^[^#:][^:]*://p' packages.txt | tr -s ' ' '\n' | sed '/^$/d' | while read -r name; do
+    sed -n "s/^${1:-[^#:][^:]*}://p" packages.txt | tr -s ' ' '\n' | sed '/^$/d' | while read -r name; do
         [ "$(dpkg-query -W -f '${db:Status-Status}' "$name" 2> /dev/null)" = installed ] || echo "$name"
     done
 }
@@ -14,7 +15,7 @@ if ! command -v dpkg-query > /dev/null || ! command -v apt-get > /dev/null; then
     echo "no packages installed: this isn't Debian; packages.txt names what the tests want"
     exit 0
 fi
-mapfile -t names < <(missing)
+mapfile -t names < <(missing "$@")
 [ "${#names[@]}" -gt 0 ] || exit 0
 if [ "$(id -u)" -ne 0 ]; then
     echo "not installed, since this doesn't run as root: ${names[*]}"
@@ -28,6 +29,6 @@ if ! timeout 1200 apt-get install -y -qq --no-install-recommends "${names[@]}" >
         timeout 600 apt-get install -y -qq --no-install-recommends "$name" > /dev/null 2>&1 || true
     done
 fi
-mapfile -t names < <(missing)
+mapfile -t names < <(missing "$@")
 [ "${#names[@]}" -eq 0 ] || echo "could not be installed: ${names[*]}"
 exit 0

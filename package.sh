@@ -3,7 +3,8 @@
 #
 #     ./package.sh                 the auditor as the prover built it; asks the prover whether anything has changed since
 #     ./package.sh --built         the same as it stands, where it is newer than all sources: what the gate has just built
-#     ./package.sh --unproved      builds the auditor without a proof, in about a minute, for a first try; its version says so
+#     ./package.sh --unproved      builds the auditor without a proof, in a minute or two, for a first try; its version says so. It has
+#                                  its checks compiled in, and is some 300 times slower: what suits it, ./try.sh shows
 #
 # It wants Python 3.9 or later with setuptools and wheel (on Debian python3-setuptools and python3-wheel), and asks no index.
 set -euo pipefail

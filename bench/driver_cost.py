@@ -67,17 +67,18 @@ def relay(folder: str, port: int, microseconds: int) -> "Tuple[int, subprocess.P
     return listen, started
 
 
-def table(asked: Any, delay: int, ways: List[Way], calls: Dict[str, List[str]]) -> None:
+def table(asked: Any, delay: int, started: Started, calls: Dict[str, List[str]]) -> None:
     for driver, call in calls.items():
-        runs: Dict[str, List[Any]] = {way.name: [] for way in ways}
+        runs: Dict[str, List[Any]] = {name: [] for name in asked.way}
         for _ in range(asked.times):
-            for way in ways:
-                runs[way.name].append(run(asked, call, way))
+            for name in asked.way:
+                with started.turn(name) as way:
+                    runs[name].append(run(asked, call, way))
         first: Optional[float] = None
-        for way in ways:
-            rate, between, beside = map(statistics.median, zip(*runs[way.name]))
+        for name in asked.way:
+            rate, between, beside = map(statistics.median, zip(*runs[name]))
             first = first or rate
-            print(f"{driver:10}{delay:8}  {way.name:10}{rate:9.0f}{rate / first:10.2f}"
+            print(f"{driver:10}{delay:8}  {name:10}{rate:9.0f}{rate / first:10.2f}"
                   f"{between:9.1f}{beside:8.1f}", flush=True)
 
 
@@ -103,11 +104,9 @@ def main() -> None:
             port, away = server.port, None
             if delay:
                 port, away = relay(folder, server.port, delay)
-            started = Started(folder, "127.0.0.1", port, proxy)
             try:
-                table(asked, delay, [started.way(name) for name in asked.way], calls)
+                table(asked, delay, Started(folder, "127.0.0.1", port, proxy), calls)
             finally:
-                started.end()
                 if away:
                     away.kill()
                     away.wait()

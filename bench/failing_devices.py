@@ -1,8 +1,8 @@
 #!/usr/bin/env python3
-"""Has each read and each write of the four programs fail in turn, by a C library whose calls fail.
+"""Has each read and each write of the three programs fail in turn, by a C library whose calls fail.
 
 Run at the top of the repository, after `rt run < /dev/null` has built each program in its crate, or
-with COBRA_AUDIT, COBRA_CHECK, COBRA_LIVE and COBRA_DEMO naming them; it wants cc:
+with COBRA_AUDIT, COBRA_CHECK and COBRA_DEMO naming them; it wants cc:
 
     python3 bench/failing_devices.py [--some WORD] [--only PROGRAM]
 
@@ -15,17 +15,13 @@ was written a front of what is owed:
 - by cobra_audit, with every reply of the lines before;
 - by cobra_check, which is given the script's stored replies, too, with all that is told of the
   replies before;
-- by cobra_demo, whose run writes once, where the write fails, and nothing where the read does;
-- by cobra_live, which is given the script's offers, judged as its tests judge it: where a read
-  fails all that was read before is told of, up to the end; where a write fails, whole lines and a
-  piece of the next.
+- by cobra_demo, whose run writes once, where the write fails, and nothing where the read does.
 
 Without a failure all is told, with status 0. Then the script is cut off at every byte, and what
 cobra_audit tells of that has to be what the plain model owes (`judge.py`). It prints a line for
 each size, and ends with status 1 where one is wrong.
 """
 import argparse
-import json
 import os
 import shutil
 import subprocess
@@ -34,8 +30,7 @@ import tempfile
 
 HERE = os.path.dirname(os.path.abspath(__file__))
 sys.path[:0] = [HERE, os.path.join(HERE, "../collectors/python")]
-from judge import command_of, first_difference, lines_of  # noqa: E402
-from plain_verdicts import Wrong  # noqa: E402
+from judge import first_difference, lines_of  # noqa: E402
 
 SHIM = r"""
 #define _GNU_SOURCE
@@ -69,7 +64,7 @@ ERRORS = (5, 4, 11, 28)  # EIO, EINTR, EAGAIN, ENOSPC
 FAILED = (1, b"device failed\n")
 
 
-NAMES = ("cobra_audit", "cobra_check", "cobra_demo", "cobra_live")
+NAMES = ("cobra_audit", "cobra_check", "cobra_demo")
 
 
 def has_compiler():
@@ -229,52 +224,6 @@ def demonstration_runs(program, folder, line, owed):
             for call, told, ended in until_none_fails("write", run)]
 
 
-def live_runs(program, folder, lines):
-    """The same of cobra_live; which rounds it makes is a matter of moments, so that all that it
-    tells is judged."""
-    from refused_memory import judge_of
-
-    devices = Devices(program, folder)
-    given = b"".join(line + b"\n" for line in lines)
-
-    def wrong(told, ended, owed, whole):
-        """Of how it ended, and what is told of so many whole lines; or of a front of that."""
-        try:
-            if ended != owed:
-                raise Wrong(f"it ends with {ended}")
-            if not whole:
-                return None if not told else f"nothing was read, and told is {told!r}"
-            is_whole = whole_is_told(told)
-            judge_of(lines[:whole]).take_all(told if is_whole else told[:told.rfind(b"\n") + 1],
-                                             is_whole=is_whole)
-        except (Wrong, ValueError) as why:
-            return f"{why}: {told!r}"
-        return None
-
-    for most in SIZES:
-        def run(**how):
-            return devices.run(given, most, **how)  # noqa: B023
-        yield f"moving {most:,}", [wrong(*run(), (0, b""), len(lines))]
-        yield f"reads of {most:,} fail", [
-            read_failed(wrong, given, lines, told, ended, (call - 1) * most)
-            for call, told, ended in until_none_fails("read", run)]
-        yield f"writes of {most:,} fail", [
-            wrong(told, ended, FAILED, len(lines))
-            for call, told, ended in until_none_fails("write", run)]
-
-
-def whole_is_told(told):
-    return told.endswith(b'["end"]\n')
-
-
-def read_failed(wrong, given, lines, told, ended, count):
-    """Whether so many bytes were read, and the next read failed, is told rightly."""
-    whole = given[:count].count(b"\n")
-    if whole and not whole_is_told(told):
-        return f"{count} bytes were read, and it has no end: {told!r}, {ended}"
-    return wrong(told, ended, FAILED, whole)
-
-
 def all_runs(name, program, folder, script, replies):
     """The runs of the program with this name."""
     if name == "cobra_audit":
@@ -283,13 +232,7 @@ def all_runs(name, program, folder, script, replies):
         return checker_runs(program, folder, b"".join(
             line + b"\n" + reply + b"\n" for line, reply in zip(script.splitlines(),
                                                                 replies.splitlines())))
-    if name == "cobra_demo":
-        return demonstration_runs(program, folder, b"none 16\n", HONEST)
-    opening, *lines = map(command_of, script.splitlines())
-    offers = [line for line in lines if line[0] == "offer"]
-    return live_runs(program, folder, [
-        json.dumps(line, separators=(",", ":")).encode()
-        for line in ([*opening, 4096, 0, 1], *offers)])
+    return demonstration_runs(program, folder, b"none 16\n", HONEST)
 
 
 HONEST = (b"fault none\n" + b"".join(b"collector %d submitted 11 taken 11\n" % each

@@ -66,7 +66,7 @@ def logged(draws):
 
 
 def message(draws):
-    kind = draws.choice(["hello", "beat", "logged", "note", "leave", "join", "back", "answer", "noted", "lost"])
+    kind = draws.choice(["hello", "beat", "logged", "note", "leave", "join", "back", "answer", "noted", "lost", "store"])
     return (kind, *(value(draws, 4) for _ in range(draws.randrange(5))))
 
 
@@ -82,7 +82,7 @@ def strange_text(draws):
         bounds = [b"9223372036854775807", b"9223372036854775808", b"-9223372036854775808", b"1e18", b"1e19", b"-1e19"]
         return b'["a",%s]' % draws.choice([*bounds, b"9" * draws.randrange(1, 6000), b"1e400", b"NaN", b"Infinity", b"-0"])
     if kind == 3:
-        return b'["a",{"%s":%s}]' % (draws.choice([b"logged", b"b"]), draws.choice([b"null", b"[]", b"1", b"[" + b"0," * 9 + b"0]", b"[[],[],0,0,0,0,0,[],[],0]"]))
+        return b'["a",{"%s":%s}]' % (draws.choice([b"logged", b"b"]), draws.choice([b"null", b"[]", b"1", b"[" + b"0," * 9 + b"0]", b"[[],[],0,0,0,0,0,[],[],0,0]"]))
     if kind == 4:
         return draws.choice([b"", b"[]", b"{}", b"null", b"1", b'"a"', b'[["a"]]', b"[null]"])
     text = bytearray(text_of(message(draws)))

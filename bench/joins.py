@@ -5,7 +5,8 @@
 
 Each run is a small store that executes what clients do, and lies now and then; clients come and go,
 meet, and are logged in any order between their sessions. Its lines go to cobra_audit, with rounds
-and cuts between them. Each reply is judged by the plain model (`judge.py`), and each report once
+and cuts between them; of some rounds the search goes on beside the lines, and some of these are
+skipped. Each reply is judged by the plain model (`judge.py`), and each report once
 more by the definition over all that was ever accepted, as if nothing had been cut away: who joined
 has a session more, and who came back goes on in one. Prints a table, and with status 1 the first
 run that differs, as a script.
@@ -130,12 +131,14 @@ class Foreseen(Model):
 
     def foresee(self, command):
         word, *rest = command
-        if word not in ("round", "finish"):
+        if word == "search":
+            return json.loads(self.begin_search(*rest))
+        if word not in ("round", "finish", "collect"):
             return json.loads(getattr(self, word)(*rest))
         refused = self.refused_round(word)
         if refused:
             return json.loads(refused)
-        parts, self.snapshot = self.snapshot or self.parts, None
+        parts, self.snapshot, self.search = self.snapshot or self.parts, None, None
         relation = Relation(parts)
         found, _ = scan(relation, parts.has_bad_read(), FARTHEST)
         if found == YES:
@@ -175,6 +178,8 @@ class Run:
             self.history[rest[0]] += map(effect_of, rest[-1])
         if word == "begin":
             self.opens = [len(txns) for txns in self.history]
+        if word == "skip":
+            self.opens = None
 
     def judge(self, program, table):
         """Of what the program answers; raises Wrong."""
@@ -237,16 +242,35 @@ class Run:
         if self.dice.random() < 0.2:
             self.clients.leave()
         self.hand_in_all()
-        self.ask("round", 4096, 0, 1, "guided")
+        if self.dice.random() < 0.5:
+            self.ask("round", 4096, 0, 1, "guided")
+        else:
+            self.begin_search()
+            self.clients.execute()
+            self.hand_in()
+            self.end_round()
         self.ask("truncate")
 
     def hand_in_all(self):
         if self.opens and self.dice.random() < 0.9:
-            self.ask("finish", 4096, 0, 1, "guided")
+            self.end_round()
         for _ in range(3):
             self.hand_in(100)
         if self.opens:
+            self.end_round()
+
+    def begin_search(self):
+        self.ask("begin")
+        self.ask("search", 4096, 0, 1, "guided")
+
+    def end_round(self):
+        """The one that is open."""
+        if not self.model.search:
             self.ask("finish", 4096, 0, 1, "guided")
+        elif self.dice.random() < 0.15:
+            self.ask("skip")
+        else:
+            self.ask("collect", "wait")
 
     def hand_in(self, most=3):
         """What waits in some sessions, in any order."""
@@ -289,9 +313,9 @@ class Run:
     def round(self):
         turn = self.dice.random()
         if self.opens and turn < 0.7:
-            self.ask("finish", 4096, 0, 1, "guided")
-        elif turn < 0.25:
-            self.ask("begin")
+            self.end_round()
+        elif turn < 0.35:
+            self.begin_search() if self.dice.random() < 0.7 else self.ask("begin")
         else:
             self.ask("round", 4096, 0, 1, "guided")
         if self.dice.random() < 0.8:

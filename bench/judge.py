@@ -18,7 +18,6 @@ from plain_proofs import check_order, check_tree
 from plain_verdicts import INIT, Parts, Relation, Wrong, cut_of, has_order, is_fence, may_be_spent
 
 LONGEST = 8388608  # bytes of a line, its LF left out
-LONGEST_SKIP = 4096  # and of one that asks to skip rounds
 WHOLE, NUMBERS = 2**64, 2**48
 DEEPEST, FARTHEST = 600, 400  # nodes that are searched here, and fronts that are tried
 NAMES = {1: "BadLine", 2: "BadSession", 3: "BadTxn", 4: "BadFence", 5: "Gap", 6: "Repeat",
@@ -218,16 +217,6 @@ def command_of(line):
         return None
     form = FORMS.get((told[0], len(told)))
     return told if form and form(told[1:]) else None
-
-
-def asks_to_skip(line):
-    """Whether it is the line by which rounds of cobra_live are skipped, which isn't answered."""
-    if len(line) > LONGEST_SKIP:
-        return False
-    try:
-        return decode(line.decode("utf-8")) == ["skip"]
-    except (ValueError, RecursionError):
-        return False
 
 
 def is_aborted(told):

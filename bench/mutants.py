@@ -2,7 +2,7 @@
 
     /usr/bin/python3 bench/mutants.py python|go [--count 60] [--seed 1] [--processes 2] [--only FILE:LINE]
 
-Mutants of the Python package's sessions, live audits, notes and searches for killed clients, or of the proxy's joiner,
+Mutants of the Python package's sessions, live audits, rounds, notes and searches for killed clients, or of the proxy's joiner,
 are drawn by the seed, and each is run under the tests beside it, in a copy of the tree. One is found if a test fails,
 or none ends in its time. Prints a line for each that isn't found, which is to be read: it means the same, or a test is
 missing. The status is 1 if more than one in twenty isn't found."""
@@ -27,6 +27,7 @@ FILES = {
     "python": (
         *("session/_*.py", "live/_backlog.py", "live/_session_pool.py", "live/_quiesce_coordinator.py"),
         *("live/_audit.py", "live/_live_auditor.py", "live/_for_processes.py", "live/_pace.py"),
+        *("program/_rounds.py", "program/_searched_round.py", "live/_told.py"),
         *("core/_crash_notes.py", "core/_tenancy.py", "core/_window.py", "remote/_crash_recovery.py"),
     ),
     "go": ("src/zanteyard/join/*.go",),
@@ -34,7 +35,7 @@ FILES = {
 # Those that take a second or two come first.
 TESTS = (
     *("transactions", "meetings", "places", "forks", "notes", "circumstances", "redacting", "processes", "no_harm"),
-    *("aborted", "joining", "live", "killed.Killed"),
+    *("aborted", "joining", "live", "rounds", "killed.Killed"),
 )
 SECONDS = 150.0  # for the tests of a mutant
 Mutant = collections.namedtuple("Mutant", "path line about text")

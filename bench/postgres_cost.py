@@ -1,7 +1,7 @@
 """What an audit costs the clients of a PostgreSQL, in transactions a second.
 
     python3 bench/postgres_cost.py [--seconds N] [--times N] [--clients N] [--every N] [--delay N]
-        [--workload NAME ..] [--processes] [--by-turns]
+        [--workload NAME ..] [--processes]
 
 Rates are means, and how much less stands with its standard error: runs differ by a fifth and more
 where processors are idle now and then, so that many short runs tell more than few long ones. Beside
@@ -9,9 +9,8 @@ them, as medians: processor time for each transaction begun, of the clients and 
 over, and of what audits it; how much of their time clients waited for meetings, and how long at
 most; how far the auditor was behind at most. The clients are threads of one process, or processes
 of their own; the same sessions run over the same store without the auditor, but nobody takes their
-log. By turns the auditor is cobra_audit, also where there is a cobra_live. With a delay, in
-milliseconds, each statement takes that much longer, as over a network. TMPDIR=/dev/shm has the
-server's folder in memory, where a disk would be what is measured.
+log. With a delay, in milliseconds, each statement takes that much longer, as over a network.
+TMPDIR=/dev/shm has the server's folder in memory, where a disk would be what is measured.
 """
 import argparse
 import os
@@ -107,8 +106,7 @@ class Run:
                 return ClientProcesses(server.path, self.make_store, *more)
 
     def audited(self):
-        running = "" if self.asked.by_turns else None
-        with AuditorApart(self.asked.clients, running=running) as auditor:
+        with AuditorApart(self.asked.clients) as auditor:
             with LiveAuditor(auditor, every=self.asked.every, tell=lambda line: None) as live:
                 clients = self.clients(live)
                 outcome = live.stop()
@@ -126,7 +124,6 @@ def arguments():
     asked.add_argument("--delay", type=float, default=0.0, help="milliseconds more a statement")
     asked.add_argument("--workload", nargs="+", choices=WORKLOADS, default=[*WORKLOADS])
     asked.add_argument("--processes", action="store_true")
-    asked.add_argument("--by-turns", action="store_true", help="cobra_audit, not cobra_live")
     return asked.parse_args()
 
 

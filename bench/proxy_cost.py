@@ -6,7 +6,7 @@
 Each work of pgbench (`select` is its -S, `update` its -N, `tpcb` its tpcb-like; `transfer` is two
 reads and an update at serializable) runs in turns in each way: `direct`, `pgbouncer` (pooling
 sessions), `passing` (the proxy with --pass), `audited` (`zanteyard watch` with all that it
-starts). The table has, as medians: transactions a second; their part of the direct ones; the
+starts). What is between is started for its turn alone. The table has, as medians: transactions a second; their part of the direct ones; the
 microseconds of processor time for each transaction, of pgbouncer or of the proxy, and of all that
 the audit has beside the proxy; with --latency, how long a transaction took in the middle and 99 of
 100, in microseconds. TMPDIR=/dev/shm has the server's folder in memory.
@@ -28,6 +28,7 @@ import subprocess
 import sys
 import tempfile
 import time
+import urllib.request
 from typing import Any, Dict, Iterator, List, Optional, Tuple
 
 TOP = os.path.join(os.path.dirname(os.path.abspath(__file__)), "..")
@@ -77,6 +78,17 @@ def wait_for(host: str, port: int, seconds: float = 30) -> None:
             if time.monotonic() > until:
                 raise SystemExit(f"nothing listens on port {port}") from None
             time.sleep(0.05)
+
+
+def wait_for_audit(figures: str, seconds: float = 60) -> None:
+    until = time.monotonic() + seconds
+    while time.monotonic() < until:
+        with contextlib.suppress(OSError):
+            with urllib.request.urlopen(f"http://{figures}/metrics", timeout=10) as page:
+                if b"\nzanteyard_audits_total 1\n" in page.read():
+                    return
+        time.sleep(0.05)
+    raise SystemExit("the audit hasn't begun")
 
 
 def processor_time(pid: int) -> float:
@@ -152,15 +164,26 @@ class Started:
         elif name == "passing":
             call = [self.proxy, "--pass", "--listen", f"127.0.0.1:{listen}", "--server", url]
         else:
+            figures = f"127.0.0.1:{free_port()}"
             call = [sys.executable, "-m", "zanteyard", "watch", url, "--log", "WARNING"]
-            call += ["--listen", f"127.0.0.1:{listen}"]
+            call += ["--listen", f"127.0.0.1:{listen}", "--metrics", figures]
         log = open(os.path.join(self.folder, f"{name}.log"), "wb")
         started = subprocess.Popen(
             call, stdin=subprocess.DEVNULL, stdout=log, stderr=log, env=environment, **as_user
         )
         self.running.append(started)
         wait_for("127.0.0.1", listen)
+        if name == "audited":
+            wait_for_audit(figures)
         return Way(name, "127.0.0.1", listen, started.pid)
+
+    @contextlib.contextmanager
+    def turn(self, name: str) -> Iterator[Way]:
+        """What a way needs runs meanwhile."""
+        try:
+            yield self.way(name)
+        finally:
+            self.end()
 
     def end(self) -> None:
         for each in self.running:
@@ -170,6 +193,7 @@ class Started:
                 each.wait(60)
             except subprocess.TimeoutExpired:
                 each.kill()
+        self.running = []
 
 
 def latencies(folder: str) -> Tuple[float, float]:
@@ -220,20 +244,21 @@ def middle(runs: List[Figures], name: str) -> float:
     return statistics.median(getattr(each, name) for each in runs)
 
 
-def table(asked: Any, folder: str, ways: List[Way]) -> None:
+def table(asked: Any, folder: str, started: Started) -> None:
     print(f"{'work':9}{'protocol':9}{'clients':>8}  {'way':10}{'a second':>9}{'of direct':>10}"
           f"{'between':>9}{'beside':>8}" + (f"{'middle':>9}{'99/100':>9}" if asked.latency else ""))
     for work in asked.work:
         for protocol in asked.protocol:
             for clients in asked.clients:
-                runs: Dict[str, List[Figures]] = {way.name: [] for way in ways}
+                runs: Dict[str, List[Figures]] = {name: [] for name in asked.way}
                 for _ in range(asked.times):
-                    for way in ways:
-                        runs[way.name].append(run(asked, folder, way, work, protocol, clients))
-                first = middle(runs[ways[0].name], "rate")
-                for way in ways:
-                    of_way = runs[way.name]
-                    line = f"{work:9}{protocol:9}{clients:8}  {way.name:10}"
+                    for name in asked.way:
+                        with started.turn(name) as way:
+                            runs[name].append(run(asked, folder, way, work, protocol, clients))
+                first = middle(runs[asked.way[0]], "rate")
+                for name in asked.way:
+                    of_way = runs[name]
+                    line = f"{work:9}{protocol:9}{clients:8}  {name:10}"
                     line += f"{middle(of_way, 'rate'):9.0f}{middle(of_way, 'rate') / first:10.2f}"
                     line += f"{middle(of_way, 'between'):9.1f}{middle(of_way, 'beside'):8.1f}"
                     if asked.latency:
@@ -289,11 +314,7 @@ def main() -> None:
     with open(os.path.join(folder, "transfer.sql"), "w", encoding="utf-8") as file:
         file.write(TRANSFER)
     with prepared_server(folder, asked.scale) as (server, proxy):
-        started = Started(folder, "127.0.0.1", server.port, proxy)
-        try:
-            table(asked, folder, [started.way(name) for name in asked.way])
-        finally:
-            started.end()
+        table(asked, folder, Started(folder, "127.0.0.1", server.port, proxy))
 
 
 if __name__ == "__main__":

@@ -1,9 +1,9 @@
 #!/usr/bin/env python3
-"""Has each allocation of the four programs refused in turn, and each thread, by a C library that
+"""Has each allocation of the three programs refused in turn, and each thread, by a C library that
 refuses one.
 
 Run at the top of the repository, after `rt run < /dev/null` has built each program in its crate, or
-with COBRA_AUDIT, COBRA_CHECK, COBRA_LIVE and COBRA_DEMO naming them; it wants cc:
+with COBRA_AUDIT, COBRA_CHECK and COBRA_DEMO naming them; it wants cc:
 
     python3 bench/refused_memory.py [--every N] [--only WORD] [--lasting]
 
@@ -19,12 +19,11 @@ how many went which way:
 - nothing seen: where the library goes on without the room that was refused.
 
 Where workers share a round's search, its report only has to be one that the plain model
-(`judge.py`) finds right. What cobra_live tells is judged as its tests judge it: each answer, report
-and cut, and that it ends with its end.
+(`judge.py`) finds right.
 
 The runs are the worked scripts of crates/cobra_examples/data, whole; four of them step by step,
-with workers, and handed over to another run; their stored replies for cobra_check; their offers for
-cobra_live; and the demonstration. --every takes each Nth allocation alone, --only the runs whose
+with workers, and handed over to another run; their stored replies for cobra_check; and the
+demonstration. --every takes each Nth allocation alone, --only the runs whose
 name has the word. At the end it tells which commands of cobra_audit were answered NoMemory, and how
 often while a round was open. The status is 1 where one went wrong.
 """
@@ -37,7 +36,6 @@ import struct
 import subprocess
 import sys
 import tempfile
-import time
 from collections import Counter
 
 HERE = os.path.dirname(os.path.abspath(__file__))
@@ -270,89 +268,6 @@ class Whole:
         raise Wrong(f"it ends with {ended}, and has written {told!r}")
 
 
-class Live:
-    """Lines for cobra_live, one after another; what comes of them is judged."""
-
-    def __init__(self, name, lines):
-        self.name, self.lines = name, lines
-
-    def prepare(self, shim):
-        if self.way(shim) != "nothing seen":
-            raise Wrong(f"{self.name}: memory is wanting with nothing refused")
-        return shim.counts()
-
-    def way(self, shim, **refused):
-        with shim.start(path_of("cobra_live"), **refused) as running:
-            try:
-                for line in self.lines:
-                    running.stdin.write(line + b"\n")
-                    time.sleep(0.001)  # most of them find no round under way
-            except OSError:  # it has ended
-                pass
-            told, said = running.communicate(timeout=SECONDS)
-        ended = running.returncode, said
-        if ended not in ((0, b""), ENDED):
-            raise Wrong(f"it ends with {ended}")
-        judged = judge_of(self.lines)
-        judged.take_all(told, is_whole=ended == (0, b""))
-        return "ended" if ended == ENDED else "given again" if judged.wanted else "nothing seen"
-
-
-def judge_of(lines):
-    """A judge of what cobra_live tells of these lines where memory may have been wanting."""
-    from tests.live_runs import Judge
-
-    class Pressed(Judge):
-        wanted = 0  # how often memory was wanting
-        was_skipped = has_ended = False
-        withheld = ()  # cuts of which one was found, and there was no memory to apply it
-
-        def take_all(self, told, is_whole):
-            pieces = told.split(b"\n")
-            if pieces.pop():
-                raise Wrong("a last line without LF")
-            for piece in pieces:
-                if self.has_ended:
-                    raise Wrong(f"{piece} stands behind the end")
-                self.take(json.loads(piece))
-            if is_whole and not (self.has_ended and self.next == len(self.lines)):
-                raise Wrong(f"the status is 0, and line {self.next + 1} isn't told of")
-
-        def take(self, told):
-            if told[0] == "skipped":
-                if told[2:] != ["NoMemory"] and told[1:] != [16, "NoMemory"]:
-                    raise Wrong(f"{told} was skipped")
-                self.wanted += 1
-                self.was_skipped, self.cuts = True, [None]
-                return
-            if told[0] != "cut" and None not in self.cuts:
-                self.wanted, self.withheld, self.cuts = self.wanted + 1, self.cuts, [None]
-            if told == ["end"]:
-                self.has_ended = True
-                if self.was_skipped:
-                    return
-            super().take(told)
-            self.was_skipped = False
-            if told[0] == "report":
-                if told[2] in ("violated", "spent"):
-                    self.cuts = [None, *self.withheld]
-                self.withheld = ()
-
-        def take_answer(self, told):
-            if told[0] != "refused" or told[-1] != "NoMemory" or self.next == len(self.lines):
-                super().take_answer(told)
-                return
-            before = self.model.parts.copy(), [list(txns) for txns in self.history]
-            command = command_of(self.lines[self.next])
-            owed = self.owed_to(command)
-            if owed[0] not in ("accepted", "closed") or told[1:3] != [*owed[1:], None][:2]:
-                raise Wrong(f"owed is {owed}, told is {told}")
-            self.model.parts, self.history = before
-            self.next, self.wanted = self.next + 1, self.wanted + 1
-
-    return Pressed(lines)
-
-
 def lines_of(path):
     with open(path, "rb") as file:
         text = file.read()
@@ -398,14 +313,6 @@ def handed_over(lines):
     return [*map(compact, found), b'["resumed"]', b'["round",64,0,1]', b'["truncate"]', b'["show"]']
 
 
-def for_live(lines, effort):
-    """The script's offers, and the closing of its sessions."""
-    sessions, limit = command_of(lines[0])[1:]
-    return [compact(["open", sessions, limit, *effort]),
-            *(line for line in lines if command_of(line)[0] == "offer"),
-            *(compact(["close", session]) for session in range(sessions))]
-
-
 def runs(data):
     """The table."""
     for name in sorted(os.listdir(data)):
@@ -420,12 +327,6 @@ def runs(data):
             yield Audit(f"cobra_audit, {name} handed over", handed_over(lines))
             turns = b"".join(line + b"\n" + reply + b"\n" for line, reply in zip(lines, replies))
             yield Whole(f"cobra_check, {name}", "cobra_check", turns)
-            yield Live(f"cobra_live, {name}", for_live(lines, [4096, 0, 1]))
-    gate = [b'["open",1,8,4096,0,1]', b'["offer",0,0,[[[],[5]]]]',
-            b'["offer",0,1,[[[[5,0,0]],[]]]]', b'["close",0]']
-    yield Live("cobra_live, one session", gate)
-    split = lines_of(f"{data}/real_split.jsonl")
-    yield Live("cobra_live, real_split with workers", for_live(split, [4096, 2, 4]))
     yield Whole("cobra_demo, lost-update 1", "cobra_demo", DEMONSTRATION)
 
 

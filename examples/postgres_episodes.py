@@ -55,6 +55,7 @@ class OwnKeys:
         self.store, self.prefix = store, prefix
         self.begin, self.commit = store.begin, store.commit
         self.rollback, self.outcome = store.rollback, store.outcome
+        self.identity = store.identity
 
     @property
     def statement(self):

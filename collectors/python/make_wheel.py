@@ -21,14 +21,16 @@ import sys
 import sysconfig
 import tempfile
 import time
+from concurrent.futures import ThreadPoolExecutor
 from typing import Iterator, List, Optional, Sequence
 
 HERE = os.path.dirname(os.path.abspath(__file__))
 TOP = os.path.normpath(os.path.join(HERE, "../.."))
-PROGRAMS = ("cobra_audit", "cobra_check", "cobra_live")  # each a crate of this name
+PROGRAMS = ("cobra_audit", "cobra_check")  # each a crate of this name
 PROXY = os.path.join(TOP, "proxy", "out", "zanteyard-proxy")  # where its build.sh puts it
 LGPL = "/usr/share/common-licenses/LGPL-2.1"  # of the C library, which is linked into the proxy
-PATIENCE = 600  # seconds in which a build without proofs has to have come to its run
+SLOWER = 300  # times, as docs/RUNNING.md measured it
+PATIENCE = 1200  # seconds in which a build without proofs has to have come to its run
 
 
 class CantPackError(Exception):
@@ -82,13 +84,13 @@ def proved(name: str, is_built: bool) -> str:
 def unproved(name: str, folder: str) -> str:
     """The program as `rt try` builds it. It keeps no file, so its own folder is looked into while
     the program reads a script that takes it a while."""
+    folder = os.path.join(folder, f"{name}.try")
+    os.mkdir(folder)
     script = os.path.join(folder, "script")
     with open(script, "w", encoding="utf-8") as file:
         if name == "cobra_check":  # lines with their replies
             turn = '["begin"]\n["ok"]\n["finish",1,0,1]\n["report",1,"serial",[0],[]]\n'
             file.write('["open",1,4096]\n["ok"]\n' + (turn + '["rebuild"]\n["ok"]\n') * 400000)
-        elif name == "cobra_live":
-            file.write('["open",1,4096,4096,0,1]\n' + '["close",1]\n' * 3000000)
         else:
             file.write('["open",1,4096]\n')
             file.writelines(f'["offer",0,{it},[[[],[{it + 1}]]]]\n' for it in range(4000))
@@ -109,7 +111,6 @@ def unproved(name: str, folder: str) -> str:
             )
         except OSError as error:
             raise CantPackError(f"the kit's command rt doesn't start: {error.strerror}") from error
-    print(f"{name}: building without a proof (about a minute)")
     try:
         return taken_from(trying, name, folder)
     finally:
@@ -128,6 +129,14 @@ def taken_from(trying: "subprocess.Popen[bytes]", name: str, folder: str) -> str
                 return str(shutil.copy(f"{at}/program", os.path.join(folder, name)))
         time.sleep(0.1)
     raise CantPackError(f"rt try has built no {name}: run it by hand to see why")
+
+
+def all_unproved(names: Sequence[str], folder: str) -> List[str]:
+    """Side by side: each takes a minute of a processor, or two."""
+    print(f"building without proofs: {', '.join(names)} (a minute or two on an idle machine)")
+    print(f"(checks are compiled in: some {SLOWER} times slower than what is proved)", flush=True)
+    with ThreadPoolExecutor(len(names)) as building:
+        return list(building.map(lambda name: unproved(name, folder), names))
 
 
 def sha256_of(path: str) -> str:
@@ -161,6 +170,7 @@ def stage(folder: str, programs: Sequence[str], is_proved: bool) -> None:
         shutil.copy(os.path.join(HERE, name), folder)
     for name in ("LICENSE", "LICENSES.md"):
         shutil.copy(os.path.join(TOP, name), folder)
+    shutil.copytree(os.path.join(TOP, "docs"), os.path.join(package, "docs"))  # errors name them
     inside = os.path.join(package, "program", "bin")
     os.mkdir(inside)
     for path in programs:
@@ -205,6 +215,11 @@ def arguments(words: Optional[Sequence[str]]) -> argparse.Namespace:
         metavar="PROGRAM",
         help="builds without a proof, for a first try; or takes this program",
     )
+    asked.add_argument(
+        "--auditor-alone",
+        action="store_true",
+        help="with --unproved: leaves out the checker of stored replies",
+    )
     return asked.parse_args(words)
 
 
@@ -213,15 +228,12 @@ def main(words: Optional[Sequence[str]] = None) -> int:
     os.makedirs(asked.output, exist_ok=True)
     try:
         with tempfile.TemporaryDirectory() as made, tempfile.TemporaryDirectory() as staged:
-            programs: List[str] = []
-            for name in PROGRAMS:
-                if asked.unproved is None:
-                    programs.append(proved(name, asked.built))
-                elif asked.unproved:  # the auditor that is named, and no other program
-                    if name == PROGRAMS[0]:
-                        programs.append(shutil.copy(asked.unproved, os.path.join(made, name)))
-                else:
-                    programs.append(unproved(name, made))
+            if asked.unproved is None:
+                programs = [proved(name, asked.built) for name in PROGRAMS]
+            elif asked.unproved:  # the auditor that is named, and no other program
+                programs = [shutil.copy(asked.unproved, os.path.join(made, PROGRAMS[0]))]
+            else:
+                programs = all_unproved(PROGRAMS[: 1 if asked.auditor_alone else None], made)
             stage(staged, programs, asked.unproved is None)
             print(wheel_of(staged, os.path.abspath(asked.output)))
     except CantPackError as error:

@@ -24,6 +24,7 @@ import tempfile
 import threading
 import time
 import unittest
+from collections import Counter
 from typing import Any, Dict, Iterator, List, NamedTuple, Optional, TextIO
 
 HERE = os.path.dirname(os.path.abspath(__file__))
@@ -33,7 +34,7 @@ LONG = [
     for each in (
         *("machines", "stores", "killed", "journal_kills", "streams", "faults"),
         *("restarting", "postgres_live", "bank", "shrinking", "examples", "live", "no_harm"),
-        *("running", "proxy_drivers", "watch_whole"),
+        *("rounds", "proxy_drivers", "watch_whole"),
     )
 ]
 ENDING = 10.0  # seconds for a process to tell where its threads stand
@@ -43,13 +44,13 @@ class Ran(NamedTuple):
     """What came of a module. `problem` is "" where all is well."""
 
     tests: int
-    skipped: int
+    skipped: List[str]  # why, for each that was skipped
     problem: str
     seconds: float
     slow: List[Any]  # a pair for each test: its seconds, and its name
 
 
-LATE = Ran(0, 0, "it hasn't ended in time", 0.0, [])
+LATE = Ran(0, [], "it hasn't ended in time", 0.0, [])
 
 
 # One of the processes: reads names of modules, a line each, and answers a line to each.
@@ -80,7 +81,7 @@ def run_modules(asked: TextIO, answers: TextIO) -> None:
             bad = len(its.failures) + len(its.errors) + len(its.unexpectedSuccesses)
             problem = "" if its.wasSuccessful() else f"{bad} failed"
             seconds = time.monotonic() - began
-            ran = Ran(its.testsRun, len(its.skipped), problem, seconds, its.slow)
+            ran = Ran(its.testsRun, [why for _, why in its.skipped], problem, seconds, its.slow)
         print(json.dumps(ran), file=answers, flush=True)
 
 
@@ -131,7 +132,7 @@ class Worker(threading.Thread):
             elif not self.is_stopped:
                 assert self.process is not None
                 ended = f"its process ended, with status {self.process.wait()}"
-                self.results[name] = Ran(0, 0, ended, time.monotonic() - began, [])
+                self.results[name] = Ran(0, [], ended, time.monotonic() - began, [])
                 self.process = None
         if self.process is not None and not self.is_stopped:
             self.end()
@@ -236,8 +237,10 @@ def summary(results: Dict[str, Ran], seconds: float, slowest: int) -> Iterator[s
     for taken, test in slow[:slowest]:
         yield f"{taken:8.2f} s  {test}"
     tests = sum(it.tests for it in results.values())
-    skipped = sum(it.skipped for it in results.values())
-    yield f"{tests} tests in {seconds:.0f} s, {skipped} of them skipped"
+    skipped = Counter(why for it in results.values() for why in it.skipped)
+    yield f"{tests} tests in {seconds:.0f} s, {sum(skipped.values())} of them skipped"
+    for why, count in sorted(skipped.items(), key=lambda it: (-it[1], it[0])):
+        yield f"skipped: {count:4}  {why}"
     for name, ran in sorted(results.items()):
         if ran.problem:
             yield f"FAILED: {name}: {ran.problem}"

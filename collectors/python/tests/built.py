@@ -1,7 +1,7 @@
 """The programs of this repository, where a test is about all of them."""
 import os
 
-from zanteyard.program._binaries import checker_path, live_path, program_path
+from zanteyard.program._binaries import checker_path, program_path
 
 TOP = os.path.normpath(os.path.join(os.path.dirname(os.path.abspath(__file__)), "../../.."))
 WORKED = os.path.join(TOP, "crates/cobra_examples/data")
@@ -15,7 +15,6 @@ def demo_path():
 PATHS = {
     "cobra_audit": program_path,
     "cobra_check": checker_path,
-    "cobra_live": live_path,
     "cobra_demo": demo_path,
 }
 

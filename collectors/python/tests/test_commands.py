@@ -2,6 +2,8 @@
 import io
 import os
 import re
+import shlex
+import signal
 import subprocess
 import sys
 import tempfile
@@ -12,9 +14,14 @@ from unittest import mock
 from zanteyard.trial import _demo as demo
 from zanteyard.program._auditor import PROGRAM
 from zanteyard.trial.postgres_server import program
+from zanteyard.trial.store_kinds import KINDS
+from zanteyard.cli import audit
+from zanteyard.cli.audit import stopped_by_signals
+from zanteyard.cli._commands import COMMANDS, parser
 from zanteyard.cli._main import main
 from zanteyard.core._outcome import Outcome
-from zanteyard.program._binaries import ProgramOrigin, find_program, found_live, program_path
+from zanteyard.program import _binaries
+from zanteyard.program._binaries import ProgramOrigin, find_program, program_path
 from zanteyard.core._version import VERSION
 
 TOP = os.path.normpath(os.path.join(os.path.dirname(os.path.abspath(__file__)), "../../.."))
@@ -68,21 +75,51 @@ class Commands(unittest.TestCase):
                 self.assertEqual(run("check", path), (2, "", told))
 
     def test_output_that_nobody_reads_is_no_mistake(self):
-        """As in `zanteyard demo | head`, whether the pipe ends before or behind what is told."""
-        for command in (["demo", "--no-html"], ["check", self.script(*LOST, '["round",32,0,1]')]):
-            with self.subTest(command=command):
+        """The status is that of the verdict, if there is one by then."""
+        a_round = '["round",32,0,1]'
+        for lines, wanted, told in (
+            ([*LOST, a_round], 1, b""),
+            ([*LOST[:2], a_round, LOST[2]], 4, b"undecided: nobody reads what it tells\n"),
+        ):
+            with self.subTest(lines=lines):
+                command = ["check", self.script(*lines)]
                 reading, writing = os.pipe()
                 os.close(reading)
                 with open(writing, "wb") as nobody:
-                    ended = subprocess.run(
-                        [sys.executable, "-m", "zanteyard", *command],
-                        stdout=nobody,
-                        stderr=subprocess.PIPE,
-                        timeout=60,
-                        check=False,
-                    )
-                told = b"undecided: nobody reads what it tells\n"
-                self.assertEqual((ended.returncode, ended.stderr), (4, told))
+                    ended = self.unbuffered(command, nobody)
+                    _, errors = ended.communicate(timeout=120)
+                self.assertEqual((ended.returncode, errors), (wanted, told))
+
+    @staticmethod
+    def unbuffered(command, output):
+        return subprocess.Popen(
+            [sys.executable, "-u", "-m", "zanteyard", *command],
+            stdout=output,
+            stderr=subprocess.PIPE,
+        )
+
+    def test_a_page_is_written_whoever_reads_the_words(self):
+        """As by `zanteyard explain SCRIPT --html PAGE | head -1`."""
+        page = os.path.join(self.folder, "page.html")
+        for command in (
+            ["explain", self.script(*LOST), "--html", page],
+            ["demo", "write-skew", "--html", page],
+        ):
+            with self.subTest(command=command):
+                running = self.unbuffered(command, subprocess.PIPE)
+                self.assertTrue(running.stdout.readline())
+                running.stdout.close()
+                self.assertEqual(running.stderr.read(), b"")
+                running.stderr.close()
+                self.assertEqual(running.wait(120), 1)
+                with open(page, encoding="utf-8") as file:
+                    self.assertIn('<span class="verdict violated">', file.read())
+                os.remove(page)
+
+    def test_a_page_that_cant_be_written_is_told_after_the_words(self):
+        status, out, err = run("explain", self.script(*LOST), "--html", self.folder)
+        self.assertEqual((status, err), (2, f"mistake: {self.folder}: Is a directory\n"))
+        self.assertIn("because\n", out)
 
     def test_five_statuses_over_five_scripts(self):
         spent = ("check", "--nodes", "1")
@@ -261,6 +298,136 @@ class Commands(unittest.TestCase):
         self.assertIn("ZeroDivisionError", err)
 
 
+class Help(unittest.TestCase):
+    def test_each_command_has_an_example_that_it_takes(self):
+        whole = parser()
+        for name, its in COMMANDS.items():
+            with self.subTest(name=name):
+                program, *words = shlex.split(its.example)
+                self.assertEqual((program, words[0]), ("zanteyard", name))
+                whole.parse_args(words)
+                status, out, err = run("help", name)
+                self.assertEqual((status, err), (0, ""))
+                self.assertIn(f"\nexample:\n  {its.example}\n\n", out)
+                self.assertIn("exit status", " ".join(out.split()))
+                self.assertEqual(run(name, "--help"), (0, out, ""))
+        for kind in KINDS:
+            out = run("help", "audit", kind.command)[1]
+            self.assertIn(f"\nexample:\n  zanteyard audit {kind.command} --seconds 5\n", out)
+
+    def test_help_is_the_same_whichever_commands_are_filled(self):
+        """Only the command that is asked for has its arguments."""
+        self.assertEqual(parser("").format_help(), parser().format_help())
+
+    def test_help_alone(self):
+        whole = parser("").format_help()
+        self.assertEqual(run("help"), (0, whole, ""))
+        self.assertEqual(run("--help"), (0, whole, ""))
+        self.assertEqual(run(), (2, "", whole))
+        for name in COMMANDS:
+            self.assertIn(f"\n    {name}", whole)
+        status, out, err = run("help", "nothing")
+        self.assertEqual((status, out), (2, ""))
+        self.assertIn("invalid choice: 'nothing'", err)
+
+    def test_a_command_imports_only_its_own(self):
+        """So that it starts at once."""
+        code = (
+            "import sys; from zanteyard.cli._main import main\n"
+            "try:\n    main(['--version'])\nexcept SystemExit: pass\n"
+            "print(*(it for it in sys.modules if it.startswith('zanteyard.')))"
+        )
+        out = subprocess.run([sys.executable, "-c", code], capture_output=True, text=True).stdout
+        packages = {it.split(".")[1] for it in out.splitlines()[-1].split()}
+        self.assertEqual(packages, {"core", "cli", "program", "watch"})
+        self.assertNotIn("zanteyard.watch._run ", out)
+
+    def test_an_interrupt_while_it_is_imported(self):
+        """Ctrl-C in its first moments, at whichever module."""
+        code = """
+import sys
+class Interrupting:
+    def find_spec(self, name, *_):
+        if name == sys.argv[1]:
+            raise KeyboardInterrupt
+sys.meta_path.insert(0, Interrupting())
+from zanteyard.cli._main import main
+sys.exit(main(sys.argv[2:]))
+"""
+        for module, words in (
+            ("zanteyard.cli._commands", ["watch", "postgresql://db/shop"]),
+            ("zanteyard.watch._command", ["watch", "postgresql://db/shop"]),
+            ("zanteyard.imports._command", ["import", "csv", "a", "-o", "b"]),
+            ("zanteyard.cli._scripts", ["check", "a"]),
+        ):
+            with self.subTest(module=module):
+                call = [sys.executable, "-c", code, module, *words]
+                ended = subprocess.run(call, capture_output=True, text=True)
+                self.assertEqual(ended.stderr.splitlines(), ["interrupted"])
+                self.assertEqual((ended.returncode, ended.stdout), (4, ""))
+
+    def test_numbers_that_are_none(self):
+        """Python's names of functions are nobody's business."""
+        for words, wanted in (
+            (("check", "a", "--nodes", "abc"), "argument --nodes: 'abc' is no whole number from 1 to 16,777,216"),
+            (("check", "a", "--nodes", "0"), "argument --nodes: '0' is no whole number from 1 to 16,777,216"),
+            (("audit", "sqlite", "--clients", "-3"), "argument --clients: '-3' is no whole number from 2 to 64"),
+            (("import", "csv", "a", "-o", "b", "--first", "x"), "argument --first: 'x' is no whole number from 1 on"),
+        ):
+            with self.subTest(words=words):
+                status, out, err = run(*words)
+                self.assertEqual((status, out), (2, ""))
+                self.assertTrue(err.endswith(f"error: {wanted}\n"), err)
+
+    def test_what_is_interrupted_later(self):
+        for name, place, told in (
+            ("check", "zanteyard.cli._scripts._run_of", "undecided: it was interrupted\n"),
+            ("import", "zanteyard.imports._command._text_of", "interrupted\n"),
+        ):
+            with self.subTest(name=name):
+                words = shlex.split(COMMANDS[name].example)[1:]
+                with mock.patch(place, side_effect=KeyboardInterrupt):
+                    self.assertEqual(run(*words), (4, "", told))
+
+
+class Signals(unittest.TestCase):
+    """`zanteyard audit` at Ctrl-C and the like."""
+
+    def test_the_first_one_is_noted_and_the_second_one_ends_the_program(self):
+        seen = []
+        for number in (signal.SIGTERM, signal.SIGINT):
+            before = signal.signal(number, lambda *its: seen.append(its[0]))
+            self.addCleanup(signal.signal, number, before)
+        with stopped_by_signals() as stop:
+            self.assertFalse(stop.is_set())
+            signal.raise_signal(signal.SIGTERM)
+            self.assertTrue(stop.is_set())
+            self.assertEqual(seen, [])
+            signal.raise_signal(signal.SIGINT)
+            signal.raise_signal(signal.SIGTERM)
+            self.assertEqual(seen, [signal.SIGINT, signal.SIGTERM])
+        signal.raise_signal(signal.SIGTERM)
+        self.assertEqual(len(seen), 3)
+
+    def test_what_nohup_wants_stays(self):
+        before = signal.signal(signal.SIGHUP, signal.SIG_IGN)
+        self.addCleanup(signal.signal, signal.SIGHUP, before)
+        with stopped_by_signals() as stop:
+            signal.raise_signal(signal.SIGHUP)
+            self.assertFalse(stop.is_set())
+
+    def test_a_violation_found_before_stays(self):
+        with tempfile.TemporaryDirectory() as folder:
+            path = os.path.join(folder, "violation")
+            self.assertEqual(audit._unused(path), path)
+            for name, wanted in (("violation.jsonl", "-2"), ("violation-2.dot", "-3"), ("violation-4.txt", "-3")):
+                with open(os.path.join(folder, name), "w", encoding="utf-8"):
+                    pass
+                self.assertEqual(audit._unused(path), path + wanted)
+            os.symlink("/dev/full", os.path.join(folder, "other.jsonl"))  # nothing was kept there
+            self.assertEqual(audit._unused(os.path.join(folder, "other")), os.path.join(folder, "other"))
+
+
 class Programs(unittest.TestCase):
     def test_which_program_is_started(self):
         self.assertEqual(program_path({"COBRA_AUDIT": "/no/such"}), "/no/such")
@@ -268,28 +435,15 @@ class Programs(unittest.TestCase):
         with self.assertRaisesRegex(Exception, "/no/such isn't there"):
             find_program({"COBRA_AUDIT": "/no/such"})
 
-    def test_which_running_auditor_is_started(self):
-        """The one that is named, or that is there beside the auditor that is named."""
-        with tempfile.TemporaryDirectory() as folder:
-            audit, live = (os.path.join(folder, it) for it in ("cobra_audit", "cobra_live"))
-            audit_built, live_built = (
-                os.path.join(folder, f"crates/{it}/out/{it}") for it in ("cobra_audit", "cobra_live")
-            )
-            self.assertEqual(found_live({"COBRA_AUDIT": audit}), "")
-            with open(live, "wb"):
-                self.assertEqual(found_live({"COBRA_AUDIT": audit}), "")  # it can't be started
-            os.chmod(live, 0o700)
-            os.makedirs(os.path.dirname(live_built))
-            self.assertEqual(found_live({"COBRA_AUDIT": audit_built}), "")
-            os.symlink(live, live_built)
-            for its, wanted in (
-                ({"COBRA_AUDIT": audit}, live),
-                ({"COBRA_AUDIT": audit_built}, live_built),
-                ({"COBRA_AUDIT": audit, "COBRA_LIVE": live_built}, live_built),
-                ({"COBRA_AUDIT": audit_built, "COBRA_LIVE": audit}, ""),
-            ):
-                with self.subTest(its=its):
-                    self.assertEqual(found_live(its), wanted)
+    def test_one_without_proofs_says_that_it_is_slow(self):
+        """In its version, and where clients wait for it."""
+        slow = "some 300 times slower than a proved one"
+        self.assertIn(f"NOT PROVED, built for a first try; {slow}", ProgramOrigin("p", False).sentence())
+        for is_proved, wanted in ((False, f" (it was built without proofs, and is {slow})"), (True, ""), (None, "")):
+            with mock.patch.object(_binaries, "origin_of", return_value=ProgramOrigin("p", is_proved)):
+                self.assertEqual(_binaries.slowness_of("p"), wanted)
+        with mock.patch.object(_binaries, "origin_of", side_effect=OSError):
+            self.assertEqual(_binaries.slowness_of("p"), "")
 
     def test_its_origin_is_told(self):
         self.assertEqual(ProgramOrigin("p", True, "kit", "abc").sentence(), "p: proved by kit, commit abc")

@@ -25,6 +25,7 @@ ELSEWHERE = {
     r"python3 -m venv venv": "test_package",
     r"venv/bin/.*": "test_package",
     r"\./test\.sh": "the gate, which has called this",
+    r"\./try\.sh": "test_package, in a folder of its own",
     r"rt .*": "the gate, which runs the same program on the same script",
     r"python3 examples/journal\.py .*": "test_restarting, over an auditor that knows save",
     r"zanteyard journal .*": "test_restarting, too",

@@ -125,18 +125,23 @@ class Examples(unittest.TestCase):
         self.assertIn(" can come first", text)
         self.assertIn("No space left on device", text)
 
-    def test_nothing_is_left_behind_at_sigterm(self):
+    def test_a_signal_ends_it_with_a_last_round(self):
+        """And nothing is left behind. The status is that of the verdict."""
         self.postgres_is_there()
-        for more in ((), ("--processes",)):
+        for number, more in (
+            (signal.SIGTERM, ()), (signal.SIGINT, ("--processes",)), (signal.SIGHUP, ("--churn",))
+        ):
             with self.subTest(more=more):
-                more = ("--unaudited", "0", "--rate", "100", "--rather-wait", *more)
-                running = self.begin("postgres_live.py", "--seconds", "100", *more)
-                self.assertIn("round 1", running.stdout.readline())
-                began = time.monotonic()
-                running.send_signal(signal.SIGTERM)
-                text = running.communicate(timeout=ENDING)[0]
-                self.assertEqual(running.returncode, 128 + signal.SIGTERM, text)
-                self.assertLess(time.monotonic() - began, ENDING)
+                few = ("--unaudited", "0", "--rate", "40", "--every", "64", "--clients", "4")
+                running = self.begin("postgres_live.py", "--seconds", "1000", "--rather-wait", *few, *more)
+                self.addCleanup(running.kill)
+                while "round 1:" not in running.stdout.readline():
+                    self.assertIsNone(running.poll())
+                running.send_signal(number)
+                text = running.communicate(timeout=4 * ENDING)[0]
+                self.assertEqual(running.returncode, 0, text)
+                self.assertIn("ending, with a last round", text)
+                self.assertRegex(text, "(?m)^mixed at serializable: serial: ([0-9]+) of \\1 ")
                 self.assertNotIn("Traceback", text)
                 self.assertEqual(os.listdir(f"{self.folder}/tmp"), [])
                 self.assertEqual(self.of_folder(), [])

@@ -10,12 +10,17 @@ import tempfile
 import threading
 import time
 import unittest
+from contextlib import suppress
 
-from zanteyard import FENCE, AbortedError, AuditorApart, AuditServer, LiveAuditor, OutcomeUnknownError
+from zanteyard import FENCE, AbortedError, AuditClient, AuditorApart, AuditServer, LiveAuditor, OutcomeUnknownError
+from zanteyard import StoreUnfitError
 from zanteyard.program._auditor import PROGRAM
 from zanteyard.trial.postgres_server import PostgresServer, program
+from zanteyard.trial.redis_server import RedisServer, redis_server
 
+from . import shared_key  # noqa: F401  (whose key clients over a Redis have)
 from .lateness import BOUND, Lateness
+from .test_standby import Standby
 
 try:
     import psycopg2
@@ -23,6 +28,12 @@ try:
     from zanteyard.stores.postgres import PostgresStore, prepare
 except ImportError:
     psycopg2 = None
+try:
+    import redis
+
+    from zanteyard.remote.streams import StreamServer
+except ImportError:
+    redis = None
 
 LACKING = [
     name
@@ -124,17 +135,17 @@ class Faults(unittest.TestCase):
         admin.cursor().execute("DROP TABLE IF EXISTS zanteyard")
         admin.close()
         prepare(self.cluster.dsn)
-        self.told = []
+        self.told, self.counted_in = [], [self.cluster.dsn]
 
-    def audit(self, **more):
-        self.auditor = AuditorApart(CLIENTS, **more)
+    def audit(self, sessions=CLIENTS, **more):
+        self.auditor = AuditorApart(sessions, **more)
         self.addCleanup(self.auditor.end)
         self.addCleanup(lambda: self.live.stop(1.0))
         self.live = LiveAuditor(self.auditor, seconds=0.3, tell=self.told.append)
 
-    def application(self, pace=0.0, patience=SOON):
-        stores = [PostgresStore(self.cluster.dsn) for _ in range(CLIENTS)]
-        sessions = [self.live.session(store, patience=patience) for store in stores]
+    def application(self, pace=0.0, patience=SOON, dsn=None, live=None):
+        stores = [PostgresStore(dsn or self.cluster.dsn) for _ in range(CLIENTS)]
+        sessions = [(live or self.live).session(store, patience=patience) for store in stores]
         for store in stores:
             self.addCleanup(store.close)
         application = Application(sessions, pace)
@@ -154,13 +165,19 @@ class Faults(unittest.TestCase):
         return len(self.live.outcome.earlier) > 0 and self.is_audited()
 
     def counted(self):
-        """What the store has counted."""
-        connection = psycopg2.connect(self.cluster.dsn)
-        cursor = connection.cursor()
-        cursor.execute("SELECT value FROM zanteyard WHERE key = 'x'")
-        (count,) = cursor.fetchone()
-        connection.close()
-        return int(count)
+        """What the stores have counted."""
+        return sum(int(self.sql(dsn, "SELECT value FROM zanteyard WHERE key = 'x'")) for dsn in self.counted_in)
+
+    def sql(self, dsn, text):
+        """The first value of the first row, if there is one."""
+        connection = psycopg2.connect(dsn)
+        try:
+            connection.autocommit = True
+            cursor = connection.cursor()
+            cursor.execute(text)
+            return cursor.fetchone()[0] if cursor.description else None
+        finally:
+            connection.close()
 
     def ended(self, application, fault, kind="incomplete", saw="nothing"):
         """What all of them owe: no count twice, no violation, nobody who waits."""
@@ -313,6 +330,96 @@ class Faults(unittest.TestCase):
         self.wait_for(self.is_audited)
         self.assertIsInstance(self.auditor.script_failure, OSError)
         self.ended(application, "the disk with the script is full", "serial")
+
+    # stores that aren't the audit's, and who answers in a store's place
+
+    def test_a_client_of_another_database(self):
+        self.sql(self.cluster.dsn, "DROP DATABASE IF EXISTS other")
+        self.sql(self.cluster.dsn, "CREATE DATABASE other")
+        store = PostgresStore(self.cluster.dsn.replace("dbname=postgres", "dbname=other"))
+        prepare(store.dsn)
+        self.audit(CLIENTS + 1)
+        application = self.application(PACE)
+        self.wait_for(self.is_audited)
+        with self.assertRaises(StoreUnfitError):
+            self.live.session(store).run(add_one)
+        store.close()
+        done = application.done
+        self.wait_for(lambda: application.done > done + 10)
+        application.end()
+        self.assertEqual((application.seen, application.unknown), ([], 0))
+        saw = "`StoreUnfitError`, that client alone"
+        self.ended(application, "a client of another database comes", "serial", saw)
+
+    def test_a_connection_leads_to_another_server(self):
+        with PostgresServer() as other:
+            prepare(other.dsn)
+            self.counted_in.append(other.dsn)
+            self.audit()
+            application = self.application(PACE)
+            self.wait_for(self.is_audited)
+            session, store = application.sessions[0], application.sessions[0].store
+            store.dsn = other.dsn
+            store.close()
+            self.wait_for(lambda: isinstance(session.unmet, StoreUnfitError))
+            done = application.done
+            self.wait_for(lambda: application.done > done + 10)
+            application.end()
+            fault = "a client's connection is lost, and the next one leads to another server"
+            self.ended(application, fault)
+
+    @unittest.skipUnless(program("pg_basebackup"), "pg_basebackup isn't installed (no standby answered)")
+    def test_a_standby_that_lags_answers(self):
+        """Where the primary's socket is away for a moment, as connections to it are lost."""
+        with tempfile.TemporaryDirectory() as folder, Standby(self.cluster) as standby:
+            self.sql(standby.dsn, "SELECT pg_wal_replay_pause()::text")
+            here = f"{folder}/primary"
+            os.symlink(self.cluster.folder, here)
+            self.audit()
+            dsn = f"host={here},{standby.folder} user=postgres dbname=postgres"
+            application = self.application(PACE, dsn=dsn)
+            self.wait_for(self.is_audited)
+            for _ in range(3):
+                os.unlink(here)
+                ends = "SELECT count(pg_terminate_backend(pid)) FROM pg_stat_activity WHERE backend_type = 'client backend'"
+                self.sql(self.cluster.dsn, f"{ends} AND pid <> pg_backend_pid()")
+                time.sleep(0.5)
+                os.symlink(self.cluster.folder, here)
+                self.sql(standby.dsn, f"{ends} AND pid <> pg_backend_pid()")  # the application's pool comes back
+                done = application.done
+                self.wait_for(lambda: application.done > done + 10)
+            application.end()
+            self.assertTrue(all(isinstance(error, psycopg2.Error) for error in application.seen))
+            fault, saw = "a standby that lags answers in the primary's place", "the store's own errors, meanwhile"
+            self.ended(application, fault, None, saw)
+
+    @unittest.skipUnless(redis and redis_server(), "Redis or redis-py isn't installed (nobody wrote to it)")
+    def test_a_stranger_writes_to_the_redis(self):
+        with RedisServer() as server, redis.Redis(unix_socket_path=server.socket) as stranger:
+            self.audit()
+            streams = StreamServer(self.live, server.dsn, silence=SOON)
+            self.addCleanup(streams.close, 0.0)
+            client = AuditClient(server.dsn)
+            self.addCleanup(client.leave)
+            application = self.application(PACE, live=client)
+            self.wait_for(self.is_audited)
+            up = streams.names.up(client._messages.client)
+            for turn in range(50):
+                entries = stranger.xrevrange(up, count=3)
+                texts = [fields for _, fields in entries] + [{b"m": b'["lost","for a test"]', b"s": b"?" * 32}]
+                for at, fields in enumerate(texts if entries else ()):
+                    with suppress(redis.ResponseError):  # the client has told more by then
+                        stranger.xadd(up, fields, id=b"%s-%d" % (entries[0][0].split(b"-")[0], 1 + at))
+                stranger.hset(streams.names.clients, f"{turn:016x}", "here")
+                stranger.xadd(streams.names.up(f"{turn:016x}"), {"m": b'["hello","host",1]', "s": b""})
+                time.sleep(PACE)
+            self.wait_for(lambda: streams.refused.total >= 60)
+            done = application.done
+            self.wait_for(lambda: application.done > done + 10)
+            application.end()
+            client.leave()
+            streams.close()
+            self.ended(application, "a stranger writes to the audit's Redis, and sends entries of it again", "serial")
 
     # clients in processes of their own
 

@@ -246,13 +246,6 @@ class Deep(unittest.TestCase):
         self.assertEqual(set(told), {OK})
         self.check(json.loads(report))
 
-    @unittest.skipUnless(path_of("cobra_live"), "cobra_live is not built")
-    def test_of_the_running_auditor(self):
-        lines = [compact(["open", 64, 4096, *self.effort]), *self.offers]
-        status, told, said = ended("cobra_live", b"".join(line + b"\n" for line in lines))
-        self.assertEqual((status, said), (0, b""))
-        self.check([it for it in map(json.loads, told.splitlines()) if it[0] == "report"][-1])
-
 
 @unittest.skipUnless(path_of("cobra_check"), "cobra_check is not built")
 class Forged(unittest.TestCase):

@@ -568,6 +568,18 @@ class Limits(unittest.TestCase):
                         self.assertIn(verdict, right)
         self.assertGreaterEqual(verdicts["violated"], 5)
 
+    def test_a_part_that_waits_for_the_rest(self):
+        text = "session,number,operation,key,value\na,0,write,x,1\nb,0,read,x,1\na,1,write,x,2\n"
+        with tempfile.TemporaryDirectory() as folder:
+            history, script = f"{folder}/h.csv", f"{folder}/h.jsonl"
+            with open(history, "w", encoding="utf-8") as file:
+                file.write(text)
+            out = io.StringIO()
+            with contextlib.redirect_stdout(out):
+                self.assertEqual(main(["import", "csv", history, "-o", script, "--first", "2"]), 0)
+                self.assertEqual(main(["check", script]), 3)
+        self.assertEqual(out.getvalue().splitlines()[-1], "    the rest of the file wasn't imported (--first)")
+
     def test_few_sessions_are_shared_by_who_comes_behind(self):
         """Where there are too many clients; the verdict stays."""
         self.addCleanup(setattr, import_script, "SESSIONS", import_script.SESSIONS)

@@ -15,6 +15,7 @@ from zanteyard import FENCE, AbortedError, Auditor, AuditorApart, LiveAuditor, L
 from zanteyard import AuditClient, AuditServer, Policy, RefusedError, from_start
 from zanteyard.live._audit import Audit
 from zanteyard.live._figures import Figures
+from zanteyard.live._told import Teller
 from zanteyard.core._own_keys import FLAG
 from zanteyard.program._auditor import PROGRAM
 from zanteyard.live._backlog import Backlog
@@ -118,12 +119,6 @@ class CallsApart(Calls):
     AUDITOR = AuditorApart
 
 
-class CallsApartByTurns(Calls):
-    """Over cobra_audit, also where there is a cobra_live."""
-
-    AUDITOR = staticmethod(lambda *its, **more: AuditorApart(*its, running="", **more))
-
-
 class Journals(Calls):
     """The same by a journal, with a program that is killed now and then."""
 
@@ -180,7 +175,7 @@ class TakenIn(WithProgram):
         super().setUp()
         self.auditor, self.backlog = Auditor(2, 64), Backlog(8)
         self.addCleanup(self.auditor.end)
-        its = (self.backlog, Figures(), self.told.append, "run", Coverage.of_all(2))
+        its = (self.backlog, Figures(), Teller(self.told.append), "run", Coverage.of_all(2))
         self.tenancy = Tenancy()
         self.audit = Audit(self.auditor, *its, tenancy=self.tenancy)
 

@@ -8,7 +8,7 @@ import time
 import unittest
 
 from zanteyard import FENCE, AbortedError, Auditor, AuditorApart, ProgramEndedError, FullError, LiveAuditor, Logged, NoCutError
-from zanteyard import NoMemoryError, Policy, RefusedError, audited, dot_text, draw, from_start, reasons, smaller, words
+from zanteyard import NoMemoryError, Policy, ProgramTooOldError, RefusedError, audited, dot_text, draw, from_start, reasons, smaller, words
 from zanteyard.core._own_keys import FLAG, MARK
 from zanteyard.program._auditor import PROGRAM
 from zanteyard.live._fragments import fragments
@@ -24,6 +24,10 @@ def add_one(key):
 
 def set_to(key, value):
     return lambda transaction: transaction.put(key, value)
+
+
+def no_cut():
+    raise NoCutError("no fence is settled")
 
 
 class WithProgram(unittest.TestCase):
@@ -106,7 +110,7 @@ class Meetings(WithProgram):
 
     def test_each_session_has_a_fence_and_comes_behind_the_last(self):
         live, store = self.live(3, every=2), MemoryStore()
-        self.auditor.can_cut = False  # so that all remains to be looked at
+        self.auditor.truncate = no_cut  # so that all remains to be looked at
         a, b = (live.session(store.connect()) for _ in range(2))
         a.run(set_to("x", 1))
         b.run(set_to("x", 2))
@@ -364,11 +368,9 @@ class Meetings(WithProgram):
 
 
 class MeetingsApart(Meetings):
-    """The same over an auditor in a process of its own, and over cobra_live where that is there."""
+    """The same over an auditor in a process of its own."""
 
     AUDITOR = AuditorApart
-    # It forgets by itself, so that not all remains to be looked at.
-    test_each_session_has_a_fence_and_comes_behind_the_last = None
 
     def kill(self):
         self.auditor.process.kill()
@@ -384,7 +386,6 @@ class MeetingsApart(Meetings):
                 auditor.close(7)
             with self.assertRaises(NoCutError):
                 auditor.truncate()
-            self.assertTrue(auditor.can_cut)
             self.assertEqual((auditor.round().kind, auditor.remaining, auditor.marks, auditor.base), ("violated", 3, [0, 0], {}))
             self.assertEqual(auditor.history, [[lost], [lost, Logged((), ())]])
         self.assertEqual((auditor.end(), auditor.process.returncode), (None, 0))
@@ -397,15 +398,6 @@ class MeetingsApart(Meetings):
     def test_a_program_that_is_not_there(self):
         with self.assertRaisesRegex(ProgramEndedError, "nowhere can't be started"):
             AuditorApart(1, program="/nowhere")
-
-
-class MeetingsApartByTurns(MeetingsApart):
-    """Over cobra_audit there, too."""
-
-    AUDITOR = staticmethod(lambda *arguments: AuditorApart(*arguments, running=""))
-    test_each_session_has_a_fence_and_comes_behind_the_last = (
-        Meetings.test_each_session_has_a_fence_and_comes_behind_the_last
-    )
 
 
 SCRIPTED = """#!{python}
@@ -483,7 +475,7 @@ class MadeUp(unittest.TestCase):
 
     def test_a_line_is_given_again_where_memory_was_refused(self):
         refused, report = ["no", 16, "NoMemory"], ["report", 1, "serial", [0], []]
-        auditor = self.auditor(1, {"round": [refused, report, *3 * [refused], report]})
+        auditor = self.auditor(1, {"collect": [refused, report, *3 * [refused], report]})
         self.assertEqual(auditor.round().kind, "serial")
         with self.assertRaises(NoMemoryError):
             auditor.round()
@@ -491,17 +483,16 @@ class MadeUp(unittest.TestCase):
 
     def test_a_search_that_is_spent_is_given_again_with_more(self):
         spent = ["report", 1, "spent", [0]]
-        auditor = self.auditor(1, {"round": [spent, ["report", 2, "serial", [0], []], *2 * [spent]]})
+        serial = ["report", 2, "serial", [0], []]
+        auditor = self.auditor(1, {"collect": [spent, ["searching"], serial, *2 * [spent]]})
         self.assertEqual(auditor.round(((1, 0, 1), (8, 2, 4))).number, 2)
         self.assertEqual(auditor.effort, (8, 2, 4))
         self.assertEqual(auditor.round().kind, "spent")
 
-    def test_a_program_without_the_command(self):
-        auditor = self.auditor(1, {"truncate": [["no", 13, "NoCut"], ["no", 1, "BadLine"]]})
-        for can_cut in (True, False):
-            with self.assertRaises(NoCutError):
-                auditor.truncate()
-            self.assertEqual(auditor.can_cut, can_cut)
+    def test_a_program_that_can_not_search_beside_its_lines(self):
+        auditor = self.auditor(1, {"search": [["no", 1, "BadLine"]]})
+        with self.assertRaisesRegex(ProgramTooOldError, "earlier version"):
+            auditor.round()
 
 
 class Pictures(unittest.TestCase):

@@ -9,6 +9,7 @@ import unittest
 import zipfile
 
 import make_wheel
+from zanteyard.cli._commands import COMMANDS
 from zanteyard.program._auditor import PROGRAM
 from zanteyard.program._binaries import BUILT
 from zanteyard.core._version import VERSION
@@ -127,6 +128,33 @@ class Package(unittest.TestCase):
         self.assertEqual(ended.returncode, 1, ended.stderr)
         with open(f"{self.folder}/zanteyard-lost-update.html", encoding="utf-8") as file:
             self.assertIn("These transactions can't have run one at a time", file.read())
+
+    def test_it_has_the_documents_that_help_and_errors_name(self):
+        folder = self.zanteyard("help").stdout.split("\nDocuments: ")[1].strip()
+        self.assertTrue(folder.startswith(f"{self.folder}/venv/"), folder)
+        self.assertEqual(sorted(os.listdir(folder)), sorted(os.listdir(f"{TOP}/docs")))
+        for command in COMMANDS:
+            text = self.zanteyard("help", command).stdout
+            for name in re.findall(r"docs/([A-Z_]+\.md)", text):
+                self.assertTrue(os.path.isfile(f"{folder}/{name}"), name)
+
+    def test_a_first_try(self):
+        """./try.sh, with the auditor that these tests have."""
+        folder = os.path.join(self.folder, "try")
+        its = {**self.environment, "COBRA_AUDIT": os.path.abspath(PROGRAM)}
+        for _ in range(2):  # a second one makes its folder anew
+            ended = subprocess.run(
+                [f"{TOP}/try.sh", folder], env=its, capture_output=True, text=True, timeout=900
+            )
+            self.assertEqual(ended.returncode, 0, ended.stdout + ended.stderr)
+            self.assertRegex(ended.stdout, "(?m)^counter at autocommit: violated: ")
+            self.assertRegex(ended.stdout, "(?m)^  so n.* can come first$")
+            self.assertIn(f"The violation's page is {folder}/violation.html", ended.stdout)
+            with open(f"{folder}/violation.html", encoding="utf-8") as file:
+                self.assertIn("These transactions can't have run one at a time", file.read())
+        ended = subprocess.run([f"{TOP}/try.sh", self.folder], env=its, capture_output=True, text=True)
+        self.assertEqual(ended.returncode, 1)
+        self.assertIn(f"{self.folder} is there, and no earlier try's", ended.stderr)
 
     def test_python_dash_m_is_the_same(self):
         ended = self.run_it(f"{self.folder}/venv/bin/python", "-m", "zanteyard", "--version")

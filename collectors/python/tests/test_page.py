@@ -104,6 +104,14 @@ class Page(unittest.TestCase):
         self.assertEqual(text.count('<g class="arc circle"'), 2)
         self.assertEqual(text.count('<span class="mark">'), arcs)  # each arc's reason in words
 
+    def test_how_many_of_the_transactions_are_shown(self):
+        for counts, wanted in (
+            ((2, 1), "a bank: 3 transactions of 2 sessions</p>"),
+            ((4, 1), "a bank: 5 transactions of 2 sessions; 3 of the transactions are shown here</p>"),
+        ):
+            text = page_of(story_of(history(), name, counts=counts), "a bank", "proved")
+            self.assertIn(wanted, text)
+
     def test_other_verdicts(self):
         for kind, more, wanted in (
             ("serial", {"order": ("0.0", "1.0")}, "0.0 1.0"),
@@ -202,6 +210,24 @@ class InABrowser(unittest.TestCase):
         lower = [pixel for row in rows[280:560] for pixel in row]
         self.assertGreater(sum(pixel == (179, 38, 30) for pixel in lower), 100)  # the arcs
         self.assertGreater(sum(pixel == (244, 247, 251) for pixel in lower), 9000)  # the boxes
+
+    def test_in_a_narrow_window(self):
+        """The picture shrinks as far as it can be read; beyond that a shade shows that it goes on."""
+        def seen(text):
+            with open(self.path, "w", encoding="utf-8") as file:
+                file.write(text)
+            picture = os.path.join(self.folder, "page.png")
+            self.browse("--window-size=500,1000", f"--screenshot={picture}")
+            return [row[400:476] for row in pixels(picture)[2]]
+
+        boxes = sum(pixel == (244, 247, 251) for row in seen(page()) for pixel in row)
+        self.assertGreater(boxes, 1000)  # of the second column
+        write, first = Logged((), ("y",)), history()
+        first[1].append(Logged((("x", (1, 0)), ("y", (2, 0))), ("x",)))
+        three = page_of(story_of([*first, [write]], name, ""), "a bank", "proved")
+        self.assertIn("columns-3", three)
+        shades = [row[-1] for row in seen(three)]
+        self.assertGreater(sum(max(it) < 240 for it in shades), 50)
 
     def test_on_paper(self):
         paper = os.path.join(self.folder, "page.pdf")

@@ -31,7 +31,7 @@ class Told(unittest.TestCase):
     def test_what_processes_tell_of_a_place(self):
         """Who changes that gives its form another number, too: a process of before wouldn't understand it."""
         names = "number begun is_due has_flag is_audited is_ended is_lent unknown must_join client"
-        self.assertEqual((FORM, [field.name for field in fields(Place)]), (4, names.split()))
+        self.assertEqual((FORM, [field.name for field in fields(Place)]), (5, names.split()))
 
 
 class LentPlaces(unittest.TestCase):

@@ -10,7 +10,7 @@ try:
     import psycopg2
 
     from zanteyard.stores._postgres_connection import first_row
-    from zanteyard.stores.postgres import STATUS, PostgresStore, prepare
+    from zanteyard.stores.postgres import STATUS, PostgresStore, prepare, with_table
 except ImportError:
     psycopg2 = None
 
@@ -42,9 +42,10 @@ class Hosts(unittest.TestCase):
         self.assertIn("pg_is_in_recovery()", STATUS)
         with PostgresServer() as server:
             prepare(server.dsn)
-            text = STATUS.format(table="zanteyard").replace("pg_is_in_recovery()", "true")
+            text = with_table(STATUS, "zanteyard").replace("pg_is_in_recovery()", "true")
             row = first_row(server.dsn, text, ("1", "x", "run", 0, 0), time.monotonic() + SOON)
-            self.assertEqual(row, (None, False))
+            self.assertEqual(row[:2], (None, False))
+            self.assertEqual(len(row[2].split()), 3)  # and no timeline
 
 
 if __name__ == "__main__":

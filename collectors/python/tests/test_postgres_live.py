@@ -1,4 +1,7 @@
 """Audits of a PostgreSQL while clients run on it: each workload at the strictest level, and the faults of the other ones."""
+import functools
+import itertools
+import json
 import os
 import re
 import subprocess
@@ -6,8 +9,12 @@ import sys
 import tempfile
 import unittest
 
+from zanteyard import AuditorApart, AuditServer, LiveAuditor, Policy
 from zanteyard.program._auditor import PROGRAM
 from zanteyard.trial.postgres_server import PostgresServer, program
+from zanteyard.trial.workloads import EVERY_WORKLOAD, ClientProcesses, Clients
+
+from .owed import are_right, log_in, verdicts
 
 try:
     import psycopg2
@@ -16,6 +23,11 @@ except ImportError:
 
 TOP = os.path.normpath(os.path.join(os.path.dirname(os.path.abspath(__file__)), "../../.."))
 WORKLOADS = ("counter", "skew", "mixed", "blind")
+OVERLAPPING = (
+    *((workload, "serializable", by_processes) for workload in WORKLOADS for by_processes in (False, True)),
+    *(("skew", "repeatable read", by_processes) for by_processes in (False, True)),
+)
+OVERLAPPED, RATE = 3.0, 250.0  # seconds, and transactions a second, so that a round may be about all
 PATIENCE = 120  # seconds to find a fault in: a run ends with the first one
 LATE = 200.0  # seconds for a program, where others have the processors
 
@@ -67,6 +79,64 @@ class PostgresLive(unittest.TestCase):
     def test_who_only_writes_is_serial_at_the_lowest_level(self):
         words = ("--level", "committed", "--workload", "blind", "--processes")
         self.assertEqual(self.outcome(6, "--rather-wait", *words)[0], "serial")
+
+    def test_each_round_is_right_of_the_whole_history(self):
+        """One is searched at each moment, while clients are taken in: what it told is what a program says that is given
+        all that had come by its begin, of which nothing was forgotten; and the script is right line by line."""
+        from zanteyard.stores.postgres import PostgresStore, prepare
+
+        for workload, level, by_processes in OVERLAPPING:
+            with self.subTest(workload=workload, level=level, by_processes=by_processes):
+                table = f"{workload}_{level.replace(' ', '_')}_{by_processes}"
+                prepare(self.cluster.dsn, table)
+                store = functools.partial(PostgresStore, self.cluster.dsn, level, table)
+                with tempfile.TemporaryDirectory() as folder:
+                    kind, told = self.searched(folder, store, workload, by_processes)
+                    lines, replies = self.played(f"{folder}/script")
+                self.assertTrue(are_right(lines, replies))
+                reports = [json.loads(it) for it in replies if it.startswith(b'["report"')]
+                self.assertEqual([(tuple(it[3]), it[2]) for it in reports], told)
+                self.assertEqual(told[-1][1], kind)
+                self.assertEqual(verdicts(log_in(lines, replies), told, PROGRAM), told)
+                self.assertGreater(self.came_beside(lines), 0)
+
+    @staticmethod
+    def searched(folder, store, workload, by_processes):
+        """The outcome, and of each round how many transactions it was about, and its verdict."""
+        told = []
+        note = lambda it: told.append((tuple(it.report.counts), it.report.kind))
+        its = {"every": 64, "seconds": 0.0, "patience": 60.0, "policy": Policy(60.0, begins_anew=False)}
+        with AuditorApart(4, script=f"{folder}/script") as auditor:
+            has_round, looks = auditor.has_round, itertools.count()
+            auditor.has_round = lambda seconds: next(looks) % 2 and has_round(seconds)  # never at the first look
+            live = LiveAuditor(auditor, on_round=note, **its)
+            if by_processes:
+                with AuditServer(live, f"{folder}/audit") as server:
+                    ClientProcesses(server.path, store, 4, workload, OVERLAPPED, RATE)
+            else:
+                sessions = [live.session(store()) for _ in range(4)]
+                Clients(sessions, EVERY_WORKLOAD[workload], OVERLAPPED, lambda: live.is_over, RATE)
+            outcome = live.stop()
+            assert outcome.failure is None, outcome
+            assert outcome.is_violated or outcome.audited == outcome.handed_in, outcome
+            return outcome.kind, told
+
+    @staticmethod
+    def played(path):
+        """A script's lines, and what a program says to them."""
+        with open(path, "rb") as script:
+            text = script.read()
+        replies = subprocess.run([PROGRAM], input=text, stdout=subprocess.PIPE, check=True, timeout=LATE).stdout
+        return text.splitlines(), replies.splitlines()
+
+    @staticmethod
+    def came_beside(lines):
+        """How many offers and joins stand between the begin of a round and its end."""
+        count, is_open = 0, False
+        for line in lines:
+            is_open = line == b'["begin"]' or is_open and not line.startswith((b'["collect"', b'["skip"'))
+            count += is_open and line.startswith(b'["offer"')
+        return count
 
     def test_faults_are_found(self):
         for level, workload, *more in (

@@ -10,9 +10,10 @@ import unittest
 
 from zanteyard import RATHER_WAIT, Auditor, ProgramEndedError, LiveAuditor, Logged, NoCutError, Session
 from zanteyard.core.errors import JournalDamagedError, JournalError, JournalInUseError
-from zanteyard.core.errors import JournalVersionError, RoundTooLongError
+from zanteyard.core.errors import JournalVersionError
 from zanteyard.journal import _writer as journal_writer
 from zanteyard.journal._file import Journal
+from zanteyard.program import _supervised as supervised
 from zanteyard.stores.memory import FAULTS, MemoryStore
 
 from . import test_documents, test_interrupts
@@ -204,23 +205,19 @@ class Killed(WithJournal):
                 with self.assertRaisesRegex(ValueError, "begin another run"):
                     made()
 
-    def test_late_rounds(self):
-        with self.auditor(round_seconds=3.0) as auditor:
-            auditor.offer(0, 0, ONE)
-            with Killer(once(0, STOPPED)):
-                self.assertEqual(auditor.round().kind, "serial")
-            self.assertEqual(auditor.program.restarts, 1)
-
-            def is_round(lines):
-                return STOPPED if lines[0].startswith(b'["round"') else None
-
-            with Killer(is_round), self.assertRaisesRegex(RoundTooLongError, "3 s, twice"):
-                auditor.round()
-            auditor.offer(0, 1, ONE)
-            self.assertEqual(auditor.program.restarts, 3)
-            self.assertEqual((auditor.round().kind, auditor.received), ("serial", [2, 0, 0]))
-        with self.assertRaisesRegex(ValueError, "asks for a journal"):
-            Auditor(1, 1, PROGRAM, round_seconds=1.0)
+    def test_programs_that_answer_nothing(self):
+        """They are replaced, whatever they were asked, and each round is made."""
+        self.addCleanup(setattr, supervised, "SILENT", supervised.SILENT)
+        supervised.SILENT = 3.0
+        for at in range(5):
+            self.path = os.path.join(self.folder, f"journal {at}")
+            with self.subTest(at=at), self.auditor() as auditor:
+                auditor.offer(0, 0, ONE)
+                with Killer(once(at, STOPPED)):
+                    self.assertEqual(auditor.round()[:3], (1, "serial", [1, 0, 0]))
+                    auditor.offer(0, 1, ONE)
+                    self.assertEqual(auditor.round()[:3], (2, "serial", [2, 0, 0]))
+                self.assertEqual(auditor.program.restarts, 1)
 
 
 class Interrupted(WithJournal):

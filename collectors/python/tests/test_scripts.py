@@ -11,7 +11,8 @@ from contextlib import redirect_stderr, redirect_stdout
 
 from zanteyard.core._own_keys import FENCE
 from zanteyard.program._auditor import PROGRAM
-from zanteyard.cli._main import STATUSES, main
+from zanteyard.cli._main import main
+from zanteyard.cli._statuses import STATUSES
 from zanteyard.core.errors import ScriptMistakeError
 from zanteyard.explain._scripts import ScriptRun
 from zanteyard.explain._shrinking import from_start, is_violated

@@ -7,12 +7,11 @@ import unittest
 from .built import PATHS, TOP, bytes_of, by_turns, path_of
 
 SECONDS = 60.0
-ASKED = ("cobra_audit", "cobra_check", "cobra_live")  # those that look at their arguments
+ASKED = ("cobra_audit", "cobra_check")  # those that look at their arguments
 FAILED = b"device failed\n"
 USAGE = {
     "cobra_audit": b"usage: cobra_audit [--help | --version] < SCRIPT\n",
     "cobra_check": b"usage: cobra_check [--help | --version] < LINES\n",
-    "cobra_live": b"usage: cobra_live [--help | --version] < LINES\n",
 }
 SCRIPT, REPLIES = (bytes_of("crates/cobra_examples/data", f"three_rounds.{end}")
                    for end in ("jsonl", "replies"))
@@ -25,14 +24,12 @@ WRONG = b"""reply 3 pending, right
 reply 4 wrong: owed is ["ok"]
 wrong: replies 4 reports 1 spent 0 not-checked 0
 """
-LIVE = b'["open",1,8,4096,0,1]\n["offer",0,0,[[[],[5]]]]\n'
 HONEST = b"".join([b"fault none\n", *(b"collector %d submitted 11 taken 11\n" % each
                                       for each in range(4)), b"last serial\nlatest serial\n"])
 # What each is given where it has something to write.
-WORK = {"cobra_audit": SCRIPT, "cobra_check": by_turns(SCRIPT, REPLIES), "cobra_live": LIVE,
+WORK = {"cobra_audit": SCRIPT, "cobra_check": by_turns(SCRIPT, REPLIES),
         "cobra_demo": b"none 16\n"}
-# A program and its input; the status, what it writes, and what it says. None: a round's moment
-# decides what is written.
+# A program and its input; the status, what it writes, and what it says.
 ROWS = [
     ("cobra_audit", b"", 0, b"", b""),
     ("cobra_audit", b"\n", 0, b'["no",1,"BadLine"]\n', b""),
@@ -43,8 +40,6 @@ ROWS = [
     ("cobra_check", WORK["cobra_check"], 0, RIGHT, b""),
     ("cobra_check", by_turns(SCRIPT, REPLIES.replace(b'["ok"]\n["report",2', b'[]\n["report",2')),
      3, WRONG, b""),
-    ("cobra_live", LIVE, 0, None, b""),
-    ("cobra_live", LIVE[:22], 0, b'["report",1,"serial",[0],[]]\n["end"]\n', b""),
     ("cobra_demo", b"none 16\n", 0, HONEST, b""),
     ("cobra_demo", b"none 1", 0, HONEST, b""),
     ("cobra_demo", b"lost-update 1\n", 0, HONEST.replace(b"none", b"lost-update").replace(
@@ -102,11 +97,7 @@ class Statuses(unittest.TestCase):
             with self.subTest(program=name, given=given[-40:]):
                 if path_of(name) is None:
                     self.skipTest(f"{name} is not built")
-                told = ended(name, given=given)
-                self.assertEqual(told[0], status)
-                if written is not None:
-                    self.assertEqual(told[1], written)
-                self.assertEqual(told[2], said)
+                self.assertEqual(ended(name, given=given), (status, written, said))
 
     def test_an_input_that_fails(self):
         folder = os.open(TOP, os.O_RDONLY)
@@ -138,7 +129,7 @@ class Statuses(unittest.TestCase):
     def test_nobody_hears_what_it_says(self):
         """The status is the same where its words can't be written."""
         def check(name):
-            status = 2 if name in ("cobra_live", "cobra_demo") else 0
+            status = 2 if name == "cobra_demo" else 0
             nothing = {"stdin": subprocess.DEVNULL, "stdout": subprocess.DEVNULL}
             with open("/dev/full", "wb") as full, open(os.devnull, "rb") as read_only:
                 for deaf in (full, read_only):

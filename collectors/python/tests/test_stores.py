@@ -234,8 +234,12 @@ class Each:
                     own = f"{folder}/zanteyard-"
                     self.assertTrue(self.left_in(own))
                     running.send_signal(number)
-                    running.stdout.read()
-                self.assertEqual(running.returncode, 128 + number if number == signal.SIGHUP else -number)
+                    told = running.stdout.read()
+                if number == signal.SIGHUP:  # the audit ends with what it has seen
+                    self.assertEqual(running.returncode, 0, told)
+                    self.assertIn(b": serial: ", told)
+                else:
+                    self.assertEqual(running.returncode, -number)
                 self.assertTrue(eventually(lambda: not self.left_in(own)), self.left_in(own))
 
     def left_in(self, own):
@@ -819,6 +823,7 @@ class Redis(Each, unittest.TestCase):
         with RedisServer() as server:
             stores = [redis_store.RedisStore(server.dsn) for _ in range(2)]
             auditor, (a, b) = self.sessions(*stores)
+            [store.connect() for store in stores]  # before that it would be asked again which store it is
             redis.Redis.from_url(server.dsn).config_set("maxmemory", 1)
             with self.assertRaisesRegex(AbortedError, "OOM|discarded"):
                 a.run(lambda t: (t.put("x", "1"), t.put("y", "1")), attempts=1)

@@ -3,17 +3,19 @@ import io
 import json
 import os
 import sys
+import tempfile
 import threading
 import unittest
 
 from tests import watch_feed as feed
+from tests.made_up_programs import made_up
 from zanteyard.program._binaries import PROGRAM
 from zanteyard.watch._auditing import Auditing
 from zanteyard.watch._board import Board
 from zanteyard.watch._explaining import Explaining
 from zanteyard.watch._feed import Split
 from zanteyard.watch._intake import Intake
-from zanteyard.watch._watching import Watching
+from zanteyard.watch._watching import OK, Watching
 
 
 class Output(io.StringIO):
@@ -203,6 +205,37 @@ class Audits(unittest.TestCase):
 
     def wait_for_rounds(self, count):
         self.until(lambda: self.board.status().rounds_count >= count)
+
+
+class SearchesThatDoNotEnd(unittest.TestCase):
+    def test_a_round_is_skipped_and_the_audit_goes_on(self):
+        with tempfile.TemporaryDirectory() as folder:
+            ended = os.path.join(folder, "ended")
+            for journal in (None, os.path.join(folder, "journal")):
+                with self.subTest(journal=journal):
+                    program = made_up(folder, waits=ended)
+                    auditing = Auditing(program, journal, round_seconds=0.2)
+                    self.addCleanup(auditing.end)
+                    lines = [b'["open",1,8,2]', b'["offer",0,0,[[[],[5]]]]', b'["round",64,0,1]']
+                    replies = [reply for _, reply in auditing.give([*lines, b'["show"]'])]
+                    self.assertEqual(replies[:3], [OK, OK, b'["report",1,"spent",[1]]'])
+                    with open(ended, "wb"):
+                        pass
+                    wanted = b'["report",2,"serial",[1],[[0,0]]]'
+                    self.assertEqual(auditing.ask(b'["round",64,0,1]'), wanted)
+                    self.assertEqual(auditing.restarts, 0)
+                    os.remove(ended)
+                    refused = b'["no",10,"RoundOpen"]'  # by whatever began one
+                    self.assertEqual(auditing.ask(b'["begin"]'), OK)
+                    self.assertEqual(auditing.ask(b'["round",64,0,1]'), refused)
+
+    def test_one_that_finds_no_memory_leaves_no_round_open(self):
+        with tempfile.TemporaryDirectory() as folder:
+            auditing = Auditing(made_up(folder, wants_memory=3))
+            self.addCleanup(auditing.end)
+            self.assertEqual(auditing.ask(b'["open",1,8,2]'), OK)
+            self.assertEqual(auditing.ask(b'["round",64,0,1]'), b'["no",16,"NoMemory"]')
+            self.assertEqual(auditing.ask(b'["round",64,0,1]'), b'["report",1,"serial",[0],[]]')
 
 
 if __name__ == "__main__":

@@ -59,6 +59,17 @@ def status(**more):
     return Status("shop at db", 900.0, 1002.0, **{**its, **more})
 
 
+class Whose(unittest.TestCase):
+    def test_a_client_without_a_name_is_told_once(self):
+        first, second, third = violation().told
+        for name, count in (("shop", 1), ("", 1)):
+            its = replace(second.its, application=name, address="10.0.0.7:5", user="anna")
+            text = violation_page(replace(violation(), told=(first, replace(second, its=its))), "", "")
+            self.assertEqual(text.count("from 10.0.0.7:5"), count)
+            self.assertEqual(text.count("as anna"), count)
+        self.assertIn("T2: from 10.0.0.7:5 as anna</summary>", text)
+
+
 class Texts(unittest.TestCase):
     def test_what_cant_be_seen_is_shown(self):
         for text, wanted in (

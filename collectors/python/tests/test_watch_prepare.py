@@ -5,6 +5,7 @@ import io
 import os
 import sys
 import unittest
+from unittest import mock
 
 from zanteyard.cli._main import main
 from zanteyard.trial.postgres_server import PostgresServer, program
@@ -147,6 +148,28 @@ class Reports(unittest.TestCase):
             ],
         )
         self.assertEqual([*report(self.server, found[:1], [])][-1], "ready: an audit can begin")
+
+    def test_a_plugin_that_may_not_be_used(self):
+        """It is told along with what keeps a slot from being made, and not only afterwards. A server
+        before 15.19 has no such list."""
+        told = f"wal2json isn't in the server's {facts.TRUSTED}: else test_decoding is used; with it "
+        for names, wanted in (
+            (None, None),
+            ("pgoutput", "pgoutput, wal2json"),
+            ("pgoutput, test_decoding", "pgoutput, test_decoding, wal2json"),
+            ("", "wal2json"),
+            ("my_wal2json", "my_wal2json, wal2json"),
+            ('pgoutput, "wal2json"', None),
+            ("wal2json,pgoutput", None),
+        ):
+            with self.subTest(names=names):
+                database = mock.Mock()
+                database.one.return_value = names
+                found = facts._plugin_untried(database, self.server)
+                self.assertEqual([one.is_needed for one in found], [] if wanted is None else [False])
+                for one in found:
+                    self.assertTrue(one.sentence.startswith(told), one)
+                    self.assertIn(f"SET {facts.TRUSTED} = {wanted};", one.remedy)
 
 
 @unittest.skipUnless(psycopg2 and program("initdb"), "PostgreSQL or psycopg2 is not installed")

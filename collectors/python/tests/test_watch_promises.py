@@ -8,7 +8,7 @@ import unittest
 
 from tests import test_watch_audit, test_watch_run, test_watch_whole
 from tests import watch_feed as feed
-from zanteyard.cli._main import parser
+from zanteyard.cli._commands import parser
 from zanteyard.core._records import AuditId
 from zanteyard.program._binaries import PROGRAM
 from zanteyard.promises._kinds import SNAPSHOT
@@ -20,7 +20,7 @@ from zanteyard.watch._explaining import Explaining
 from zanteyard.watch._figures import families
 from zanteyard.watch._intake import Intake
 from zanteyard.watch._live_page import whole_page
-from zanteyard.watch._proxy import proxy_path
+from zanteyard.watch._proxy_program import proxy_path
 from zanteyard.watch._retained import Retained
 from zanteyard.watch._run import Plan, Run
 from zanteyard.watch._violation_page import violation_page
@@ -197,7 +197,7 @@ class OverAServer(test_watch_whole.Whole):
         self.until(skew, lambda status: is_done(status) or status.violations)
         told = self.finish()
         self.assertEqual(self.status, 0, told)
-        self.assertRegex(told, "serial: .* transactions were checked for snapshot isolation, in ")
+        self.assertRegex(told, "(?m)^kept: .* transactions were checked for snapshot isolation, in ")
 
     def test_read_committed_loses_updates(self):
         one, other = self.connect(), self.connect()

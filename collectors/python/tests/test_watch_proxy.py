@@ -13,7 +13,8 @@ from zanteyard.core.errors import ProgramEndedError, ProgramMissingError
 from zanteyard.watch import _supervising as supervising
 from zanteyard.watch._feed import Split, command
 from zanteyard.watch._intake import Intake
-from zanteyard.watch._proxy import Proxy, build_of
+from zanteyard.watch._proxy import Proxy
+from zanteyard.watch._proxy_program import build_of
 from zanteyard.watch._supervising import CantBeginError, Supervisor
 
 

@@ -20,7 +20,7 @@ from zanteyard.watch import _figures as figures
 from zanteyard.watch import _live_page as live_page
 from zanteyard.watch._database import Database
 from zanteyard.watch._feed import command, seen_of
-from zanteyard.watch._proxy import proxy_path
+from zanteyard.watch._proxy_program import proxy_path
 from zanteyard.watch._run import Plan, Run
 
 from tests import watch_feed as feed

@@ -14,9 +14,10 @@ import urllib.request
 from tests import watch_feed as feed
 from zanteyard.core.errors import ProgramMissingError
 from zanteyard.program._binaries import PROGRAM
+from zanteyard.promises._kinds import SNAPSHOT
 from zanteyard.trial.postgres_server import PostgresServer, program
 from zanteyard.watch._database import Database, DatabaseError
-from zanteyard.watch._proxy import build_of, find_proxy, proxy_path
+from zanteyard.watch._proxy_program import build_of, find_proxy, proxy_path
 from zanteyard.watch._run import Plan, Run
 from zanteyard.watch._supervising import CantBeginError
 
@@ -88,6 +89,7 @@ class Runs(InAFolder):
             [
                 "serial: 8 of 11 transactions were checked, in 2 rounds",
                 "  15 of 19 rows read were checked, 6 of 9 rows written",
+                "  4 of the rows read were from before the audit",
                 "  besides, 1 transaction read and wrote no row that was seen",
                 "  not checked",
                 "             3 transactions  committed by others than the proxy",
@@ -95,10 +97,20 @@ class Runs(InAFolder):
                 "             3 rows written  committed by others than the proxy",
                 "  statements that weren't seen in full",
                 "         times first    what wasn't seen, and the statement",
-                f"             7 {told[9].split()[1]} an aggregate",
+                f"             7 {told[10].split()[1]} an aggregate",
                 "                          SELECT count(*) FROM orders WHERE customer = $1",
             ],
         )
+
+    def test_a_promise_that_is_kept(self):
+        """Which says nothing of a serial order."""
+        with self.assertLogs("zanteyard", "INFO") as logged:
+            told, status = self.run_of(SERIAL, promise=SNAPSHOT)
+        self.assertEqual(status, 0)
+        wanted = "kept: 8 of 11 transactions were checked for snapshot isolation, in 2 rounds"
+        self.assertEqual(told[0], wanted)
+        self.assertTrue(any("round 1: kept, of " in line for line in logged.output))
+        self.assertFalse(any("serial" in line for line in [*logged.output, *told]))
 
     def test_a_violated_one_is_kept(self):
         folder = os.path.join(self.folder, "found")
@@ -121,6 +133,30 @@ class Runs(InAFolder):
     def test_a_proxy_that_cant_begin(self):
         with self.assertRaisesRegex(CantBeginError, "the proxy ended with status 3"):
             self.run_of([("exit", 3)], is_done=lambda its: False)
+
+    def test_an_audit_that_cant_begin(self):
+        """The proxy goes on, but an audit of that server won't begin by itself."""
+        ended = feed.event("ended", at=feed.AT, reason="read the catalog: no password supplied")
+        wanted = "^the audit can't begin: read the catalog: no password supplied$"
+        with self.assertRaisesRegex(CantBeginError, wanted):
+            self.run_of([ended], is_done=lambda its: False)
+
+    def test_an_audit_that_waits_for_a_transaction_begins_later(self):
+        blocked = feed.event("ended", at=feed.AT, reason="a transaction is open", blocked=True)
+        told, status = self.run_of(
+            [blocked, ("await", "restart"), *SERIAL],
+            is_done=lambda its: its.kind == "serial" and its.seen.reads,
+        )
+        self.assertEqual(status, 4)
+        self.assertTrue(any("a transaction is open" in line for line in told), told)
+
+    def test_an_audit_that_had_begun_is_tried_again(self):
+        ended = feed.event("ended", at=feed.AT, reason="the slot was lost")
+        told, status = self.run_of(
+            [feed.started(), feed.OPEN, ended, ("await", "restart"), *SERIAL],
+            is_done=lambda its: its.kind == "serial" and its.seen.reads,
+        )
+        self.assertEqual(status, 4)
 
     def test_a_proxy_that_dies_is_replaced(self):
         told, status = self.run_of(
@@ -160,6 +196,7 @@ class Runs(InAFolder):
         for line in (
             "zanteyard_transactions_taken_total 8",
             'zanteyard_rounds_total{kind="serial"} 1',
+            "zanteyard_reads_from_before_total 4",
             'zanteyard_reads_left_out_total{reason="its version isn\'t known"} 4',
             "zanteyard_violated 0",
             "zanteyard_auditing 1",

@@ -14,6 +14,7 @@ from zanteyard.watch._intake import Intake
 from zanteyard.watch._pending import waiting_reads
 from zanteyard.watch._redacting import without_constants, without_values
 from zanteyard.watch._retained import Retained
+from zanteyard.watch._sql_anomalies import LostUpdate, both_replaced
 from zanteyard.watch._violations import (
     NOTHING, Held, compact, explained, keys_of, last_writers, key_text,
 )
@@ -110,8 +111,8 @@ class Explained(unittest.TestCase):
                 retained.forget(json.loads(reply)[2])
         report = json.loads(told[-2])
         self.assertEqual(report[2], "violated", told)
-        keys = keys_of(report[4])
-        held = Held(retained, keys, last_writers(told[-1], keys))
+        held = Held(retained, report, told[-1])
+        self.involved = held.involved()
         return explained(1, report, held, answered, PROGRAM, feed.AT)
 
     CUT = (  # 0.0 and 1.0 are forgotten, with the fences behind them
@@ -182,6 +183,47 @@ class Explained(unittest.TestCase):
         )
         self.assertEqual(found.title, "lost update")
         self.assertEqual([one.id for one in found.told], [(0, 3), (1, 3)])
+
+    def test_a_lost_update_is_preferred(self):
+        """To whatever the refutation is about: here to a read of two versions of key 6."""
+        fractured = [
+            feed.offer(0, 0, [[[6, "init"]], [6, 7]]),
+            feed.offer(1, 0, [[[6, "init"], [7, 0, 0]], []]),
+        ]
+        self.assertEqual(self.of(*fractured).title, "fractured read")
+        self.assertEqual(self.involved, [(0, 0), (1, 0)])
+        lost = [
+            feed.offer(0, 1, [[[8, "init"]], [8]]),
+            feed.offer(2, 0, [[[8, "init"], [8, 0, 1]], [8]]),
+        ]
+        for lines in ([*fractured, *lost], [fractured[0], *lost, fractured[1]]):
+            found = self.of(*lines)
+            self.assertEqual(found.title, "lost update")
+            self.assertEqual([one.id for one in found.told], [(0, 1), (2, 0)])
+            self.assertEqual(self.involved, [(0, 1), (2, 0), (0, 0), (1, 0)])
+            self.assertIn("both read key 8 as it was at first", found.sentence)
+
+    def test_which_lost_update(self):
+        """One of the round's, of the keys that its refutation names if it can be; none of fences,
+        of what was aborted, nor of one that only read."""
+        init = "init"
+        both = {(0, 0): [[[5, init]], [5]], (1, 0): [[[5, init]], [5]]}
+        later = {(0, 1): [[[6, init]], [6]], (2, 0): [[[6, init]], [6]]}
+        for transactions, counts, keys, wanted in (
+            (both, [1, 1], (), LostUpdate(5, (0, 0), (1, 0))),
+            ({**both, **later}, [2, 1, 1], (), LostUpdate(5, (0, 0), (1, 0))),
+            ({**both, **later}, [2, 1, 1], {6}, LostUpdate(6, (0, 1), (2, 0))),
+            ({**both, **later}, [2, 1], {6}, LostUpdate(5, (0, 0), (1, 0))),
+            ({**both, **later}, [1, 1, 1], {6}, LostUpdate(5, (0, 0), (1, 0))),
+            (both, [1, 0], (), None),
+            ({(0, 0): [[[5, init]], [5]], (1, 0): [[[5, init]], []]}, [1, 1], (), None),
+            ({(0, 0): [[[5, init]], [5]], (1, 0): [[[5, 0, 0]], [5]]}, [1, 1], (), None),
+            ({(0, 0): [[[0, init]], [0]], (1, 0): [[[0, init]], [0]]}, [1, 1], (), None),
+            ({**both, (1, 0): [[[5, init]], [5], "aborted"]}, [1, 1], (), None),
+            ({(0, 0): [[[5, init], [5, init]], [5]]}, [1], (), None),
+        ):
+            with self.subTest(counts=counts, keys=keys, transactions=transactions):
+                self.assertEqual(both_replaced(transactions, counts, keys), wanted)
 
     def test_a_row_that_was_read_twice(self):
         found = self.of(

@@ -14,7 +14,7 @@ from zanteyard.program._binaries import PROGRAM
 from zanteyard.trial.postgres_server import PostgresServer, program
 from zanteyard.watch import _facts as facts
 from zanteyard.watch._database import Database
-from zanteyard.watch._proxy import proxy_path
+from zanteyard.watch._proxy_program import proxy_path
 from zanteyard.watch._run import Plan, Run
 
 try:
@@ -258,6 +258,70 @@ class Whole(unittest.TestCase):
         ((done,),) = cursor.fetchall()
         self.assertLessEqual(answered(), done)
         self.assertLessEqual(done, answered() + 2 * len(disturbed) + 4)  # one of each that was lost
+
+
+NO_DRIVER = "raise ImportError('no driver here')\n"
+
+
+@unittest.skipUnless(psycopg2 and program("initdb"), "PostgreSQL or psycopg2 is not installed")
+@unittest.skipUnless(os.path.isfile(proxy_path()), "the proxy is not built")
+@unittest.skipUnless(os.path.isfile(PROGRAM), f"{PROGRAM} is not built")
+class WithoutDriver(unittest.TestCase):
+    """The command with no driver of Python's for PostgreSQL: then the proxy alone asks the server."""
+
+    def setUp(self):
+        self.folder = tempfile.mkdtemp()
+        self.addCleanup(shutil.rmtree, self.folder, ignore_errors=True)
+        for name in ("psycopg2", "psycopg"):
+            with open(f"{self.folder}/{name}.py", "w", encoding="utf-8") as file:
+                file.write(NO_DRIVER)
+
+    def watch(self, url, *words):
+        its = {
+            **os.environ,
+            "PYTHONPATH": f"{self.folder}{os.pathsep}{os.getcwd()}",
+            "COBRA_AUDIT": os.path.abspath(PROGRAM),
+            "ZANTEYARD_PROXY": os.path.abspath(proxy_path()),
+        }
+        call = [sys.executable, "-m", "zanteyard", "watch", url, *words]
+        ended = subprocess.run(call, env=its, capture_output=True, text=True, timeout=LIMIT)
+        return ended.returncode, ended.stdout, ended.stderr.splitlines()
+
+    def test_a_server_that_isnt_there(self):
+        words = ("--listen", f"{self.folder}/socket", "--seconds", "1")
+        status, out, errors = self.watch("postgresql://nobody@127.0.0.1:1/nothing", *words)
+        self.assertEqual((status, out), (2, ""), errors)
+        self.assertRegex(errors[-1], "^mistake: the audit can't begin: .*connect")
+        self.assertIn("a driver for PostgreSQL is missing", errors[0])
+
+    def test_a_server_that_lacks_something_and_one_that_doesnt(self):
+        with PostgresServer() as cluster:
+            url = f"postgresql://postgres@/postgres?host={cluster.folder}"
+            words = ("--listen", f"{self.folder}/socket", "--seconds", "1")
+            status, out, errors = self.watch(url, *words)
+            self.assertEqual((status, out), (2, ""), errors)
+            self.assertRegex(errors[-1], "^mistake: the audit can't begin: .*wal_level")
+            with Database(url) as database:
+                database.run("ALTER SYSTEM SET wal_level = 'logical'")
+            cluster.stop()
+            cluster.start()
+            with Database(url) as database:
+                facts.create(database)
+            status, out, errors = self.watch(url, *words)
+            self.assertEqual(status, 4, errors)
+            self.assertTrue(out.startswith("nothing was checked"), out)
+            self.assertTrue(any("applications connect to" in line for line in errors), errors)
+
+    def test_an_address_that_is_taken(self):
+        with open(f"{self.folder}/socket", "w", encoding="utf-8"):
+            pass
+        url = "postgresql://nobody@127.0.0.1:1/nothing"
+        status, out, errors = self.watch(url, "--listen", f"{self.folder}/socket")
+        self.assertEqual((status, out), (2, ""), errors)
+        self.assertFalse(any("applications connect to" in line for line in errors), errors)
+        wanted = f"mistake: the proxy ended with status 1: --listen: listen unix {self.folder}/socket: "
+        self.assertTrue(errors[-1].startswith(wanted), errors)
+        self.assertTrue(errors[-1].endswith("address already in use"), errors)
 
 
 if __name__ == "__main__":

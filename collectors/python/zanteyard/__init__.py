@@ -23,52 +23,99 @@
 docs/COLLECTORS.md says what is logged, and why.
 """
 import logging as _logging
+from importlib import import_module as _import_module
+from typing import TYPE_CHECKING, Any, List
 
 from .core._log_guard import guard as _guard
-from .core._outcome import RATHER_LOSE_THE_AUDIT, RATHER_WAIT, Outcome, Policy
-from .core._own_keys import FENCE
-from .core._records import Cut, Logged, Pending, Report
-from .core._stores import Store
 from .core._version import VERSION as __version__
-from .core.errors import (
-    AbortedError,
-    AuditLostError,
-    FolderUnfitError,
-    FullError,
-    JournalDamagedError,
-    JournalError,
-    JournalInUseError,
-    JournalVersionError,
-    NameTakenError,
-    NoCutError,
-    NoMemoryError,
-    OtherVersionError,
-    OutcomeUnknownError,
-    ProgramEndedError,
-    ProgramLateError,
-    ProgramMissingError,
-    ProgramTooOldError,
-    RefusedError,
-    RoundTooLongError,
-    ScriptMistakeError,
-    StoreLateError,
-    StoreUnfitError,
-    ZanteyardError,
-)
-from .explain._graphviz import dot_text, draw
-from .explain._reasons import Explanation, explain_history, reasons
-from .explain._shrinking import audited, from_start, smaller
-from .explain._violation_text import tell_violation
-from .explain._words import words
-from .live._live_auditor import LiveAuditor
-from .program._auditor import Auditor
-from .program._subprocess import AuditorApart
-from .remote._client import AuditClient
-from .remote._server import AuditServer
-from .session._session import Session
-from .session._transaction import Transaction
+
+if TYPE_CHECKING:
+    from .core._outcome import RATHER_LOSE_THE_AUDIT, RATHER_WAIT, Outcome, Policy
+    from .core._own_keys import FENCE
+    from .core._records import Cut, Logged, Pending, Report
+    from .core._stores import Store
+    from .core.errors import (
+        AbortedError,
+        AuditLostError,
+        FolderUnfitError,
+        FullError,
+        JournalDamagedError,
+        JournalError,
+        JournalInUseError,
+        JournalVersionError,
+        NameTakenError,
+        NoCutError,
+        NoMemoryError,
+        OtherVersionError,
+        OutcomeUnknownError,
+        ProgramEndedError,
+        ProgramLateError,
+        ProgramMissingError,
+        ProgramTooOldError,
+        RefusedError,
+        ScriptMistakeError,
+        StoreLateError,
+        StoreUnfitError,
+        ZanteyardError,
+    )
+    from .explain._graphviz import dot_text, draw
+    from .explain._reasons import Explanation, explain_history, reasons
+    from .explain._shrinking import audited, from_start, smaller
+    from .explain._violation_text import tell_violation
+    from .explain._words import words
+    from .live._live_auditor import LiveAuditor
+    from .live._told import ClientTold, RoundTold
+    from .program._auditor import Auditor
+    from .program._subprocess import AuditorApart
+    from .remote._client import AuditClient
+    from .remote._server import AuditServer
+    from .session._session import Session
+    from .session._transaction import Transaction
 
 _guard(_logging.getLogger("zanteyard"))
+
+# Where each name is. A module is imported when a name of it is first
+# used, so that the command, which needs few of them, starts at once.
+_PLACES = {
+    "core._outcome": "RATHER_LOSE_THE_AUDIT RATHER_WAIT Outcome Policy",
+    "core._own_keys": "FENCE",
+    "core._records": "Cut Logged Pending Report",
+    "core._stores": "Store",
+    "core.errors": (
+        "AbortedError AuditLostError FolderUnfitError FullError JournalDamagedError "
+        "JournalError JournalInUseError JournalVersionError NameTakenError NoCutError "
+        "NoMemoryError OtherVersionError OutcomeUnknownError ProgramEndedError "
+        "ProgramLateError ProgramMissingError ProgramTooOldError RefusedError "
+        "ScriptMistakeError StoreLateError StoreUnfitError ZanteyardError"
+    ),
+    "explain._graphviz": "dot_text draw",
+    "explain._reasons": "Explanation explain_history reasons",
+    "explain._shrinking": "audited from_start smaller",
+    "explain._violation_text": "tell_violation",
+    "explain._words": "words",
+    "live._live_auditor": "LiveAuditor",
+    "live._told": "ClientTold RoundTold",
+    "program._auditor": "Auditor",
+    "program._subprocess": "AuditorApart",
+    "remote._client": "AuditClient",
+    "remote._server": "AuditServer",
+    "session._session": "Session",
+    "session._transaction": "Transaction",
+}
+_PLACE_OF = {name: module for module, names in _PLACES.items() for name in names.split()}
+
+
+def __getattr__(name: str) -> Any:
+    if name not in _PLACE_OF:
+        raise AttributeError(f"module {__name__!r} has no attribute {name!r}")
+    found = getattr(_import_module(f".{_PLACE_OF[name]}", __name__), name)
+    globals()[name] = found
+    return found
+
+
+def __dir__() -> List[str]:
+    return sorted({*globals(), *_PLACE_OF})
+
 
 __all__ = [
     # what runs
@@ -76,14 +123,13 @@ __all__ = [
     *("LiveAuditor", "AuditServer", "AuditClient"),
     *("Policy", "RATHER_LOSE_THE_AUDIT", "RATHER_WAIT"),
     # what came of it
-    *("Outcome", "Pending", "Report"),
+    *("Outcome", "Pending", "Report", "RoundTold", "ClientTold"),
     # what is told of a violation
     *("Explanation", "audited", "dot_text", "draw", "explain_history", "from_start", "reasons"),
     *("smaller", "tell_violation", "words"),
     # what is raised
     *("AbortedError", "AuditLostError", "FolderUnfitError", "FullError", "NameTakenError"),
     *("JournalError", "JournalDamagedError", "JournalInUseError", "JournalVersionError"),
-    "RoundTooLongError",
     *("NoCutError", "NoMemoryError", "OtherVersionError", "OutcomeUnknownError"),
     "ProgramEndedError",
     *("ProgramLateError", "ProgramMissingError", "ProgramTooOldError"),

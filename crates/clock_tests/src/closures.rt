@@ -50,12 +50,46 @@ fn add_arc(
     graph: &mut Graph,
     from: TxnId,
     to: TxnId,
+    told: &mut Vec<TxnId>,
 ) -> Result<bool, Fail>
     ensures { graph.new.marks ≡ graph.old.marks }
 {
     let arc = Arc::Taken { from, to };
     assert!(rt; graph.contains(arc.start()) && graph.contains(arc.end()));
-    Ok(graph.add_arc(alloc, arc)? == Addition::Cycle)
+    Ok(graph.add_arc(alloc, arc, told)? == Addition::Cycle)
+}
+
+// The pairs of which the graph says that the one reaches the other.
+fn said_by(alloc: Global, graph: &Graph, ids: &[TxnId]) -> Result<Relation, Fail> {
+    let mut said = Relation::none(alloc, ids)?;
+    for from in ids {
+        for to in ids {
+            if graph.reaches(*from, *to) {
+                said.note((*from, *to));
+            }
+        }
+    }
+    Ok(said)
+}
+
+// Whether it reaches one more than before, or one more reaches it.
+fn has_grown(graph: &Graph, before: &Relation, ids: &[TxnId], id: TxnId) -> bool {
+    for other in ids {
+        if graph.reaches(id, *other) != before.contains((id, *other)) {
+            return true;
+        }
+        if graph.reaches(*other, id) != before.contains((*other, id)) {
+            return true;
+        }
+    }
+    false
+}
+
+// All those are told of, and no others.
+fn assert_told(rt: &impl Abort, graph: &Graph, before: &Relation, ids: &[TxnId], told: &[TxnId]) {
+    for id in ids {
+        assert_eq!(rt; told.contains(id), has_grown(graph, before, ids, *id));
+    }
 }
 
 // What was drawn: the transactions, and the pairs that arcs join.
@@ -83,8 +117,11 @@ fn draw_arc(
     let from = pick(&drawn.ids, state)?;
     let to = pick(&drawn.ids, state)?;
     let was_back = from == to || graph.reaches(to, from);
-    let is_cycle = add_arc(rt, alloc, graph, from, to)?;
+    let before = said_by(alloc, graph, &drawn.ids)?;
+    let mut told = Vec::new(alloc);
+    let is_cycle = add_arc(rt, alloc, graph, from, to, &mut told)?;
     assert_eq!(rt; is_cycle, was_back);
+    assert_told(rt, graph, &before, &drawn.ids, &told);
     drawn.pairs.push((from, to))?;
     Ok(())
 }

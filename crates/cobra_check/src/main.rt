@@ -2,7 +2,7 @@
 //! output what it finds of each report.
 #![tactic(auto)]
 
-ghost use Rattle.std.specs.Prelude.{◌≡◌, ◌≢◌, ℕ, ◌⊎◌, ◌++◌, List, map, string_bytes, true, false, Ok, Err, Some, IfSome, IfOk, IfErr, OnOk, OnErr, option_map};
+ghost use Rattle.std.specs.Prelude.{◌≡◌, ◌≢◌, ℕ, ◌<◌, ◌⊎◌, ◌++◌, List, map, codes, string_bytes, true, false, Ok, Err, Some, IfSome, IfOk, IfErr, OnOk, OnErr, option_map};
 ghost use Rattle.std.specs.Io.KnownBytes.{Appends, Keeps};
 ghost use Rattle.std.specs.IoError.{error_kind};
 ghost use Rattle.std.specs.Vec.Iter.{into_iter_items};
@@ -84,6 +84,11 @@ fn run<R: ByteSource, W: ByteSink>(
     ensures told_wrong { asked ≡ Ok Asked.Work → result.status ≡ 3 → (tally : _) × (text : List ℕ) × Tells tally text × Appends (W.contents output.old) (W.contents output.new) (text ++ last_line tally false) }
 
     ensures statuses { asked ≡ Ok Asked.Work → (result.status ≡ 0) ⊎ (result.status ≡ 1) ⊎ (result.status ≡ 3) }
+
+    // Status 1 says that a device failed, or that memory was wanting; the words say which.
+    ensures device { asked ≡ Ok Asked.Work → option_map (λ words. words.now) result.words ≡ Some (codes "device failed") → (R.faults input.old < R.faults input.new) ⊎ (W.faults output.old < W.faults output.new) }
+    ensures memory { asked ≡ Ok Asked.Work → option_map (λ words. words.now) result.words ≡ Some (codes "out of memory") → (R.faults input.new ≡ R.faults input.old) × (W.faults output.new ≡ W.faults output.old) }
+    ensures said { asked ≡ Ok Asked.Work → result.status ≡ 1 → (option_map (λ words. words.now) result.words ≡ Some (codes "device failed")) ⊎ (option_map (λ words. words.now) result.words ≡ Some (codes "out of memory")) }
 
     ensures help { asked ≡ Ok Asked.Help → result.status ≡ 0 → Appends (W.contents output.old) (W.contents output.new) HELP.now }
     ensures version { asked ≡ Ok Asked.Version → result.status ≡ 0 → Appends (W.contents output.old) (W.contents output.new) VERSION.now }

@@ -151,12 +151,7 @@ pub fn run<R: Threads + Wait + Sync, S: Solver + Sync>(
         desk,
         latest,
     };
-    let side = AuditorSide {
-        pass,
-        sender,
-        seat,
-        stops: None,
-    };
+    let side = AuditorSide { pass, sender, seat };
     let returned = run_threads(rt, alloc, &hall, engine, solver, passes, side, reader)?;
     outcome_of(rt, fault, hall, returned, &mut seats[0])
 }

@@ -501,7 +501,6 @@ fn crowd_of<R: Wait>(rt: &R, hall: Hall, returned: Returned) -> Crowd
         pass,
         sender: _,
         seat: _,
-        stops: _,
     } = side;
     let tally = desk.tally(rt, passes, pass);
     Crowd {
@@ -536,12 +535,7 @@ fn run_crowd<R: Threads + Wait + Sync>(rt: &R, alloc: Global) -> Result<Crowd, N
                 desk,
                 latest,
             };
-            let side = AuditorSide {
-                pass,
-                sender,
-                seat,
-                stops: None,
-            };
+            let side = AuditorSide { pass, sender, seat };
             match run_threads(rt, alloc, &hall, engine, passes, side, reader) {
                 Ok(returned) => Ok(crowd_of(rt, hall, returned)),
                 Err(refused) => Err(refused),

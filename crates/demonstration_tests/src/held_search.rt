@@ -320,12 +320,7 @@ fn run_held<R: Threads + Wait + Sync>(rt: &R, alloc: Global) -> Result<Outcome, 
                 desk,
                 latest,
             };
-            let side = AuditorSide {
-                pass,
-                sender,
-                seat,
-                stops: None,
-            };
+            let side = AuditorSide { pass, sender, seat };
             match run_threads(rt, alloc, &hall, engine, first, side, reader) {
                 Ok((is_made, heard)) => Ok(Outcome {
                     is_made,

@@ -28,11 +28,6 @@ unasked_after unasked item.End told = unasked
 unasked_after unasked taken (Accepted collector place) = one_more unasked
 unasked_after unasked taken told = unasked
 
--- how many items were taken, with this one: an end isn't counted
-abbrev pub one_item_more : ℕ → Item → ℕ
-one_item_more taken item.End = taken
-one_item_more taken other = taken + 1
-
 -- A look at the desk: a parcel was found, and it is told what became of it; or none was, and nothing has changed.
 abbrev pub IsLook : Bool → ℕ → List Parcel → List Entry → ℕ → List Parcel → List Entry → Type 0
 IsLook true unasked taken sent unasked_now taken_now sent_now =

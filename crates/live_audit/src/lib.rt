@@ -7,7 +7,6 @@ mod patience;
 mod running;
 mod searching;
 mod steps;
-mod stopping;
 
 pub use live::{AuditorSide, Effort, audit_live};
 pub use live_core::Core;

@@ -16,7 +16,7 @@ use crate::running::Running;
 use crate::searching::{solved, start};
 use fragment_intake::{AuditorPass, Desk};
 use order_check::Kind;
-use polygraph::{Answer, Problem, Solver, StopWord};
+use polygraph::{Answer, Problem, Solver};
 use report_queue::{Entry, Latest, PublisherSeat, ReportSender};
 use round_state::Engine;
 use std::alloc::Global;
@@ -33,14 +33,12 @@ pub struct Effort {
     pub workers: u64,
 }
 
-/// The auditor's side of the desk, of the ring and of the word, and what gives its rounds up, if anything does: those that began when fewer items had
-/// been taken, ends left out, than it says.
+/// The auditor's side of the desk, of the ring and of the word.
 #[derive(Drop)]
 pub struct AuditorSide {
     pub pass: AuditorPass,
     pub sender: ReportSender,
     pub seat: PublisherSeat,
-    pub stops: Option<StopWord>,
 }
 
 /// Sends the entry, once there is room for it.
@@ -370,8 +368,7 @@ pub fn audit_live<'s, E, R: Threads + Wait, S: Solver + Sync>(
     ensures published { side.new.seat.published ≡ reports_in side.new.sender.sent }
     ensures same { (side.new.pass.0 ≡ side.old.pass.0) × (side.new.sender.ring ≡ side.old.sender.ring) × (side.new.seat.word ≡ side.old.seat.word) }
 {
-    let stops = side.stops.take();
-    let core = Core::new(alloc, engine, effort.budget, effort.depth, stops);
+    let core = Core::new(alloc, engine, effort.budget, effort.depth);
     let mut running = Running::new(core);
     let workers = effort.workers;
     take_all(

@@ -7,9 +7,8 @@ ghost use Rattle.live_audit.specs.Takes.{TakesIn, Finishes, Forgets};
 ghost use Rattle.live_audit.specs.Told.{IsTold, IsSkipped, IsOutcome, IsFollowUp};
 
 use crate::steps::{begin, finish, forget, give_up, take_in};
-use crate::stopping::RoundStops;
 use fragment_intake::{Item, Parcel};
-use polygraph::{Answer, Problem, StopWord};
+use polygraph::{Answer, Problem};
 use report_queue::Entry;
 use round_state::{Engine, Report, Step, StepReply};
 use std::alloc::Global;
@@ -24,7 +23,6 @@ pub struct Core {
     alloc: Global,
     budget: u64,
     depth: u64,
-    stops: RoundStops,
 }
 
 impl Model for Core {
@@ -42,15 +40,8 @@ impl Model for Core {
 }
 
 impl Core {
-    /// An auditor over an engine of which no round is open. Each round's search may take so many nodes, and is split so often. Where there is a word,
-    /// it gives up the rounds that began when fewer items had been taken, ends left out, than it says.
-    pub fn new(
-        alloc: Global,
-        engine: Engine,
-        budget: u64,
-        depth: u64,
-        word: Option<StopWord>,
-    ) -> Core
+    /// An auditor over an engine of which no round is open. Each round's search may take so many nodes, and is split so often.
+    pub fn new(alloc: Global, engine: Engine, budget: u64, depth: u64) -> Core
         requires none_open { engine.asked ≡ None }
         requires budget { (1 ≤ budget) × (budget ≤ 2 ^ 32) }
         requires depth { depth ≤ 6 }
@@ -61,7 +52,6 @@ impl Core {
             alloc,
             budget,
             depth,
-            stops: RoundStops::new(word),
         }
     }
 
@@ -92,7 +82,6 @@ impl Core {
         ensures search { self.new.search ≡ self.old.search }
         ensures round { (self.new.engine.asked ≡ self.old.engine.asked) × (self.new.engine.rounds ≡ self.old.engine.rounds) }
     {
-        self.stops.count(&item);
         take_in(self.alloc, &mut self.engine, item)
     }
 
@@ -107,7 +96,7 @@ impl Core {
         ensures closed { OnErr result (self.new.engine.asked ≡ None) }
         ensures same { (self.new.search ≡ self.old.search) × (self.new.engine.rounds ≡ self.old.engine.rounds) }
     {
-        begin(self.alloc, &mut self.engine, &self.stops)
+        begin(self.alloc, &mut self.engine)
     }
 
     /// The budget and the depth of a round's search.

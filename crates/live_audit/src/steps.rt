@@ -6,7 +6,6 @@ ghost use Rattle.round_state.specs.Steps.{StepsTo};
 ghost use Rattle.live_audit.specs.CoreState.{Search};
 ghost use Rattle.live_audit.specs.Takes.{TakesIn, BeginsBy, Finishes, Forgets};
 
-use crate::stopping::RoundStops;
 use fragment_intake::Item;
 use polygraph::{Answer, Problem};
 use report_queue::Entry;
@@ -29,18 +28,14 @@ pub(crate) fn take_in(alloc: Global, engine: &mut Engine, item: Item) -> Result<
     }
 }
 
-/// Begins a round, or tells that it was skipped. Its search may be given up.
-pub(crate) fn begin(
-    alloc: Global,
-    engine: &mut Engine,
-    stops: &RoundStops,
-) -> Result<Problem, Entry>
+/// Begins a round, or tells that it was skipped.
+pub(crate) fn begin(alloc: Global, engine: &mut Engine) -> Result<Problem, Entry>
     requires { engine.old.asked ≡ None }
     ensures { BeginsBy engine.old result engine.new }
 {
     engine.right_is_legal();
     match engine.begin(alloc) {
-        Ok(problem) => Ok(stops.over(problem)),
+        Ok(problem) => Ok(problem),
         Err(refusal) => Err(Entry::Skipped(refusal)),
     }
 }

@@ -1,4 +1,4 @@
-ghost use Rattle.std.specs.Prelude.{◌≡◌, ℕ, ◌<◌, ◌++◌, List, [], Some, None, IfOk, IfSome, IsTrue, OnOk};
+ghost use Rattle.std.specs.Prelude.{◌≡◌, ℕ, ◌+◌, ◌<◌, ◌⊎◌, ◌++◌, List, [], Some, None, IfOk, IfSome, IsTrue, OnOk, IsErrOf};
 ghost use Rattle.std.specs.Io.KnownBytes.{Appends};
 ghost use Rattle.byte_lines.specs.LineReaders.{lines_ahead, lines_left};
 ghost use Rattle.report_checking.specs.Checking.{IsAllRight};
@@ -66,6 +66,9 @@ fn check_reply<R: ByteSource>(
     ensures stops { IfOk result (StopsOn reader.old.limit (lines_ahead reader.old (R.remaining source.old)) next replay.old.script) }
     ensures fresh { OnOk result (reader.new.under_way ≡ Some []) }
     ensures limit { reader.new.limit ≡ reader.old.limit }
+    ensures ok { OnOk result (R.faults source.new ≡ R.faults source.old) }
+    ensures device { IsErrOf result Failure.Device → R.faults source.new ≡ R.faults source.old + 1 }
+    ensures memory { IsErrOf result Failure.NoMemory → R.faults source.new ≡ R.faults source.old }
     ensures fewer { IfOk result (λ found. IsFine found → lines_left reader.new (R.reads_left source.new) < lines_left reader.old (R.reads_left source.old)) }
 {
     let line = as_line(next);
@@ -90,6 +93,9 @@ fn check_next<R: ByteSource, W: ByteSink>(
     ensures limit { reader.new.limit ≡ reader.old.limit }
     ensures fewer { IfOk result (λ advance. advance ≡ Advance.On → lines_left reader.new (R.reads_left source.new) < lines_left reader.old (R.reads_left source.old)) }
     ensures told { IfOk result (λ advance. TellsNext advance tally.old tally.new (W.contents sink.old) (W.contents sink.new)) }
+    ensures ok { OnOk result ((R.faults source.new ≡ R.faults source.old) × (W.faults sink.new ≡ W.faults sink.old)) }
+    ensures device { IsErrOf result Failure.Device → ((R.faults source.new ≡ R.faults source.old + 1) × (W.faults sink.new ≡ W.faults sink.old)) ⊎ ((R.faults source.new ≡ R.faults source.old) × (W.faults sink.new ≡ W.faults sink.old + 1)) }
+    ensures memory { IsErrOf result Failure.NoMemory → (R.faults source.new ≡ R.faults source.old) × (W.faults sink.new ≡ W.faults sink.old) }
 {
     let next = reader.next_line(source)?;
     if let Next::End = next {
@@ -121,6 +127,9 @@ fn check_lines<R: ByteSource, W: ByteSink>(
     ensures right { IfOk result (λ right. IsTrue right → IfSome (R.remaining source.old) IsAllRight) }
     ensures wrong { IfOk result (λ right. ¬ IsTrue right → IfSome (R.remaining source.old) StopsAtWrong) }
     ensures told { OnOk result ((text : List ℕ) × Tells tally.new text × Appends (W.contents sink.old) (W.contents sink.new) text) }
+    ensures ok { OnOk result ((R.faults source.new ≡ R.faults source.old) × (W.faults sink.new ≡ W.faults sink.old)) }
+    ensures device { IsErrOf result Failure.Device → ((R.faults source.new ≡ R.faults source.old + 1) × (W.faults sink.new ≡ W.faults sink.old)) ⊎ ((R.faults source.new ≡ R.faults source.old) × (W.faults sink.new ≡ W.faults sink.old + 1)) }
+    ensures memory { IsErrOf result Failure.NoMemory → (R.faults source.new ≡ R.faults source.old) × (W.faults sink.new ≡ W.faults sink.old) }
 {
     loop {
         let advance = check_next(alloc, reader, replay, tally, source, sink)?;
@@ -148,6 +157,9 @@ fn check_all<R: ByteSource, W: ByteSink>(
     ensures right { IfOk result (λ right. IsTrue right → IfSome (R.remaining source.old) IsAllRight) }
     ensures wrong { IfOk result (λ right. ¬ IsTrue right → IfSome (R.remaining source.old) StopsAtWrong) }
     ensures told { IfOk result (λ right. (tally : Tally) × (text : List ℕ) × Tells tally text × Appends (W.contents sink.old) (W.contents sink.new) (text ++ last_line tally right)) }
+    ensures ok { OnOk result ((R.faults source.new ≡ R.faults source.old) × (W.faults sink.new ≡ W.faults sink.old)) }
+    ensures device { IsErrOf result Failure.Device → ((R.faults source.new ≡ R.faults source.old + 1) × (W.faults sink.new ≡ W.faults sink.old)) ⊎ ((R.faults source.new ≡ R.faults source.old) × (W.faults sink.new ≡ W.faults sink.old + 1)) }
+    ensures memory { IsErrOf result Failure.NoMemory → (R.faults source.new ≡ R.faults source.old) × (W.faults sink.new ≡ W.faults sink.old) }
 {
     let mut tally = Tally::new();
     let right = check_lines(alloc, reader, replay, &mut tally, source, sink)?;
@@ -167,6 +179,11 @@ pub fn check_replies<R: ByteSource, W: ByteSink>(
     ensures wrong { IfOk result (λ right. ¬ IsTrue right → IfSome (R.remaining source.old) StopsAtWrong) }
     // What is written tells of one reply after another, and at its end whether all are right.
     ensures told { IfOk result (λ right. (tally : Tally) × (text : List ℕ) × Tells tally text × Appends (W.contents sink.old) (W.contents sink.new) (text ++ last_line tally right)) }
+
+    // One of the devices failed, once, where that is the answer, and else none did.
+    ensures ok { OnOk result ((R.faults source.new ≡ R.faults source.old) × (W.faults sink.new ≡ W.faults sink.old)) }
+    ensures device { IsErrOf result Failure.Device → ((R.faults source.new ≡ R.faults source.old + 1) × (W.faults sink.new ≡ W.faults sink.old)) ⊎ ((R.faults source.new ≡ R.faults source.old) × (W.faults sink.new ≡ W.faults sink.old + 1)) }
+    ensures memory { IsErrOf result Failure.NoMemory → (R.faults source.new ≡ R.faults source.old) × (W.faults sink.new ≡ W.faults sink.old) }
 {
     let mut reader = LineReader::new(alloc, LONGEST_REPLY)?;
     let mut replay = Replay::new();

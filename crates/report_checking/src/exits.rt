@@ -1,4 +1,4 @@
-ghost use Rattle.std.specs.Prelude.{◌≡◌, ◌↔◌, true, false, Ok, None, OnOk, OnErr};
+ghost use Rattle.std.specs.Prelude.{◌≡◌, ◌↔◌, true, false, codes, Ok, None, Some, option_map, OnOk, OnErr, IsErrOf};
 
 use byte_lines::Failure;
 use cobra::{Exit, exit_of};
@@ -8,6 +8,8 @@ pub fn exit_of_check(checked: Result<bool, Failure>) -> Exit
     ensures right { (result.status ≡ 0) ↔ (checked ≡ Ok true) }
     ensures wrong { (result.status ≡ 3) ↔ (checked ≡ Ok false) }
     ensures failed { OnErr checked (result.status ≡ 1) }
+    ensures device { IsErrOf checked Failure.Device → option_map (λ words. words.now) result.words ≡ Some (codes "device failed") }
+    ensures memory { IsErrOf checked Failure.NoMemory → option_map (λ words. words.now) result.words ≡ Some (codes "out of memory") }
     ensures silent { OnOk checked (result.words ≡ None) }
 {
     match checked {

@@ -1,5 +1,5 @@
 //! What is told of replies.
-ghost use Rattle.std.specs.Prelude.{◌≡◌, IfOk, OnOk, option_map, string_bytes};
+ghost use Rattle.std.specs.Prelude.{◌≡◌, ◌+◌, IfOk, OnOk, IsErrOf, option_map, string_bytes};
 ghost use Rattle.std.specs.Io.KnownBytes.{Appends};
 ghost use Rattle.report_checking.specs.Telling.{counted, words_of, words_of_fault, found_line, last_line, no_tally, numbered, text_owed, verdict_word};
 
@@ -113,7 +113,10 @@ fn tell_words<W: ByteSink>(
     words: &str,
     more: &[u8],
 ) -> Result<(), Failure>
-    ensures { OnOk result (Appends (W.contents sink.old) (W.contents sink.new) (numbered number words.now more.now)) }
+    ensures told { OnOk result (Appends (W.contents sink.old) (W.contents sink.new) (numbered number words.now more.now)) }
+    ensures ok { OnOk result (W.faults sink.new ≡ W.faults sink.old) }
+    ensures device { IsErrOf result Failure.Device → W.faults sink.new ≡ W.faults sink.old + 1 }
+    ensures memory { IsErrOf result Failure.NoMemory → W.faults sink.new ≡ W.faults sink.old }
 {
     let head = format!(in alloc; "reply {number} {words}")?;
     write_all(sink, head.as_bytes())?;
@@ -129,7 +132,10 @@ pub(crate) fn tell<W: ByteSink>(
     number: u64,
     found: &Found,
 ) -> Result<(), Failure>
-    ensures { OnOk result (Appends (W.contents sink.old) (W.contents sink.new) (found_line number found.now)) }
+    ensures told { OnOk result (Appends (W.contents sink.old) (W.contents sink.new) (found_line number found.now)) }
+    ensures ok { OnOk result (W.faults sink.new ≡ W.faults sink.old) }
+    ensures device { IsErrOf result Failure.Device → W.faults sink.new ≡ W.faults sink.old + 1 }
+    ensures memory { IsErrOf result Failure.NoMemory → W.faults sink.new ≡ W.faults sink.old }
 {
     match found {
         Found::Right(what) => match words_of(*what) {
@@ -152,7 +158,10 @@ pub(crate) fn tell_tally<W: ByteSink>(
     tally: &Tally,
     is_right: bool,
 ) -> Result<(), Failure>
-    ensures { OnOk result (Appends (W.contents sink.old) (W.contents sink.new) (last_line tally.now is_right)) }
+    ensures told { OnOk result (Appends (W.contents sink.old) (W.contents sink.new) (last_line tally.now is_right)) }
+    ensures ok { OnOk result (W.faults sink.new ≡ W.faults sink.old) }
+    ensures device { IsErrOf result Failure.Device → W.faults sink.new ≡ W.faults sink.old + 1 }
+    ensures memory { IsErrOf result Failure.NoMemory → W.faults sink.new ≡ W.faults sink.old }
 {
     let line = tally.line(alloc, is_right)?;
     write_all(sink, line.as_bytes())?;

@@ -138,6 +138,7 @@ module _ (gone received : List ℕ) (arcs : List Arc) (first count : List (Vec �
 
   pub IsKept-dropped : (new_first new_count : List (Vec ℕ Global)) → AreDropped first new_first gone left → AreDropped count new_count gone left → IsKept left received rest new_first new_count
   IsKept-dropped new_first new_count first_is count_is = record {
+    few = omega (arith, sessions, kept.few);
     sessions = kept.sessions ∙ sym sessions;
     order = within;
     bound = kept.bound;

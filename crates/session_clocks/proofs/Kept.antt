@@ -75,6 +75,7 @@ module _ (gone received : List ℕ) (arcs : List Arc) (first count : List (Vec �
   -- the numbers stay what they were
   pub IsKept-same : (new_first new_count : List (Vec ℕ Global)) → AreSameNumbers first new_first → AreSameNumbers count new_count → IsKept gone received arcs new_first new_count
   IsKept-same new_first new_count same_first same_count = record {
+    few = kept.few;
     sessions = kept.sessions;
     order = kept.order;
     bound = kept.bound;
@@ -99,6 +100,7 @@ module _ (gone received : List ℕ) (arcs : List Arc) (first count : List (Vec �
           λ was. Reaches-push gone received arcs arc was,
         ) in
         record {
+          few = kept.few;
           sessions = kept.sessions;
           order = kept.order;
           bound = kept.bound;
@@ -114,10 +116,10 @@ module _ (gone received : List ℕ) (arcs : List Arc) (first count : List (Vec �
       abbrev R : TxnId → TxnId → Type 0
       R = Reaches gone received arcs
 
-      reaching : IsCountRowOf gone received R (start_of arc) (λ session. get_or tops session 0)
+      pub reaching : IsCountRowOf gone received R (start_of arc) (λ session. get_or tops session 0)
       reaching = IsCountRowOf-is gone received R (IsOrder-reaches gone received arcs) kept.sessions count (start_of arc) tops start_there (there_within gone received (start_of arc) kept.sessions start_there) kept.counts tops_are
 
-      reached : IsFirstRowOf gone received R (end_of arc) (λ session. get_or starts session 0)
+      pub reached : IsFirstRowOf gone received R (end_of arc) (λ session. get_or starts session 0)
       reached = IsFirstRowOf-is gone received R (IsOrder-reaches gone received arcs) kept.sessions first (end_of arc) starts end_there (there_within gone received (end_of arc) kept.sessions end_there) kept.firsts starts_are
 
       pub FitTops-is : FitTops first gone tops (length starts)
@@ -148,6 +150,7 @@ module _ (gone received : List ℕ) (arcs : List Arc) (first count : List (Vec �
           let order = IsOrder-reaches gone received arcs in
           let join = IsJoinOf-push gone received arcs arc in
           record {
+            few = kept.few;
             sessions = kept.sessions;
             order = kept.order;
             bound = kept.bound;
@@ -164,8 +167,9 @@ module _ (gone received : List ℕ) (arcs : List Arc) (first count : List (Vec �
           }
 
 -- a graph with no transaction
-pub IsKept-none : (gone : List ℕ) (first count : List (Vec ℕ Global)) → ((i : ℕ) → get_or gone i 0 < 2 ^ 64) → AreEmptyLines (length gone) first → AreEmptyLines (length gone) count → IsKept gone gone [] first count
-IsKept-none gone first count bound no_first no_count = record {
+pub IsKept-none : (gone : List ℕ) (first count : List (Vec ℕ Global)) → length gone ≤ 256 → ((i : ℕ) → get_or gone i 0 < 2 ^ 64) → AreEmptyLines (length gone) first → AreEmptyLines (length gone) count → IsKept gone gone [] first count
+IsKept-none gone first count few bound no_first no_count = record {
+  few = few;
   sessions = refl;
   order = λ session. omega arith;
   bound = bound;

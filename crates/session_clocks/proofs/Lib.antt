@@ -7,7 +7,9 @@ pub mod Kept
 pub mod LineLists
 pub mod Marked
 pub mod Next
+pub mod Noted
 pub mod Orders
 pub mod Places
 pub mod Steps
+pub mod Told
 pub mod Trails

@@ -280,6 +280,7 @@ IsTrail-none gone received lens arcs first count trail marks none_first none_cou
 pub IsKept-back : (gone received : List ℕ) (arcs : List Arc) (first count new_first new_count : List (Vec ℕ Global)) (n : ℕ) → AreAsLong first new_first → AreAsLong count new_count
     → SayFirsts gone received (take n arcs) (place_in new_first) → SayCounts gone received (take n arcs) (place_in new_count) → IsKept gone received arcs first count → IsKept gone received (take n arcs) new_first new_count
 IsKept-back gone received arcs first count new_first new_count n long_first long_count said_firsts said_counts kept = record {
+  few = kept.few;
   sessions = kept.sessions;
   order = kept.order;
   bound = kept.bound;

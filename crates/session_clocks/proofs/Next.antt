@@ -347,6 +347,7 @@ module _ (gone received more : List ℕ) (arcs : List Arc) (session : ℕ) (next
 
   pub IsKept-next : IsKept gone more arcs new_first new_count
   IsKept-next = record {
+    few = kept.few;
     sessions = within_lens;
     order = more_order;
     bound = more_bound;

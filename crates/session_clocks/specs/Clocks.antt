@@ -30,6 +30,7 @@ pub record AreLines (gone received : List ℕ) (lines : List (Vec ℕ Global)) :
 
 -- what a graph keeps of itself
 pub record IsKept (gone received : List ℕ) (arcs : List Arc) (first count : List (Vec ℕ Global)) : Type 0 where
+  pub few : length gone ≤ 256
   pub sessions : length received ≡ length gone
   pub order : (session : ℕ) → slice_index gone session ≤ slice_index received session
   pub bound : (session : ℕ) → slice_index received session < 2 ^ 64

@@ -4,6 +4,7 @@ pub mod Drops
 pub mod Graphs
 pub mod Lines
 pub mod Marks
+pub mod Notes
 pub mod Reach
 pub mod Rows
 pub mod SavedNumbers

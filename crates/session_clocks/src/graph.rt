@@ -1,13 +1,15 @@
 ghost use Rattle.std.specs.Prelude.{◌≡◌, ◌≢◌, ◌⊎◌, ◌↔◌, ℕ, [], ◌∷◌, ◌++◌, ◌+◌, ◌-◌, ◌*◌, ◌^◌, ◌<◌, ◌≤◌, IsTrue, filter, IfOk, OnOk, OnErr, length, slice_index};
 ghost use Rattle.txn.specs.declared.transactions.TxnId.{TxnId};
 ghost use Rattle.txn.specs.Arcs.{start_of, end_of};
-ghost use Rattle.session_clocks.specs.Additions.{IsAddition};
+ghost use Rattle.session_clocks.specs.Additions.{IsAddition, AreTold};
 ghost use Rattle.session_clocks.specs.Drops.{arc_stays};
 ghost use Rattle.session_clocks.specs.Graphs.{HasNode, IsOneMore, back_to, last_mark};
+ghost use Rattle.session_clocks.specs.Notes.{IsFrontOf};
 ghost use Rattle.session_clocks.specs.Reach.{IsThere, Reaches, IsOrReaches};
 
 use crate::drops::{drop_arcs, drop_rows};
 use crate::lines::{copied, no_lines, push_rows};
+use crate::notes::{note_spans, note_tails};
 use crate::rows::{clock, count_row, first_row};
 use crate::sweeps::{lower_all, raise_all};
 use crate::trail::{Mark, Trail, put_back};
@@ -70,6 +72,7 @@ fn are_there(gone: &[u64], received: &[u64], a: TxnId, b: TxnId) -> bool
 impl Graph {
     /// A graph with no transaction, of whose sessions so many are gone.
     pub fn new(alloc: Global, gone: &[u64]) -> Result<Self, NoMemory>
+        requires { length gone.now ≤ 256 }
         ensures gone { IfOk result (λ graph. graph.gone ≡ gone.now) }
         ensures received { IfOk result (λ graph. graph.received ≡ gone.now) }
         ensures arcs { IfOk result (λ graph. graph.arcs ≡ []) }
@@ -194,14 +197,21 @@ impl Graph {
         }
     }
 
-    /// Adds an arc, also where it closes a cycle.
-    pub fn add_arc(&mut self, alloc: Global, arc: Arc) -> Result<Addition, NoMemory>
+    /// The same; of an arc that is refused it may tell some.
+    fn add_telling(
+        &mut self,
+        alloc: Global,
+        arc: Arc,
+        told: &mut Vec<TxnId>,
+    ) -> Result<Addition, NoMemory>
         requires start { HasNode self.old (start_of arc) }
         requires end { HasNode self.old (end_of arc) }
         ensures gone { self.new.gone ≡ self.old.gone }
         ensures received { self.new.received ≡ self.old.received }
         ensures arcs { OnOk result (self.new.arcs ≡ self.old.arcs ++ arc ∷ []) }
         ensures addition { IfOk result (IsAddition self.old.gone self.old.received self.old.arcs arc) }
+        ensures told { OnOk result (AreTold self.old.gone self.old.received self.old.arcs arc told.old.items told.new.items) }
+        ensures front { IsFrontOf told.old.items told.new.items }
         ensures marks { self.new.marks ≡ self.old.marks }
         ensures last { last_mark self.new ≡ last_mark self.old }
         ensures err { OnErr result (self.new ≡ self.old) }
@@ -223,6 +233,15 @@ impl Graph {
             arc.start(),
             &tops,
         )?;
+        note_tails(told, &self.first, &self.gone, &tops, arc.end())?;
+        note_spans(
+            told,
+            &self.count,
+            &self.gone,
+            &self.received,
+            &starts,
+            arc.start(),
+        )?;
         self.arcs.push(arc)?;
         lower_all(&mut self.first, &self.gone, &tops, arc.end(), &starts);
         raise_all(
@@ -234,6 +253,33 @@ impl Graph {
             &tops,
         );
         Ok(addition)
+    }
+
+    /// Adds an arc, also where it closes a cycle. It tells which transactions reach more by it, or are reached by more, behind
+    /// those that were told before. One may be told twice.
+    pub fn add_arc(
+        &mut self,
+        alloc: Global,
+        arc: Arc,
+        told: &mut Vec<TxnId>,
+    ) -> Result<Addition, NoMemory>
+        requires start { HasNode self.old (start_of arc) }
+        requires end { HasNode self.old (end_of arc) }
+        ensures gone { self.new.gone ≡ self.old.gone }
+        ensures received { self.new.received ≡ self.old.received }
+        ensures arcs { OnOk result (self.new.arcs ≡ self.old.arcs ++ arc ∷ []) }
+        ensures addition { IfOk result (IsAddition self.old.gone self.old.received self.old.arcs arc) }
+        ensures told { OnOk result (AreTold self.old.gone self.old.received self.old.arcs arc told.old.items told.new.items) }
+        ensures marks { self.new.marks ≡ self.old.marks }
+        ensures last { last_mark self.new ≡ last_mark self.old }
+        ensures err { OnErr result ((self.new ≡ self.old) × (told.new.items ≡ told.old.items)) }
+    {
+        let before = told.len();
+        let added = self.add_telling(alloc, arc, told);
+        if added.is_err() {
+            told.truncate(before);
+        }
+        added
     }
 
     /// Sets a mark, to which the graph can be taken back.

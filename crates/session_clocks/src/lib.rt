@@ -5,6 +5,7 @@
 mod drops;
 mod graph;
 mod lines;
+mod notes;
 mod rows;
 mod sweeps;
 mod tails;

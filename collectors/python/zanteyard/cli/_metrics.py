@@ -43,6 +43,8 @@ def families(
     ]
     about = "Reads that waited, at the last round, for a transaction of this session."
     yield "zanteyard_pending_reads", "gauge", about, awaited
+    about = "Reads of versions from before the audit, which count as the keys' first state."
+    yield one("reads_from_before_total", "counter", about, outcome.from_before)
     rounds = [((("kind", kind),), figures.kinds.get(kind, 0)) for kind in KINDS]
     yield "zanteyard_rounds_total", "counter", "Rounds, by what they told.", rounds
     yield one("cuts_total", "counter", "Times that something was forgotten.", live.cuts)

@@ -120,7 +120,7 @@ def add_arguments(command: argparse.ArgumentParser) -> None:
     )
     command.add_argument(
         "--round-seconds", type=float, default=60.0, metavar="S",
-        help="seconds that a round may take, before it is given up (60)",
+        help="seconds that the search of a round may take, before it is skipped (60)",
     )
     command.add_argument(
         "--rather-wait", action="store_true", help="clients wait longer before the audit gives way"

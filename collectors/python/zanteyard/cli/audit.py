@@ -4,13 +4,17 @@ and what can't be at a violation. `zanteyard audit` and `examples/postgres_live.
 from __future__ import annotations
 
 import argparse
-import logging
-import sys
+import contextlib
+import glob
+import itertools
+import os
+import signal
+import threading
 import time
 from dataclasses import dataclass
-from typing import Any, List, Optional, Tuple
+from typing import Any, Iterator, List, Optional, Tuple
 
-from ..core._outcome import RATHER_LOSE_THE_AUDIT, RATHER_WAIT, Outcome
+from ..core._outcome import RATHER_LOSE_THE_AUDIT, RATHER_WAIT, Outcome, words_of_before
 from ..core._visible import say
 from ..explain._charts import RoundSeen
 from ..explain._html import page_of
@@ -18,6 +22,7 @@ from ..explain._report import Story, story_of
 from ..explain._shrinking import from_start, refuted
 from ..explain._violation_text import tell_violation
 from ..live._live_auditor import LiveAuditor
+from ..live._told import RoundTold
 from ..program._subprocess import AuditorApart
 from ..promises._kinds import LIVE as PROMISES
 from ..remote._server import AuditServer
@@ -30,7 +35,6 @@ from ..trial.workloads import EVERY_WORKLOAD, ChurningClients, ClientProcesses, 
 
 PAGE_SECONDS = 5.0  # that finding the reasons for the page may take
 STAYING, CHURNING = 8, 16  # clients at a time, where nothing else is asked for
-logger = logging.getLogger("zanteyard")
 
 
 @dataclass(frozen=True)
@@ -66,6 +70,8 @@ class LiveRun:
     def page(self, origin: str) -> str:
         """The run on a page."""
         about = f"{kind_of(self.asked).name}, {self.asked.workload} at {self._level()}"
+        if self.outcome.from_before:
+            about += f"; {words_of_before(self.outcome.from_before)}"
         return page_of(self.story or self._other_story(), about, origin, self.seen)
 
     def _level(self) -> str:
@@ -82,91 +88,123 @@ class LiveRun:
         return Story(kind, tuple(whole.counts or ()), waiting=waiting)
 
 
-def unaudited_run(asked: Any, make_store: MakesStore) -> Clients:
+@contextlib.contextmanager
+def stopped_by_signals() -> Iterator[threading.Event]:
+    """In here the first signal that would end the program sets the event instead, so that what was
+    run until then gets its last round and its verdict. A second one ends the program. For the main
+    thread."""
+    stop = threading.Event()
+    kinds = (signal.SIGINT, signal.SIGTERM, signal.SIGHUP)
+    before = {each: signal.getsignal(each) for each in kinds}
+    before = {each: its for each, its in before.items() if its != signal.SIG_IGN}  # as nohup wants
+
+    def restore() -> None:
+        for each, handler in before.items():
+            signal.signal(each, handler)
+
+    def end(*_: object) -> None:
+        restore()
+        stop.set()
+        with contextlib.suppress(OSError):
+            os.write(2, b"ending, with a last round; the same again ends at once\n")
+
+    for each in before:
+        signal.signal(each, end)
+    try:
+        yield stop
+    finally:
+        restore()
+
+
+def unaudited_run(
+    asked: Any, make_store: MakesStore, stop: Optional[threading.Event] = None
+) -> Clients:
     """The clients without the auditor, to compare with."""
+    is_over = (stop or threading.Event()).is_set
     if asked.processes:
-        more = (asked.clients, asked.workload, asked.unaudited, asked.rate)
+        more = (asked.clients, asked.workload, asked.unaudited, asked.rate, is_over)
         return ClientProcesses(None, make_store, *more)
     sessions = [
         Session(Nothing(), number, make_store(), "unaudited") for number in range(asked.clients)
     ]
     workload, seconds = EVERY_WORKLOAD[asked.workload], asked.unaudited
-    return Clients(sessions, workload, seconds, lambda: False, asked.rate)
+    return Clients(sessions, workload, seconds, is_over, asked.rate)
 
 
-def _beside(asked: Any, make_store: MakesStore, live: LiveAuditor) -> Clients:
+def _beside(
+    asked: Any, make_store: MakesStore, live: LiveAuditor, stop: threading.Event
+) -> Clients:
     """The clients of a live audit."""
     if asked.churn:
         workload = EVERY_WORKLOAD[asked.workload]
-        return ChurningClients(
-            live, make_store, asked.clients, workload, asked.seconds, asked.rate
-        )
+        its = (asked.clients, workload, asked.seconds, asked.rate)
+        return ChurningClients(live, make_store, *its, is_over=stop.is_set)
     if not asked.processes:
         sessions = [live.session(make_store()) for _ in range(asked.clients)]
-        more = (asked.seconds, lambda: live.is_over, asked.rate)
+        more = (asked.seconds, lambda: live.is_over or stop.is_set(), asked.rate)
         return Clients(sessions, EVERY_WORKLOAD[asked.workload], *more)
     with ThrowawayFolder() as folder:
         with AuditServer(live, f"{folder}/audit") as server:
-            those = (asked.clients, asked.workload, asked.seconds, asked.rate)
+            those = (asked.clients, asked.workload, asked.seconds, asked.rate, stop.is_set)
             clients = ClientProcesses(server.path, make_store, *those)
     return clients
 
 
 class _Rounds:
-    """Tells each round, and keeps what was seen of it."""
+    """Keeps what was seen of each."""
 
     def __init__(self) -> None:
-        self.live: Optional[LiveAuditor] = None
         self.began = time.monotonic()
         self.seen: List[RoundSeen] = []
 
-    def tell(self, line: str) -> None:
-        say(line, flush=True)
-        live = self.live
-        if live is not None and live.report is not None and line.startswith("round"):
-            at = time.monotonic() - self.began
-            remaining, behind = live.auditor.remaining, live.told_behind
-            self.seen.append(RoundSeen(at, live.report.kind, remaining, behind, live.taken_in))
+    def see(self, told: RoundTold) -> None:
+        at = time.monotonic() - self.began
+        kind, taken = told.report.kind, told.transactions
+        self.seen.append(RoundSeen(at, kind, told.remaining, told.behind, taken))
 
 
 def audited_run(
-    asked: Any, make_store: MakesStore
+    asked: Any, make_store: MakesStore, stop: Optional[threading.Event] = None
 ) -> Tuple[LiveAuditor, Outcome, Clients, Optional[Story], Tuple[RoundSeen, ...]]:
-    """The clients beside the auditor, and what became of the audit."""
+    """The clients beside the auditor, until the time is up or `stop` is set, and what became of the
+    audit."""
     policy = RATHER_WAIT if asked.rather_wait else RATHER_LOSE_THE_AUDIT
     rounds, story = _Rounds(), None
-    if asked.churn:
-        _tell_clients()
     promise = asked.promise
     with AuditorApart(asked.clients, journal=asked.audit_journal, promise=promise) as auditor:
-        live = LiveAuditor(auditor, every=asked.every, policy=policy, tell=rounds.tell)
-        rounds.live = live
-        clients = _beside(asked, make_store, live)
+        more: Any = {"on_client": _say} if asked.churn else {}  # what each did first
+        its = {"every": asked.every, "policy": policy, "tell": _say, "on_round": rounds.see}
+        live = LiveAuditor(auditor, **its, **more)
+        clients = _beside(asked, make_store, live, stop or threading.Event())
         outcome = live.stop()
         if live.is_violated:
             history, called = from_start(auditor)
             known = refuted(auditor, live.report.certificate if live.report else ())
-            small = tell_violation(
-                history, "violation", called, known=known, promise=auditor.promise
-            )
+            path = _unused("violation")
+            small = tell_violation(history, path, called, known=known, promise=auditor.promise)
             if asked.html:
-                about = (_script(), outcome.counts or (), PAGE_SECONDS, auditor.promise)
+                about = (_script(path), outcome.counts or (), PAGE_SECONDS, auditor.promise)
                 story = story_of(small, called, *about)
         return live, outcome, clients, story, tuple(rounds.seen)
 
 
-def _tell_clients() -> None:
-    """What each did first, which the log tells."""
-    handler = logging.StreamHandler(sys.stdout)
-    handler.addFilter(lambda record: record.getMessage().startswith("client "))
-    logger.addHandler(handler)
-    logger.setLevel(logging.INFO)
+def _say(told: object) -> None:
+    say(str(told), flush=True)
 
 
-def _script() -> str:
+def _unused(name: str) -> str:
+    """The name, or the first of name-2, name-3 and so on: what was found before stays."""
+    for count in itertools.count(1):
+        path = name if count == 1 else f"{name}-{count}"
+        if not any(map(os.path.isfile, glob.glob(f"{path}.*"))):
+            break
+    return path
+
+
+def _script(path: str) -> str:
     """What was written of the violation."""
     try:
-        with open("violation.jsonl", encoding="utf-8") as file:
+        with open(f"{path}.jsonl", encoding="utf-8") as file:
             return file.read()
     except OSError:
         return ""
@@ -174,9 +212,9 @@ def _script() -> str:
 
 def count_of_clients(text: str) -> int:
     """2 to 64."""
-    count = int(text)
+    count = int(text) if text.isdecimal() else 0
     if not 2 <= count <= 64:
-        raise argparse.ArgumentTypeError(f"{count} is not from 2 to 64")
+        raise argparse.ArgumentTypeError(f"{text!r} is no whole number from 2 to 64")
     return count
 
 
@@ -216,13 +254,17 @@ def add_arguments(asked: argparse.ArgumentParser, kind: StoreKind = POSTGRES) ->
 
 
 def run(asked: Any) -> LiveRun:
-    """Runs the clients as asked, and tells each round. Raises CantAuditError."""
+    """Runs the clients as asked, and tells each round. Ctrl-C, and the like, end a live audit as
+    the time does. Raises CantAuditError."""
     kind = kind_of(asked)
     asked.clients = asked.clients or (CHURNING if asked.churn else STAYING)
     if asked.churn and asked.processes:
         raise CantAuditError("--churn has each client in a thread, and not in a process")
     with ended_by_signals(), kind.server(asked) as used:
         make_store = kind.maker(asked, used)
-        alone = unaudited_run(asked, make_store) if asked.unaudited else None
-        live, outcome, clients, story, seen = audited_run(asked, make_store)
+        with stopped_by_signals() as stop:
+            alone = unaudited_run(asked, make_store, stop) if asked.unaudited else None
+            if stop.is_set():
+                raise KeyboardInterrupt  # nothing was audited by then
+            live, outcome, clients, story, seen = audited_run(asked, make_store, stop)
     return LiveRun(asked, live, outcome, clients, alone, story, seen)

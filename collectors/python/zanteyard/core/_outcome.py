@@ -40,8 +40,10 @@ class Outcome:
     was given up; "incomplete", where something wasn't audited: `failure` says why.
 
     `audited` of `handed_in` transactions were audited; of the `left_out` reads the source isn't
-    known to the audit, so that they weren't checked. `earlier` are the audits that ended before
-    this one began, each with its own outcome.
+    known to the audit, so that they weren't checked. So many were `from_before`: of versions that
+    were there before the audit, or that another program wrote; all such versions of a key count as
+    one, its first state, so that an older one that comes back isn't found out. `earlier` are the
+    audits that ended before this one began, each with its own outcome.
     """
 
     kind: str
@@ -53,6 +55,7 @@ class Outcome:
     name: str = ""
     left_out: int = 0
     earlier: Tuple["Outcome", ...] = ()
+    from_before: int = 0
 
     @property
     def is_violated(self) -> bool:
@@ -87,6 +90,7 @@ class Outcome:
             self.name,
             sum(outcome.left_out for outcome in every),
             self.earlier,
+            sum(outcome.from_before for outcome in every),
         )
 
     def _alone(self) -> "Outcome":
@@ -98,6 +102,8 @@ class Outcome:
             parts.append(f"in {len(self.earlier) + 1} audits")
         if self.left_out:
             parts.append(f"{self.left_out} reads weren't checked")
+        if self.from_before:
+            parts.append(words_of_before(self.from_before))
         for read in self.pending[:3]:
             reader, source = (".".join(map(str, id)) for id in (read.reader, read.source))
             parts.append(f"{reader} read {read.key} from {source}, which never came")
@@ -109,6 +115,12 @@ class Outcome:
 
 
 KINDS = {"spent": UNDECIDED}
+
+
+def words_of_before(reads: int) -> str:
+    """So many of which the audit knows no writer."""
+    what = "1 read was of a version" if reads == 1 else f"{reads} reads were of versions"
+    return f"{what} from before the audit"
 
 
 def kind_of(report: Optional[Report], failure: Optional[Exception], is_whole: bool) -> str:

@@ -39,7 +39,9 @@ class Logged(NamedTuple):
     short text; `began` is the time of day in seconds since 1970, 0 where it isn't known; `caller`
     is the file and line from which the transaction was begun. `span` is when it began and when it
     ended, by one clock, and what that counts ("ns", or another word); empty where it isn't known,
-    and None for an end that isn't."""
+    and None for an end that isn't. So many of `reads` are `from_before`: of versions that no
+    transaction of the run wrote, and which count as the keys' first state, as those that were there
+    before it."""
 
     reads: Sequence[Read]
     writes: Sequence[str]
@@ -51,6 +53,7 @@ class Logged(NamedTuple):
     tried_reads: Sequence[Read] = ()
     tried_writes: Sequence[str] = ()
     span: Sequence[Any] = ()
+    from_before: int = 0
 
     @property
     def is_undone(self) -> bool:

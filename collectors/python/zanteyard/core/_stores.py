@@ -1,6 +1,6 @@
 """What a session wants of a store, and what a store may have besides.
 
-`Store` is what every store has. The four protocols after it are parts that a store may have, whole
+`Store` is what every store has. The five protocols after it are parts that a store may have, whole
 or in part: what it lacks is made of the other calls, or isn't done (`session/_store_calls.py`).
 """
 
@@ -101,3 +101,14 @@ class ObservedStore(Protocol):
     def has_answered(self, error: BaseException) -> bool:
         """Whether what `commit` raised is the store's own answer: then nothing of it was committed,
         and nobody has to ask."""
+
+
+class IdentifiedStore(Protocol):
+    """What tells a store from all others."""
+
+    def identity(self) -> Any:
+        """Of the store that the connection at hand leads to: one text, or a StoreIdentity of
+        `core._store_identity`. It is the same over all connections to one store, and another one
+        over those to another. None where that can't be told. It is asked as each transaction
+        begins, so that it is to be found out as the connection is opened, which this does where
+        none is open; then it raises as `begin`."""

@@ -4,4 +4,4 @@ VERSION = "0.1.0"
 
 # Of what processes of clients and the auditor's tell one another: it goes up with each change of
 # that, and these understand one another where it is the same.
-FORM = 4
+FORM = 5

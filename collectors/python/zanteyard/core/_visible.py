@@ -10,9 +10,11 @@ a function here that does.
 from __future__ import annotations
 
 import html
+import os
+import re
 import sys
 import unicodedata
-from typing import Any, Optional, TextIO
+from typing import Any, Callable, Optional, TextIO
 
 LONGEST = 4000  # characters of one text
 
@@ -28,9 +30,44 @@ def shown_lines(text: str) -> str:
     return "\n".join(map(shown, text.split("\n")))
 
 
+before_saying: Optional[Callable[[], None]] = None  # what takes away what isn't to stay there
+COLOURS = {
+    **dict.fromkeys(("serial", "kept"), "32"),  # green
+    **dict.fromkeys(("violated", "mistake"), "31"),  # red
+    **dict.fromkeys(("pending", "spent", "undecided", "incomplete"), "33"),  # yellow
+}
+VERDICT = re.compile(f"({'|'.join(COLOURS)})(?=[:;,]|$)")
+
+
 def say(text: str, file: Optional[TextIO] = None, end: str = "\n", flush: bool = False) -> None:
-    """Prints one line. Raises what `print` does."""
-    print(shown(text), file=sys.stdout if file is None else file, end=end, flush=flush)
+    """Prints one line, with a verdict in it in its colour on a terminal. Raises what `print`
+    does."""
+    if before_saying is not None:
+        before_saying()
+    file = sys.stdout if file is None else file
+    line = shown(text)
+    print(_coloured(line) if has_colours(file) else line, file=file, end=end, flush=flush)
+
+
+def is_terminal(file: Optional[TextIO]) -> bool:
+    try:
+        return file is not None and file.isatty()
+    except ValueError:  # it is closed
+        return False
+
+
+def has_colours(file: Optional[TextIO]) -> bool:
+    """As no-color.org has it."""
+    if os.environ.get("NO_COLOR") or os.environ.get("TERM", "dumb") == "dumb":
+        return False
+    return is_terminal(file)
+
+
+def _coloured(line: str) -> str:
+    """The first verdict, unless the line is further in: then it is about something else."""
+    if line[:1] in (" ", ""):
+        return line
+    return VERDICT.sub(lambda it: f"\x1b[1;{COLOURS[it[1]]}m{it[1]}\x1b[0m", line, count=1)
 
 
 def visible(text: str, longest: int = LONGEST) -> str:

@@ -11,6 +11,7 @@ from __future__ import annotations
 from dataclasses import dataclass, field
 from typing import Any, Dict, List, Optional, Tuple
 
+from ._own_keys import is_own
 from ._records import Logged, Source
 
 SESSIONS = 64  # that an auditor has at a time
@@ -78,7 +79,8 @@ class Coverage:
 
     def moved(self, logged: Logged) -> Tuple[Logged, int]:
         """What was logged, and how many of its reads were left out. Those of an attempt that was
-        aborted count for nothing, and so aren't counted."""
+        aborted count for nothing, and so aren't counted. What was answered before this audit began
+        is read as from before it."""
         logged = self._with_tried(logged)
         reads = [
             (key, source if isinstance(source, str) else self.source(*source))
@@ -88,10 +90,15 @@ class Coverage:
         if kept == list(logged.reads):
             return logged, 0
         new: Dict[Any, Any] = dict(zip(logged.reads, reads))
+        earlier = sum(
+            now == "init" != was and not is_own(key)
+            for (key, was), (_, now) in zip(logged.reads, reads)
+        )
         statements = [
             (new.get(deed, deed), statement)
             for deed, statement in logged.statements
             if new.get(deed, deed)[-1] is not None
         ]
         kept = sorted(set(kept), key=repr)
-        return logged._replace(reads=kept, statements=tuple(statements)), len(reads) - len(kept)
+        more = {"statements": tuple(statements), "from_before": logged.from_before + earlier}
+        return logged._replace(reads=kept, **more), len(reads) - len(kept)

@@ -43,6 +43,10 @@ class RefusedError(ZanteyardError):
     """A line was refused: this is a mistake in how the log was made."""
 
 
+class BadLineError(RefusedError):
+    """The program knows no such line."""
+
+
 class FullError(RefusedError):
     """As many transactions remain as the auditor holds; nothing is wrong with this one."""
 
@@ -53,8 +57,11 @@ class NoMemoryError(RefusedError):
 
 
 class NoCutError(RefusedError):
-    """No round has found a fence up to which everything is settled; or the program has no such
-    command."""
+    """No round has found a fence up to which everything is settled."""
+
+
+class NoRoundError(RefusedError):
+    """No round is open, or none is searched."""
 
 
 class NotAnchoredError(RefusedError):
@@ -83,7 +90,7 @@ class NameTakenError(ZanteyardError, ValueError):
 
 class StoreUnfitError(ZanteyardError, ValueError):
     """The store drops what it was given, by its settings: what is found missing would be told as a
-    fault. Nothing has begun."""
+    fault. Or it is another store than the one that the audit is about. Nothing has begun."""
 
 
 class FolderUnfitError(ZanteyardError):
@@ -114,11 +121,6 @@ class MissingError(AuditLostError):
 
 class ElsewhereError(ZanteyardError):
     """What failed in another process, in its words."""
-
-
-class RoundTooLongError(ZanteyardError):
-    """A round took longer than was asked for, and once more after the auditor was started again.
-    Nothing is said of what it was about, and all that was taken in is still there."""
 
 
 class JournalError(ZanteyardError):

@@ -30,9 +30,16 @@ li { margin: .25rem 0; }
 .verdict.pending, .verdict.spent { background: var(--amber); }
 .soft, figcaption, footer { color: var(--soft); font-size: .9rem; }
 .anomaly { border-left: 4px solid var(--red); padding: .3rem 0 .3rem .9rem; margin: 1rem 0; }
-figure { margin: .6rem 0 0; } .wide { overflow-x: auto; }
+figure { margin: .6rem 0 0; }
+.wide { overflow-x: auto; --shade: rgba(40, 60, 90, .28); background:
+  linear-gradient(to right, var(--paper) 1.2rem, transparent) 0 0 / 2.4rem 100% no-repeat local,
+  linear-gradient(to left, var(--paper) 1.2rem, transparent) 100% 0 / 2.4rem 100% no-repeat local,
+  linear-gradient(to right, var(--shade), transparent) 0 0 / .8rem 100% no-repeat scroll,
+  linear-gradient(to left, var(--shade), transparent) 100% 0 / .8rem 100% no-repeat scroll; }
 svg { max-width: 100%; height: auto; display: block; }
 svg.timeline { max-width: none; }
+svg.columns-1 { max-width: 100%; } svg.columns-2 { max-width: 100%; min-width: 31rem; }
+svg.columns-3 { max-width: 100%; min-width: 47rem; }
 svg text { font: 13px system-ui, "Helvetica Neue", Arial, sans-serif; fill: var(--ink); }
 svg .name { font-weight: 700; } svg .session, svg .tick { fill: var(--soft); font-size: 12px; }
 svg .label { font-weight: 600; } svg .end { text-anchor: end; }
@@ -119,6 +126,9 @@ def page_of(story: Story, about: str, origin: str, rounds: Sequence[RoundSeen] =
 def _head(story: Story, about: str) -> str:
     count = sum(story.counts)
     of_what = f"{about}: {count:,} transactions of {len(story.counts)} sessions" if count else about
+    shown = sum(step.outcome != "forgotten" for step in story.steps)
+    if 0 < shown < count:
+        of_what += f"; {shown} of the transactions {'is' if shown == 1 else 'are'} shown here"
     lines = [
         f'<h1>{_heading(story)} <span class="verdict {story.kind}">{story.kind}</span></h1>',
         f'<p class="soft">{html_text(of_what)}</p>',

@@ -10,11 +10,12 @@ from typing import Any, Dict, Iterable, Iterator, List, Optional
 from typing import Sequence, Tuple
 
 from ..core._circumstances import caller_of, clock_of, values_of
-from ..core._records import AuditId, History, Logged, Naming, ShownId
+from ..core._records import AuditId, History, Logged, Naming, Pending, ShownId
 from ..promises._kinds import SERIALIZABLE, Promise
 from ._anomalies import Anomaly, find_anomaly, meaning_of, name_circle
 from ._arcs import SESSION, Event, below, told_arc, transaction_of
 from ._reasons import Explanation, explain_history
+from ._script_names import PART, REST
 from ._scripts import ScriptHistory, Verdict
 from ._shrinking import NAMED, SECONDS, audited, from_start, refuted, smaller
 from ._standing import Apart, Standing, standing
@@ -114,13 +115,17 @@ def verdict_story(
             " ".join([history.called(AuditId((session, number))), *event])
             for session, number, *event in verdict.certificate
         )
-    waiting = tuple(
-        f"{history.called(read.reader)} read {read.key} from {history.called(read.source)}, "
-        "which hasn't come"
-        for read in history.pending()
-    )
+    waiting = tuple(_waits(history, read) for read in history.pending())
     counts = tuple(verdict.counts)
     return Story(verdict.kind, counts, order=order, waiting=waiting, promise=promise)
+
+
+def _waits(history: ScriptHistory, read: Pending) -> str:
+    """A read that waits for a transaction."""
+    reader = history.called(read.reader)
+    if (reader, read.key) == (PART, REST):
+        return f"{REST} wasn't imported (--first)"
+    return f"{reader} read {read.key} from {history.called(read.source)}, which hasn't come"
 
 
 def violation_story(

@@ -14,6 +14,8 @@ from ..core._private_files import private
 from ..core._records import AuditId
 
 NAMES = ".names"
+# If a file was imported only in part: its transaction that waits for the rest, and what it reads.
+PART, REST = "this part of the file", "the rest of the file"
 VERSION = 1
 
 

@@ -25,6 +25,7 @@ from ..program._lines import TOO_OLD
 from ..program._rewritten_pipes import NO_ROOM
 from ..promises._kinds import SERIALIZABLE, Promise
 from ..promises._rewriting import LIMIT, Rewriting
+from ._line_forms import mistake_of
 from ._script_names import NamedTransaction, ScriptNames
 from ._script_times import ScriptTimes
 
@@ -57,6 +58,7 @@ ADVICE: Mapping[str, str] = {
 }
 
 
+BEGINS = 'a script begins with ["open",..], or by ["resume",..] up to ["resumed"]'
 HALF_THE_ROOM = (
     f"under this promise each transaction takes the room of two, so that at most {LIMIT // 2:,} "
     "remain at a time: fences and `truncate` make room, or check a part of the history"
@@ -238,8 +240,7 @@ class ScriptRun:
                     raise ScriptMistakeError(number, "", str(error)) from error
                 yield from self._taken(json.loads(text), reply, number)
         if not self._is_open:
-            begins = 'a script begins with ["open",..], or by ["resume",..] up to ["resumed"]'
-            raise ScriptMistakeError(number, "nothing", begins)
+            raise ScriptMistakeError(number, "nothing", BEGINS)
         if self._search:
             yield from self._ended("collect", "wait")
         elif self._round_is_open:
@@ -319,20 +320,35 @@ class ScriptRun:
             reply = self._reply_to(text)
             if reply[0] != "no" or reply[2] == "NoCut":
                 return reply
-            if reply[2] == "BadLine" and OPENS_FORM.match(text):
+            if reply[2] == "BadLine" and OPENS_FORM.match(text) and not self._is_open:
                 raise ProgramTooOldError(f"{self.path} {TOO_OLD}")
             if reply[2] != "NoMemory":
-                raise ScriptMistakeError(number, reply[2], self._advice(reply[2]))
+                raise ScriptMistakeError(number, reply[2], self._advice(reply[2], text))
             if self._search and _parts_of(text)[0] == "collect":  # which has ended the search
                 text = json.dumps(["finish", *self._search]).encode()
             if wait:
                 time.sleep(wait)
         raise ProgramEndedError(f"line {number} was refused memory, also when it was given again")
 
-    def _advice(self, refusal: str) -> str:
+    def _advice(self, refusal: str, text: bytes) -> str:
         if refusal == "Backlog" and self.promise.is_split:
             return HALF_THE_ROOM
+        if refusal == "BadLine":
+            return mistake_of(text) or self._misplaced(_parts_of(text)) or ADVICE[refusal]
         return ADVICE.get(refusal, "")
+
+    def _misplaced(self, line: Sequence[Any]) -> str:
+        """Why a line of a right form may not stand where it does."""
+        opens = line[:1] in (["open"], ["resume"])
+        if not self._is_open and not self.is_resumed:
+            return "" if opens else BEGINS
+        if not self._is_open:
+            return 'up to ["resumed"] there may only be what was handed over (docs/FORMATS.md)'
+        if opens or line[:1] in (["marks"], ["last"], ["resumed"]):
+            return "the script is open already, and what opens one stands at its beginning alone"
+        if line[:1] in (["offer"], ["join"]) and any(ABORTED in its for its in line[-1]):
+            return '"aborted" stands in a script of version 2, which ["open",..,..,2] begins'
+        return ""
 
     def _reply_to(self, text: bytes) -> List[Any]:
         """The reply in the script's own numbers."""

@@ -112,14 +112,16 @@ def draw_story(story: Story) -> str:
         points += [(box.left, box.top), (box.left + WIDTH, box.top + box.height)]
     left, right = min(x for x, _ in points + [(4.0, 0.0)]) - 8, max(x for x, _ in points) + 24
     below = 26 if story.promise.is_split else 18
+    columns = len({box.left for box in boxes.values()})
     top, bottom = min(y for _, y in points) - 18, max(y for _, y in points) + below
     about = "Transactions on a time line by session: " + "; ".join(
         f"{step.name} " + ", ".join(deed.text for deed in step.deeds) for step in story.steps
     )
+    width, height = f"{right - left:.0f}", f"{bottom - top:.0f}"
     return "\n".join(
         [
-            f'<svg class="timeline" role="img" viewBox="{left:.0f} {top:.0f} {right - left:.0f} '
-            f'{bottom - top:.0f}" width="{right - left:.0f}" height="{bottom - top:.0f}">',
+            f'<svg class="timeline columns-{columns}" role="img" '
+            f'viewBox="{left:.0f} {top:.0f} {width} {height}" width="{width}" height="{height}">',
             f"<title>{html_text(about)}</title>",
             _ends_of_arcs(),
             *_lanes(story, boxes, right),

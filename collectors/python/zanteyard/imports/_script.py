@@ -10,7 +10,7 @@ from typing import Any, Dict, Iterator, List, Optional, Set, Tuple
 from ..core._own_keys import FORM
 from ..core._records import AuditId
 from ..core.errors import ImportRefusedError
-from ..explain._script_names import NamedTransaction, ScriptNames
+from ..explain._script_names import PART, REST, NamedTransaction, ScriptNames
 from ..explain._script_times import ScriptTimes
 from ._recording import ABORTED, COMMITTED, UNKNOWN, Recording, counted
 from ._script_parts import (
@@ -32,7 +32,6 @@ SESSIONS = 64
 LIMIT = 4096  # transactions that remain at a time
 NEVER_OFFERED = 1_000_000_000  # numbers from here on are those of transactions that don't come
 ROUND = ["round", 4096, 0, 1, "guided"]
-REST = "the rest of the file"  # a key that stands for what wasn't imported
 
 
 def script_of(
@@ -348,7 +347,7 @@ class _ScriptMaker:
         """Has the verdict wait for what wasn't imported."""
         source = self._never_offered(REST, "what isn't in this part of the file")
         read = [self._key(REST), *source]
-        return [[read], []], NamedTransaction("this part of the file", COMMITTED)
+        return [[read], []], NamedTransaction(PART, COMMITTED)
 
     def _about(self) -> Iterator[str]:
         """What was done with the file, in words."""

@@ -39,7 +39,8 @@ class Head:
     run's name, which audit of the run it is, and where it began, if that was while clients went on;
     and so far, how many rounds were told, how many reads were left out at most, whether sessions
     handed in what they did, the sessions that several clients had, each with what these began
-    with, and the promise that it asks for."""
+    with, the promise that it asks for, how many reads were of versions from before at most, and
+    which store it is about, once a client has told."""
 
     sessions: int
     limit: int
@@ -51,6 +52,20 @@ class Head:
     is_of_sessions: bool = False
     joined: List[List[int]] = field(default_factory=list)
     promise: str = SERIALIZABLE.name
+    from_before: int = 0
+    store: Optional[List[str]] = None
+
+    def take_figures(
+        self,
+        rounds: int,
+        left_out: int,
+        is_of_sessions: bool,
+        from_before: int = 0,
+        store: Optional[List[str]] = None,
+    ) -> None:
+        """As a later record has them; in earlier versions' journals the last two are missing."""
+        self.rounds, self.left_out, self.is_of_sessions = rounds, left_out, is_of_sessions
+        self.from_before, self.store = from_before, store
 
 
 @dataclass
@@ -84,7 +99,7 @@ class Kept:
             if self.saved != len(self.lines):
                 raise ValueError("lines of the checkpoint are missing")
         elif kind == FIGURES:
-            self.head.rounds, self.head.left_out, self.head.is_of_sessions = json.loads(text)
+            self.head.take_figures(*json.loads(text))
         elif kind == VIOLATED:
             self.violations.append(Violation(*json.loads(text)))
         else:
@@ -173,9 +188,9 @@ def line(text: bytes) -> bytes:
     return LINE + text
 
 
-def figures(rounds: int, left_out: int, is_of_sessions: bool) -> bytes:
-    """What of the head has changed."""
-    return FIGURES + _text([rounds, left_out, is_of_sessions])
+def figures(*now: Any) -> bytes:
+    """What of the head has changed, as it takes them."""
+    return FIGURES + _text(now)
 
 
 def violated(violation: Violation) -> bytes:

@@ -28,8 +28,8 @@ GROWS = 1 << 20  # bytes that a file grows by, or as much as it had, before it i
 class JournalWriter:
     """For one thread at a time; every call raises JournalError where the journal can't be written.
     `head` tells of the audit, and `names` are those of the keys, which grow; `kept` is what the
-    journal says, where it is gone on with. `left_out` and `is_of_sessions` are the head's, by
-    now."""
+    journal says, where it is gone on with. `left_out`, `is_of_sessions`, `from_before` and `store`
+    are the head's, by now."""
 
     def __init__(
         self,
@@ -43,6 +43,8 @@ class JournalWriter:
         self.rounds = kept.head.rounds if kept else 0  # that were told, by whichever program
         self.left_out = kept.head.left_out if kept else 0
         self.is_of_sessions = kept.head.is_of_sessions if kept else False
+        self.from_before = kept.head.from_before if kept else 0
+        self.store = kept.head.store if kept else None
         self.violations: List[Violation] = list(kept.violations) if kept else []
         self._noted = len(kept.names) if kept else 0  # names that the journal has
         self._figures = self._figures_by_now()  # as the journal has them
@@ -120,7 +122,7 @@ class JournalWriter:
         """By what a program gives out: behind all that is there, until that is longer than what is
         of use. What is flushed to the disk is dear."""
         head, count, now = self._head(), len(self._names), self._figures_by_now()
-        head.rounds, head.left_out, head.is_of_sessions = now
+        head.take_figures(*now)
         its_undone = self._undone_of(saved)
         if not self._append_checkpoint(head, count, saved, its_undone):
             names = keys(0, self._names[:count])
@@ -152,5 +154,6 @@ class JournalWriter:
             self.journal.append(entries)
         self._noted, self._figures = count, now
 
-    def _figures_by_now(self) -> Tuple[int, int, bool]:
-        return self.rounds, self.left_out, self.is_of_sessions
+    def _figures_by_now(self) -> Tuple[Any, ...]:
+        now = (self.rounds, self.left_out, self.is_of_sessions)
+        return (*now, self.from_before, self.store)

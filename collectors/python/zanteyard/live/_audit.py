@@ -5,11 +5,11 @@ from __future__ import annotations
 import logging
 import time
 from collections import Counter
-from typing import Any, Callable, Dict, Iterable, List, Optional, Sequence, Set, Tuple, Union
+from typing import Any, Dict, Iterable, List, Optional, Sequence, Set, Tuple, Union
 
 from ..core._outcome import COLLECTOR, PENDING, RUNNING, SERIAL, VIOLATED, Outcome, kind_of
 from ..core._own_keys import FENCE, LONGEST
-from ..core._records import AuditId, Pending, Report, StoreId, unpacked
+from ..core._records import AuditId, Cut, Pending, Report, StoreId, unpacked
 from ..core._tenancy import Tenancy
 from ..core._window import SESSIONS, Coverage
 from ..core.errors import AuditLostError, FullError, MissingError, NoCutError, NotAnchoredError
@@ -20,9 +20,10 @@ from ..program._subprocess import AuditorApart
 from ._backlog import Backlog, HandedIn
 from ._figures import Figures
 from ._fragments import fragments
+from ._told import ClientTold, RoundTold, Teller
 
 logger = logging.getLogger("zanteyard")
-MEANWHILE = 0.04  # seconds, in which more transactions come while a round is made
+MEANWHILE = 0.04  # seconds, in which more transactions come while a round is searched
 AnyAuditor = Union[Auditor, AuditorApart]
 
 
@@ -36,7 +37,7 @@ class Audit:
         auditor: AnyAuditor,
         backlog: Backlog,
         figures: Figures,
-        tell: Callable[[str], None],
+        teller: Teller,
         run_name: str,
         coverage: Coverage,
         counted: int = 0,
@@ -45,7 +46,7 @@ class Audit:
         closed: Iterable[int] = (),
     ) -> None:
         self._auditor, self._backlog, self._figures = auditor, backlog, figures
-        self._tell, self._coverage, self._counted = tell, coverage, counted
+        self._teller, self._coverage, self._counted = teller, coverage, counted
         self.earlier = earlier
         self.name = f"{run_name}, audit {len(earlier) + 1}" if earlier else run_name
         self.began = time.monotonic()
@@ -55,6 +56,7 @@ class Audit:
         self._behind = 0.0  # seconds that one of them waited, at most, since the last round
         self.report: Optional[Report] = None
         self.left_out = 0  # reads whose source the audit isn't about
+        self.from_before = 0  # reads of versions that were there before this audit
         self._pending: Tuple[Pending, ...] = ()
         self._is_collectors_own = False
         self.missing: Optional[MissingError] = None  # what may have been done, and never comes
@@ -62,6 +64,7 @@ class Audit:
         self._closed: Set[int] = {*closed}
         # What waits with its session, which is to join behind a fence that isn't taken in yet.
         self._held: Dict[int, List[HandedIn]] = {}
+        self._is_searched = False  # a round, while which no session joins
 
     @property
     def handed_in(self) -> int:
@@ -94,6 +97,7 @@ class Audit:
             self.name,
             self.left_out,
             self.earlier,
+            self.from_before,
         )
 
     # what waits
@@ -154,8 +158,7 @@ class Audit:
     def _tell_first(self, session: int, number: int, joins: bool) -> None:
         client = self._tenancy.first_of(session, number)
         if client is not None:
-            how = "joins as" if joins else "goes on in" if number else "begins"
-            logger.info("client %d %s session %d with %d.%d", client, how, session, session, number)
+            self._teller.client(ClientTold(client, session, number, joins))
 
     # sessions that join
 
@@ -177,7 +180,10 @@ class Audit:
 
     def _let_join(self) -> None:
         """Those whose fences have read from what was taken in; one may have read from another's,
-        and those that are new join in the order of their numbers."""
+        and those that are new join in the order of their numbers. None while a round is
+        searched."""
+        if self._is_searched:
+            return
         while not self.is_violated:
             ready = [session for session in sorted(self._held) if self._may_join(session)]
             if not ready:
@@ -287,36 +293,39 @@ class Audit:
         no_cut, count = no_cut or self.why_no_cut, self.taken_in
         wrong = self._go_on_while_it_is_made() if goes_on else None
         self.report = report = self._auditor.last_round()
-        self.left_out = self._auditor.left_out
+        self.left_out, self.from_before = self._auditor.left_out, self._auditor.from_before
         figures = self._figures
         figures.rounds += 1
         figures.kinds[report.kind] = figures.kinds.get(report.kind, 0) + 1
         if figures.awaited is not None:
             figures.awaited = self._awaited()
-        cut = self._cut_or_none(report, no_cut)
+        cut, no_cut = (None, no_cut) if no_cut else self._cut(report)
         now = time.monotonic()
         rate = (count - self._told_of) / max(now - figures.told_at, 0.001)
         figures.told_at, self._told_of = now, count
         figures.lag = max(figures.lag, self._behind)
         figures.told_behind, self._behind = self._behind, 0.0
-        self._tell(
-            f"round {report.number}: {report.kind}; {count} transactions, "
-            f"{rate:.0f} a second, {figures.told_behind:.2f} s behind; "
-            f"{self._auditor.remaining} remain; {cut}"
-        )
+        its = (report, count, rate, figures.told_behind, self._auditor.remaining, cut, no_cut)
+        self._teller.round(RoundTold(*its))
         if wrong is not None:
             raise wrong
+        if goes_on:
+            self._let_join()
 
     def _go_on_while_it_is_made(self) -> Optional[Exception]:
         """Takes in what waits until the report is there. What that raises is told behind it."""
         wrong: Optional[Exception] = None
         self._auditor.begin_round()
-        while not self._auditor.has_round(MEANWHILE):
-            try:
-                if wrong is None:
-                    self._take_in_what_fits()
-            except Exception as error:
-                wrong = error
+        self._is_searched = True
+        try:
+            while not self._auditor.has_round(MEANWHILE):
+                try:
+                    if wrong is None:
+                        self._take_in_what_fits()
+                except Exception as error:
+                    wrong = error
+        finally:
+            self._is_searched = False
         return wrong
 
     def _awaited(self) -> Dict[int, int]:
@@ -325,32 +334,18 @@ class Audit:
         reads = never_came(self._auditor.history, self._auditor.marks)
         return dict(Counter(read.source[0] for read in reads))
 
-    def _cut_or_none(self, report: Report, no_cut: Optional[str]) -> str:
-        """In words: what was forgotten, or else this, if there is such a reason for none."""
-        if no_cut and not self._auditor.cuts_by_itself:
-            return f"no cut: {no_cut}"
-        cuts = self._figures.cuts
-        cut = self._cut(report)
-        return f"no cut: {no_cut}" if no_cut and self._figures.cuts == cuts else cut
-
-    def _cut(self, report: Report) -> str:
-        """In words."""
+    def _cut(self, report: Report) -> Tuple[Optional[Cut], str]:
+        """What was forgotten; or None, and why, if that isn't told by the verdict."""
         if report.kind not in (SERIAL, PENDING):
-            return "no cut"
-        forgets_nothing = "no cut: this cobra_audit forgets nothing"
-        if not self._auditor.can_cut:
-            return forgets_nothing
+            return None, ""
         try:
             cut = self._auditor.truncate()
-        except NoCutError as error:
-            if not self._auditor.can_cut:
-                return forgets_nothing
-            is_none = str(error).endswith("NoCut")
-            return "no cut: no fence is settled" if is_none else f"no cut: {error}"
+        except NoCutError:
+            return None, "no fence is settled"
         self._figures.cuts += 1
         self._figures.cut_at = time.monotonic()
         self._forget_clients()
-        return f"cut at {cut.fence[0]}.{cut.fence[1]}: {cut.gone} forgotten"
+        return cut, ""
 
     def _forget_clients(self) -> None:
         marks = self._auditor.marks

@@ -5,8 +5,10 @@ from __future__ import annotations
 import logging
 from typing import Any, Callable, ContextManager, Iterable, List, Optional, Set, Tuple
 
+from ..core._forks import is_forked
 from ..core._records import unpacked
 from ..core._redacting import redacted_bytes
+from ..core._store_identity import AuditedStore, StoreIdentity
 from ..core.errors import AuditLostError, MissingError
 from ..session._place import Place
 from ._backlog import keys_written_unseen
@@ -51,6 +53,18 @@ class ForProcesses(LiveFigures):
     def count_awaited(self) -> None:
         """From now on it is known of each session for how many of its transactions reads wait."""
         self._figures.awaited = {}
+
+    # the store
+
+    def meet_store(self, identity: StoreIdentity) -> None:
+        """Raises StoreUnfitError where it isn't the store that this run is about, which is the
+        first that is told; not where nothing more is audited."""
+        if not (self.is_over or is_forked(self)):
+            self.auditor.meet_store(identity)
+
+    @property
+    def audited_store(self) -> AuditedStore:
+        return self.auditor.audited_store
 
     # meetings
 

@@ -23,6 +23,7 @@ from ..core._records import AuditId, Logged
 from ..core._stores import Store
 from ..core._window import Coverage
 from ..core.errors import AuditLostError, MissingError
+from ..program._binaries import slowness_of
 from ..program._subprocess import AuditorApart
 from ..session._local_sessions import PATIENCE
 from ..session._place import Place
@@ -36,6 +37,7 @@ from ._for_processes import ForProcesses
 from ._pace import Pace
 from ._quiesce_coordinator import QuiesceCoordinator
 from ._session_pool import SessionPool
+from ._told import ClientTold, RoundTold, Tell, Teller
 
 logger = logging.getLogger("zanteyard")
 PAUSE = 0.04  # seconds, in which more transactions come: a line each would cost the clients more
@@ -70,9 +72,10 @@ class LiveAuditor(ForProcesses):
     their constants nor values; sessions of this process keep none either. An AuditClient has the
     same, for what leaves its process.
 
-    Each round is a line at level INFO of the log `zanteyard`; `tell` is called with it too, where
-    it is given, in the auditor's thread. What fails is told by `outcome`, and never raised to who
-    runs transactions.
+    Each round is a line at level INFO of the log `zanteyard`, and so is each client's first
+    transaction. In the auditor's thread `tell` is called with each round's line, and where another
+    audit begins; `on_round` with a RoundTold, and `on_client` with a ClientTold. What fails is told
+    by `outcome`, and never raised to who runs transactions.
     """
 
     EVERY = 2560  # where one meeting fails there is room for two more
@@ -86,12 +89,14 @@ class LiveAuditor(ForProcesses):
         idle: float = 30.0,
         patience: float = 1.0,
         most: int = 2048,
-        tell: Optional[Callable[[str], object]] = None,
+        tell: Optional[Tell] = None,
         policy: Policy = RATHER_LOSE_THE_AUDIT,
         journal: Optional[str] = None,
         round_seconds: Optional[float] = None,
         elsewhere: bool = False,
         redacts: bool = False,
+        on_round: Optional[Callable[[RoundTold], object]] = None,
+        on_client: Optional[Callable[[ClientTold], object]] = None,
     ) -> None:
         if auditor.is_resumed and not elsewhere:
             raise ValueError("a live audit doesn't go on by a journal: begin another run")
@@ -105,7 +110,7 @@ class LiveAuditor(ForProcesses):
         self.token, self.redacts = auditor.token, redacts
         # Has what was logged as bytes while it waits.
         self._packed = auditor.packed if isinstance(auditor, AuditorApart) else None
-        self._told_to, self._has_failed_to_tell = tell, False
+        self._teller = Teller(tell, on_round, on_client)
         if auditor.promise.is_split:  # there is half the room
             every = min(every, self.EVERY // 2)
         self._pace = Pace(every, seconds, idle, patience)
@@ -195,7 +200,8 @@ class LiveAuditor(ForProcesses):
         if room < self._backlog.most:  # it may be quick, and hold as many as it can
             why = self._audit.why_no_cut or "the next cut hasn't come"
             return f"the auditor has room for {room} transactions more, {waits}, and {why}"
-        return f"the auditor can't keep up: {waits}"
+        slow = slowness_of(getattr(self.auditor, "path", ""))
+        return f"the auditor can't keep up: {waits}{slow}"
 
     def _renew(self, session: Session) -> Optional[Place]:
         # Where nothing is audited nobody waits for it.
@@ -303,18 +309,6 @@ class LiveAuditor(ForProcesses):
         self._guarded(audit.find_pending)
         self._guarded(audit.find_whose)
 
-    def _tell(self, line: str) -> None:
-        """What the caller's `tell` raises is told once, and harms nothing."""
-        logger.info("%s", line)
-        if self._told_to is None:
-            return
-        try:
-            self._told_to(line)
-        except BaseException as error:  # in this thread nothing but the audit would be ended by it
-            if not self._has_failed_to_tell:
-                self._has_failed_to_tell = True
-                logger.error("rounds can't be told: %r", error)
-
     def _first_audit(self) -> Audit:
         return self._next_audit(Coverage.of_all(self.auditor.sessions))
 
@@ -329,7 +323,7 @@ class LiveAuditor(ForProcesses):
         earlier = (
             (Outcome(INCOMPLETE, failure=AuditLostError(EARLIER)),) if auditor.audits > 1 else ()
         )
-        shared = (self._backlog, self._figures, self._tell, self.run_name, coverage, 0, earlier)
+        shared = (self._backlog, self._figures, self._teller, self.run_name, coverage, 0, earlier)
         closed = [session for session, is_closed in enumerate(auditor.closed) if is_closed]
         audit = Audit(auditor, *shared, tenancy=self._pool.tenancy, closed=closed)
         if FENCE in auditor.base:
@@ -390,12 +384,13 @@ class LiveAuditor(ForProcesses):
         self._audit = self._next_audit(coverage, ended)
         coordinator.start_anew()
         earlier = self._audit.earlier
-        self._tell(f"audit {len(earlier)} has ended: {earlier[-1]}; now audited: {self.name}")
+        told = f"audit {len(earlier)} has ended: {earlier[-1]}; now audited: {self.name}"
+        self._teller.line(told)
         logger.warning("another audit begins, %s, after: %s", self.name, why)
 
     def _next_audit(self, coverage: Coverage, before: Optional[Outcome] = None) -> Audit:
         """Behind this outcome of the last one, if there was any."""
-        more = (self._backlog, self._figures, self._tell, self.run_name, coverage)
+        more = (self._backlog, self._figures, self._teller, self.run_name, coverage)
         tenancy = self._pool.tenancy
         if before is None:
             return Audit(self.auditor, *more, tenancy=tenancy)

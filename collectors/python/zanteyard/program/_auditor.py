@@ -11,12 +11,13 @@ from typing import Any, Container, Dict, List, Optional, Sequence, Tuple, Union
 from ..core._outcome import RATHER_LOSE_THE_AUDIT, Policy
 from ..core._own_keys import FENCE, FORM
 from ..core._records import ABORTED, AuditId, Cut, Logged, Report
+from ..core._store_identity import checked
 from ..core._tenancy import Tenancy
 from ..core._window import Coverage
 from ..core.errors import (
     AuditLostError,
+    BadLineError,
     FullError,
-    NoCutError,
     ProgramEndedError,
     ProgramTooOldError,
     RefusedError,
@@ -25,11 +26,12 @@ from ..journal._entries import Head
 from ..promises._kinds import SERIALIZABLE
 from ..promises._rewriting import Rewriting
 from ._binaries import PROGRAM as PROGRAM
-from ._intake import EFFORTS, GUIDED, Effort, Fragment
-from ._lines import BAD_LINE, ENDED, TOO_OLD, Lines, written
+from ._intake import Fragment
+from ._lines import ENDED, TOO_OLD, written
 from ._pipes import Pipes
 from ._rewritten_pipes import RewrittenPipes, begun
 from ._resuming import Reopened, journaled, reopened
+from ._rounds import Rounds
 from ._supervised import SupervisedProgram
 
 
@@ -37,7 +39,7 @@ UNKNOWN = "the process that audited has ended, and what its sessions did last is
 logger = logging.getLogger("zanteyard")
 
 
-class Auditor(Lines):
+class Auditor(Rounds):
     """The program cobra_audit. For threads: each call is one line and its reply. What sessions hand
     in (`take`) never raises; all other calls raise ProgramEndedError where the program is gone and
     RefusedError where it refuses a line.
@@ -48,10 +50,10 @@ class Auditor(Lines):
     needs one of its own, and has it where none is given. `script` names a file to which every line
     goes that the program was given, so that it can be given them again. `policy` says how long
     sessions wait. `journal` names a file that isn't there yet (docs/JOURNAL.md): where the program
-    dies, or takes more than `round_seconds` for a round, if that is given, another one is brought
-    where it stood. Then all calls raise JournalError where the journal can't be written. `promise`
-    is "serializable" or "snapshot" (docs/PROMISES.md); under the latter there is room for half as
-    many."""
+    dies, another one is brought where it stood. Then all calls raise JournalError where the journal
+    can't be written. A round whose search takes more than `round_seconds`, 60 where none are given,
+    is skipped, and told as spent. `promise` is "serializable" or "snapshot" (docs/PROMISES.md);
+    under the latter there is room for half as many."""
 
     rewriting: Optional[Rewriting] = None  # of a finished history, where it is asked about another
     # promise than serializability
@@ -92,6 +94,7 @@ class Auditor(Lines):
 
     def _start(self, coverage: Optional[Coverage]) -> None:
         self.coverage, self.left_out = coverage, 0  # reads whose source the audit isn't about
+        self.from_before = 0
         self.numbers: Dict[str, int] = {FENCE: 0}
         self.names = [FENCE]  # of each key, by its name; and the other way
         self.history = [[] for _ in range(self.sessions)]  # what was taken in and isn't forgotten
@@ -100,8 +103,7 @@ class Auditor(Lines):
         # Of each key that a forgotten transaction wrote, the last that did.
         self.base: Dict[str, AuditId] = {}
         self._tenancy = Tenancy()  # of clients, by their first transactions
-        self.can_cut = True  # until the program says that it doesn't know the command
-        self.effort = EFFORTS[0]  # of the last round
+        self._have_no_round()
         self.audits += 1
         self.script_failure: Optional[OSError] = None
         try:
@@ -122,9 +124,7 @@ class Auditor(Lines):
         """Raises ProgramTooOldError where the program doesn't know of what was aborted."""
         try:
             self.ask(["open", self.sessions, self.limit, FORM])
-        except RefusedError as error:
-            if not str(error).endswith(BAD_LINE):
-                raise
+        except BadLineError as error:
             raise ProgramTooOldError(f"{self.path} {TOO_OLD}") from error
 
     def _started(self, journal: Union[str, Reopened, None]) -> Union[Pipes, SupervisedProgram]:
@@ -132,21 +132,32 @@ class Auditor(Lines):
             return RewrittenPipes(self.path, self.rewriting)
         if journal is None:
             return begun(self.path, self.promise)
-        program = journaled(self.path, journal, self._head, self.names, self.round_seconds)
+        program = journaled(self.path, journal, self._head, self.names)
         program.keeping.is_of_sessions |= self.has_sessions
+        program.keeping.store = self._store()
         return program
 
     def _head(self) -> Head:
         """For the journal."""
         coverage = asdict(self.coverage) if self.coverage is not None else None
         plain = (self.sessions, self.limit, self.run_name, self.audits, coverage)
-        return Head(*plain, joined=self._tenancy.joined(), promise=self.promise.name)
+        more = (self._tenancy.joined(), self.promise.name, self.from_before, self._store())
+        return Head(*plain, 0, 0, False, *more)
+
+    def _store(self) -> Optional[List[str]]:
+        """Which this run is about, as the journal has it; None where no client has told it yet."""
+        identity = self.audited_store.identity
+        return [*identity] if identity is not None else None
 
     def _go_on_by(self, reopened_audit: Reopened) -> None:
         """Where the program of this journal stood."""
         self.journal = reopened_audit.journal.path  # from the next audit on
         kept, state = reopened_audit.kept, reopened_audit.state
         self.audits, self.left_out = kept.head.audit, kept.head.left_out
+        self._have_no_round(kept.head.rounds)
+        self.from_before = kept.head.from_before
+        if kept.head.store is not None:
+            self.audited_store.first(checked(*kept.head.store))
         self.coverage = reopened_audit.coverage
         self.names[:] = kept.names
         self.numbers.update((name, number) for number, name in enumerate(kept.names))
@@ -192,7 +203,7 @@ class Auditor(Lines):
             return written(["close", session]), None
         number, logged = offered
         fragment = self._covered((session, number, [logged]))
-        self._note_left_out(fragment[3])
+        self._note_figures(*fragment[3:])
         return self._offer_of(fragment), fragment
 
     def _begin_take(self, asked: Tuple[str, Any]) -> None:
@@ -220,14 +231,14 @@ class Auditor(Lines):
         return refusal
 
     def _offer_of(self, fragment: Tuple[Any, ...], joins: bool = False) -> str:
-        session, first, txns, _ = fragment
+        session, first, txns, *_ = fragment
         where = ["offer", session, first]
         if joins:  # as a new one, or as one that comes back
             where = ["join", session] if session >= self.sessions else ["join", session, first]
         return written([*where, [*map(self.txn, txns)]])
 
     def _keep_history(self, fragment: Tuple[Any, ...], joins: bool = False) -> None:
-        session, _, txns, left_out = fragment
+        session, _, txns, left_out, from_before = fragment
         if session == len(self.history):  # which has joined
             self.marks.append(0)
             self.closed.append(False)
@@ -238,6 +249,7 @@ class Auditor(Lines):
             self.closed[session] = False
         self.history[session] += txns
         self.left_out += left_out
+        self.from_before += from_before
         if self.is_resumed:  # there are no sessions that count them
             self.taken_in += len(txns)
 
@@ -257,11 +269,11 @@ class Auditor(Lines):
         self, fragments: Sequence[Fragment], joining: Container[int] = ()
     ) -> List[Fragment]:
         refused, wrong = [], None
-        with self.lock:
+        with self._between_rounds(bool(joining)):
             moved = [self._covered(fragment) for fragment in fragments]
             texts = [self._offer_of(fragment, fragment[0] in joining) for fragment in moved]
             self._begin_to_ask()
-            self._note_left_out(sum(covered[3] for covered in moved))
+            self._note_figures(*(sum(covered[at] for covered in moved) for at in (3, 4)))
             replies = self._replies_to(texts)
             for fragment, covered, text, reply in zip(fragments, moved, texts, replies):
                 _, refusal = self._settled(text, reply)
@@ -276,25 +288,35 @@ class Auditor(Lines):
             raise wrong
         return refused
 
-    def _note_left_out(self, more: int) -> None:
-        """In the journal with the lines that leave out so many reads more, if these are taken."""
+    def _note_figures(self, left_out: int, from_before: int) -> None:
+        """In the journal with the lines that leave out so many reads more, and have so many more
+        from before, if these are taken; and the store that they are about."""
         if isinstance(self.program, SupervisedProgram):
-            self.program.keeping.left_out = self.left_out + more
+            keeping = self.program.keeping
+            keeping.left_out = self.left_out + left_out
+            keeping.from_before = self.from_before + from_before
+            keeping.store = self._store()
 
     def note_sessions(self) -> None:
         super().note_sessions()
         with self.lock:
             if isinstance(self.program, SupervisedProgram):
                 self.program.keeping.is_of_sessions = True
+                self.program.keeping.store = self._store()
                 self.program.keeping.note_figures()
 
     def _covered(self, fragment: Fragment) -> Tuple[Any, ...]:
-        """The fragment as the audit sees it, and how many reads were left out."""
+        """The fragment as the audit sees it, how many reads were left out, and how many are of
+        versions that were there before."""
         session, first, txns = fragment
-        if self.coverage is None:
-            return session, first, txns, 0
-        moved = [self._moved(logged) for logged in txns]
-        return session, first, [logged for logged, _ in moved], sum(count for _, count in moved)
+        left_out = 0
+        if self.coverage is not None:
+            moved = [self._moved(logged) for logged in txns]
+            txns, left_out = [logged for logged, _ in moved], sum(count for _, count in moved)
+        return session, first, txns, left_out, sum(map(self._from_before, txns))
+
+    def _from_before(self, logged: Any) -> int:
+        return int(logged.from_before)
 
     def _moved(self, logged: Any) -> Tuple[Any, int]:
         assert self.coverage is not None
@@ -329,29 +351,20 @@ class Auditor(Lines):
         self.ask(["close", session])
         self.closed[session] = True
 
-    def last_round(self, efforts: Sequence[Effort] = EFFORTS) -> Report:
-        for self.effort in efforts:
-            report = Report(*self.ask(["round", *self.effort, GUIDED])[1:])
-            if report.kind != "spent":
-                break
-        return report
-
     def truncate(self) -> Cut:
         """Has the auditor forget what the last round found settled. The lines keep in which order
         what remains stands to it. Raises NoCutError where nothing is."""
         text = written(["truncate"])
-        with self.lock:
+        with self._between_rounds():
             self._begin_to_ask()
             (reply,) = self._replies_to([text])
             reply, refusal = self._settled(text, reply)
             cut = self._forget(*reply[1:]) if refusal is None else None
             self._be_in_step()
-        if cut is not None:
-            return cut
-        if isinstance(refusal, NoCutError):
+        if cut is None:
+            assert refusal is not None
             raise refusal
-        self.can_cut = "BadLine" not in str(refusal)
-        raise NoCutError(str(refusal)) from refusal
+        return cut
 
     def _forget(
         self,

@@ -16,17 +16,18 @@ from ..core.errors import ProgramMissingError
 
 AUDITOR = "cobra_audit"
 CHECKER = "cobra_check"  # checks stored replies
-LIVE = "cobra_live"  # the running auditor, line by line
 ENVIRONMENT = "COBRA_AUDIT"  # the environment's name for a program that comes before all others
 CHECKER_ENVIRONMENT = "COBRA_CHECK"  # the same of the checker
-LIVE_ENVIRONMENT = "COBRA_LIVE"  # and of the running auditor
 PACKAGE = os.path.dirname(os.path.abspath(__file__))
 PACKED = os.path.join(PACKAGE, "bin")
 NOTE = os.path.join(PACKED, "made.json")
 CRATES = os.path.normpath(os.path.join(PACKAGE, "../../../../crates"))  # of a clone
 BUILT = os.path.join(CRATES, AUDITOR, "out", AUDITOR)
 CHECKER_BUILT = os.path.join(CRATES, CHECKER, "out", CHECKER)
-LIVE_BUILT = os.path.join(CRATES, LIVE, "out", LIVE)
+
+
+# What is built without proofs has its checks compiled in, and nothing optimized.
+SLOW = "some 300 times slower than a proved one"
 
 
 @dataclass(frozen=True)
@@ -46,7 +47,7 @@ class ProgramOrigin:
         if not self.is_as_noted:
             return f"{self.path}: NOT THE FILE THAT WAS PACKED (its sha256 is another one)"
         if not self.is_proved:
-            return f"{self.path}: NOT PROVED, built for a first try"
+            return f"{self.path}: NOT PROVED, built for a first try; {SLOW}"
         return f"{self.path}: proved by {self.kit}, commit {self.commit}"
 
 
@@ -59,34 +60,6 @@ def program_path(environment: Mapping[str, str] = os.environ) -> str:
 def checker_path(environment: Mapping[str, str] = os.environ) -> str:
     """The same of the program that checks stored replies."""
     return _path(environment, CHECKER_ENVIRONMENT, CHECKER, CHECKER_BUILT)
-
-
-def live_path(environment: Mapping[str, str] = os.environ) -> str:
-    """The same of the running auditor."""
-    return _path(environment, LIVE_ENVIRONMENT, LIVE, LIVE_BUILT)
-
-
-def found_live(environment: Mapping[str, str] = os.environ) -> str:
-    """The running auditor, if it is there and can be started; else an empty string. Where the
-    environment names an auditor and no running one, it is one beside that: in the same folder, or
-    in a clone where it has built both."""
-    path = live_path(environment)
-    if environment.get(ENVIRONMENT) and not environment.get(LIVE_ENVIRONMENT):
-        path = _beside(os.path.abspath(environment[ENVIRONMENT]))
-    return path if _can_start(path) else ""
-
-
-def _beside(auditor: str) -> str:
-    """Where the running auditor would be that was built, or packed, together with this auditor."""
-    folder = os.path.dirname(auditor)
-    crate, last = os.path.split(folder)
-    if last == "out" and os.path.basename(crate) == AUDITOR:  # as a clone has what it builds
-        return os.path.join(os.path.dirname(crate), LIVE, "out", LIVE)
-    return os.path.join(folder, LIVE)
-
-
-def _can_start(path: str) -> bool:
-    return os.path.isfile(path) and os.access(path, os.X_OK)
 
 
 def _path(environment: Mapping[str, str], name: str, program: str, built: str) -> str:
@@ -129,6 +102,15 @@ def origin_of(path: str) -> ProgramOrigin:
     return ProgramOrigin(
         path, bool(note["proved"]), note["kit"], note["commit"], noted == sha256_of(path)
     )
+
+
+def slowness_of(path: str) -> str:
+    """Words for whoever finds this program slow: it may be for want of proofs. Else empty."""
+    try:
+        is_proved = origin_of(path).is_proved
+    except (OSError, ValueError, KeyError):
+        return ""
+    return f" (it was built without proofs, and is {SLOW})" if is_proved is False else ""
 
 
 def sha256_of(path: str) -> str:

@@ -14,6 +14,7 @@ from typing import Any, Container, Deque, Dict, Iterator, List, Optional, Sequen
 from ..core._locks import give_back, take
 from ..core._outcome import RATHER_LOSE_THE_AUDIT, VIOLATED, Outcome, Policy, kind_of
 from ..core._records import AuditId, AuditNaming, History, Logged, Pending, Report
+from ..core._store_identity import AuditedStore, StoreIdentity
 from ..core._window import Coverage
 from ..core.errors import FullError, ProgramEndedError, ProgramLateError, RefusedError
 from ..promises._kinds import ASKED, SERIALIZABLE
@@ -27,10 +28,18 @@ LIMIT = 4096  # the most transactions that may remain
 EFFORTS = ((4096, 0, 1), (65536, 4, max(1, min(16, os.cpu_count() or 1))))
 GUIDED = "guided"  # the search that each round asks for: it finds more than the plain one
 SECONDS = 60.0  # for the answer to a line that no client waits for
+ROUND_SECONDS = 60.0  # that a round's search may take, where nothing else is asked for
+# A search is looked for again after an eighth of the time that it has taken, in these bounds.
+SHARE, LEAST_PAUSE, LONGEST_PAUSE = 8, 0.0005, 0.02
 LATEST = 10.0  # seconds after which an answer that no client waits for isn't waited for any more
 Effort = Tuple[int, int, int]  # nodes, depth, workers
 Fragment = Tuple[int, int, Sequence[Any]]  # session, number of the first, transactions
 logger = logging.getLogger("zanteyard")
+
+
+def pause_after(seconds: float) -> float:
+    """After how many seconds more a search is looked for again that has taken so many."""
+    return min(LONGEST_PAUSE, max(LEAST_PAUSE, seconds / SHARE))
 
 
 def fresh_name() -> str:
@@ -45,7 +54,7 @@ class Intake:
 
     history: History  # of each session what was taken in and isn't forgotten
     has_sessions = False  # which hand in to it
-    cuts_by_itself = False  # behind any round; `truncate` then tells of it
+    from_before = 0  # reads of versions that were there before this audit
     live_called: Optional[AuditNaming] = None  # how a live audit tells transactions
 
     def __init__(
@@ -60,24 +69,25 @@ class Intake:
         round_seconds: Optional[float] = None,
         promise: str = SERIALIZABLE.name,
     ) -> None:
-        if round_seconds is not None and journal is None:
-            raise ValueError("round_seconds asks for a journal")
         self.promise = ASKED[promise]
         if self.promise.is_timed:
             raise ValueError(f"{promise}: only finished histories are asked about time")
         if self.promise.is_split:
             limit = min(limit, LIMIT // 2)  # each takes the room of two
         self.sessions, self.limit, self.path, self.script_path = sessions, limit, program, script
-        self.journal, self.round_seconds = journal, round_seconds
+        self.journal = journal
+        self.round_seconds = ROUND_SECONDS if round_seconds is None else round_seconds
         self.is_resumed = isinstance(journal, Reopened)
         self.policy, self.is_named = policy, run_name is not None
         self.run_name: str = run_name if run_name is not None else fresh_name()
         self.made_in = os.getpid()
         self.token = secrets.token_hex(12)  # of this run alone, also where its name isn't
+        self.audited_store = AuditedStore()
         self.audits = 0
         self._waiting: Deque[Tuple[Any, ...]] = deque()
         self.is_ended = False  # by who has made it
         self.lock = threading.RLock()  # what is kept here follows the replies in their order
+        self._rounds = threading.RLock()  # one round at a time, each of its caller's
         self._begin_count()
         self._start(None)
 
@@ -142,17 +152,46 @@ class Intake:
         self._why_out = ""
         self._is_in_step = True
 
-    def last_round(self, efforts: Sequence[Effort] = EFFORTS) -> Report:
-        """As `round`, over what was taken in by now, whatever was lost."""
+    # Rounds are searched beside the lines that come meanwhile.
+
+    def _begin_search(self, efforts: Sequence[Effort]) -> None:
+        """Of a round; one that nobody waits for any more is skipped."""
         raise NotImplementedError
 
-    def begin_round(self) -> None:
-        """Before the `last_round` that tells of it: what is offered in between isn't in it. Nothing
-        is begun where nothing can be taken in meanwhile."""
+    def _await_report(self, seconds: float) -> bool:
+        """Whether it is there, after so many seconds at most."""
+        raise NotImplementedError
+
+    def _take_report(self) -> Report:
+        """Which is there."""
+        raise NotImplementedError
+
+    def begin_round(self, efforts: Sequence[Effort] = EFFORTS) -> None:
+        """Before the `last_round` that tells of it: what is offered in between isn't in it."""
+        with self._rounds:
+            self._begin_search(efforts)
+            self._is_round_begun = True
 
     def has_round(self, seconds: float) -> bool:
-        """Whether nobody has to wait for its report, after so many seconds at most."""
-        return True
+        """Whether nobody has to wait for the report of the round that was begun, after so many
+        seconds at most."""
+        try:
+            return self._await_report(seconds)
+        except BaseException:
+            self._is_round_begun = False  # nobody waits for it any more
+            raise
+
+    def last_round(self, efforts: Sequence[Effort] = EFFORTS) -> Report:
+        """As `round`, over what was taken in by now, whatever was lost; or the round that was
+        begun. Sessions hand in while it is searched, and nobody joins."""
+        with self._rounds:
+            if not self._is_round_begun:
+                self._begin_search(efforts)
+            self._is_round_begun = False  # after an interrupt another one is begun
+            began = time.monotonic()
+            while not self.has_round(0.0):
+                time.sleep(pause_after(time.monotonic() - began))  # others take the lock
+            return self._take_report()
 
     def note_sessions(self) -> None:
         """In the journal, if there is one: where this process ends, nobody knows what they did
@@ -167,7 +206,8 @@ class Intake:
             if self.journal is not None or self.is_in_use:
                 raise ValueError("a journal begins where an audit does, and once")
             self._end_program()
-            self.journal, self.round_seconds = path, round_seconds
+            self.journal = path
+            self.round_seconds = self.round_seconds if round_seconds is None else round_seconds
             self.audits -= 1
             self.is_ended = True
             self._start(None)
@@ -215,8 +255,9 @@ class Intake:
 
     def round(self, efforts: Sequence[Effort] = EFFORTS) -> Report:
         """The report of a round over all that sessions have handed in. One that ends spent is given
-        again with the next effort: then it tells of the last. Raises why, where something that
-        sessions did was lost: `outcome` tells what is known all the same."""
+        again with the next effort: then it tells of the last. One whose search takes more than
+        `round_seconds` is skipped, and told as spent. Raises why, where something that sessions did
+        was lost: `outcome` tells what is known all the same."""
         self._take_in()
         if self.failure is not None:
             raise self.failure
@@ -244,9 +285,14 @@ class Intake:
 
     # what sessions call
 
+    def meet_store(self, identity: StoreIdentity) -> None:
+        """Raises StoreUnfitError where that isn't the store that this run is about, which is the
+        first that is told."""
+        self.audited_store.meet(identity)
+
     def _begin_count(self) -> None:
         self.failure: Optional[Exception] = None
-        self.taken_in = 0
+        self.taken_in, self._is_round_begun = 0, False
         # Of each session the number behind the last one that was counted, and how many were.
         self._seen: Dict[int, Tuple[int, int]] = {}
         self._late: Any = None  # what was asked for a session and isn't answered yet, since when
@@ -363,7 +409,8 @@ class Intake:
         pending = tuple(never_came(self.history, self.marks)) if is_pending else ()
         kind = kind_of(report, self.failure, is_whole)
         handed_in = max(self.handed_in, self.taken_in)
-        return Outcome(kind, self.taken_in, handed_in, self.failure, pending, report, self.run_name)
+        more = (self.failure, pending, report, self.run_name)
+        return Outcome(kind, self.taken_in, handed_in, *more, from_before=self.from_before)
 
 
 def never_came(

@@ -10,21 +10,21 @@ from typing import Any, List, Mapping, Optional, Sequence, Tuple, Type, Union
 from ..core._own_keys import FORM
 from ..core._private_files import private
 from ..core.errors import (
+    BadLineError,
     FullError,
     JournalError,
     NoCutError,
     NoMemoryError,
+    NoRoundError,
     NotAnchoredError,
     ProgramEndedError,
     ProgramLateError,
     RefusedError,
-    RoundTooLongError,
 )
 from ._intake import SECONDS, Intake
 from ._pipes import Pipes
 from ._supervised import SupervisedProgram
 
-BAD_LINE = "BadLine"
 TOO_OLD = (
     f"is an auditor of an earlier version than this package: it doesn't know scripts of version "
     f"{FORM}, which tell what was aborted. Build it anew, or name another one"
@@ -35,14 +35,24 @@ ENDED = "cobra_audit has been ended"
 logger = logging.getLogger("zanteyard")
 KINDS: Mapping[str, Type[RefusedError]] = {
     "Backlog": FullError,
+    "BadLine": BadLineError,
     "NoCut": NoCutError,
     "NoMemory": NoMemoryError,
+    "NoRound": NoRoundError,
     "NotAnchored": NotAnchoredError,
 }
 
 
 def written(line: Sequence[Any]) -> str:
     return json.dumps(line, separators=(",", ":"))
+
+
+def refusal_of(text: str, reply: Sequence[Any]) -> Optional[RefusedError]:
+    """Of the line, if this reply refuses it."""
+    if reply[0] != "no":
+        return None
+    short = text if len(text) <= SHOWN else f"{text[:SHOWN]} .."
+    return KINDS.get(reply[2], RefusedError)(f"{short} was answered {reply[2]}")
 
 
 class Lines(Intake):
@@ -87,21 +97,16 @@ class Lines(Intake):
                 break
             time.sleep(wait)
             (reply,) = self._replies_to([text])
-        refused = reply[0] == "no" and KINDS.get(reply[2], RefusedError)
-        short = text if len(text) <= SHOWN else f"{text[:SHOWN]} .."
-        return reply, refused(f"{short} was answered {reply[2]}") if refused else None
+        return reply, refusal_of(text, reply)
 
-    def _replies_to(self, texts: Sequence[str]) -> List[List[Any]]:
-        """Of lines that are given one behind the other; raises ProgramLateError where that takes
-        too long. For who has left the step."""
-        self._give(texts)
+    def _replies_to(self, texts: Sequence[str], is_kept: bool = True) -> List[List[Any]]:
+        """Of lines that are given one behind the other, and kept in the script; raises
+        ProgramLateError where that takes too long. For who has left the step."""
+        self._give(texts, is_kept)
         try:
             assert self.program is not None
-            answers = self.program.answers(len(texts), SECONDS + 2 * (self.round_seconds or 0))
+            answers = self.program.answers(len(texts), SECONDS + 2 * self.round_seconds)
             return [json.loads(answer) for answer in answers]
-        except RoundTooLongError:
-            self._be_in_step()  # another program goes on
-            raise
         except (ProgramEndedError, JournalError) as error:
             self._why_out = str(error)
             if isinstance(error, ProgramLateError):
@@ -112,11 +117,12 @@ class Lines(Intake):
         if self.program is not None:
             self.program.kill()
 
-    def _give(self, texts: Sequence[str]) -> None:
+    def _give(self, texts: Sequence[str], is_kept: bool = True) -> None:
         if self.program is None:
             raise ProgramEndedError(ENDED)
         lines = [text.encode() for text in texts]
-        self._keep(lines)
+        if is_kept:
+            self._keep(lines)
         self.program.ask(lines)
 
     def _keep(self, lines: Sequence[bytes]) -> None:

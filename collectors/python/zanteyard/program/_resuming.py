@@ -69,13 +69,12 @@ def journaled(
     journal: Union[str, Reopened],
     head: Callable[[], Head],
     names: Sequence[str],
-    round_seconds: Optional[float],
 ) -> SupervisedProgram:
     """A program whose audit goes on by this journal, or begins one. One that is there already isn't
     written over, but by a later audit of the same run."""
     if isinstance(journal, Reopened):
         keeping = JournalWriter(journal.journal, head, names, journal.kept)
-        return SupervisedProgram(program, keeping, round_seconds, journal.kept)
+        return SupervisedProgram(program, keeping, journal.kept)
     begun = Journal(journal)
     try:
         first_head = head()
@@ -83,7 +82,7 @@ def journaled(
             raise JournalError(f"{journal} is there already: Auditor.resumed goes on with it")
         keeping = JournalWriter(begun, head, names)
         keeping.violations += _earlier(begun, first_head.run_name)
-        return SupervisedProgram(program, keeping, round_seconds)
+        return SupervisedProgram(program, keeping)
     except BaseException:
         begun.close()
         raise

@@ -18,10 +18,10 @@ from typing import Any, Container, List, Optional, Sequence, Tuple, Union
 from ..core._outcome import RATHER_LOSE_THE_AUDIT, Policy
 from ..core._own_keys import FENCE
 from ..core._records import Cut, History, Logged, Report, as_bytes, unpacked
+from ..core._store_identity import StoreIdentity
 from ..core._window import Coverage
 from ..core.errors import (
     FullError,
-    NoCutError,
     ProgramEndedError,
     ProgramLateError,
     ProgramUnreachableError,
@@ -29,8 +29,8 @@ from ..core.errors import (
     ZanteyardError,
 )
 from ..promises._kinds import SERIALIZABLE
-from ._binaries import PROGRAM, found_live
-from ._intake import EFFORTS, LIMIT, SECONDS, Effort, Fragment, Intake
+from ._binaries import PROGRAM
+from ._intake import SECONDS, Effort, Fragment, Intake
 from ._pipes import ENDING
 from ._resuming import Reopened
 
@@ -49,50 +49,18 @@ class AuditorApart(Intake):
     """In place of an Auditor: calls go to one in another process, and their results come from
     there. For threads. Raises ProgramEndedError where that process can't be reached. With a journal
     another one is started then, where it is a call that waits for it; what goes on there are lines'
-    logs, since statements and values are in no journal.
-
-    `running` is the file of a cobra_live, which then makes the rounds; an empty one, as a journal
-    and another promise than serializability, is for cobra_audit alone. Where none is given it is
-    the one that is there, if there is any and `program` is the one that is used where nothing else
-    is asked for."""
+    logs, since statements and values are in no journal."""
 
     process: Any = None
     _connection: Any = None
 
-    def __init__(
-        self,
-        sessions: int,
-        limit: int = LIMIT,
-        program: str = PROGRAM,
-        run_name: Optional[str] = None,
-        script: Optional[str] = None,
-        policy: Policy = RATHER_LOSE_THE_AUDIT,
-        journal: Union[str, Reopened, None] = None,
-        round_seconds: Optional[float] = None,
-        running: Optional[str] = None,
-        promise: str = SERIALIZABLE.name,
-    ) -> None:
-        self._asked_for = running
-        settings = (sessions, limit, program, run_name, script, policy, journal, round_seconds)
-        super().__init__(*settings, promise)
-
     def _start(self, coverage: Optional[Coverage]) -> None:
-        self.remaining, self.can_cut, self.left_out = 0, True, 0
-        self.running = self._found_running()
-        self.cuts_by_itself = bool(self.running)
+        self._figures = (0, 0, 0)
         self.audits += 1
         settings = (self.sessions, self.limit, self.path, self.run_name)
         files = (self.script_path, self.journal, self.round_seconds)
-        more = (self.audits, coverage, self.has_sessions, self.running, self.promise.name)
-        self._begin_process("open", *settings, *files, *more)
-
-    def _found_running(self) -> str:
-        """The cobra_live that makes the rounds; an empty string where it is cobra_audit."""
-        if self.journal is not None or self.promise != SERIALIZABLE:
-            return ""
-        if self._asked_for is not None:
-            return self._asked_for
-        return found_live() if self.path == PROGRAM else ""
+        more = (self.audits, coverage, self.has_sessions, self.promise.name)
+        self._begin_process("open", *settings, *files, *more, self._store_to_note())
 
     def _begin_process(self, name: str, *arguments: Any) -> None:
         """With this call."""
@@ -141,13 +109,13 @@ class AuditorApart(Intake):
         """What a process was asked that has ended. It may have done that, and told nobody."""
         if name == "offer_all":
             received = self._ask("get", "received")
-            fragments, joining = arguments
+            fragments, joining, *store = arguments
             left = [
                 fragment
                 for fragment in fragments
                 if fragment[0] >= len(received) or _end(fragment) > received[fragment[0]]
             ]
-            arguments = (left, joining)
+            arguments = (left, joining, *store)
         if name == "close" and self._ask("get", "closed")[arguments[0]]:
             return None
         if name == "truncate":
@@ -155,12 +123,12 @@ class AuditorApart(Intake):
             if remaining < self.remaining:
                 fence = self._ask("get", "base")[FENCE]
                 return Cut(fence, self.remaining - remaining), remaining
-            self._ask("last_round", EFFORTS)  # by which a cut is found
+            self._ask("last_round")  # by which a cut is found
         return self._ask(name, *arguments)
 
     def _ask(self, name: str, *arguments: Any, seconds: Optional[float] = None) -> Any:
         if seconds is None:
-            seconds = SECONDS + MORE + 2 * (self.round_seconds or 0)
+            seconds = SECONDS + MORE + 2 * self.round_seconds
         packed = ForkingPickler.dumps((name, arguments))
         with self.lock:
             self._leave_step()
@@ -227,7 +195,8 @@ class AuditorApart(Intake):
         if kind == "close":
             call: Any = ("close", (session,))
         else:
-            call = ("offer_all", ([self._plain((session, offered[0], offered[1:]))], ()))
+            fragments = [self._plain((session, offered[0], offered[1:]))]
+            call = ("offer_all", (fragments, (), self._store_to_note()))
         return ForkingPickler.dumps(call), session, *offered[:1]
 
     def _begin_take(self, asked: Any) -> None:
@@ -242,7 +211,7 @@ class AuditorApart(Intake):
             failure: RefusedError = result  # whatever it is, it was read to its end
             return failure
         if kind == "offer":
-            refused, self.left_out, self.remaining = result
+            refused, self._figures = result
             if refused:
                 return FullError(
                     f"there is no room for transaction {asked[2]} of session {asked[1]}"
@@ -259,10 +228,27 @@ class AuditorApart(Intake):
     ) -> List[Fragment]:
         """Their transactions may be packed."""
         joins = [session for session, _, _ in fragments if session in joining]
-        answer = self._call("offer_all", [*map(self._plain, fragments)], joins)
-        refused, self.left_out, self.remaining = answer
+        plain = [*map(self._plain, fragments)]
+        refused, self._figures = self._call("offer_all", plain, joins, self._store_to_note())
         self.sessions = max([self.sessions, *(session + 1 for session in joins)])
         return [fragment for fragment in fragments if fragment[0] in refused]
+
+    def _store_to_note(self) -> Optional[StoreIdentity]:
+        """For the journal, if there is one."""
+        return self.audited_store.identity if self.journal is not None else None
+
+    @property
+    def left_out(self) -> int:
+        return self._figures[0]
+
+    @property
+    def from_before(self) -> int:  # type: ignore[override]
+        return self._figures[1]
+
+    @property
+    def remaining(self) -> int:
+        """How many transactions were taken in and aren't forgotten."""
+        return self._figures[2]
 
     @property
     def vacant(self) -> List[int]:
@@ -286,25 +272,21 @@ class AuditorApart(Intake):
     def close(self, session: int) -> None:
         self._call("close", session)
 
-    def begin_round(self) -> None:
-        if self.running:
-            self._call("begin_round")
+    def _begin_search(self, efforts: Sequence[Effort]) -> None:
+        self._call("begin_round", efforts)
 
-    def has_round(self, seconds: float) -> bool:
-        return not self.running or bool(self._call("has_round", seconds))
+    def _await_report(self, seconds: float) -> bool:
+        return bool(self._call("has_round", seconds))
 
-    def last_round(self, efforts: Sequence[Effort] = EFFORTS) -> Report:
+    def _take_report(self) -> Report:
         report: Report
-        report, self.left_out, self.remaining = self._call("last_round", efforts)
+        report, self._figures = self._call("last_round")
         return report
 
     def truncate(self) -> Cut:
-        try:
-            cut: Cut
-            cut, self.remaining = self._call("truncate")
-        except NoCutError:
-            self.can_cut = self._call("get", "can_cut")
-            raise
+        cut: Cut
+        cut, remaining = self._call("truncate")
+        self._figures = (*self._figures[:2], remaining)
         return cut
 
     @property

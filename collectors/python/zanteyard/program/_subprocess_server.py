@@ -10,11 +10,11 @@ from typing import Any, List, Optional, Sequence, Tuple
 
 from ..core._outcome import RATHER_LOSE_THE_AUDIT
 from ..core._records import as_bytes, unpacked
+from ..core._store_identity import StoreIdentity
 from ..core._window import Coverage
 from ._auditor import Auditor
-from ._intake import Effort, Fragment
+from ._intake import Fragment
 from ._resuming import Reopened
-from ._running import RunningAuditor
 
 logger = logging.getLogger("zanteyard")
 
@@ -51,17 +51,12 @@ class OfPacked(Auditor):
     def _writes(self, packed: bytes) -> Sequence[str]:  # type: ignore[override]
         return unpacked(packed).writes
 
+    def _from_before(self, packed: bytes) -> int:
+        return unpacked(packed).from_before
+
     def _moved(self, packed: bytes) -> Tuple[bytes, int]:
         logged, left_out = super()._moved(unpacked(packed))
         return as_bytes(logged), left_out
-
-
-class OfPackedRunning(OfPacked, RunningAuditor):
-    """The same over this cobra_live."""
-
-    def __init__(self, *arguments: Any, running: str, **more: Any) -> None:
-        self.running = running
-        super().__init__(*arguments, **more)
 
 
 class Telling(logging.Handler):
@@ -100,18 +95,16 @@ class Served:
         audits: int,
         coverage: Optional[Coverage],
         has_sessions: bool,
-        running: str,
         promise: str,
+        store: Optional[StoreIdentity],
     ) -> None:
         if journal is not None:
             self._tell_log()
         settings: Any = (sessions, limit, program, run_name, script, RATHER_LOSE_THE_AUDIT)
         settings += (journal, round_seconds, promise)
-        more: Any = {"audits": audits, "coverage": coverage}
-        if running:
-            self.auditor = OfPackedRunning(*settings, **more, running=running)
-        else:
-            self.auditor = OfPacked(*settings, **more)
+        self.auditor = OfPacked(*settings, audits=audits, coverage=coverage)
+        if store is not None:
+            self.auditor.audited_store.first(store)
         if has_sessions:
             self.auditor.note_sessions()
 
@@ -124,16 +117,28 @@ class Served:
         more = (program, script, RATHER_LOSE_THE_AUDIT, round_seconds)
         self.auditor = OfPacked.resumed(journal, *more)
 
-    def offer_all(self, fragments: Sequence[Fragment], joining: Sequence[int]) -> Any:
-        """The sessions whose transactions there was no room for, how many reads were left out, and
-        how many transactions remain."""
+    def offer_all(
+        self,
+        fragments: Sequence[Fragment],
+        joining: Sequence[int],
+        store: Optional[StoreIdentity] = None,
+    ) -> Any:
+        """The sessions whose transactions there was no room for, and the figures. They are about
+        this store, which a journal has, too."""
+        if store is not None:
+            self.auditor.audited_store.first(store)
         refused = {session for session, _, _ in self.auditor.offer_all(fragments, joining)}
-        return refused, self.auditor.left_out, self.auditor.remaining
+        return refused, self._figures()
 
-    def last_round(self, efforts: Sequence[Effort]) -> Any:
-        """The report, how many reads were left out, and how many transactions remain."""
-        report = self.auditor.last_round(efforts)
-        return report, self.auditor.left_out, self.auditor.remaining
+    def last_round(self) -> Any:
+        """The report, and the figures."""
+        return self.auditor.last_round(), self._figures()
+
+    def _figures(self) -> Tuple[int, int, int]:
+        """How many reads were left out, how many were of versions from before, and how many
+        transactions remain."""
+        auditor = self.auditor
+        return auditor.left_out, auditor.from_before, auditor.remaining
 
     def truncate(self) -> Any:
         """The cut, and how many transactions remain."""

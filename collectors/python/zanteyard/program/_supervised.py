@@ -14,14 +14,15 @@ import os
 import time
 from collections import deque
 from itertools import islice, takewhile
-from typing import Deque, Generator, List, Optional, Sequence, Union
+from typing import Any, Deque, Generator, List, Optional, Sequence
 
 from ..core._forks import is_forked
-from ..core.errors import JournalError, ProgramEndedError, ProgramLateError, RoundTooLongError
+from ..core.errors import JournalError, ProgramEndedError, ProgramLateError
 from ..journal._entries import Kept
 from ..journal._history import state_of
 from ..journal._writer import JournalWriter
 from ._checkpoint import (
+    NO_MEMORY,
     OK,
     REFUSED,
     Answers,
@@ -34,14 +35,14 @@ from ._pipes import Pipes
 from ._rewritten_pipes import begun
 
 Talk = Generator[List[bytes], List[bytes], None]  # gives lines, and is sent their answers
-AnswerOrError = Union[bytes, RoundTooLongError]
 
-MOST = 8  # programs that may die over one line
+MOST = 8  # programs that may die over one line, or over one round
+SILENT = 45.0  # seconds in which a program answers a line: no line waits for a search
 PAUSE, LONGEST_PAUSE = 0.02, 0.5  # seconds before the third; twice as many before each next
 CHANGES = (b'["offer",', b'["close",', b'["join",')
-ROUNDS = (b'["round",', b'["finish",')
 OPEN, TRUNCATE = b'["open",', b'["truncate"'
-BEGIN, FINISH = b'["begin"', b'["finish",'
+BEGIN, SEARCH, COLLECT, SKIP = b'["begin"', b'["search",', b'["collect"', b'["skip"'
+ENDS_ROUND = (b'["finish",', b'["answer",', COLLECT)
 REPORTED, CUT = b'["report",', b'["cut",'
 FINDS_CUT = (b"serial", b"pending")
 logger = logging.getLogger("zanteyard")
@@ -50,31 +51,32 @@ logger = logging.getLogger("zanteyard")
 class SupervisedProgram:
     """For one thread at a time. Beside what Pipes raises, `wait` and `answers` raise JournalError
     where the journal can't be written, or doesn't fit; then it is over, since nothing is told that
-    isn't there, but reports. A round that takes more than `round_seconds` twice is answered by
-    RoundTooLongError."""
+    isn't there, but reports. A program that answers nothing for long is replaced, too."""
 
     def __init__(
         self,
         path: str,
         keeping: JournalWriter,
-        round_seconds: Optional[float] = None,
         kept: Optional[Kept] = None,
     ) -> None:
         """`kept` is what the journal says, where it is gone on with."""
-        self.path, self.keeping, self.round_seconds = path, keeping, round_seconds
+        self.path, self.keeping = path, keeping
         self.restarts, self.made_in = 0, os.getpid()
         self._given: Deque[bytes] = deque()  # lines whose answers weren't told
         self._sent = 0  # so many of these
-        self._found: Deque[AnswerOrError] = deque()  # answers that nobody has yet
+        self._found: Deque[bytes] = deque()  # answers that nobody has yet
         self._talk: Optional[Talk] = None  # of its own, while nothing of the caller's is sent
         self._asked = 0  # lines of it that were sent last
         self._last_round: Optional[bytes] = None  # by which a cut may have been found
         self._lacks_cut = False  # that round was another program's
-        # Behind how many of the journal's changes it was, and the open one is, where that is known.
+        # Behind how many of the journal's changes it was, where that is known.
         self._round_at: Optional[int] = None
-        self._open_at: Optional[int] = None
-        self._deaths = self._too_long = 0  # since a line was answered
-        self._starts_at, self._round_ends = 0.0, float("inf")
+        # The lines by which a round is open, and its search goes on; and behind how many changes.
+        self._open: List[bytes] = []
+        self._open_at = 0
+        self._deaths = 0  # since a line was answered
+        self._round_deaths = 0  # since the open round was begun
+        self._starts_at, self._silent_at = 0.0, float("inf")
         self._is_down = False
         self._is_in_step, self._why_over = True, ""
         self._pipes = self._program()
@@ -96,11 +98,7 @@ class SupervisedProgram:
 
     def answers(self, count: int, seconds: float) -> List[bytes]:
         self.wait(count, seconds)
-        answers = [self._found.popleft() for _ in range(count)]
-        for each in answers:
-            if isinstance(each, RoundTooLongError):
-                raise each
-        return [each for each in answers if isinstance(each, bytes)]
+        return [self._found.popleft() for _ in range(count)]
 
     def wait(self, count: int, seconds: float) -> None:
         until = time.monotonic() + seconds
@@ -141,16 +139,16 @@ class SupervisedProgram:
                 self._start(until)
             self._give()
             wanted = self._asked if self._talk is not None else 1
-            ends = min(until, self._round_ends)
+            ends = min(until, self._silent_at)
             self._pipes.wait(wanted, max(0.0, ends - time.monotonic()))
             self._is_in_step = False
             answers = self._pipes.taken()
             self._take(answers)
             self._is_in_step = not self._why_over
         except ProgramLateError:
-            if until <= self._round_ends:
+            if until <= self._silent_at:
                 raise
-            self._give_up_round()
+            self._die(ProgramEndedError(f"cobra_audit has answered nothing for {SILENT:g} s"))
         except ProgramEndedError as error:
             self._die(error)
         except JournalError as error:
@@ -169,17 +167,13 @@ class SupervisedProgram:
             self._begin(self._find_cut())
         else:
             lines = lines or [self._given[0]]
-            self._limit_round(lines[0])
+            self._silent_at = time.monotonic() + SILENT
             self._pipes.ask(lines)
             self._sent += len(lines)
         self._is_in_step = True
 
-    def _limit_round(self, line: bytes) -> None:
-        if self.round_seconds is not None and line.startswith(ROUNDS):
-            self._round_ends = time.monotonic() + self.round_seconds
-
     def _take(self, answers: List[bytes]) -> None:
-        self._round_ends = float("inf")
+        self._silent_at = float("inf")
         if self._talk is not None:
             self._go_on_talking(answers)
             return
@@ -194,7 +188,8 @@ class SupervisedProgram:
             self.keeping.note_changes(changes)
         for answer in answers:
             self._settle(self._given[0], answer)
-        if self._talk is None and not self._sent and self.keeping.is_checkpoint_due:
+        is_between = self._talk is None and not self._sent and not self._open
+        if is_between and self.keeping.is_checkpoint_due:
             self._begin(self._checkpoint())
 
     def _settle(self, given: bytes, answer: bytes) -> None:
@@ -204,16 +199,27 @@ class SupervisedProgram:
         elif answer.startswith(CUT) or (answer == OK and given.startswith(OPEN)):
             self._begin(self._checkpoint(answer))
         else:
-            if answer == OK and given.startswith(BEGIN):
-                self._open_at = self.keeping.changes
+            self._note_round(given, answer)
             self._tell(answer)
 
-    def _tell(self, answer: AnswerOrError) -> None:
+    def _note_round(self, given: bytes, answer: bytes) -> None:
+        """What of a round another program would have to be told."""
+        if answer == OK and given.startswith(BEGIN):
+            self._open, self._open_at, self._round_deaths = [given], self.keeping.changes, 0
+        elif answer == OK and given.startswith(SEARCH):
+            self._open.append(given)
+        elif answer == OK and given.startswith(SKIP):
+            self._open = []
+            self._note_told(None)
+        elif answer.startswith(NO_MEMORY) and given.startswith(COLLECT):
+            del self._open[1:]
+
+    def _tell(self, answer: bytes) -> None:
         """To the first line."""
         self._given.popleft()
         self._sent -= 1
         self._found.append(answer)
-        self._deaths = self._too_long = 0
+        self._deaths = 0
 
     def _reported(self, given: bytes, answer: bytes) -> bytes:
         """A report as it is told: rounds are counted over all programs. It is told also where it
@@ -222,14 +228,22 @@ class SupervisedProgram:
         number = self.keeping.rounds + 1
         answer = b"%s%d%s" % (REPORTED, number, answer[answer.index(b",", len(REPORTED)) :])
         if kind in FINDS_CUT:
-            self._last_round, self._lacks_cut = b'["round",' + given.split(b",", 1)[1], False
-            self._round_at = self._open_at if given.startswith(FINISH) else self.keeping.changes
+            asked = self._open[-1] if given.startswith(COLLECT) else given
+            self._last_round, self._lacks_cut = b'["round",' + asked.split(b",", 1)[1], False
+            is_of_open = given.startswith(ENDS_ROUND)
+            self._round_at = self._open_at if is_of_open else self.keeping.changes
+        if given.startswith(ENDS_ROUND):
+            self._open = []
+        self._note_told(json.loads(answer) if kind == b"violated" else None)
+        return answer
+
+    def _note_told(self, violation: Optional[List[Any]]) -> None:
+        """One round more."""
         try:
-            self.keeping.note_report(json.loads(answer) if kind == b"violated" else None)
+            self.keeping.note_report(violation)
         except JournalError as error:
             logger.error("a round isn't noted: %s", error)
             self._why_over = str(error)
-        return answer
 
     # its own lines
 
@@ -253,7 +267,7 @@ class SupervisedProgram:
         saved = yield from saved_lines(self.keeping.limit)
         is_last = self._round_at == self.keeping.changes  # nothing has come since that round
         self.keeping.note_checkpoint(saved)
-        self._round_at, self._open_at = 0 if is_last else None, None
+        self._round_at = 0 if is_last else None
         if answer is not None:
             self._last_round = None
             self._tell(answer)
@@ -270,7 +284,6 @@ class SupervisedProgram:
             self._pipes.end()
             self._pipes = self._program()
             yield from self._begun_with(kept.lines[: len(kept.lines) - len(behind)])
-        self._limit_round(self._last_round)
         (answer,) = yield [self._last_round]
         if behind:
             yield from self._begun_with(behind)
@@ -291,7 +304,11 @@ class SupervisedProgram:
     def _resume(self, kept: Kept) -> Talk:
         began = time.monotonic()
         state = state_of(kept.lines, has_last=False)
-        answers = yield from self._begun_with(kept.lines, *standing_lines(len(state.gone)))
+        lines = kept.lines
+        if self._open:  # so that it is about what it was begun with
+            begun = kept.saved + self._open_at
+            lines = [*lines[:begun], *self._open, *lines[begun:]]
+        answers = yield from self._begun_with(lines, *standing_lines(len(state.gone)))
         if not is_standing(answers, state.gone, state.closed, state.received):
             raise JournalError(f"{self.keeping.journal.path}: what it has leads elsewhere")
         took = time.monotonic() - began
@@ -299,28 +316,18 @@ class SupervisedProgram:
 
     # programs that die
 
-    def _give_up_round(self) -> None:
-        self._pipes.kill()
-        message = f"a round took more than {self.round_seconds:g} s"
-        if self._talk is not None:  # by which a cut was to be found
-            self._last_round = self._round_at = None
-        elif self._too_long:
-            self._tell(RoundTooLongError(f"{message}, twice"))
-        else:
-            self._too_long += 1
-        self._die(ProgramEndedError(message))
-
     def _die(self, error: ProgramEndedError) -> None:
-        """Another one is started, if not too many have died over the same line."""
+        """Another one is started, if not too many have died over the same line or round."""
         self._is_in_step = False
         self._deaths += 1
+        self._round_deaths += bool(self._open)
         self._pipes.kill()
         self._pipes.end()
-        if self._deaths >= MOST:
+        if max(self._deaths, self._round_deaths) >= MOST:
             self._be_over(error)
             raise error
         logger.warning("%s; another one is started", str(error).rstrip(": "))
-        self._sent, self._talk, self._round_ends, self._open_at = 0, None, float("inf"), None
+        self._sent, self._talk, self._silent_at = 0, None, float("inf")
         self._lacks_cut = self._last_round is not None
         pause = min(LONGEST_PAUSE, PAUSE * 2 ** (self._deaths - 2)) if self._deaths > 1 else 0.0
         self._starts_at = time.monotonic() + pause

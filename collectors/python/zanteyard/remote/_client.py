@@ -12,6 +12,7 @@ from typing import Any, Callable, Dict, List, Optional
 
 from ..core._outcome import Policy
 from ..core._records import Logged
+from ..core._store_identity import StoreIdentity
 from ..core._stores import Store
 from ..core.errors import ProgramEndedError
 from ..live._live_auditor import PAUSE
@@ -23,6 +24,7 @@ from ._connecting import ANSWERING, door_to
 from ._outbox import Outbox
 from ._quiesce_calls import QuiesceCalls
 from ._session_requests import SessionRequests
+from ._store_answers import StoreAnswers
 
 logger = logging.getLogger("zanteyard")
 LEAVING = 30.0  # seconds for sessions to end their transactions
@@ -57,6 +59,7 @@ class AuditClient(LocalSessions):
         _forked.add(self)
         self._outbox = Outbox(self._messages, most)
         self._requests = SessionRequests(self._messages)
+        self._store_answers = StoreAnswers(self._messages)
         coming = self._requests.coming
         self._calls = QuiesceCalls(self._group, self._messages, self._outbox, coming)
         self._is_over = self._is_gone = False  # the audit, and the auditor's process
@@ -65,6 +68,7 @@ class AuditClient(LocalSessions):
             "call": self._calls.put,
             "left": self._requests.take_answer,
             "over": self._note_end,
+            "store": self._store_answers.take_answer,
             "taken": self._outbox.note_taken,
         }
         targets = (self._listen, self._calls.run_all, self._hand_over)
@@ -148,6 +152,18 @@ class AuditClient(LocalSessions):
         self.leave()
 
     # what sessions call
+
+    def meet_store(self, identity: StoreIdentity) -> None:
+        """Raises StoreUnfitError where it isn't the store that the audit is about; not where
+        nothing more is audited. Where the auditor's process doesn't say so in time it is told, in
+        front of all that is done there, that this goes on: then it takes none of that, if it is
+        another one."""
+        if self._is_over or self._store_answers.meet(identity, self.policy.wait):
+            return
+        try:
+            self._messages.hand_on("assumed", *identity)
+        except OSError as error:
+            self._lose(f"whether the store is the audit's isn't known: {error}")
 
     def take(self, session: int, number: int, logged: Logged) -> None:
         """Hands over what a transaction did; waits for room as long as the policy says."""
@@ -289,6 +305,7 @@ class AuditClient(LocalSessions):
         """The auditor's process can't be reached: clients go on."""
         self._is_over = self._is_gone = True
         self._requests.end()
+        self._store_answers.end()
         for notes in list(self._notes):
             notes.end()
 

@@ -9,6 +9,7 @@ from dataclasses import astuple
 from typing import Any, Callable, Dict, Optional, Sequence, Tuple
 
 from ..core._records import Logged
+from ..core._store_identity import checked
 from ..core._version import FORM, VERSION
 from ..core.errors import AuditLostError, ProgramEndedError
 from ..live._live_auditor import PAUSE, LiveAuditor
@@ -37,6 +38,7 @@ class ClientProcess:
         self._has_all_noted = True
         self._deeds: Dict[str, Callable[..., None]] = {
             "answer": self.group.take_answer,
+            "assumed": self._take_assumed,
             "back": self._take_back,
             "forget": self._forget,
             "join": self._begin_join,
@@ -48,6 +50,7 @@ class ClientProcess:
             "noted": self._take_noted,
             "unnoted": self._take_unnoted,
             "overflow": self._take_overflow,
+            "store": self._take_store,
         }
 
     # what each kind has of its own
@@ -220,6 +223,15 @@ class ClientProcess:
 
     def _take_overflow(self, asked: int) -> None:
         self.messages.tell("left", asked, astuple(self._live.take_unaudited()))
+
+    def _take_store(self, known: Any, shown: Any) -> None:
+        """Which store a client there has; it is told which one the audit is about."""
+        first = self._live.audited_store.first(checked(known, shown))
+        self.messages.tell("store", *first)
+
+    def _take_assumed(self, known: Any, shown: Any) -> None:
+        """It goes on in this store, as it hasn't been told in time whether it may."""
+        self._live.audited_store.meet(checked(known, shown))
 
     def _take_back(self, place: Sequence[Any]) -> None:
         given_back = Place(*place)

@@ -203,15 +203,15 @@ def undone_alone(id: StoreId, logged: Logged) -> Logged:
     reads, writes = undone(id, logged.reads, logged.writes, FENCE)
     if not (reads or writes):
         return NOTHING
-    return logged._replace(
-        reads=(), writes=(), outcome="aborted", tried_reads=reads, tried_writes=writes
-    )
+    done = logged._replace(reads=(), writes=(), from_before=0, outcome="aborted")
+    return done._replace(tried_reads=reads, tried_writes=writes)
 
 
 def writes_alone(logged: Logged) -> Logged:
     written = tuple(statement for statement in logged.statements if len(statement[0]) == 1)
     values = tuple(value for value in logged.values if value[0] == "wrote")
-    return logged._replace(reads=(), outcome="unknown", statements=written, values=values)
+    alone = logged._replace(reads=(), from_before=0, outcome="unknown")
+    return alone._replace(statements=written, values=values)
 
 
 def handed_in(

@@ -26,7 +26,8 @@ class LiveState:
     """`left` are the places that nobody has, `clients` has of each process what its StreamProcess
     tells, `missing` says what may have been done and never comes, and `failure` why the audit has
     ended, where no other one has begun yet. `form` is that of what clients are told, by this
-    `version`; and it was written so many times, with this one."""
+    `version`; and it was written so many times, with this one. `store` is the one that the audit is
+    about, as its identity's two texts, once a client has told."""
 
     audit: str
     run_name: str
@@ -42,6 +43,7 @@ class LiveState:
     form: int = FORM
     version: str = PACKAGE
     written: int = 0
+    store: Optional[Tuple[str, ...]] = None
 
 
 class StateFile:

@@ -13,6 +13,7 @@ from typing import Any, List
 from ..core._locks import give_back, take
 
 SENDING = 30.0  # seconds in which the other end has to take what is sent
+HANDING_ON = 0.25  # seconds for what others send
 
 
 class Messages:
@@ -58,6 +59,10 @@ class Messages:
         except (OSError, TypeError, ValueError):  # it is closed, or no plain value
             return False  # who listens will find out why
         return True
+
+    def hand_on(self, *message: Any) -> None:
+        """In front of all that is sent later. Raises OSError."""
+        self.send(*message, seconds=HANDING_ON)
 
     def receive(self) -> Any:
         """The next one, a tuple. Raises EOFError or OSError where the other end is gone."""

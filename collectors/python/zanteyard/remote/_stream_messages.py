@@ -47,6 +47,10 @@ class StreamMessages:
         if self.appender.is_gone:
             raise OSError("the other end is gone")
 
+    def hand_on(self, *message: Any) -> None:
+        """In front of all that is sent later, and with that."""
+        self.put(*message)
+
     def tell(self, *message: Any, seconds: float = SENDING) -> bool:
         """Whether Redis has it by then."""
         try:
@@ -157,7 +161,7 @@ class ClientsEnd(StreamMessages):
 
 class AuditorsEnd(StreamMessages):
     """Of one client's process, heard by a thread of its own. `before_given` is called before a
-    message is sent that gives it places; `refuse(count)` for messages that aren't the process's
+    message is sent that gives it something; `refuse(count)` for messages that aren't the process's
     own."""
 
     def __init__(
@@ -181,7 +185,7 @@ class AuditorsEnd(StreamMessages):
         would have to answer isn't told at all where Redis couldn't be reached just before."""
         if self.is_closed or (is_awaited(*message) and not self.appender.is_up):
             return False
-        if gives_places(*message):
+        if gives_something(*message):
             self._before_given()
         try:
             number = self.put(*message)
@@ -242,11 +246,14 @@ def hello_opener(key: bytes, audit: str, client: str) -> Callable[[int, bytes, b
 
 def is_awaited(kind: str, *more: Any) -> bool:
     """Whether somebody in the process waits for it, or in the auditor's for an answer."""
-    return kind == "left" or (kind == "call" and more[0] != 0)
+    return kind in ("left", "store") or (kind == "call" and more[0] != 0)
 
 
-def gives_places(kind: str, *more: Any) -> bool:
-    """To a client, or to a meeting that runs something for them."""
+def gives_something(kind: str, *more: Any) -> bool:
+    """Which nobody may give again: places to a client, or to a meeting that runs something for
+    them; or the word which store the audit is about."""
+    if kind == "store":
+        return True
     if kind == "left":
         return more[1] is not None
     return kind == "call" and bool(more[2][-1])

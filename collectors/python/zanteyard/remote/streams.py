@@ -25,6 +25,7 @@ from typing import Any, Dict, List, Optional
 
 from ..core._outcome import Outcome
 from ..core._shared_key import shared_key
+from ..core._store_identity import checked
 from ..core._version import FORM, VERSION
 from ..core.errors import AuditLostError, AuditTakenError, JournalError, MissingError
 from ..core.errors import StrangeRedisError
@@ -390,6 +391,7 @@ class StreamServer:
         live, auditor = self._live, self._live.auditor
         with self._lock:
             left, unaudited = live.places_left()
+            audited_store = live.audited_store.identity
             states = {client: process.state() for client, process in self._processes.items()}
             has = live.numbers_here()
             for process_state in states.values():
@@ -408,6 +410,7 @@ class StreamServer:
                 str(live.missing) if live.missing else None,
                 str(live.lost) if live.lost else None,
                 written=self._written + 1,
+                store=tuple(audited_store) if audited_store is not None else None,
             )
             self._file.write(state)
             self._written += 1
@@ -422,6 +425,8 @@ class StreamServer:
             why = f"has clients of version {state.version}, which version {VERSION} doesn't know"
             raise JournalError(f"{self._file.path} {why}: go on with that, or in another folder")
         self._written = state.written
+        if state.store is not None:
+            live.audited_store.first(checked(*state.store))
         self._check_newest(state.token)
         self._ours = state.token.encode()
         live.go_on_behind(state.token, state.is_named, state.meetings + 1)

@@ -1,7 +1,7 @@
 """One client's transactions, numbered as they begin, and logged when their outcome is known.
 
 `Store`, in `core/_stores.py`, is what a session wants of a store; what a store may have besides is
-in the four protocols next to it.
+in the five protocols next to it.
 """
 
 from __future__ import annotations
@@ -16,6 +16,7 @@ from typing import Any, Callable, Iterator, List, Optional
 from ..core._crash_notes import CrashNotes
 from ..core._forks import keep
 from ..core._locks import give_back, take
+from ..core._store_identity import UNSURE, UNTOLD, StoreIdentity
 from ..core._stores import Store
 from ..core.errors import (
     AbortedError,
@@ -23,6 +24,7 @@ from ..core.errors import (
     NameTakenError,
     OutcomeUnknownError,
     StoreLateError,
+    StoreUnfitError,
     ZanteyardError,
 )
 from ._attempts import Result, attempted, join_behind, whole
@@ -48,6 +50,9 @@ class Session(OwnTransactions):
     None the client goes on unaudited, and where there is no `renew` at all no transaction begins
     any more. Where its place is one that has to join, it does so as its first transaction begins,
     and where the store doesn't let it `cant_join(self, why)` gives another Place.
+
+    Before the first transaction the store tells which one it is. Where that isn't the one that the
+    audit is about StoreUnfitError is raised, and nothing has begun.
 
     What the auditor does with the log never reaches who runs transactions: `failure` says why
     nothing more of this session is audited, if that is so."""
@@ -81,6 +86,11 @@ class Session(OwnTransactions):
         self.started = 0  # how many transactions the store has begun
         self.is_claimed, self.claim_at = False, 0.0  # the latter is when it is tried again
         self.unclaimed: Optional[Exception] = None  # why not, once it was tried in vain
+        # Which store it is, as the auditor has let it in; or why it hasn't, and what is done by
+        # then isn't audited.
+        self.met: Optional[StoreIdentity] = None
+        self.unmet: Optional[Exception] = None
+        self.is_unsure = False  # which one it is couldn't be told
         self.wait = getattr(getattr(auditor, "policy", None), "wait", 30.0)
         # Held by a transaction from its begin to its end, and by a meeting.
         self.turn = threading.Lock()
@@ -95,6 +105,7 @@ class Session(OwnTransactions):
         self.notes: Optional[CrashNotes] = None  # for who finds this process killed
         # For how many seconds this client waited for the audit: in all, and at most at a time.
         self.waited = self.longest = 0.0
+        self.connecting = 0.0  # of these seconds, since they were counted: that was for the store
         keep(self)
 
     @property
@@ -148,6 +159,7 @@ class Session(OwnTransactions):
                 give_back(self.turn, self.has_turn)
 
     def get_ready(self) -> None:
+        self.identify_store()  # before anything is written there
         self.claim_name()  # before it joins: what that writes has the name
         self.go_on()
 
@@ -173,7 +185,7 @@ class Session(OwnTransactions):
         self.calls.hang_up()
 
     def has_waited(self, since: float) -> None:
-        waited = time.monotonic() - since
+        waited, self.connecting = time.monotonic() - since - self.connecting, 0.0
         self.waited, self.longest = self.waited + waited, max(self.longest, waited)
 
     def go_on(self) -> None:
@@ -203,12 +215,13 @@ class Session(OwnTransactions):
             try:
                 self.take_turn()
                 if self.has_to_join:  # else its process has left
+                    self.identify_store()
                     self.claim_name()
                     self.fence_first()
             finally:
                 give_back(self.turn, self.has_turn)
         except Exception as error:
-            if not self.is_of_store(error):
+            if not self.is_of_store(error) or isinstance(error, StoreUnfitError):
                 raise
             logger.info("a client joins later, since %s", str(error).strip() or repr(error))
         finally:
@@ -223,8 +236,8 @@ class Session(OwnTransactions):
         try:
             self.fence_first()
         except Exception as error:
-            if self.started == before:  # the store can't be reached, as the client would find out
-                raise
+            if self.started == before and self.unmet is None:
+                raise  # the store can't be reached, as the client would find out
             if not self.is_of_store(error):
                 raise
             if place.is_ended and not is_last:
@@ -273,6 +286,63 @@ class Session(OwnTransactions):
         elif self.renew is None or self.place is None:
             raise ValueError(f"session {self.number} has ended")
 
+    def identify_store(self) -> None:
+        """Before the first transaction. Another store than the audit's is refused, as often as it
+        is tried. One that tells nothing may not be there at all: that is seen once it has begun."""
+        if self.met is not None or not hasattr(self.auditor, "meet_store"):
+            return
+        is_first, began = self.unmet is None, time.monotonic()
+        if self.is_unsure:
+            self.hang_up()  # the next connection is asked anew
+        identity = self.calls.identity()
+        self.connecting = time.monotonic() - began
+        if identity != UNTOLD:
+            self.meet_store(identity)
+            self.refuse_store(is_first)
+
+    def refuse_store(self, is_first: bool) -> None:
+        """If it is another one, and nothing was done there before."""
+        if is_first and isinstance(self.unmet, StoreUnfitError):
+            error, self.unmet = self.unmet, None
+            self.hang_up()  # the next one may be over another connection, and lead elsewhere
+            raise error
+
+    def meet_store(self, identity: StoreIdentity) -> None:
+        """Whether it is the audit's is known behind this: `met`, or `unmet`."""
+        self.met, self.is_unsure = None, identity == UNSURE
+        if self.is_unsure:
+            self.unmet = AuditLostError("whether the store is the audit's isn't known: it can't "
+                                        "tell now which one it is")
+            return
+        try:
+            self.auditor.meet_store(identity)
+            self.met, self.unmet = identity, None
+        except StoreUnfitError as error:
+            self.unmet = error
+
+    def see_store(self, holds: bool) -> None:
+        """As a transaction has begun, over a connection which may be another one than before, and
+        lead to another store. A client goes on there, unaudited; nothing of the collector's own is
+        written there."""
+        if not hasattr(self.auditor, "meet_store"):
+            return
+        is_first = self.met is None and self.unmet is None
+        try:
+            identity = self.calls.identity()
+            if identity != self.met:
+                self.meet_store(identity)
+                self.refuse_store(is_first)
+            if self.unmet is not None and not holds:
+                raise self.unmet
+        except BaseException:
+            self.store.rollback()
+            raise
+
+    @property
+    def unlooked(self) -> Optional[Exception]:
+        """Why nothing that is done by now may be audited, if that is so."""
+        return self.unmet or self.unclaimed
+
     def claim_name(self) -> None:
         """Before the first transaction. Where the store doesn't say in time whose the name is, it
         is asked again after a while, and what is done by then isn't audited. A name that turns out
@@ -296,6 +366,7 @@ class Session(OwnTransactions):
     def start(self, begin: Callable[..., Any], holds: bool, *arguments: Any) -> Transaction:
         """A transaction, which has its number once the store has begun it."""
         begin(*arguments)
+        self.see_store(holds)
         self.started += 1
         transaction = Transaction(self, self.place.begun, holds)
         self.running = transaction
@@ -381,6 +452,7 @@ class Session(OwnTransactions):
         """Runs "flag" or "read_mark" of a session that no client has over this one's connection."""
         session = Session(self.auditor, place.number, self.store, self.run_name)
         session.place, place.is_lent, session.notes = place, True, self.notes
+        session.met, session.unmet = self.met, self.unmet
         try:
             getattr(session, deed)(seconds)
         finally:

@@ -6,13 +6,15 @@ import logging
 from typing import Any, Dict, Optional, Sequence, Tuple, Type
 
 from ..core._records import Name, StoredValue
-from ..core._stores import BoundedStore, BulkStore, ObservedStore, Store, TracedStore
+from ..core._store_identity import StoreIdentity, identity_of
+from ..core._stores import BoundedStore, BulkStore, IdentifiedStore, ObservedStore, Store
+from ..core._stores import TracedStore
 
 logger = logging.getLogger("zanteyard")
 
 
-class StoreCalls(BoundedStore, BulkStore, TracedStore, ObservedStore):
-    """A store with all four parts. What it lacks is made of what each store has, or does nothing.
+class StoreCalls(BoundedStore, BulkStore, TracedStore, ObservedStore, IdentifiedStore):
+    """A store with all five parts. What it lacks is made of what each store has, or does nothing.
     For one thread at a time, but for `hang_up`."""
 
     def __init__(self, store: Store) -> None:
@@ -102,3 +104,10 @@ class StoreCalls(BoundedStore, BulkStore, TracedStore, ObservedStore):
     def has_answered(self, error: BaseException) -> bool:
         has_answered = self._own("has_answered")
         return has_answered is not None and bool(has_answered(error))
+
+    # as an IdentifiedStore
+
+    def identity(self) -> StoreIdentity:
+        """`UNTOLD` where the store doesn't tell it."""
+        identity = self._own("identity")
+        return identity_of(identity() if identity is not None else None)

@@ -26,6 +26,7 @@ class Transaction:
         self.session, self.store, self.number, self.holds = session, session.store, number, holds
         self.calls = session.calls  # what the store may have besides
         self.reads: Set[Read] = set()
+        self.from_before: Set[str] = set()  # keys of these, as they were before this run
         self.written: Dict[str, Any] = {}
         self.is_over = False
         self.is_committing = not holds  # from here on the store may have what it writes
@@ -62,6 +63,8 @@ class Transaction:
         self, key: str, stored: Optional[StoredValue], statement: Optional[str] = None
     ) -> Any:
         read = (key, "init" if stored is None else self.source(stored[1]))
+        if stored is not None and read[1] == "init" and self.holds:
+            self.from_before.add(key)
         self.reads.add(read)
         self.was_run(read, statement)
         if self.holds:
@@ -155,7 +158,7 @@ class Transaction:
         """From here on the store may have committed what it writes."""
         notes = self.session.notes
         assert notes is not None
-        why = self.session.unclaimed or self.unclear if self.written else None
+        why = self.session.unlooked or self.unclear if self.written else None
         try:
             reads = self.reads if has_reads else ()
             logged = self.logged(reads, self.written, "committed")
@@ -263,8 +266,8 @@ class Transaction:
             if self.holds:
                 session.used_at = time.monotonic()
             if not (is_last and any(map(is_dropped_if_unknown, writes))):
-                unclear = session.unclaimed or (self.unclear if outcome != "aborted" else None)
-                if unclear is not None:
+                unclear = session.unlooked or self.unclear
+                if unclear is not None and outcome != "aborted":  # else it did nothing
                     self.note_unclear(outcome, is_last, unclear)
                     session.miss(self.number, unclear)
                 elif not session.tell(self.hand_in, reads, writes, outcome, is_last):
@@ -307,7 +310,8 @@ class Transaction:
             auditor.take(number, self.number, logged)
 
     def logged(self, reads: Iterable[Read], writes: Iterable[str], outcome: str) -> Logged:
-        tried_reads, tried_writes = self.undone() if outcome == "aborted" else ([], [])
+        is_told = outcome == "aborted" and self.session.unlooked is None
+        tried_reads, tried_writes = self.undone() if is_told else ([], [])
         statements = tuple(self.statements.items())
         if outcome != "committed":
             deeds: Set[Deed] = {*reads, *tried_reads}
@@ -324,7 +328,9 @@ class Transaction:
         if not (reads or tried_reads):  # it isn't known, or doesn't matter, what was read
             values = tuple(value for value in values if value[0] == "wrote")
         more = (statements, values, self.began, self.caller)
-        logged = Logged(reads, writes, outcome, *more, tried_reads, tried_writes)
+        tried = (tried_reads, tried_writes)
+        count = len(self.from_before) if reads else 0
+        logged = Logged(reads, writes, outcome, *more, *tried, from_before=count)
         return redacted(logged) if self.session.redacts else logged
 
     def undone(self) -> Tuple[List[Read], List[str]]:

@@ -2,11 +2,12 @@
 
 from __future__ import annotations
 
-import os
 import math
+import os
 import select
+import socket
 import time
-from typing import Any, Callable, Dict, Optional, Sequence
+from typing import Any, Callable, Dict, Optional, Sequence, Tuple
 
 import psycopg2
 from psycopg2 import extensions
@@ -24,21 +25,46 @@ WORDS = {
 PLAIN = {"target_session_attrs": "any"}  # in place of an empty one, which libpq refuses
 
 
-def connected(dsn: str, seconds: float) -> Any:
-    """A connection. Raises psycopg2's errors, OperationalError after so many seconds."""
+def connected(dsn: str, seconds: float, first: Callable[[Any], Any] = bool) -> Any:
+    """A connection, with which this was done first. Raises psycopg2's errors, OperationalError
+    after so many seconds."""
     more: Dict[str, Any] = {}
     if "connect_timeout" not in extensions.parse_dsn(dsn):
         more["connect_timeout"] = max(LEAST, math.ceil(seconds))
-    return within(seconds, lambda: psycopg2.connect(dsn, **more), closed)
+
+    def opened() -> Any:
+        connection = psycopg2.connect(dsn, **more)
+        try:
+            first(connection)
+        except BaseException:
+            connection.close()
+            raise
+        return connection
+
+    return within(seconds, opened, closed)
 
 
 def to_its_server(dsn: str, connection: Any) -> str:
-    """What leads to the server that this connection has, where the dsn names several: another one
-    may be a standby, or know nothing of what was done here."""
-    words, info = extensions.parse_dsn(dsn), connection.info
-    if "hostaddr" in words or not info.host:
+    """What leads to the server that this connection has, where the dsn, or a name in it, leads to
+    several: another one may be a standby, or know nothing of what was done here."""
+    info = connection.info
+    if not info.host:
         return dsn
-    return str(extensions.make_dsn(dsn, host=info.host, port=info.port))
+    its: Dict[str, Any] = {"host": info.host, "port": info.port}
+    address = address_of(connection)
+    if address is not None:
+        its["hostaddr"] = address
+    return str(extensions.make_dsn(dsn, **its))
+
+
+def address_of(connection: Any) -> Optional[str]:
+    """Where its server is; None of one that is reached by a path."""
+    try:
+        with socket.socket(fileno=os.dup(connection.fileno())) as same:
+            is_by_path = same.family == socket.AF_UNIX
+            return None if is_by_path else str(same.getpeername()[0])
+    except (OSError, psycopg2.Error):
+        return None  # it is closed
 
 
 def closed(late: Any) -> None:
@@ -46,42 +72,65 @@ def closed(late: Any) -> None:
         late.close()
 
 
-def answer(dsn: str, text: str, values: Sequence[Any], seconds: float) -> Optional[Sequence[Any]]:
-    """The first row that the statement gives, over a connection of its own. Raises as
-    `connected`."""
+def answer(
+    dsn: str,
+    text: str,
+    values: Sequence[Any],
+    seconds: float,
+    its: Optional[Tuple[str, str]] = None,
+) -> Optional[Sequence[Any]]:
+    """The first row that the statement gives, over a connection of its own. Raises as `connected`,
+    also where the first statement of `its` gives another word than the second."""
     ends = time.monotonic() + seconds
-    row: Optional[Sequence[Any]] = within(seconds, lambda: first_row(dsn, text, values, ends))
+    row: Optional[Sequence[Any]] = within(seconds, lambda: first_row(dsn, text, values, ends, its))
     return row
 
 
-def outcome_told(dsn: str, text: str, values: Sequence[Any], seconds: float) -> str:
+def outcome_told(
+    dsn: str, text: str, values: Sequence[Any], seconds: float, which: Optional[str] = None
+) -> str:
     """"committed", "aborted" or "unknown", of a transaction of whose number the statement gives the
-    status, and whether what it wrote is there. The number alone doesn't say it: a server that has
-    crashed gives that of one that was lost to another one. It is asked over a connection of its
-    own, since the one at hand may be broken."""
+    status, whether what it wrote is there, and which server and table say so: others than `which`,
+    if that is known, know nothing of it. The number alone doesn't say it: a server that has crashed
+    gives that of one that was lost to another one. It is asked over a connection of its own, since
+    the one at hand may be broken."""
     try:
         row = answer(dsn, text, values, seconds)
     except psycopg2.Error:
         return "unknown"
-    status, is_there = row or (None, False)
+    status, is_there, told = row or (None, False, None)
+    if which is not None and told != which:
+        return "unknown"
     if status == "aborted" or (status == "committed" and is_there):
         return str(status)
     return "unknown"
 
 
 def first_row(
-    dsn: str, text: str, values: Sequence[Any], ends: float
+    dsn: str,
+    text: str,
+    values: Sequence[Any],
+    ends: float,
+    its: Optional[Tuple[str, str]] = None,
 ) -> Optional[Sequence[Any]]:
     connection = psycopg2.connect(dsn, async_=True)
     try:
         wait(connection, ends)
-        cursor = connection.cursor()
-        cursor.execute(text, values)
-        wait(connection, ends)
-        row: Optional[Sequence[Any]] = cursor.fetchone()
-        return row
+        if its is not None and row_of(connection, its[0], (), ends) != (its[1],):
+            raise psycopg2.OperationalError("another server answers, or another database")
+        return row_of(connection, text, values, ends)
     finally:
         connection.close()
+
+
+def row_of(
+    connection: Any, text: str, values: Sequence[Any], ends: float
+) -> Optional[Sequence[Any]]:
+    cursor = connection.cursor()
+    cursor.execute(text, values)
+    wait(connection, ends)
+    row: Optional[Sequence[Any]] = cursor.fetchone()
+    return row
 
 
 def wait(connection: Any, ends: float) -> None:

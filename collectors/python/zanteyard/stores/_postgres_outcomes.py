@@ -12,7 +12,8 @@ from ..core._commit_status import UNKNOWN, CommitStatus
 from ..core._own_keys import FLAG
 from ..core._records import Name
 from ._postgres_connection import answer, reached
-from .postgres import AGE, FIRST, LIVES, OVERWRITE, TRANSACTION, XACT_STATUS
+from .postgres import AGE, FIRST, LIVES, OVERWRITE, TRANSACTION, WHICH, XACT_STATUS
+from .postgres import literal, which_of, with_table
 
 # A pooled connection may be another client's by now: the transaction, or the statement of the
 # collector's own, has to be the killed process's. Where that very statement is what it ran last,
@@ -21,7 +22,7 @@ CHANGES = OVERWRITE[OVERWRITE.index("run = ") : OVERWRITE.index(" AS before")]
 MAKES = FIRST[: FIRST.index(TRANSACTION)].rstrip()
 RUNS_STILL = f"""SELECT state = 'idle', position(%s IN query) > 0, position(%s IN query) > 0
     FROM pg_stat_activity WHERE pid = %s AND {AGE} = %s"""
-WHOSE = f"SELECT {LIVES}"
+WHOSE, ITS = f"SELECT {LIVES}", f"SELECT {WHICH}"
 WHAT_BECAME = f"""SELECT {XACT_STATUS}, {LIVES}"""
 ITS_ROW = """SELECT value FROM {table} WHERE key = %s AND run = %s AND session = %s
     AND number = %s"""
@@ -30,11 +31,6 @@ THE_ROW = """SELECT (run, session, number) = (%s::text, %s::int, %s::bigint), va
 END_IT = f"""SELECT pg_terminate_backend(pid) FROM pg_stat_activity WHERE pid = %s AND {AGE} = %s
     AND CASE WHEN %s THEN position(%s IN query) > 0 OR position(%s IN query) > 0
     ELSE backend_xid::text = (%s::text::numeric %% 4294967296)::text END"""
-
-
-def literal(text: str) -> str:
-    """As the server got it. One with a backslash isn't found, so that nothing is taken for it."""
-    return "'" + text.replace("'", "''") + "'"
 
 
 def statements_of(table: str, key: str, run: str, session: int, number: int) -> Tuple[str, str]:
@@ -55,15 +51,15 @@ def asked(
 ) -> CommitStatus:
     """What became of the transaction of a store whose process is killed. What its server's process
     is still about is waited for, for half of the time; then, where it `ends_it`, that process is
-    ended. Else it may be asked from another machine, where its words may lead to another server:
-    that one knows nothing of it."""
+    ended. Its words may lead to another server, as from another machine, or where they name
+    several: that one knows nothing of it."""
     transaction_id, pid, since, life, key, run, session, number = ticket
-    words = reached(dsn, around)
-    if words is None:
+    words, which = reached(dsn, around), which_of(life)
+    if words is None or which is None:
         return UNKNOWN
-    asks = Asks(extensions.make_dsn(**words), table, time.monotonic() + seconds)
+    asks = Asks(extensions.make_dsn(**words), table, time.monotonic() + seconds, which)
     asks.ends_it = ends_it
-    if not ends_it and (life is None or asks.row(WHOSE, ()) != (life,)):
+    if not ends_it and asks.row(WHOSE, ()) != (life,):
         return UNKNOWN
     row_name = (key, run, session, number)
     if transaction_id is None:
@@ -107,18 +103,20 @@ def from_name(names: Sequence[Name], name: Name) -> Sequence[Name]:
 
 
 class Asks:
-    """Until then, by the monotonic clock; raises psycopg2's errors."""
+    """Until then, by the monotonic clock; raises psycopg2's errors, also where another server
+    answers than this one, or another database."""
 
     ends_it = True  # what isn't over by half of the time
 
-    def __init__(self, dsn: str, table: str, ends: float) -> None:
-        self.dsn, self.table, self.ends = dsn, table, ends
+    def __init__(self, dsn: str, table: str, ends: float, which: str) -> None:
+        self.dsn, self.table, self.ends, self.which = dsn, table, ends, which
 
     def left(self) -> float:
         return max(0.05, self.ends - time.monotonic())
 
     def row(self, text: str, values: Sequence[Any]) -> Any:
-        return answer(self.dsn, text.format(table=self.table), values, self.left())
+        its = (with_table(ITS, self.table), self.which)
+        return answer(self.dsn, with_table(text, self.table), values, self.left(), its)
 
     def again(
         self, seconds: float, pid: Any, since: Any, transaction_id: Any, statements: Sequence[str]

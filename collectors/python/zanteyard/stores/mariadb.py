@@ -10,6 +10,7 @@ first keeps the other out (`DECIDE`), so that what was asked for is decided for 
 
 from __future__ import annotations
 
+import logging
 import math
 import secrets
 import socket
@@ -21,6 +22,7 @@ from pymysql.constants import SERVER_STATUS
 
 from ..core._commit_status import CommitStatus
 from ..core._records import Name, StoredValue
+from ..core._store_identity import UNSURE, StoreIdentity, known_of
 from ..core._timeouts import LateError, within
 from ..core.errors import AbortedError, NameTakenError, OutcomeUnknownError
 from ._mariadb_connection import close_connection, limit, limited
@@ -58,6 +60,11 @@ DECIDE = f"""{INSERT} {ROW} ON DUPLICATE KEY UPDATE
     value = IF(number < VALUES(number), VALUES(value), value),
     number = GREATEST(number, VALUES(number)) RETURNING value, number"""
 CLAIM = f"{INSERT} {ROW} ON DUPLICATE KEY UPDATE value = value RETURNING value"
+# A table that was copied, as into another server, was made at another time. `server_uid` says
+# nothing: it is that of a port and a network card.
+WHICH = """SELECT DATABASE(), @@lower_case_table_names, (SELECT UNIX_TIMESTAMP(create_time)
+    FROM information_schema.tables WHERE table_schema = IFNULL(%s, DATABASE()) AND table_name = %s),
+    (SELECT value FROM {table} WHERE `key` = %s)"""
 # The error's number of what ends a transaction, and tells that nothing of it was committed: a lock
 # that was waited for too long (1205: MariaDB rolls back the statement alone, and this store the
 # transaction), a deadlock, and a row that has changed since the snapshot.
@@ -68,6 +75,11 @@ PATIENCE = 5.0  # seconds for a connection, and for an outcome
 SHARE = 0.8  # what the server has of the time after which its answer isn't waited for
 RUN = "zanteyard run "  # before a run's name: the key of the row that says whose it is
 LAST = "zanteyard last "  # before a store's token: the key of the row that tells its outcomes
+STORE = "zanteyard store"  # the key of the row that tells this table from others
+NO_TABLE = 1146
+BARRED = (1044, 1045, 1142, 1143, 1290)  # no such right, or nothing may be written at all
+WRITING = 1.0  # seconds for that row, where it isn't there
+logger = logging.getLogger("zanteyard")
 
 
 def quoted(table: str) -> str:
@@ -78,11 +90,29 @@ def quoted(table: str) -> str:
 
 def prepare(dsn: Mapping[str, Any], table: str = "zanteyard") -> None:
     """Makes the table, where it isn't there."""
-    connection = pymysql.connect(**dsn)
+    connection = pymysql.connect(**{**dsn, "autocommit": True})
     try:
-        connection.cursor().execute(TABLE.format(table=quoted(table)).replace("%%", "%"))
+        cursor, name = connection.cursor(), quoted(table)
+        cursor.execute(TABLE.format(table=name).replace("%%", "%"))
+        cursor.execute(CLAIM.format(table=name), store_row())
     finally:
         connection.close()
+
+
+def store_row() -> Sequence[Any]:
+    """By which a table is told from others, once it is there."""
+    return (STORE, secrets.token_hex(8), "", -1, 0)
+
+
+def named(table: str) -> Sequence[Optional[str]]:
+    """The database's name, None where there is none, and the table's, of what `quoted` gives."""
+    parts = [part.replace("``", "`") for part in table.replace("%%", "%")[1:-1].split("`.`", 1)]
+    return (parts[0], parts[1]) if len(parts) > 1 else (None, parts[0])
+
+
+def close_opened(late: Any) -> None:
+    if late is not None:
+        close_connection(late[0])
 
 
 def code_of(error: BaseException) -> int:
@@ -118,6 +148,8 @@ class MariaDBStore:
         self.is_alone = self.is_hung_up = False
         self.ends = math.inf  # when a statement by itself isn't waited for any more
         self.usual: Optional[float] = None  # how long the application waits for an answer
+        self._identity: Optional[StoreIdentity] = None  # of what the connection leads to
+        self.known: Optional[str] = None  # of that
         # Of the transaction: whether it has written, can't be committed any more, and was ended
         # between two of its writes by something else than this store.
         self.has_written = self.has_failed = self.is_torn = False
@@ -129,10 +161,49 @@ class MariaDBStore:
         self.is_hung_up = False
         waits = self.patience if seconds is None else seconds
         try:
-            self.connection = within(waits, lambda: self.connected(waits), close_connection)
+            opened = within(waits, lambda: self.opened(waits), close_opened)
         except LateError as error:
             raise pymysql.OperationalError(2003, str(error)) from None
+        self.connection, self._identity = opened
+        self.known = known_of(self._identity)
         self.usual = self.connection._read_timeout
+
+    def identity(self) -> Optional[StoreIdentity]:
+        """By a row of its own that is written once, and when the table was made. None where that
+        may not be written or read."""
+        if self.is_hung_up:
+            self.close()
+        if not self.is_connected:
+            self.connect()
+        return self._identity
+
+    def opened(self, seconds: float) -> Tuple[Any, Optional[StoreIdentity]]:
+        """A connection, and what it leads to."""
+        connection = self.connected(seconds)
+        try:
+            return connection, self.identity_at(connection)
+        except BaseException:
+            close_connection(connection)
+            raise
+
+    def identity_at(self, connection: Any) -> Optional[StoreIdentity]:
+        schema, name = named(self.table)
+        cursor = connection.cursor()
+        try:
+            cursor.execute(WHICH.format(table=self.table), (schema, name, STORE))
+            current, folds, made, token = cursor.fetchone()
+            if token is None:
+                cursor.execute(limited(WRITING) + CLAIM.format(table=self.table), store_row())
+                (token,) = cursor.fetchone()
+        except pymysql.MySQLError as error:
+            if self.is_broken_at(connection, error) or code_of(error) == NO_TABLE:
+                raise
+            logger.warning("which store this MariaDB is can't be found out: %s", error)
+            return None if code_of(error) in BARRED else UNSURE
+        called = f"{schema or current}.{name}"
+        host = self.dsn.get("unix_socket") or f"{connection.host}:{connection.port}"
+        known = f"mariadb {token} {made} {called.casefold() if folds else called}"
+        return StoreIdentity(known, f"table {called} of the MariaDB at {host} (store {token})")
 
     def connected(self, seconds: float) -> Any:
         limits = {"connect_timeout": max(1, math.ceil(seconds))}
@@ -159,8 +230,12 @@ class MariaDBStore:
 
     def is_broken(self, error: BaseException) -> bool:
         """Whether nothing more comes over this connection."""
+        return self.is_broken_at(self.connection, error)
+
+    @staticmethod
+    def is_broken_at(connection: Any, error: BaseException) -> bool:
         lost = isinstance(error, pymysql.InterfaceError) or code_of(error) in CLIENT_ERRORS
-        return lost or not self.is_connected
+        return lost or connection is None or not connection.open
 
     def send(self, text: str, values: Sequence[Any] = ()) -> Any:
         """All that is sent to the server goes through here: one call is one way there and back."""
@@ -340,6 +415,8 @@ class MariaDBStore:
         connection = self.connected(seconds)
         try:
             limit(connection, time.monotonic() + seconds)  # else this might go on for ever
+            if self.known is not None and known_of(self.identity_at(connection)) != self.known:
+                return "unknown", count  # another table has the name, and knows nothing of it
             cursor = connection.cursor()
             row = (self.own, "aborted", "", OWN, count)
             cursor.execute(limited(seconds) + DECIDE.format(table=self.table), row)
@@ -352,7 +429,7 @@ class MariaDBStore:
         return ("mariadb", self.dsn, self.table, self.own)
 
     def ticket(self, written: Sequence[Any]) -> Any:
-        return (self.count, self.is_alone, *written)
+        return (self.count, self.is_alone, self.known, *written)
 
     def claim(self, run_name: str, token: str, seconds: float) -> None:
         """Makes the name that of one run, or raises NameTakenError where it is another's;
@@ -376,7 +453,7 @@ def asked(
     """What became of the transaction of a store whose process is killed."""
     store = MariaDBStore(dsn, patience=seconds)
     store.table, store.own = table, own
-    store.count, is_alone, *row_name = ticket
+    store.count, is_alone, store.known, *row_name = ticket
     outcome = store.outcome_within(seconds)
     if outcome != "committed" or not is_alone:
         return outcome, None

@@ -4,11 +4,13 @@ where all that it read is still the newest."""
 from __future__ import annotations
 
 import random
+import secrets
 import threading
 import time
 from typing import Any, Dict, List, Optional, Tuple
 
 from ..core._records import Name, StoredValue
+from ..core._store_identity import StoreIdentity
 from ..core.errors import AbortedError, NameTakenError, OutcomeUnknownError
 
 FAULTS = (
@@ -27,6 +29,8 @@ class MemoryStore:
         self.fault, self.moment, self.lock = fault, 0, threading.RLock()
         self.versions: Dict[str, List[Tuple[Any, Name, int]]] = {}
         self.runs: Dict[str, str] = {}  # of each run's name, its token
+        token = secrets.token_hex(8)
+        self.identity = StoreIdentity(f"memory {token}", f"the store in memory {token}")
 
     def connect(self) -> Connection:
         return Connection(self)
@@ -116,3 +120,6 @@ class Connection:
 
     def outcome(self) -> str:
         return self.last_outcome if self.known else "unknown"
+
+    def identity(self) -> StoreIdentity:
+        return self.shared.identity

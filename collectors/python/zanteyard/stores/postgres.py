@@ -3,16 +3,18 @@ marks a deleted key."""
 
 from __future__ import annotations
 
+import logging
 import os
 import re
 import socket
 import threading
-from typing import Any, Dict, Optional, Sequence, Tuple
+from typing import Any, Dict, List, Optional, Sequence, Tuple
 
 import psycopg2
 from psycopg2 import errors, extensions
 
 from ..core._records import Name, StoredValue
+from ..core._store_identity import UNSURE, StoreIdentity
 from ..core.errors import AbortedError, NameTakenError, OutcomeUnknownError
 from ._postgres_connection import connected, environment, outcome_told, to_its_server
 from .levels import checked_level
@@ -43,8 +45,17 @@ FIRST = f"""INSERT INTO {{table}} VALUES (%s, %s, %s, %s, %s) ON CONFLICT (key) 
     {TRANSACTION}"""
 # A standby may not have heard of it yet.
 XACT_STATUS = "CASE WHEN pg_is_in_recovery() THEN NULL ELSE pg_xact_status(%s::text::xid8) END"
+# Which server, database and table these are, and on which timeline the server writes: another one,
+# or this one once a standby was put in its place, knows nothing of what was done here. A standby
+# tells no timeline.
+TABLE_OID = "{literal}::regclass::oid"
+DATABASE_OID = "(SELECT oid FROM pg_database WHERE datname = current_database())"
+SYSTEM = "(SELECT system_identifier FROM pg_control_system())"
+TIMELINE = """CASE WHEN NOT pg_is_in_recovery()
+    THEN left(pg_walfile_name(pg_current_wal_lsn()), 8) END"""
+WHICH = f"concat_ws(' ', {SYSTEM}, {DATABASE_OID}, {TABLE_OID}, {TIMELINE})"
 STATUS = f"""SELECT {XACT_STATUS}, EXISTS (SELECT 1 FROM {{table}}
-    WHERE key = %s AND run = %s AND session = %s AND number = %s)"""
+    WHERE key = %s AND run = %s AND session = %s AND number = %s), {WHICH}"""
 CLAIM = """WITH mine AS (INSERT INTO {table} VALUES (%s, %s, %s, %s, %s)
     ON CONFLICT (key) DO NOTHING RETURNING value)
     SELECT value FROM mine UNION ALL SELECT value FROM {table} WHERE key = %s"""
@@ -53,21 +64,21 @@ CLAIM_ALL = """INSERT INTO {table} SELECT DISTINCT %s || run, '', run, -1, 0 FRO
     WHERE session >= 0 ON CONFLICT (key) DO NOTHING"""
 READING = "SET TRANSACTION ISOLATION LEVEL SERIALIZABLE, READ ONLY; "
 # The server's process of a connection and since when it is, and what changes whenever the server
-# is started or has crashed, after which it may give a transaction's number to another one; and
-# which database and table these are.
+# is started or has crashed, after which it may give a transaction's number to another one.
 AGE = "extract(epoch FROM backend_start)::text"
-LIVES = """concat_ws(' ', extract(epoch FROM pg_postmaster_start_time()),
-    (SELECT extract(epoch FROM stats_reset) FROM pg_stat_bgwriter),
-    (SELECT system_identifier FROM pg_control_system()),
-    (SELECT oid FROM pg_database WHERE datname = current_database()),
-    (SELECT tableoid FROM {table} LIMIT 1))"""
+OF = " of "  # behind what changes with each start: which server it is
+LIVES = f"""concat_ws(' ', extract(epoch FROM pg_postmaster_start_time()),
+    (SELECT extract(epoch FROM stats_reset) FROM pg_stat_bgwriter)) || '{OF}' || {WHICH}"""
 LIFE = f"""SELECT pg_backend_pid(),
-    (SELECT {AGE} FROM pg_stat_activity WHERE pid = pg_backend_pid()), {LIVES}"""
+    (SELECT {AGE} FROM pg_stat_activity WHERE pid = pg_backend_pid()), {LIVES},
+    concat_ws(' ', {SYSTEM}, {DATABASE_OID}, {TABLE_OID}), current_database()"""
+BARRED = (errors.InsufficientPrivilege, errors.UndefinedFunction, errors.FeatureNotSupported)
 CONFLICTS = (errors.SerializationFailure, errors.DeadlockDetected, errors.LockNotAvailable)
 PATIENCE = 5.0  # seconds for a connection, and for an outcome
 ATTEMPTS = 10  # at the first row of a key: each fails only where another client has just made it
 RUN = "zanteyard run "  # before a run's name: the key of the row that says whose it is
 RUNS = "zanteyard runs"  # the key of the row that says that each run's name has such a row
+logger = logging.getLogger("zanteyard")
 
 
 def quoted(table: str) -> str:
@@ -77,6 +88,21 @@ def quoted(table: str) -> str:
         for part in table.split(".", 1)
     ]
     return ".".join(parts)
+
+
+def literal(text: str) -> str:
+    """As the server got it. One with a backslash isn't found, so that nothing is taken for it."""
+    return "'" + text.replace("'", "''") + "'"
+
+
+def with_table(text: str, table: str) -> str:
+    """The statement, about this table as `quoted` gives it."""
+    return text.format(table=table, literal=literal(table))
+
+
+def which_of(life: Optional[str]) -> Optional[str]:
+    """Which server, database and table a connection had of that life."""
+    return life.partition(OF)[2] if life is not None else None
 
 
 # Who makes the audit's tables waits for who does so: IF NOT EXISTS alone lets both begin, and one
@@ -124,23 +150,47 @@ class PostgresStore:
         self.statement: Optional[str] = None  # what was run last, as the server got it
         self.before = ""  # what the transaction's first statement is sent behind
         self.is_alone = self.is_hung_up = False
-        # Whether another process may have to ask what became of a commit, and what it then wants
-        # to know of this connection: its server's process, and since when, and the server's life.
-        self.is_asked = False
+        # What another process has to know of this connection to ask what became of a commit: its
+        # server's process, and since when, and the server's life; and which table it leads to.
         self.life: Tuple[Any, ...] = (0, None, None)
+        self._identity: Optional[StoreIdentity] = None
 
     def connect(self, seconds: Optional[float] = None) -> None:
         """Opens the connection, and raises psycopg2's errors where it can't."""
         self.is_hung_up = False
-        self.connection = connected(self.dsn, self.patience if seconds is None else seconds)
+        told: List[Any] = []
+        waits = self.patience if seconds is None else seconds
+        self.connection = connected(self.dsn, waits, lambda it: told.append(self.told_by(it)))
         self._its_dsn = to_its_server(self.dsn, self.connection)
-        self.connection.autocommit = True  # transactions are begun here, on the way of a statement
-        self.life = (self.connection.info.backend_pid, None, None)
-        if self.is_asked:
-            try:
-                self.life = self.send(LIFE.format(table=self.table)).fetchone()
-            except psycopg2.Error:
-                pass  # then less is found out
+        self.life, self._identity = told[0]
+
+    def told_by(self, connection: Any) -> Tuple[Tuple[Any, ...], Optional[StoreIdentity]]:
+        """What a connection leads to, before anything is done with it."""
+        connection.autocommit = True  # transactions are begun here, on the way of a statement
+        cursor = connection.cursor()
+        try:
+            cursor.execute(with_table(LIFE, self.table))
+        except psycopg2.Error as error:
+            if connection.closed or isinstance(error, errors.UndefinedTable):
+                raise
+            message = str(error).strip()
+            logger.warning("which store this PostgreSQL is can't be found out: %s", message)
+            unknown = None if isinstance(error, BARRED) else UNSURE
+            return (connection.info.backend_pid, None, None), unknown  # then less is found out
+        *life, known, database = cursor.fetchone()
+        info = connection.info
+        where = f"database {database} of the PostgreSQL at {info.host}:{info.port}"
+        shown = f"table {self.table} of {where} ({known})"
+        return tuple(life), StoreIdentity(f"postgres {known}", shown)
+
+    def identity(self) -> Optional[StoreIdentity]:
+        """By the numbers of the server, the database and the table, whatever address leads there. A
+        standby has those of its primary. None where the server doesn't tell them this role."""
+        if self.is_hung_up:
+            self.close()
+        if self.connection is None or self.connection.closed:
+            self.connect()
+        return self._identity
 
     def send(self, text: str, values: Sequence[Any] = ()) -> Any:
         """All that is sent to the server goes through here: one call is one way there and back."""
@@ -272,13 +322,12 @@ class PostgresStore:
         if self.transaction_id is None:
             return "unknown"
         values = (self.transaction_id, *self.written)
-        return outcome_told(self._its_dsn, STATUS.format(table=self.table), values, seconds)
+        which = which_of(self.life[2])
+        text = with_table(STATUS, self.table)
+        return outcome_told(self._its_dsn, text, values, seconds, which)
 
     def asks(self) -> Any:
         """For another process of this machine; the environment's words for what the dsn lacks."""
-        self.is_asked = True
-        if self.connection is not None:
-            self.close()  # the next one tells of its life
         return ("postgres", dict(extensions.parse_dsn(self.dsn)), environment(), self.table)
 
     def ticket(self, written: Sequence[Any]) -> Any:

@@ -20,15 +20,18 @@ import redis
 
 from ..core._commit_status import CommitStatus
 from ..core._records import Name, StoredValue
-from ..core._redis_wire import BROKEN, Command, connected, limit, replies
+from ..core._redis_wire import BROKEN, Command, answers, connected, limit, replies
+from ..core._store_identity import UNSURE, StoreIdentity
 from ..core.errors import AbortedError, NameTakenError, OutcomeUnknownError, StoreUnfitError
 from .levels import COMPARED, SINGLE, WATCHED, checked_level
 
 PREFIX = "zanteyard:"  # before each key
 RUN = "zanteyard run "  # before a run's name: the key that says whose it is
 LAST = "zanteyard last "  # before a store's token: the key that tells its outcomes
+STORE = "zanteyard store"  # the key that tells this Redis, its number and the prefix from others
 PATIENCE = 5.0  # seconds for a connection, and for an outcome
 MARK = "zanteyard "  # before each text: what another program writes hasn't it
+BARRED = redis.exceptions.NoPermissionError
 logger = logging.getLogger("zanteyard")
 
 
@@ -56,6 +59,12 @@ def found_in(text: Optional[str]) -> Optional[StoredValue]:
     return text, None  # type: ignore[return-value]
 
 
+def _place(connection: Any) -> str:
+    """Where it is, for people."""
+    path = getattr(connection, "path", None)
+    return f"at {path}" if path else f"at {connection.host}:{connection.port}"
+
+
 class RedisStore:
     """One connection, for one thread at a time. `url` is what redis-py takes, with the database in
     it; `level` is one of Redis's in `levels.py`. A connection, and the end of a statement of the
@@ -75,6 +84,8 @@ class RedisStore:
         self.connection: Any = None
         self.statement: Optional[str] = None
         self.own, self.count = f"{prefix}{LAST}{secrets.token_hex(8)}", 0
+        self._identity: Optional[StoreIdentity] = None  # of the Redis that is connected
+        self.token: Optional[str] = None  # which was found there under STORE
         self.seen: Dict[str, Optional[str]] = {}  # by key what was read
         self.queued: List[Command] = []
         self.is_alone = self.is_hung_up = False
@@ -94,7 +105,7 @@ class RedisStore:
         connection = self.connected(waits)
         try:
             limit(connection, ends)
-            self.see_that_nothing_is_dropped(connection)
+            self.look_at_it(connection)
             limit(connection)
         except BaseException:
             connection.disconnect()
@@ -106,11 +117,34 @@ class RedisStore:
         more: Dict[str, Any] = {"decode_responses": True, "encoding_errors": "surrogateescape"}
         return connected(self.url, seconds, **more)
 
-    def see_that_nothing_is_dropped(self, connection: Any) -> None:
-        try:
-            (text,) = replies(connection, [("INFO", "memory")])
-        except redis.ResponseError as error:
-            logger.warning("whether this Redis drops keys can't be seen: %s", error)
+    def look_at_it(self, connection: Any) -> None:
+        """By one way there and back: which one it is, and that it drops nothing. A Redis that has
+        lost what it had, as by a start, is told which one it was, by who knows that: what it has
+        lost then are lost writes, and no other store's."""
+        key, mine = f"{self.prefix}{STORE}", self.token or secrets.token_hex(8)
+        asked: List[Command] = [("INFO", "memory"), ("SET", key, mine, "NX"), ("GET", key)]
+        memory, done, told = answers(connection, asked)
+        self.see_that_nothing_is_dropped(memory)
+        is_barred = isinstance(told, BARRED) or (told is None and isinstance(done, BARRED))
+        self._identity = None if is_barred else UNSURE
+        if isinstance(told, str):
+            self.token, number = told, getattr(connection, "db", 0)
+            where = f"database {number} of the Redis {_place(connection)}"
+            shown = f"{where}, behind {self.prefix!r} (store {told})"
+            self._identity = StoreIdentity(f"redis {told} {number} {self.prefix}", shown)
+
+    def identity(self) -> Optional[StoreIdentity]:
+        """By a key of its own that is written once, and stays where the server is started anew or
+        another one takes its place. None where that may not be written or read."""
+        if self.is_hung_up:
+            self.close()
+        if self.connection is None:
+            self.connect()
+        return self._identity
+
+    def see_that_nothing_is_dropped(self, text: Any) -> None:
+        if not isinstance(text, str):
+            logger.warning("whether this Redis drops keys can't be seen: %s", text)
             return
         figures = dict(line.split(":", 1) for line in text.splitlines() if ":" in line)
         policy = figures.get("maxmemory_policy", "noeviction")
@@ -355,7 +389,11 @@ class RedisStore:
 
     def decided(self, connection: Any) -> str:
         """What the store's own key says, with "aborted" in it where nothing was there yet."""
-        _, text = replies(connection, [("WATCH", self.own), ("GET", self.own)])
+        which = f"{self.prefix}{STORE}"
+        asked = [("WATCH", self.own), ("GET", self.own), ("GET", which)]
+        _, text, token = replies(connection, asked)
+        if self.token is not None and token != self.token:
+            return "unknown"  # another Redis, or one that has lost what it had
         count, _, outcome = (text or "0 ").partition(" ")
         if int(count) == self.count:
             return str(outcome)
@@ -371,7 +409,8 @@ class RedisStore:
         return ("redis", self.url, self.prefix, self.own)
 
     def ticket(self, written: Sequence[Any]) -> Any:
-        return None if self.level == SINGLE and not self.is_alone else self.count
+        its = (self.count, self.token)
+        return None if self.level == SINGLE and not self.is_alone else its
 
     def claim(self, run_name: str, token: str, seconds: float) -> None:
         """Makes the name that of one run, or raises NameTakenError where it is another's;
@@ -387,5 +426,5 @@ def asked(url: str, prefix: str, own: str, *, ticket: Any, seconds: float) -> Co
     """What became of the transaction of a store whose process is killed; what an `exchange` by
     itself has overwritten isn't kept."""
     store = RedisStore(url, prefix=prefix, patience=seconds)
-    store.own, store.count = own, ticket
+    store.own, (store.count, store.token) = own, ticket
     return store.outcome_within(seconds), None

@@ -17,6 +17,7 @@ from typing import Any, Dict, List, Optional, Sequence, Tuple
 
 from ..core._commit_status import CommitStatus, kept, overwritten
 from ..core._records import Name, StoredValue
+from ..core._store_identity import StoreIdentity, known_of, this_machine
 from ..core.errors import AbortedError, NameTakenError, OutcomeUnknownError
 from .levels import AUTOCOMMIT, IMMEDIATE, UNCOMMITTED, checked_level
 
@@ -87,12 +88,33 @@ class SQLiteStore:
         self.own, self.count = f"{LAST}{secrets.token_hex(8)}", 0
         self.is_alone = self.has_failed = False
         self.waits = 0.0  # seconds, as the connection was told
+        self._identity: Optional[StoreIdentity] = None  # of the file that was opened last
+        self.known: Optional[str] = None  # of that
 
     # the connection
 
     def connect(self) -> None:
         """Opens the file, and raises sqlite3's errors where it can't."""
         self.connection = self.connected()
+        self._identity = self.identity_by_now()
+        self.known = known_of(self._identity)
+
+    def identity(self) -> Optional[StoreIdentity]:
+        """By the file's number on its device, whatever path leads there."""
+        if self.connection is None:
+            self.connect()
+        return self._identity
+
+    def identity_by_now(self) -> Optional[StoreIdentity]:
+        """Of the file that has the path; None where there is none, as of a database in memory."""
+        try:
+            status = os.stat(self.path)
+        except (OSError, ValueError):
+            return None
+        where = f"{this_machine()} {status.st_dev} {status.st_ino}"
+        table = f"table {self.table} of the SQLite file"
+        shown = f"{table} {os.path.abspath(self.path)} (inode {status.st_ino})"
+        return StoreIdentity(f"sqlite {where} {self.table}", shown)
 
     def connected(self) -> Any:
         more: Dict[str, Any] = {"isolation_level": None, "check_same_thread": False}
@@ -268,6 +290,8 @@ class SQLiteStore:
         self.close()
         if self.level == AUTOCOMMIT and not self.is_alone:
             return "unknown"
+        if self.known is not None and self.known != known_of(self.identity_by_now()):
+            return "unknown"  # another file has the path by now, which knows nothing of it
         try:
             connection = sqlite3.connect(self.path, isolation_level=None, timeout=seconds)
             try:
@@ -302,7 +326,7 @@ class SQLiteStore:
     def ticket(self, written: Sequence[Any]) -> Any:
         if self.level == AUTOCOMMIT and not self.is_alone:
             return None
-        return (self.count, self.is_alone, *written)
+        return (self.count, self.is_alone, self.known, *written)
 
     def claim(self, run_name: str, token: str, seconds: float) -> None:
         """Makes the name that of one run, or raises NameTakenError where it is another's;
@@ -328,7 +352,7 @@ def asked(path: str, table: str, own: str, *, ticket: Any, seconds: float) -> Co
     """What became of the transaction of a store whose process is killed."""
     store = SQLiteStore(path, patience=seconds)
     store.table, store.own = table, own
-    store.count, is_alone, *row_name = ticket
+    store.count, is_alone, store.known, *row_name = ticket
     outcome = store.outcome_within(seconds)
     if outcome != "committed" or not is_alone:
         return outcome, None

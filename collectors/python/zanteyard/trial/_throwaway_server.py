@@ -66,7 +66,11 @@ class ThrowawayServer:
         """Again, where it was stopped."""
         with open(f"{self.folder}/log", "ab") as log:
             quiet: Dict[str, Any] = {"stdin": subprocess.DEVNULL, "stdout": log, "stderr": log}
-            self.process = process = subprocess.Popen(self.call(), cwd=self.folder, **quiet)
+            # A terminal's Ctrl-C is for the clients: the audit has a last round over the server.
+            process = subprocess.Popen(
+                self.call(), cwd=self.folder, start_new_session=True, **quiet
+            )
+            self.process = process
         with open(f"{self.folder}/{PID}", "w", encoding="ascii") as file:
             file.write(f"{process.pid}\n")
         ends = time.monotonic() + STARTING

@@ -239,7 +239,7 @@ class _OwnKeys:
         self.store, self.prefix = store, prefix
         self.begin, self.commit = store.begin, store.commit
         self.rollback, self.outcome = store.rollback, store.outcome
-        self.claim = store.claim
+        self.claim, self.identity = store.claim, store.identity
 
     @property
     def statement(self) -> Optional[str]:

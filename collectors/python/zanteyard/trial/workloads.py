@@ -5,6 +5,7 @@ from __future__ import annotations
 
 import multiprocessing
 import random
+import signal
 import threading
 import time
 from typing import Any, Callable, Dict, List, Optional, Sequence
@@ -16,6 +17,7 @@ from ..session._session import Session
 PAIRS = 8  # of keys
 READY = 60.0  # seconds for all clients' processes to start
 SHORT = 0.002  # seconds between a write and what takes it back
+LOOKS = 0.2  # seconds between two looks at whether clients in processes are to end
 LIFE = 2.0  # seconds for which a client is there that another one follows
 
 
@@ -169,10 +171,12 @@ class ChurningClients(Clients):
         seconds: float,
         rate: Optional[float] = None,
         life: float = LIFE,
+        is_over: Callable[[], bool] = lambda: False,
     ) -> None:
         self.live, self.make_store, self.life = live, make_store, life
         self.came, self.total = 0, 0.0
-        super().__init__([None] * count, workload, seconds, lambda: bool(live.is_over), rate)
+        has_ended = lambda: bool(live.is_over) or is_over()
+        super().__init__([None] * count, workload, seconds, has_ended, rate)
         self.waited = self.total / (self.took * count)
 
     def client(self, number: int, session: Any) -> None:
@@ -204,6 +208,7 @@ class ClientProcesses(Clients):
         workload: str,
         seconds: float,
         rate: Optional[float] = None,
+        is_over: Callable[[], bool] = lambda: False,
     ) -> None:
         self.committed = self.aborted = 0
         # Processor time while transactions ran, and of the processes.
@@ -215,8 +220,8 @@ class ClientProcesses(Clients):
         spawned = multiprocessing.get_context(
             "spawn"
         )  # a fork would have half of the auditor's threads
-        results, ready = spawned.SimpleQueue(), spawned.Barrier(count)
-        asked = (path, make_store, workload, seconds, rate and rate / count)
+        results, ready, ended = spawned.SimpleQueue(), spawned.Barrier(count), spawned.Event()
+        asked = (ended, path, make_store, workload, seconds, rate and rate / count)
         processes = [
             spawned.Process(
                 target=client_process, args=(results, ready, number, *asked), daemon=True
@@ -227,7 +232,10 @@ class ClientProcesses(Clients):
             for process in processes:
                 process.start()
             for process in processes:
-                process.join()
+                while process.is_alive():
+                    if is_over():
+                        ended.set()
+                    process.join(LOOKS)
         finally:
             for process in processes:
                 if process.is_alive():
@@ -254,14 +262,16 @@ def client_process(
     results: Any,
     ready: Any,
     number: int,
+    ended: Any,
     path: Optional[str],
     make_store: Callable[[], Any],
     workload: str,
     seconds: float,
     rate: Optional[float],
 ) -> None:
-    """One client, beside whose transactions its process does nothing else. Tells what failed, or
-    what it did."""
+    """One client, beside whose transactions its process does nothing else, until the time is up or
+    `ended` is set. Tells what failed, or what it did."""
+    signal.signal(signal.SIGINT, signal.SIG_IGN)  # a terminal's is for the process that began it
     try:
         store = make_store()
         store.connect()
@@ -269,7 +279,7 @@ def client_process(
         session = audit.session(store) if audit else Session(Nothing(), number, store, "unaudited")
         ready.wait(READY)
         began = time.process_time()
-        is_over = lambda: audit is not None and audit.is_over
+        is_over = lambda: ended.is_set() or (audit is not None and audit.is_over)
         clients = Clients([session], EVERY_WORKLOAD[workload], seconds, is_over, rate, number)
         if audit:
             audit.leave()

@@ -23,7 +23,7 @@ from ._ending import STATUS_WORDS
 from ._facts import create, findings, server_of
 from ._patterns import add_tables_option
 from ._prepare import host_name
-from ._proxy import find_proxy
+from ._proxy_program import find_proxy
 from ._run import Plan, Run, stopped_by_signals
 from ._sharing import add_sharing, mistake_of, words_of
 from ._supervising import CantBeginError
@@ -80,7 +80,7 @@ def add_arguments(command: argparse.ArgumentParser) -> None:
     )
     command.add_argument(
         "--round-seconds", type=float, default=60.0, metavar="S",
-        help="seconds that a round may take, before the audit is given up (60)",
+        help="seconds that the search of a round may take, before it is skipped (60)",
     )
     command.add_argument(
         "--log", type=level, metavar="LEVEL", default="INFO", help="the log's level (INFO)"
@@ -131,11 +131,9 @@ def run(asked: Any) -> int:
         call, program, title, origin_of(program).sentence(), environment,
         page=asked.page, metrics=asked.metrics, journal=asked.journal, save=asked.save,
         round_seconds=asked.round_seconds, for_seconds=asked.seconds, redacts=asked.redact,
-        promise=ASKED[asked.promise],
+        promise=ASKED[asked.promise], listen=asked.listen,
     )
     watch = Run(plan, tell)
-    about = plan.promise.title
-    logger.info("applications connect to %s; they are watched for %s", asked.listen, about)
     with stopped_by_signals(watch):
         try:
             return watch.run()

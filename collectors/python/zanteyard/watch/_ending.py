@@ -5,7 +5,7 @@ from __future__ import annotations
 from typing import Iterator, List, Mapping
 
 from ..core._visible import visible
-from ..promises._kinds import SERIALIZABLE
+from ..promises._kinds import SERIALIZABLE, Promise
 from ._described import clock
 from ._state import Seen, Status
 from ._text import counted
@@ -14,7 +14,8 @@ STATUSES: Mapping[str, int] = {"serial": 0, "violated": 1, "pending": 3}
 UNDECIDED = 4
 SHOWN = 15  # shapes of statements
 STATUS_WORDS = (
-    "The exit status says what was found by the end: 0 serial, 1 violated, 2 it can't begin, "
+    "The exit status says what was found by the end: 0 serial, or the promise asked for is kept, "
+    "1 violated, 2 it can't begin, "
     "3 pending, 4 something was lost or not decided, or nothing was checked."
 )
 
@@ -25,6 +26,11 @@ def kind_of(status: Status) -> str:
     if kind in ("serial", "pending", "running") and not status.whole_seen.offered:
         return "nothing"
     return {"spent": "undecided", "running": "incomplete"}.get(kind, kind)
+
+
+def word_of(kind: str, promise: Promise) -> str:
+    """The verdict for people: a history may keep another promise and not be serial at all."""
+    return "kept" if kind == "serial" and promise != SERIALIZABLE else kind
 
 
 def status_of(status: Status) -> int:
@@ -42,7 +48,7 @@ def lines_of(status: Status) -> Iterator[str]:
     audits = f" and {counted(status.audit, 'audit')}" if status.audit > 1 else ""
     checked = f"{seen.offered:,} of {seen.whole:,} transactions were checked"
     about = "" if status.promise == SERIALIZABLE else f" for {status.promise.title}"
-    yield f"{kind}: {checked}{about}, in {rounds}{audits}"
+    yield f"{word_of(kind, status.promise)}: {checked}{about}, in {rounds}{audits}"
     if status.violations_count:
         its = counted(status.violations_count, "violation")
         names = ", ".join(sorted({one.title for one in status.violations}))
@@ -57,6 +63,8 @@ def lines_of(status: Status) -> Iterator[str]:
         f"  {seen.reads:,} of {seen.whole_reads:,} rows read were checked, "
         f"{seen.writes:,} of {seen.whole_writes:,} rows written"
     )
+    if seen.reads_before:
+        yield f"  {seen.reads_before:,} of the rows read were from before the audit"
     if seen.empty:
         yield f"  besides, {counted(seen.empty, 'transaction')} read and wrote no row that was seen"
     yield from _left_out(seen)

@@ -50,7 +50,7 @@ class Explaining:
         answer, now = _Answer(), time.time()
         with self._turn:
             self._awaited[self.count] = answer
-        describe(self.count, sorted(held.involved(report[4]))[:MOST_DESCRIBED])
+        describe(self.count, held.involved()[:MOST_DESCRIBED])
         whole = (self.count, report, held, answer, now)
         thread = threading.Thread(target=self._explain, args=whole, daemon=True)
         self._threads.append(thread)

@@ -65,6 +65,8 @@ def findings(database: Database, server: Server) -> List[Finding]:
     found.append(_replication(database, server))
     if all(one.is_right for one in found):
         found.append(_plugin(database, server))
+    else:
+        found += _plugin_untried(database, server)
     found += [_fence(database, server), _walinspect(database, server), _keep(database, server)]
     return found
 
@@ -132,7 +134,7 @@ def _plugin(database: Database, server: Server) -> Finding:
             remedy = f"install it on the server (Debian: postgresql-NN-{PLUGIN})"
         elif error.code == REFUSED and (trusted := _trusted(database)) is not None:
             told = f"{PLUGIN} isn't in the server's {TRUSTED}"
-            remedy = server.host.remedy(PLUGINS, server.user).replace("{trusted}", trusted)
+            remedy = _trust_remedy(server, trusted)
         else:
             return Finding(False, True, f"no slot can be made: {error}")
         try:
@@ -143,6 +145,21 @@ def _plugin(database: Database, server: Server) -> Finding:
         return Finding(False, False, f"{told}: {without}", remedy)
     finally:
         database.run("RESET statement_timeout")
+
+
+def _plugin_untried(database: Database, server: Server) -> List[Finding]:
+    """What is known of it while no slot can be made, so that it is mended along with the rest."""
+    trusted = _trusted(database)
+    names = database.one(f"SELECT current_setting('{TRUSTED}', true)") or ""
+    if trusted is None or PLUGIN in (name.strip(" \"") for name in names.split(",")):
+        return []
+    told = f"{PLUGIN} isn't in the server's {TRUSTED}"
+    without = f"else {SHIPPED} is used; with it {BEHIND_SAVEPOINTS}"
+    return [Finding(False, False, f"{told}: {without}", _trust_remedy(server, trusted))]
+
+
+def _trust_remedy(server: Server, trusted: str) -> str:
+    return server.host.remedy(PLUGINS, server.user).replace("{trusted}", trusted)
 
 
 def _probe(database: Database, plugin: str) -> None:

@@ -34,6 +34,7 @@ def families(status: Status) -> Iterator[Family]:
         ("transactions_committed_total", "committed", "Commits that the server's log told."),
         ("transactions_aborted_total", "aborted", "Transactions of clients that aborted."),
         ("reads_taken_total", "reads", "Rows read, in what was given to the auditor."),
+        ("reads_from_before_total", "reads_before", "Of these, of rows from before the audit."),
         ("writes_taken_total", "writes", "Rows written, in what was given to the auditor."),
         ("clients_total", "connections_ever", "Connections that clients made."),
     ):

@@ -1,10 +1,11 @@
-"""The program zanteyard-proxy: where it is, how it is started, what it writes, and how it ends."""
+"""The program zanteyard-proxy: how it is started, what it writes, and how it ends."""
 
 from __future__ import annotations
 
 import contextlib
 import logging
 import os
+import re
 import signal
 import subprocess
 import threading
@@ -12,52 +13,13 @@ from typing import Callable, List, Mapping, Optional, Sequence
 
 from ..core._visible import visible
 from ..core.errors import ProgramMissingError
-from ..program._binaries import CRATES, PACKED
 from ._feed import Item, Split
 
-NAME = "zanteyard-proxy"
-ENVIRONMENT = "ZANTEYARD_PROXY"
-BUILT = os.path.join(os.path.dirname(CRATES), "proxy", "out", NAME)  # in a clone
+STAMP = re.compile("[0-9]{4}/[0-9/]+ [0-9:]+ zanteyard-proxy: ")  # before each of its log's lines
+LISTENING = "listening on "  # its log says so once it takes connections
 PIECE = 1 << 20  # bytes that are read at once
 ENDING = 10.0  # seconds in which it has to end once it was told to
 logger = logging.getLogger("zanteyard")
-
-
-def proxy_path(environment: Mapping[str, str] = os.environ) -> str:
-    """The program that would be started: the one that the environment names, else the one that came
-    with the package, else the one that a clone has built."""
-    named = environment.get(ENVIRONMENT)
-    if named:
-        return named
-    packed = os.path.join(PACKED, NAME)
-    return packed if os.path.isfile(packed) else BUILT
-
-
-def find_proxy(environment: Mapping[str, str] = os.environ) -> str:
-    """The same; raises ProgramMissingError if there is none that can be started."""
-    path = proxy_path(environment)
-    if not os.path.isfile(path):
-        raise ProgramMissingError(
-            f"{path} isn't there: install the wheel, build the proxy, or name it by {ENVIRONMENT}"
-        )
-    if not os.access(path, os.X_OK):
-        raise ProgramMissingError(f"{path} can't be executed")
-    return path
-
-
-def build_of(environment: Mapping[str, str] = os.environ) -> str:
-    """Where the program is, and what it says of its build."""
-    path = proxy_path(environment)
-    if not os.path.isfile(path):
-        return f"{path}: not there"
-    try:
-        its = subprocess.run(
-            [path, "--version"], stdin=subprocess.DEVNULL, capture_output=True, timeout=ENDING
-        )
-    except (OSError, subprocess.SubprocessError) as error:
-        return f"{path}: it can't be started ({visible(str(error), 200)})"
-    told = visible(its.stdout.decode("utf-8", "replace"), 200)
-    return f"{path}: {told or 'it says nothing of its build'}"
 
 
 class Proxy:
@@ -87,6 +49,7 @@ class Proxy:
         except OSError as error:
             raise ProgramMissingError(f"{call[0]} can't be started: {error.strerror}") from error
         self.last_words: List[str] = []  # on standard error
+        self.is_listening = threading.Event()
         self._take = take
         self._turn = threading.Lock()  # to write a command
         self._threads = [
@@ -131,7 +94,9 @@ class Proxy:
         assert self.process.stderr is not None
         with contextlib.suppress(OSError, ValueError):
             for line in self.process.stderr:
-                told = visible(line.decode("utf-8", "replace"), 500)
+                told = STAMP.sub("", visible(line.decode("utf-8", "replace"), 500))
+                if told.startswith(LISTENING):
+                    self.is_listening.set()
                 self.last_words = [*self.last_words[-4:], told]
                 logger.info("proxy: %s", told)
 

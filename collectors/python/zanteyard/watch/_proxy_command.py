@@ -12,13 +12,13 @@ from ..core._visible import say
 from ..promises._kinds import SERIALIZABLE
 from ._command import LISTEN, MISTAKE, URL, call_of, place
 from ._patterns import add_tables_option
-from ._proxy import find_proxy
+from ._proxy_program import find_proxy
 from ._sharing import add_sharing, mistake_of
 
 EXAMPLE = """\
 One audit of two application servers, each with a proxy of its own:
 
-  (umask 077; head -c 32 /dev/urandom | base64 > audit.key)     and copy it to the other one
+  first$  zanteyard key audit.key     and copy it to the other one
   first$  zanteyard watch postgresql://admin@db.example/shop \\
               --redis rediss://redis.example --audit shop --key audit.key
   second$ zanteyard proxy postgresql://admin@db.example/shop \\

@@ -21,7 +21,7 @@ from ._figures import Metrics
 from ._intake import Intake
 from ._saving import save
 from ._serving import Pages
-from ._supervising import Supervisor
+from ._supervising import CantBeginError, Supervisor
 from ._violations import Violation
 from ._watching import Watching
 from ._web import Tell, WebServer
@@ -49,6 +49,7 @@ class Plan:
     save: Optional[str] = None
     round_seconds: float = 60.0
     for_seconds: Optional[float] = None  # then it stops by itself
+    listen: str = ""  # where applications connect
     redacts: bool = False  # shows no values of statements
     promise: Promise = SERIALIZABLE  # what the audit asks for
 
@@ -92,7 +93,7 @@ class Run:
 
     def run(self) -> int:
         """Until it is stopped; gives the exit status. Raises ProgramMissingError, and
-        CantBeginError if the proxy ends before it has begun an audit."""
+        CantBeginError if no audit begins: the proxy ends before, or says why there can be none."""
         with self._stack:
             self._watching.start()
             try:
@@ -109,14 +110,26 @@ class Run:
 
     def _wait(self) -> None:
         ends: Optional[float] = None
+        is_told = False
         try:
             while not self.stop.wait(LOOKS) and (ends is None or time.monotonic() < ends):
                 self._supervisor.look()
+                if self._watching.cant_begin:
+                    raise CantBeginError(f"the audit can't begin: {self._watching.cant_begin}")
+                if not is_told and self._supervisor.is_listening:
+                    is_told = True
+                    self._tell_listening()
                 has_started = self._supervisor.has_started.is_set()
                 if ends is None and has_started and self.plan.for_seconds is not None:
                     ends = time.monotonic() + self.plan.for_seconds
         except ProgramEndedError as error:
             logger.error("%s", error)
+
+    def _tell_listening(self) -> None:
+        plan = self.plan
+        logger.info(
+            "applications connect to %s; they are watched for %s", plan.listen, plan.promise.title
+        )
 
     def _last_round(self) -> None:
         logger.info("a last round, and then it ends")

@@ -8,10 +8,10 @@ part of what was logged, and the auditor has found that part violated as well.
 
 from __future__ import annotations
 
-from dataclasses import replace
-from typing import Dict, Iterator, Optional, Set, Tuple
+from dataclasses import dataclass, replace
+from typing import Any, Container, Dict, Iterator, Mapping, Optional, Sequence, Set, Tuple
 
-from ..core._records import History, Logged, Naming, ShownId, Source
+from ..core._records import ABORTED, AuditId, History, Logged, Naming, ShownId, Source
 from ..explain._anomalies import UNREPEATABLE, Anomaly
 from ..explain._report import Story
 from ..explain._shrinking import Part, is_violated
@@ -33,33 +33,53 @@ def read_twice(history: History) -> Iterator[Tuple[ShownId, str, Set[Source]]]:
                     yield ShownId((session, number)), key, its
 
 
-def lost_update(
-    small: History, whole: History, program: str, promise: Promise = SERIALIZABLE
-) -> Optional[History]:
-    """In place of a part of the whole in which a transaction read two versions of a row that it
-    wrote: two transactions that both read one version and both replaced it. None if there are no
-    such two, or they aren't violated by themselves."""
-    for one, key, sources in read_twice(small):
-        if key not in whole[one[0]][one[1]].writes:
+@dataclass(frozen=True)
+class LostUpdate:
+    """Two transactions that read one version of a key, and both replaced it."""
+
+    key: int
+    one: AuditId
+    other: AuditId
+
+
+def both_replaced(
+    transactions: Mapping[AuditId, Sequence[Any]], counts: Sequence[int], keys: Container[int]
+) -> Optional[LostUpdate]:
+    """The first lost update among the transactions of a round, which are so many of each session;
+    one of these keys, if there is one. It is what people understand best of a violated round."""
+    readers: Dict[Tuple[Any, ...], AuditId] = {}
+    found: Optional[LostUpdate] = None
+    for one, its in sorted(transactions.items()):
+        is_of_round = one[0] < len(counts) and one[1] < counts[one[0]]
+        if not is_of_round or ABORTED in its:
             continue
-        for source in sorted(sources, key=repr):
-            other = _replaced(whole, key, source, one)
-            if other is not None:
-                found = _both(whole, key, source, (one, other))
-                if is_violated(found, program, promise):
-                    return found
-    return None
+        for read in {tuple(read) for read in its[0] if read[0] and read[0] in its[1]}:
+            other = readers.setdefault(read, one)
+            if other == one or (found is not None and read[0] not in keys):
+                continue
+            if read[0] in keys:
+                return LostUpdate(read[0], other, one)
+            found = LostUpdate(read[0], other, one)
+    return found
 
 
-def _replaced(
-    whole: History, key: str, source: Source, but: ShownId
-) -> Optional[ShownId]:
-    """Another transaction that read this version and wrote the key."""
-    for session, transactions in enumerate(whole):
-        for number, logged in enumerate(transactions):
-            one = ShownId((session, number))
-            if one != but and key in logged.writes and (key, source) in logged.reads:
-                return one
+def lost_update(
+    whole: History,
+    key: str,
+    ids: Tuple[ShownId, ShownId],
+    program: str,
+    promise: Promise = SERIALIZABLE,
+) -> Optional[History]:
+    """The part of the whole that these two are, which read one version of the key and both replaced
+    it. None if the auditor doesn't find it violated by itself."""
+    one, other = (
+        {source for name, source in whole[session][number].reads if name == key}
+        for session, number in ids
+    )
+    for source in sorted(one & other, key=repr):
+        found = _both(whole, key, source, ids)
+        if is_violated(found, program, promise):
+            return found
     return None
 
 

@@ -66,6 +66,7 @@ class Seen:
     reads: int = 0
     reads_seen: int = 0
     reads_own: int = 0  # of what the reader itself had written
+    reads_before: int = 0  # of `reads`: of versions from before the audit
     reads_left_out: Mapping[str, int] = field(default_factory=dict)
     writes: int = 0
     writes_seen: int = 0
@@ -86,7 +87,7 @@ class Seen:
 
     COUNTED: ClassVar[Tuple[str, ...]] = (
         "committed", "offered", "fences", "aborted", "empty", "reads", "reads_seen", "reads_own",
-        "writes", "writes_seen", "connections_ever", "statements_dropped",
+        "reads_before", "writes", "writes_seen", "connections_ever", "statements_dropped",
     )
     BY_REASON: ClassVar[Tuple[str, ...]] = ("folded", "reads_left_out", "writes_left_out")
 

@@ -39,7 +39,7 @@ ol.violations a { font-weight: 700; font-size: 1.05rem; }
 td.count, th.count { text-align: right; white-space: nowrap; padding-right: 1.2rem;
   font-variant-numeric: tabular-nums; width: 7rem; }
 td.time { white-space: nowrap; } td.shape code { color: var(--ink); }
-.wide { overflow-x: auto; -webkit-overflow-scrolling: touch; }
+.wide { -webkit-overflow-scrolling: touch; }
 th:first-child { width: auto; }
 details { margin: .6rem 0; } summary { cursor: pointer; font-weight: 600; }
 details.transaction { border: 1px solid var(--line); border-radius: 10px; padding: .5rem .9rem; }

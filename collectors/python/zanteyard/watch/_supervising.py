@@ -53,6 +53,11 @@ class Supervisor:
         if items:
             self._intake.put(items)
 
+    @property
+    def is_listening(self) -> bool:
+        """The proxy of the moment takes connections."""
+        return self._proxy is not None and self._proxy.is_listening.is_set()
+
     def tell(self, line: bytes) -> bool:
         """A command for the proxy of the moment; tells whether it could be written."""
         proxy = self._proxy

@@ -95,10 +95,15 @@ def _whose(one: Told) -> str:
     return escaped(its.application, 80) or escaped(its.client, 200) or "an application"
 
 
+def _whence(its: Described) -> Sequence[str]:
+    """Unless its heading says so, for want of the application's name."""
+    address = f"from {escaped(its.address, 80)}" if its.address else ""
+    return [address, f"as {escaped(its.user, 80)}" if its.user else ""] if its.application else []
+
+
 def _facts(one: Told, its: Described) -> str:
     facts = [
-        f"from {escaped(its.address, 80)}" if its.address else "",
-        f"as {escaped(its.user, 80)}" if its.user else "",
+        *_whence(its),
         escaped(its.level) if its.level not in ("", "unknown") else "",
         f"began at {clock(its.began)}" if its.began else "",
         f"ended at {clock(its.ended)}" if its.ended else "",

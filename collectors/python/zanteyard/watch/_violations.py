@@ -5,7 +5,7 @@ from __future__ import annotations
 
 import re
 from dataclasses import dataclass, replace
-from typing import Any, Dict, Iterable, Iterator, List, Mapping, Sequence, Set
+from typing import Any, Dict, Iterable, Iterator, List, Mapping, Optional, Sequence, Set
 from typing import Tuple
 
 from ..core._own_keys import FENCE
@@ -18,7 +18,7 @@ from ..promises._kinds import SERIALIZABLE, Promise
 from ..promises._rewriting import ids_of
 from ._described import Described, by_time, clock, lines_of
 from ._retained import Retained, Transaction
-from ._sql_anomalies import lost_update
+from ._sql_anomalies import LostUpdate, both_replaced, lost_update
 from ._sql_anomalies import named as named_story
 
 EXPLAINING = 15.0  # seconds for making a violated history small, and as many for the reasons
@@ -136,20 +136,37 @@ def last_writers(shown: bytes, keys: Iterable[int]) -> Dict[int, AuditId]:
 
 
 class Held:
-    """What the auditor holds, but with the keys alone that its refutation names: whatever explains
-    all of it explains this. It is what `from_start` and `refuted` want of an auditor."""
+    """What the auditor holds, but with the keys alone that its refutation names, and that of a lost
+    update: whatever explains all of it explains this. It is what `from_start` and `refuted` want of
+    an auditor. `shown` is the auditor's reply to `show`."""
 
-    def __init__(self, retained: Retained, keys: Set[int], last: Mapping[int, AuditId]):
+    def __init__(self, retained: Retained, report: Sequence[Any], shown: bytes):
+        _, _, _, counts, self.certificate = report
         self.marks = [*retained.marks]
+        transactions = retained.transactions()
+        keys = keys_of(self.certificate)
+        self.lost: Optional[LostUpdate] = both_replaced(transactions, counts, keys)
+        if self.lost is not None:
+            keys.add(self.lost.key)
+        last = last_writers(shown, keys)
         self.base = {key_text(key): its for key, its in last.items() if key in keys}
         self.history: History = [[] for _ in self.marks]
-        for (session, number), its in sorted(retained.transactions().items()):
+        for (session, number), its in sorted(transactions.items()):
             gap = number - self.marks[session] - len(self.history[session])
             self.history[session] += [Logged((), ())] * gap + [_logged(its, keys)]
 
-    def involved(self, certificate: Iterable[Any]) -> Set[AuditId]:
-        """The transactions that a refutation names, of those that remain."""
-        return {one for one in named(certificate) if one[1] >= self.marks[one[0]]}
+    def involved(self) -> List[AuditId]:
+        """The transactions of which it may be told, of those that remain, the likeliest first."""
+        lost = [self.lost.one, self.lost.other] if self.lost is not None else []
+        rest = {one for one in named(self.certificate) if one[1] >= self.marks[one[0]]}
+        return [*lost, *sorted(rest - {*lost})]
+
+    def lost_part(self, whole: History, program: str, promise: Promise) -> Optional[History]:
+        """The lost update as a part of the whole, which is what `from_start` made of this."""
+        if self.lost is None:
+            return None
+        one, other = (shown_id(id, self.marks) for id in (self.lost.one, self.lost.other))
+        return lost_update(whole, key_text(self.lost.key), (one, other), program, promise)
 
     @staticmethod
     def called(one: AuditId) -> str:
@@ -186,8 +203,8 @@ def explained(
     to three times so many seconds. Raises ProgramEndedError and the like."""
     _, round_number, _, counts, certificate = report
     history, names = from_start(held)
-    part = smaller(history, program, seconds, refuted(held, certificate), promise)
-    part = lost_update(part, history, program, promise) or part
+    part = held.lost_part(history, program, promise)
+    part = part or smaller(history, program, seconds, refuted(held, certificate), promise)
     real = {
         there: absolute(there, held.marks)
         for there in compact(part)[1].values()
@@ -254,6 +271,12 @@ def absolute(one: ShownId, marks: Sequence[int]) -> AuditId:
     """The transaction that `from_start` has under this number."""
     session, number = one
     return AuditId((session, number - 1 + marks[session] if any(marks) else number))
+
+
+def shown_id(one: AuditId, marks: Sequence[int]) -> ShownId:
+    """The number under which `from_start` has a transaction that remains."""
+    session, number = one
+    return ShownId((session, number - marks[session] + 1 if any(marks) else number))
 
 
 def _with_keys(history: History, names: Mapping[str, str]) -> History:

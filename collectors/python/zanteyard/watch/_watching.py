@@ -10,16 +10,17 @@ import threading
 import time
 from typing import Callable, Dict, List, Optional, Sequence
 
-from ..core.errors import JournalError, ProgramEndedError, RoundTooLongError, ZanteyardError
+from ..core.errors import JournalError, ProgramEndedError, ZanteyardError
 from ._auditing import Auditing, refusal_of
 from ._board import Board
+from ._ending import word_of
 from ._explaining import Explaining
 from ._feed import Event, Item, answered_of, command, text, whole
 from ._intake import Intake
 from ._pending import waiting_reads
 from ._redacting import without_values
 from ._retained import Retained
-from ._violations import Held, keys_of, last_writers
+from ._violations import Held
 
 OK, REPORT, CUT = b'["ok"]', b'["report",', b'["cut",'
 TRUNCATE, ROUND = b'["truncate"', b'["round"'
@@ -62,6 +63,7 @@ class Watching:
         self._violated: Optional[bytes] = None  # a report that hasn't been seen to
         self._is_stopping = self._has_started = False
         self._has_given_up = False  # the proxy ended its audit, and hasn't begun another one
+        self.cant_begin = ""  # why the first audit of all couldn't
         self._restart_at: Optional[float] = None  # by the monotonic clock
         self._ends = 0  # of audits, one soon after another
         self._ended_at = float("-inf")
@@ -124,7 +126,7 @@ class Watching:
                 self._see_to_violation()
         except RefusedLineError as error:
             self._lose(str(error))
-        except (ProgramEndedError, JournalError, RoundTooLongError) as error:
+        except (ProgramEndedError, JournalError) as error:
             self._lose(str(error).rstrip(": "))
         self.board.restarted(self.auditing.restarts)
 
@@ -156,7 +158,7 @@ class Watching:
         logger.log(
             logging.INFO if is_due else logging.DEBUG,
             "round %d: %s, of %d transactions, %d of them remembered; %.1f s behind",
-            number, kind, seen.taken, seen.remaining, seen.behind,
+            number, word_of(kind, self.auditing.promise), seen.taken, seen.remaining, seen.behind,
         )
         if kind == "violated":
             self._violated = reply
@@ -179,8 +181,7 @@ class Watching:
         report, self._violated = json.loads(self._violated), None
         sentence = self.auditing.promise.sentence("violated")
         logger.error("VIOLATED: %s; an explanation follows", sentence)
-        keys = keys_of(report[4])
-        held = Held(self._retained, keys, last_writers(self.auditing.ask(SHOW), keys))
+        held = Held(self._retained, report, self.auditing.ask(SHOW))
         self.explaining.begin(
             report,
             held,
@@ -243,7 +244,7 @@ class Watching:
         elif name == "ended":
             if not self.stopped.is_set():  # else it was told to end
                 self._has_given_up = True
-                self._lose(text(event.get("reason")) or "the proxy gave it up")
+                self._given_up(event)
         elif name == "stopped":
             self.stopped.set()
         elif name == GONE:
@@ -253,6 +254,14 @@ class Watching:
             self._restart_at = None  # the next one begins an audit by itself
             if self._is_stopping:
                 self.stopped.set()
+
+    def _given_up(self, event: Event) -> None:
+        """One that has never begun lacks something, unless it only waited for a transaction."""
+        reason = text(event.get("reason")) or "the proxy gave it up"
+        if self._has_started or event.get("blocked") is True:
+            self._lose(reason)
+        else:
+            self.cant_begin = self.cant_begin or reason
 
     def _warn(self, told: str) -> None:
         """In the log only if it hasn't said the same for a while."""

@@ -74,7 +74,7 @@ func (a *Audit) Run(ctx context.Context) error {
 	its, err := a.begin(ctx)
 	if err != nil {
 		a.inbox.Close()
-		a.writer.Event(join.Ended{Reason: err.Error()})
+		a.writer.Event(join.Ended{Reason: err.Error(), Blocked: errors.Is(err, slot.ErrBlocked)})
 		return err
 	}
 	defer its.close()

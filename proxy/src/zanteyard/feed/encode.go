@@ -25,7 +25,7 @@ func encode(it join.Event) ([]byte, error) {
 	case join.Warning:
 		return object("warning", it.At, map[string]any{"text": it.Text})
 	case join.Ended:
-		return object("ended", time.Now(), map[string]any{"reason": it.Reason})
+		return object("ended", time.Now(), map[string]any{"reason": it.Reason, "blocked": it.Blocked})
 	case join.Restarted:
 		return object("restarted", it.At, nil)
 	case join.Stopped:
@@ -86,7 +86,8 @@ func coverage(it join.Coverage) map[string]any {
 	to := map[string]any{
 		"committed": it.Committed, "offered": it.Offered, "fences": it.Fences, "aborted": it.Aborted, "empty": it.Empty,
 		"folded": it.Folded,
-		"reads":  map[string]any{"seen": it.Reads, "offered": it.ReadsOffered, "own": it.ReadsOwn, "left_out": it.ReadsLeft},
+		"reads": map[string]any{"seen": it.Reads, "offered": it.ReadsOffered, "own": it.ReadsOwn, "before": it.ReadsBefore,
+			"left_out": it.ReadsLeft},
 		"writes": map[string]any{"seen": it.Writes, "offered": it.WritesOffered, "left_out": it.WritesLeft},
 		"unseen": unseen,
 		"connections": map[string]any{

@@ -65,6 +65,7 @@ func (l *load) transaction() {
 			l.core.placed(batch, l.place, l.now)
 		}
 		l.core.step(l.now)
+		l.core.flush()
 	}
 	if l.next%1000 == 0 {
 		marks := make([]uint64, 64)

@@ -204,7 +204,7 @@ func (c *core) lag() time.Duration {
 	return c.now.Sub(c.asked[0].at)
 }
 
-// step does whatever can be done by now.
+// step does whatever can be done by now, but that it gives out no fragments (flush).
 func (c *core) step(now time.Time) {
 	c.now = now
 	c.foldLate()
@@ -215,7 +215,6 @@ func (c *core) step(now time.Time) {
 			moved = c.write(s) || moved
 		}
 	}
-	c.flush()
 }
 
 // foldLate counts commits as somebody else's that no session has told of for a while.

@@ -47,6 +47,7 @@ func TestStories(t *testing.T) {
 			b.connect(1, 2)
 			b.tell(2, 0, record.Transaction{Reads: []record.Read{read("a", 1001)}})
 			b.core.step(b.now)
+			b.core.flush()
 			if len(b.lines) != 1 {
 				b.t.Error("it was offered before the slot had told what it read")
 			}

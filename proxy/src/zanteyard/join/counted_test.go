@@ -47,6 +47,19 @@ func TestAsManyReadsAsTheAuditorTakes(t *testing.T) {
 	}
 }
 
+// TestReadsOfVersionsFromBeforeTheAudit: all such versions of a row are its first state, and are counted.
+func TestReadsOfVersionsFromBeforeTheAudit(t *testing.T) {
+	b := newBench(t, Options{Sessions: 2})
+	b.connect(1, 2)
+	b.commit(1001, "a")
+	b.tell(1, 0, record.Transaction{Number: 1001, Reads: []record.Read{read("a", 5), read("b", 7)}})
+	b.tell(2, 0, record.Transaction{Reads: []record.Read{read("a", 1001), read("b", 7)}})
+	b.settle()
+	if n := b.core.counts; n.before != 3 || n.readsOffered != 4 {
+		t.Errorf("%d of %d reads were of versions from before", n.before, n.readsOffered)
+	}
+}
+
 // TestFencesAreCountedApart: a fence is offered, and neither its read nor its write is the application's.
 func TestFencesAreCountedApart(t *testing.T) {
 	c := newBench(t, Options{Sessions: 2}).core

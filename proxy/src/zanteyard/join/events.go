@@ -33,8 +33,12 @@ type Warning struct {
 	Text string
 }
 
-// Ended tells that the audit has ended; traffic goes on.
-type Ended struct{ Reason string }
+// Ended tells that the audit has ended; traffic goes on. Blocked: it couldn't begin, since a transaction of before is still
+// open; once that has ended, the next one can.
+type Ended struct {
+	Reason  string
+	Blocked bool
+}
 
 // Restarted tells that a new audit begins with the next line.
 type Restarted struct{ At time.Time }
@@ -49,6 +53,7 @@ type Coverage struct {
 	Aborted, Empty                            uint64
 	Folded                                    map[string]uint64
 	Reads, ReadsOffered, ReadsOwn             uint64
+	ReadsBefore                               uint64 // of those that are offered: of versions from before the audit
 	ReadsLeft                                 map[string]uint64
 	Writes, WritesOffered                     uint64
 	WritesLeft                                map[string]uint64
@@ -129,8 +134,9 @@ func (j *Joiner) coverageEvent(isLast bool) Coverage {
 	n.lost = lost
 	it := Coverage{
 		At: time.Now(), Committed: n.committed, Offered: n.offered, Fences: n.fences, Aborted: n.aborted, Empty: n.empty,
-		Folded: copyOf(n.folded), Reads: n.reads, ReadsOffered: n.readsOffered, ReadsOwn: n.own, ReadsLeft: copyOf(n.leftReads),
-		Writes: n.writes, WritesOffered: n.writesOffered, WritesLeft: copyOf(n.leftWrites),
+		Folded: copyOf(n.folded), Reads: n.reads, ReadsOffered: n.readsOffered, ReadsOwn: n.own, ReadsBefore: n.before,
+		ReadsLeft: copyOf(n.leftReads),
+		Writes:    n.writes, WritesOffered: n.writesOffered, WritesLeft: copyOf(n.leftWrites),
 		Unseen: unseen, Connections: len(c.connections), ConnectionsEver: n.ever,
 		Lag: c.lag(), Rows: len(c.rows.by), Rounds: n.rounds, StatementsDropped: n.dropped, Lost: n.lost, SubsLost: n.unread,
 		Remaining: c.remaining(),

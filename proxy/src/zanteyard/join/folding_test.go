@@ -183,6 +183,7 @@ func fold(t testing.TB, p past, r *rand.Rand, opt Options) *bench {
 		}
 		if r.Intn(8) == 0 {
 			b.core.step(b.now)
+			b.core.flush()
 		}
 		if r.Intn(10) == 0 {
 			b.later(600 * time.Millisecond)

@@ -368,13 +368,26 @@ func (w *world) spares(sessions []int) {
 		w.tick()
 		began := w.now
 		w.some(2)
+		w.idleFence()
 		w.next++
 		number := 1_000_000 + w.next
 		w.bench.commitFence(number)
+		w.idleFence()
 		w.some(2)
 		w.tick()
 		w.tellAll()
 		w.core.spare(s, uint64(number), began, w.now)
+	}
+}
+
+// idleFence has a connection make its fence that was busy when the meeting began, now and then: beside the spare one that
+// the audit's own connection makes in its place.
+func (w *world) idleFence() {
+	for _, c := range w.live {
+		if c.open == nil && !c.fencing && !c.held && w.r.Intn(4) == 0 {
+			w.fence(c, 2)
+			return
+		}
 	}
 }
 

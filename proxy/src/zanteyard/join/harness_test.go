@@ -116,6 +116,7 @@ func (b *bench) pass() {
 	}
 	b.core.advance(b.place)
 	b.core.step(b.now)
+	b.core.flush()
 }
 
 // settle lets so much time pass that nothing is undecided.
@@ -123,6 +124,7 @@ func (b *bench) settle() {
 	b.pass()
 	b.later(b.core.opt.Late + time.Millisecond)
 	b.core.step(b.now)
+	b.core.flush()
 }
 
 func read(key string, version uint32) record.Read {

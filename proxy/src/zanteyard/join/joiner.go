@@ -82,6 +82,7 @@ type Joiner struct {
 	asking     bool // a question for subtransactions is under way
 	warned     sync.Mutex
 	warnings   map[string]time.Time // when they were told last
+	given      time.Time            // when fragments were given out
 	coverage   time.Time
 	forgot     time.Time
 }
@@ -112,6 +113,11 @@ func (j *Joiner) Advance(place uint64) error { return j.give(fromSlot{place: pla
 
 func (j *Joiner) give(it fromSlot) error {
 	select {
+	case <-j.done: // with room in the channel as well, either would be taken
+		return errEnded
+	default:
+	}
+	select {
 	case j.told <- it:
 		return nil
 	case <-j.done:
@@ -121,6 +127,7 @@ func (j *Joiner) give(it fromSlot) error {
 
 const (
 	step      = 5 * time.Millisecond
+	giveOut   = 50 * time.Millisecond // each line costs those who take it, however little is in it
 	askPlace  = 20 * time.Millisecond
 	each      = time.Second
 	questions = 5 * time.Second // how long the server is waited for
@@ -138,6 +145,7 @@ func (j *Joiner) Run(ctx context.Context) error {
 	close(j.done)
 	j.inbox.Close()
 	if j.core != nil {
+		j.core.flush()
 		j.output.Event(j.coverageEvent(false))
 	}
 	j.output.Event(Ended{Reason: err.Error()})
@@ -235,6 +243,7 @@ func (j *Joiner) tick(ctx context.Context) error {
 	j.empty()
 	if j.again {
 		j.again = false
+		j.core.flush()
 		j.output.Event(j.coverageEvent(true))
 		j.output.Event(Restarted{At: now})
 		if err := j.begin(ctx); err != nil {
@@ -242,6 +251,10 @@ func (j *Joiner) tick(ctx context.Context) error {
 		}
 	}
 	j.core.step(now)
+	if now.Sub(j.given) >= giveOut {
+		j.given = now
+		j.core.flush()
+	}
 	if j.core.wantsMoment(j.meeter.Busy) {
 		j.core.quiet()
 	}

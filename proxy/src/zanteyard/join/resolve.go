@@ -28,6 +28,7 @@ type resolution struct {
 	writes []*row
 	left   map[string]uint64
 	own    uint64
+	before uint64 // of the reads, how many found a version that was written before the audit
 }
 
 func (r *resolution) leave(reason string) {
@@ -103,6 +104,7 @@ func (c *core) resolveReads(e *entry, to *resolution) bool {
 			c.add(e, to, id, r, from)
 		case c.isOld(one.Version):
 			c.add(e, to, id, r, initial)
+			to.before++
 		case c.askSubs(r, one.Version):
 			asks = true
 		case !c.inspects && r.mayBeSub(one.Version):

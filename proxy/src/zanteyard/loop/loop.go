@@ -18,8 +18,9 @@ import (
 
 // Loops are the threads. There is one until Share asks for more.
 type Loops struct {
-	last   atomic.Uint64 // number that was given to a socket
-	shares atomic.Pointer[[]*loop]
+	last    atomic.Uint64 // number that was given to a socket
+	shares  atomic.Pointer[[]*loop]
+	hastily atomic.Bool
 
 	lock sync.Mutex // of Share
 	all  []*loop
@@ -83,9 +84,10 @@ func (l *Loops) Take(client, server net.Conn) (*Conn, *Conn, bool) {
 
 // loop is one thread that waits for its sockets.
 type loop struct {
-	loops *Loops
-	epoll int
-	busy  atomic.Int64
+	loops  *Loops
+	epoll  int
+	busy   atomic.Int64
+	events [atOnce]syscall.EpollEvent // what happened, of the last wait
 
 	lock  sync.Mutex
 	conns map[uint64]*Conn
@@ -105,20 +107,15 @@ func start(l *Loops) (*loop, error) {
 }
 
 func (l *loop) run() {
-	var events [atOnce]syscall.EpollEvent
 	shares := l.loops.shares.Load()
 	start := time.Now()
 	for woken := time.Duration(0); ; {
 		l.busy.Add(int64(time.Since(start) - woken))
-		n, _, errno := syscall.Syscall6(syscall.SYS_EPOLL_PWAIT, uintptr(l.epoll), uintptr(unsafe.Pointer(&events[0])),
-			atOnce, ^uintptr(0), 0, 0)
+		n := l.wait()
 		woken = time.Since(start)
-		if errno != 0 {
-			continue // EINTR: Go stops a thread by a signal
-		}
-		for i := range events[:n] {
-			if c := l.find(numberOf(&events[i])); c != nil {
-				c.happened(events[i].Events)
+		for i := range l.events[:n] {
+			if c := l.find(numberOf(&l.events[i])); c != nil {
+				c.happened(l.events[i].Events)
 			}
 		}
 		if now := l.loops.shares.Load(); now != shares {
@@ -126,6 +123,36 @@ func (l *loop) run() {
 			l.share(*shares)
 		}
 	}
+}
+
+// shortly is for how many milliseconds a thread waits without Go's knowledge.
+const shortly = 1
+
+// Hastily says whether a thread waits without Go's knowledge at first. Go's monitor has a thread give up its processor
+// if it waits in a call that Go knows of, then looks every 20 us whether there are others of that kind, and the thread
+// has to be given one when it goes on: between two messages that takes longer than to pass one on. One that waits
+// without its knowledge keeps its processor, so that there have to be more processors (GOMAXPROCS) than loops. If Go has
+// to stop it then it does so by a signal, which ends the wait.
+func (l *Loops) Hastily(is bool) { l.hastily.Store(is) }
+
+// wait waits for something to happen to the sockets, and says to how many. It is 0 if Go has to stop the thread.
+func (l *loop) wait() int {
+	if l.loops.hastily.Load() {
+		n, _, errno := syscall.RawSyscall6(syscall.SYS_EPOLL_PWAIT, uintptr(l.epoll),
+			uintptr(unsafe.Pointer(&l.events[0])), atOnce, shortly, 0, 0)
+		if errno != 0 {
+			return 0
+		}
+		if n > 0 {
+			return int(n)
+		}
+	}
+	n, _, errno := syscall.Syscall6(syscall.SYS_EPOLL_PWAIT, uintptr(l.epoll),
+		uintptr(unsafe.Pointer(&l.events[0])), atOnce, ^uintptr(0), 0, 0)
+	if errno != 0 {
+		return 0
+	}
+	return int(n)
 }
 
 // share hands on what other loops are to wait for from now on. Called when nothing of what the loop was told is left:

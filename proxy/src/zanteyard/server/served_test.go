@@ -86,12 +86,23 @@ func until(t *testing.T, what string, f func() bool) {
 	}
 }
 
+// inUse is how many bytes of memory are in use. If these are more than so many with what isn't used any more, that is
+// taken away first.
+func inUse(most uint64) uint64 {
+	var m runtime.MemStats
+	if runtime.ReadMemStats(&m); m.HeapAlloc > most {
+		runtime.GC()
+		runtime.ReadMemStats(&m)
+	}
+	return m.HeapAlloc
+}
+
 // TestSlowReaders: clients that don't read what they are sent, and servers that don't read what clients send, hold up
 // nobody else, take no memory, and lose nothing.
 func TestSlowReaders(t *testing.T) {
 	needServer(t)
 	port, _ := proxy(t, url("postgres", theCluster.Port, "sslmode=disable"), nil)
-	const rows, width, asked = 20000, 1000, 60000
+	const rows, width, asked, most = 20000, 1000, 60000, 32 << 20
 	var slow, full []*raw
 	for i := 0; i < 3; i++ {
 		s, err := connectRaw(port)
@@ -146,13 +157,12 @@ func TestSlowReaders(t *testing.T) {
 		if took := time.Since(before); took > longest {
 			longest = took
 		}
-		var m runtime.MemStats
-		if runtime.ReadMemStats(&m); m.HeapAlloc > memory {
-			memory = m.HeapAlloc
+		if n := inUse(most); n > memory {
+			memory = n
 		}
 	}
 	t.Logf("the longest wait beside them: %s; %d KiB of memory", longest, memory>>10)
-	if longest > 20*time.Second || memory > 32<<20 {
+	if longest > 20*time.Second || memory > most {
 		t.Errorf("others waited for %s, and %d bytes of memory are in use", longest, memory)
 	}
 	for _, s := range slow {

@@ -53,15 +53,22 @@ func (s *Session) fromClient(o *output, batch []byte) []byte {
 	return o.all()
 }
 
+// never is no value of trust.plans.
+const never = ^uint64(0)
+
 // opaque stands for what wasn't looked at.
 var opaque = &statement{}
 
 // look makes a statement of a text.
 func (s *Session) look(name string, text []byte) *statement {
-	if !s.looking() {
+	if !s.plain || s.options.Plans == nil {
 		return &statement{name: name}
 	}
-	st := &statement{name: name, text: string(text), looked: s.trust.plans}
+	st := &statement{name: name, text: string(text), looked: never}
+	if !s.options.Auditing() {
+		return st // it may be run when an audit has begun
+	}
+	st.looked = s.trust.plans
 	st.plan, st.tokens = s.options.Plans.PlanIn(s.trust.path, st.text)
 	if st.plan != nil {
 		st.use = s.trust.of(st.plan)
@@ -242,7 +249,7 @@ func (s *Session) bind(o *output, m []byte, start, end int) {
 	default:
 		o.pass(start, end)
 	}
-	if s.options.Policy.Parameters && st.text != "" {
+	if s.options.Policy.Parameters && st.plan != nil {
 		p.parameters = texts(b, st.types)
 	}
 	s.bindTo(p)

@@ -5,6 +5,7 @@ import (
 	"reflect"
 	"strconv"
 	"strings"
+	"sync/atomic"
 	"testing"
 	"time"
 
@@ -313,5 +314,34 @@ func TestBorrowedSnapshot(t *testing.T) {
 	}
 	if !found {
 		t.Errorf("that it was left out isn't told: %q", p.sink.unseen)
+	}
+}
+
+// TestPreparedBefore: a statement that was prepared while there was no audit is seen once there is one.
+func TestPreparedBefore(t *testing.T) {
+	needServer(t)
+	sql(t, fill)
+	var audits atomic.Bool
+	p := through(t, "postgres", func(o *Options) { o.Auditing = audits.Load })
+	sync := &pgproto3.Sync{}
+	p.send(encoded(&pgproto3.Parse{Name: "mine", Query: "SELECT v FROM t WHERE id = $1", ParameterOIDs: []uint32{23}}, sync))
+	p.until('Z')
+	run := func() int {
+		p.send(encoded(&pgproto3.Bind{PreparedStatement: "mine", Parameters: [][]byte{[]byte("3")}}, &pgproto3.Execute{}, sync))
+		p.until('Z')
+		p.settle()
+		n := 0
+		for _, it := range p.sink.take() {
+			n += len(it.Reads)
+		}
+		return n
+	}
+	if n := run(); n != 0 {
+		t.Errorf("%d reads were told while there was no audit", n)
+	}
+	audits.Store(true)
+	run() // it is tried
+	if n := run(); n != 1 {
+		t.Errorf("%d reads were told", n)
 	}
 }

@@ -23,6 +23,7 @@ type Control struct {
 
 	lock     sync.Mutex
 	conn     *pgconn.PgConn
+	prepared bool // placeSQL is, on conn
 	reloaded time.Time
 }
 
@@ -48,15 +49,48 @@ func (c *Control) Close(ctx context.Context) {
 func (c *Control) ask(ctx context.Context, sql string) ([][]string, error) {
 	c.lock.Lock()
 	defer c.lock.Unlock()
-	if c.conn == nil || c.conn.IsClosed() {
-		conn, err := connect(ctx, c.options, false)
-		if err != nil {
-			return nil, fmt.Errorf("connect to the server: %w", err)
-		}
-		c.conn = conn
+	if err := c.connect(ctx); err != nil {
+		return nil, err
 	}
 	return query(ctx, c.conn, sql)
 }
+
+// connect has a connection be there. Called with lock held.
+func (c *Control) connect(ctx context.Context) error {
+	if c.conn != nil && !c.conn.IsClosed() {
+		return nil
+	}
+	conn, err := connect(ctx, c.options, false)
+	if err != nil {
+		return fmt.Errorf("connect to the server: %w", err)
+	}
+	c.conn, c.prepared = conn, false
+	return nil
+}
+
+// where asks where the log stands, and for the stamps of these tables. It is asked so often that it is worth preparing.
+func (c *Control) where(ctx context.Context, tables string) ([][]string, error) {
+	c.lock.Lock()
+	defer c.lock.Unlock()
+	if err := c.connect(ctx); err != nil {
+		return nil, err
+	}
+	if !c.prepared {
+		if _, err := c.conn.Prepare(ctx, placeName, placeSQL, nil); err != nil {
+			return nil, err
+		}
+		c.prepared = true
+	}
+	its := c.conn.ExecPrepared(ctx, placeName, [][]byte{[]byte(tables)}, nil, nil).Read()
+	if its.Err != nil {
+		// Somebody may have dropped it, as a pooler does: the next question prepares it anew, on a connection of its own.
+		c.conn.Close(ctx)
+		return nil, its.Err
+	}
+	return rowsOf(its), nil
+}
+
+const placeName = "zanteyard.place"
 
 func query(ctx context.Context, conn *pgconn.PgConn, sql string) ([][]string, error) {
 	results, err := conn.Exec(ctx, sql).ReadAll()
@@ -66,15 +100,18 @@ func query(ctx context.Context, conn *pgconn.PgConn, sql string) ([][]string, er
 	if len(results) == 0 {
 		return nil, nil
 	}
-	last := results[len(results)-1]
-	rows := make([][]string, len(last.Rows))
-	for i, row := range last.Rows {
+	return rowsOf(results[len(results)-1]), nil
+}
+
+func rowsOf(its *pgconn.Result) [][]string {
+	rows := make([][]string, len(its.Rows))
+	for i, row := range its.Rows {
 		rows[i] = make([]string, len(row))
 		for j, value := range row {
 			rows[i][j] = string(value)
 		}
 	}
-	return rows, nil
+	return rows
 }
 
 // one is the only value of a statement.
@@ -92,7 +129,7 @@ func (c *Control) one(ctx context.Context, sql string) (string, error) {
 // Place implements join.Server. In one statement with it the tables that the slot has told of are looked at; where one
 // isn't what it was, the catalog is read anew, and the place asked for again.
 func (c *Control) Place(ctx context.Context) (join.Place, error) {
-	rows, err := c.ask(ctx, "SELECT pg_current_wal_insert_lsn(), ("+stampSQL+"WHERE c.oid = ANY('"+c.tables.usedText()+"'::oid[]))")
+	rows, err := c.where(ctx, c.tables.usedText())
 	if err != nil {
 		return join.Place{}, err
 	}
@@ -128,6 +165,8 @@ func (c *Control) mayReload() bool {
 const stampSQL = `SELECT string_agg(concat_ws(' ', c.oid, n.nspname, c.relname, c.relispartition, i.indexrelid, i.indkey), '; '
   ORDER BY c.oid) FROM pg_class c JOIN pg_namespace n ON n.oid = c.relnamespace
   LEFT JOIN pg_index i ON i.indrelid = c.oid AND i.indisprimary `
+
+const placeSQL = "SELECT pg_current_wal_insert_lsn(), (" + stampSQL + "WHERE c.oid = ANY($1::oid[]))"
 
 // Sees says whether the server has an advisory lock with this number in the slot's database: who holds it is connected to
 // the same one.

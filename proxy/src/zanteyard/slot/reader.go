@@ -7,7 +7,6 @@ import (
 	"errors"
 	"fmt"
 	"io"
-	"net"
 	"strings"
 	"sync"
 	"sync/atomic"
@@ -15,6 +14,7 @@ import (
 
 	"github.com/jackc/pgconn"
 
+	"zanteyard/loop"
 	"zanteyard/record"
 )
 
@@ -26,11 +26,15 @@ type Reader struct {
 	conn    *pgconn.PgConn
 	from    string // where the slot begins
 
-	raw      net.Conn
+	raw      io.ReadWriteCloser
 	writing  sync.Mutex
 	received uint64 // atomic: the place up to which all is received
 	pings    chan struct{}
 }
+
+// pause is between two looks at what the server has sent. Nothing is made of it sooner: the joiner takes steps, and asks
+// for the log's place first.
+const pause = 5 * time.Millisecond
 
 // decoder makes commits of a plugin's messages.
 type decoder interface {
@@ -156,6 +160,9 @@ func (r *Reader) Read(ctx context.Context, to Receiver) error {
 		return err
 	}
 	r.raw = hijacked.Conn
+	if its, ok := loop.NewSeldom(hijacked.Conn, pause); ok {
+		r.raw = its
+	}
 	ctx, cancel := context.WithCancel(ctx)
 	defer cancel()
 	go func() { // has a read that waits return

@@ -1,7 +1,6 @@
 use Rattle.std.proofs.Common.{◌∙◌, Some, sym, ap}
 use Rattle.round_state.specs.EngineState.{EngineState}
 use Rattle.order_check.specs.declared.remainder.Parts.{Parts}
-use Rattle.polygraph.specs.ProblemState.{ProblemState}
 use Rattle.round_state.specs.declared.steps.Step.TheVariants as step
 use Rattle.round_state.specs.declared.steps.StepReply.TheVariants as reply
 use Rattle.live_audit.proofs.steps.begin.Goals as goal
@@ -10,7 +9,7 @@ pub returns-in-Ok : goal.returns-in-Ok
 returns-in-Ok c =
     let ok = c.in-Ok.ensures.ok in (
       c.right_is_legal.ensures step.Begin reply.Done c.begin.new.self (ok.0, ok.2),
-      ap (λ (e : EngineState). e.asked) ok.2 ∙ ap (λ (p : Parts). Some p) (sym ok.1) ∙ ap (λ (p : ProblemState). Some p.known.parts) (sym c.over.ensures),
+      ap (λ (e : EngineState). e.asked) ok.2 ∙ ap (λ (p : Parts). Some p) (sym ok.1),
       ap (λ (e : EngineState). e.rounds) ok.2,
       ok.0.number,
     )

@@ -1,4 +1,4 @@
-use Rattle.std.proofs.Common.{◌∙◌}
+use Rattle.std.proofs.Common.{◌∙◌, refl}
 use Rattle.report_checking.proofs.CheckedLines.{ahead_first, checking_first}
 use Rattle.report_checking.proofs.ToldLines.{told_more, told_none}
 use Rattle.report_checking.proofs.checking.check_lines.Goals as goal
@@ -9,6 +9,8 @@ loop-advance-init g c = record {
   limit = c.requires.limit;
   tells = told_none c.args.tally.now _ c.requires.uncounted;
   told = λ input told. checking_first input _ c.args.replay.now.script (ahead_first c.args.reader.now _ input told c.requires.ahead) c.requires.unopened;
+  read = refl;
+  written = refl;
 }
 
 pub loop-advance-preserved : goal.loop-advance-preserved
@@ -19,6 +21,8 @@ loop-advance-preserved g c =
       limit = next.limit ∙ so.limit;
       tells = told_more c.in_ok-advance.advance c.loop-advance.tally c.check_next.new.tally (g.W.ByteSink.contents c.args.sink.now) (g.W.ByteSink.contents c.loop-advance.sink) (g.W.ByteSink.contents c.check_next.new.sink) so.tells next.told;
       told = λ input told. let on = rw c.in-On.is at next.on in on input (so.told input told);
+      read = next.ok.0 ∙ so.read;
+      written = next.ok.1 ∙ so.written;
     }
 
 pub returns-in-Wrong-clause-told : goal.returns-in-Wrong-clause-told

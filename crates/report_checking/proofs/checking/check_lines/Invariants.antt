@@ -13,6 +13,8 @@ invariant-loop-advance g l = record {
   limit : l.reader.limit ≡ LONGEST_REPLY;
   tells : (text : List ℕ) × Tells l.tally text × Appends (g.W.ByteSink.contents l.initial.sink) (g.W.ByteSink.contents l.sink) text;
   told : (input : List ℕ) → g.R.ByteSource.remaining l.initial.source ≡ Some input → IsChecking input (lines_ahead l.reader (g.R.ByteSource.remaining l.source)) l.replay.script;
+  read : g.R.ByteSource.faults l.source ≡ g.R.ByteSource.faults l.initial.source;
+  written : g.W.ByteSink.faults l.sink ≡ g.W.ByteSink.faults l.initial.sink;
 }
 
 abbrev pub decreases-loop-advance : goal.decreases-loop-advance

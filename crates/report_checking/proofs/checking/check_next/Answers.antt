@@ -21,7 +21,10 @@ returns-in-Wrong g c = record {
   fresh = λ on. c.in_ok-found.ensures.fresh;
   limit = c.in_ok-found.ensures.limit ∙ c.in_ok-next.ensures.limit;
   fewer = λ on. absurd (let no : ⊥ = cc in no);
-  told = (c.in_ok-found.found, c.count.ensures, c.in_ok-tell.ensures);
+  told = (c.in_ok-found.found, c.count.ensures, c.in_ok-tell.ensures.told);
+  ok = (c.in_ok-found.ensures.ok ∙ c.in_ok-next.ensures.ok, c.in_ok-tell.ensures.ok);
+  device = λ is. absurd (let no : ⊥ = cc in no);
+  memory = λ is. absurd (let no : ⊥ = cc in no);
 }
 
 pub returns : goal.returns
@@ -30,5 +33,8 @@ returns g c = record {
   fresh = λ on. c.in_ok-found.ensures.fresh;
   limit = c.in_ok-found.ensures.limit ∙ c.in_ok-next.ensures.limit;
   fewer = λ on. omega (arith, c.in_ok-next.ensures.fewer c.in_default.not-End, c.in_ok-found.ensures.fewer c.in_default-found.not-Wrong);
-  told = (c.in_ok-found.found, c.count.ensures, c.in_ok-tell.ensures);
+  told = (c.in_ok-found.found, c.count.ensures, c.in_ok-tell.ensures.told);
+  ok = (c.in_ok-found.ensures.ok ∙ c.in_ok-next.ensures.ok, c.in_ok-tell.ensures.ok);
+  device = λ is. absurd (let no : ⊥ = cc in no);
+  memory = λ is. absurd (let no : ⊥ = cc in no);
 }

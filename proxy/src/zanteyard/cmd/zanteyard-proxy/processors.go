@@ -32,6 +32,7 @@ func fewProcessors(ctx context.Context, loops *loop.Loops) {
 		if !fixed {
 			runtime.GOMAXPROCS(passing.now + others.now)
 		}
+		loops.Hastily(runtime.GOMAXPROCS(0) > passing.now)
 	}
 	set()
 	tick := time.NewTicker(lookAtUse)

@@ -7,6 +7,7 @@ import (
 	"math/rand"
 	"strings"
 	"sync"
+	"sync/atomic"
 	"testing"
 	"time"
 
@@ -116,75 +117,102 @@ type described struct {
 	}
 }
 
+// watched notes what the feed says is offered.
+type watched struct {
+	*program
+	ids [][2]int // of the transactions in lines
+}
+
+// event is what is looked at of one.
+type event struct {
+	Event                    string
+	Pending, Offered, Fences int
+	Reads                    struct{ Offered int }
+	Transactions             []described
+}
+
+// next is the next line, and the event that it is. Transactions in it are noted, and nothing is ever cut.
+func (w *watched) next(end <-chan time.Time) (line string, it event) {
+	w.t.Helper()
+	open := true
+	select {
+	case line, open = <-w.lines:
+	case <-end:
+		w.t.Fatal("too little is offered in time")
+	}
+	if !open {
+		w.t.Fatal("the feed ended")
+	}
+	switch {
+	case line[0] == '{':
+		if err := json.Unmarshal([]byte(line), &it); err != nil {
+			w.t.Fatalf("%s: %v", line, err)
+		}
+	case strings.HasPrefix(line, `["offer"`):
+		var session, first int
+		var fragment []any
+		if err := json.Unmarshal([]byte(line), &[]any{new(string), &session, &first, &fragment}); err != nil {
+			w.t.Fatalf("%s: %v", line, err)
+		}
+		for i := range fragment {
+			w.ids = append(w.ids, [2]int{session, first + i})
+		}
+	case line == `["truncate"]`:
+		text, _ := json.Marshal(map[string]any{"command": "cut", "marks": make([]int, 64)})
+		fmt.Fprintln(w.say, string(text))
+	}
+	if it.Event == "ended" {
+		w.t.Fatal(line)
+	}
+	return line, it
+}
+
+// much waits until so many transactions, and so many reads, are offered.
+func (w *watched) much(least int) {
+	w.t.Helper()
+	for end := time.After(2 * time.Minute); ; {
+		_, it := w.next(end)
+		if it.Event == "coverage" && it.Offered-it.Fences >= least && it.Reads.Offered >= least {
+			return
+		}
+	}
+}
+
 // offered waits until all that was told is offered, and has it described.
-func (p *program) offered() []described {
-	p.t.Helper()
-	var ids [][2]int
-	var its []described
+func (w *watched) offered() (its []described) {
+	w.t.Helper()
 	asked := 0
 	for end := time.After(2 * time.Minute); ; {
-		line, open := "", true
-		select {
-		case line, open = <-p.lines:
-		case <-end:
-			p.t.Fatal("not all is offered in time")
-		}
-		if !open {
-			p.t.Fatal("the feed ended")
-		}
-		var event struct {
-			Event        string
-			Pending      int
-			Transactions []described
-		}
-		if line[0] == '{' {
-			if err := json.Unmarshal([]byte(line), &event); err != nil {
-				p.t.Fatalf("%s: %v", line, err)
-			}
-		}
-		switch {
-		case strings.HasPrefix(line, `["offer"`):
-			var first [3]int
-			var fragment []any
-			if err := json.Unmarshal([]byte(line), &[]any{new(string), &first[1], &first[2], &fragment}); err != nil {
-				p.t.Fatalf("%s: %v", line, err)
-			}
-			for i := range fragment {
-				ids = append(ids, [2]int{first[1], first[2] + i})
-			}
-		case line == `["truncate"]`: // nothing is cut
-			text, _ := json.Marshal(map[string]any{"command": "cut", "marks": make([]int, 64)})
-			fmt.Fprintln(p.say, string(text))
-		case event.Event == "coverage" && event.Pending == 0 && asked == 0, event.Event == "transactions":
-			its = append(its, event.Transactions...)
-			if asked == len(ids) && asked > 0 {
+		_, it := w.next(end)
+		if it.Event == "coverage" && it.Pending == 0 && asked == 0 || it.Event == "transactions" {
+			its = append(its, it.Transactions...)
+			if asked == len(w.ids) && asked > 0 {
 				return its
 			}
-			some := ids[asked:]
+			some := w.ids[asked:]
 			if len(some) > 10 { // a line of the feed isn't to be long here
 				some = some[:10]
 			}
 			asked += len(some)
 			if len(some) > 0 {
 				text, _ := json.Marshal(map[string]any{"command": "describe", "id": asked, "transactions": some})
-				fmt.Fprintln(p.say, string(text))
+				fmt.Fprintln(w.say, string(text))
 			}
-		case event.Event == "ended":
-			p.t.Fatal(line)
 		}
 	}
 }
 
-// TestReadsAreWhatClientsSaw has clients run at the same time, at all levels, and compares each read that is offered
-// with what the rows themselves said: which version was read, and who is offered as its writer.
+// TestReadsAreWhatClientsSaw has clients run at the same time, at all levels, until enough is offered. It compares each
+// read that is offered with what the rows themselves said: which version was read, and who is offered as its writer.
 func TestReadsAreWhatClientsSaw(t *testing.T) {
 	c := start(t)
 	p := begin(t, c)
 	p.until(`["open"`)
 	sql(t, p.connect(), `CREATE TABLE tagged (id int PRIMARY KEY, tag text NOT NULL, replaced text);
 		INSERT INTO tagged SELECT i, '-', NULL FROM generate_series(0, 9) i`)
-	const clients, each = 4, 60
+	const clients, enough, least = 4, 120, 60
 	var all sync.WaitGroup
+	var isEnough atomic.Bool
 	var taggers []*tagger
 	for i := 0; i < clients; i++ {
 		its := &tagger{conn: p.connect(), r: rand.New(rand.NewSource(time.Now().UnixNano() + int64(i))), name: i, deeds: map[string]deed{}}
@@ -192,14 +220,18 @@ func TestReadsAreWhatClientsSaw(t *testing.T) {
 		all.Add(1)
 		go func() {
 			defer all.Done()
-			for n := 0; n < each; n++ {
+			for n := 0; !isEnough.Load(); n++ {
 				if err := its.transaction(n); err != nil {
 					t.Error(err)
 					return
 				}
+				time.Sleep(5 * time.Millisecond) // the auditor has room for 4,096, and these aren't all seen at first
 			}
 		}()
 	}
+	w := &watched{program: p}
+	w.much(enough)
+	isEnough.Store(true)
 	all.Wait()
 	j := judge{t: t, deeds: map[string]deed{}, names: map[string]string{}, wrote: map[version]bool{}}
 	for _, its := range taggers {
@@ -208,7 +240,9 @@ func TestReadsAreWhatClientsSaw(t *testing.T) {
 		}
 	}
 	fmt.Fprintln(p.say, `{"command":"round"}`)
-	j.compare(p.offered())
+	if seen := j.compare(w.offered()); len(j.names) < least || seen < least {
+		t.Error("too little was offered") // much more was counted
+	}
 	fmt.Fprintln(p.say, `{"command":"stop"}`)
 	p.until("stopped")
 }
@@ -231,7 +265,8 @@ func (j *judge) source(row, tag string) string {
 	return "init"
 }
 
-func (j *judge) compare(its []described) {
+// compare looks at what is offered, and gives how many reads were right.
+func (j *judge) compare(its []described) (seen int) {
 	tags := make([]string, len(its))
 	for i, it := range its {
 		for _, statement := range it.Statements {
@@ -243,7 +278,7 @@ func (j *judge) compare(its []described) {
 			j.wrote[version{it.row(key), tags[i]}] = true
 		}
 	}
-	seen, owed := 0, 0
+	owed := 0
 	for i, it := range its {
 		if tags[i] == "" { // a fence, or a transaction of the test's own
 			continue
@@ -265,9 +300,7 @@ func (j *judge) compare(its []described) {
 		}
 	}
 	j.t.Logf("%d of %d transactions were offered, %d of %d reads", len(j.names), len(j.deeds), seen, owed)
-	if least := 20; len(j.names) < least || seen < least { // on a busy machine much is told too late, and left out
-		j.t.Error("too little was offered")
-	}
+	return seen
 }
 
 // owed is what a transaction may be offered with, and what it has to be where its writes are.

@@ -1,0 +1,137 @@
+#!/usr/bin/env python3
+"""How soon lines are answered while a search goes on beside them.
+
+    python3 bench/beside.py [--seconds N] [--rate N] [--apart] [PROGRAM]
+
+Run at the top of the repository, after `rt run < /dev/null` has built the auditor in its crate, or
+with COBRA_AUDIT naming it. A search that would take hours, of a history that has no order, goes on
+for so many seconds (10), in one thread and in four, and is then skipped. Meanwhile so many times a
+second (50) a transaction is offered, and it is asked whether the search has ended. The same is done
+before without a search. A row has the median, the 99th of a hundred, and the longest, in
+milliseconds, and how long `skip` took. With --apart offers go through an AuditorApart in place of a
+pipe, while another thread waits for its round.
+
+What a processor does besides is in the figures: the head line tells the machine's load.
+"""
+import argparse
+import json
+import os
+import subprocess
+import sys
+import threading
+import time
+
+import hard
+
+TOP = os.path.join(os.path.dirname(os.path.abspath(__file__)), "..")
+sys.path.insert(0, os.path.join(TOP, "collectors/python"))
+EFFORTS = {"without a search": None, "1 thread": [1 << 32, 0, 1], "4 threads": [1 << 32, 6, 4]}
+WAYS = 40  # of the history: enough for hours
+
+
+class Script:
+    """The program by a pipe."""
+
+    def __init__(self, program):
+        pipes = {"stdin": subprocess.PIPE, "stdout": subprocess.PIPE}
+        self.running = subprocess.Popen([program], **pipes)
+
+    def ask(self, *line):
+        """The reply, and how many milliseconds it took."""
+        began = time.perf_counter()
+        self.running.stdin.write(json.dumps(line).encode() + b"\n")
+        self.running.stdin.flush()
+        reply = json.loads(self.running.stdout.readline())
+        return reply, 1000 * (time.perf_counter() - began)
+
+    def end(self):
+        self.running.stdin.close()
+        self.running.wait()
+        self.running.stdout.close()
+
+
+def history(effort):
+    """Offers, and the number of the last session, of which one transaction is there."""
+    log = hard.contradiction(2, hard.all_ways(2), WAYS)
+    *offers, _ = [json.loads(line) for line in log.lines(*effort)]
+    return offers, offers[0][1] - 1
+
+
+def by_pipe(asked, effort):
+    """Milliseconds of offers and of collects, and of the skip."""
+    script = Script(asked.program)
+    offers, session = history(effort or [1, 0, 1])
+    for line in offers:
+        script.ask(*line)
+    if effort:
+        script.ask("begin")
+        script.ask("search", *effort)
+    offered, collected = [], []
+    until, number = time.monotonic() + asked.seconds, 1
+    while time.monotonic() < until:
+        reply, took = script.ask("offer", session, number, [[[], [7]]])
+        assert reply == ["ok"], reply
+        offered.append(took)
+        collected.append(script.ask("collect")[1])
+        number += 1
+        time.sleep(1 / asked.rate)
+    _, skipped = script.ask("skip")
+    script.end()
+    return offered, collected, skipped
+
+
+def apart(asked, effort):
+    """The same by an AuditorApart: there is no collect of our own."""
+    from zanteyard import AuditorApart, Logged
+
+    offers, session = history(effort or [1, 0, 1])
+    with AuditorApart(offers[0][1], program=asked.program, round_seconds=asked.seconds) as auditor:
+        for _, which, first, txns in offers[1:]:
+            auditor.offer_all([(which, first, [logged(txn) for txn in txns])])
+        waiting = threading.Thread(target=auditor.last_round, args=([effort],) if effort else ())
+        if effort:
+            waiting.start()
+        offered, until, number = [], time.monotonic() + asked.seconds, 1
+        while time.monotonic() < until:
+            began = time.perf_counter()
+            auditor.offer(session, number, Logged([], ["k7"]))
+            offered.append(1000 * (time.perf_counter() - began))
+            number += 1
+            time.sleep(1 / asked.rate)
+        if effort:
+            waiting.join()
+    return offered, [], 0.0
+
+
+def logged(txn):
+    from zanteyard import Logged
+
+    reads, writes = txn
+    source = lambda it: "init" if it[0] == "init" else tuple(it)
+    return Logged([(f"k{key}", source(it)) for key, *it in reads], [f"k{key}" for key in writes])
+
+
+def told(times):
+    times = sorted(times)
+    if not times:
+        return f"{'':>26}"
+    return f"{times[len(times) // 2]:8.2f} {times[len(times) * 99 // 100]:8.2f} {times[-1]:8.2f}"
+
+
+def main():
+    words = argparse.ArgumentParser(description=__doc__.splitlines()[0])
+    words.add_argument("--seconds", type=float, default=10.0)
+    words.add_argument("--rate", type=float, default=50.0)
+    words.add_argument("--apart", action="store_true")
+    default = os.environ.get("COBRA_AUDIT", "crates/cobra_audit/out/cobra_audit")
+    words.add_argument("program", nargs="?", default=default)
+    asked = words.parse_args()
+    print(f"load {os.getloadavg()[0]:.1f}, {os.cpu_count()} processors; milliseconds")
+    print(f"{'':18}{'offer':>8} {'99 %':>8} {'most':>8}{'collect':>9} {'99 %':>8} {'most':>8}{'skip':>8}")
+    for name, effort in EFFORTS.items():
+        offered, collected, skipped = (apart if asked.apart else by_pipe)(asked, effort)
+        print(f"{name:18}{told(offered)}{told(collected):>27}{skipped:8.2f}", flush=True)
+
+
+if __name__ == "__main__":
+    main()

@@ -1,0 +1,100 @@
+"""What a terminal shows besides: colours of verdicts, and how far a command is."""
+import os
+import pty
+import select
+import subprocess
+import sys
+import tempfile
+import time
+import unittest
+
+from zanteyard.program._binaries import PROGRAM
+
+LOST = '["open",2,8]\n["offer",0,0,[[[[5,"init"]],[5]]]]\n["offer",1,0,[[[[5,"init"]],[5]]]]\n'
+SERIAL = '["open",1,8]\n["offer",0,0,[[[],[5]]]]\n'
+SECONDS = 300.0  # for a program to say something
+RED, GREEN, PLAIN = "\x1b[1;31m", "\x1b[1;32m", "\x1b[0m"
+
+
+@unittest.skipUnless(os.path.isfile(PROGRAM), f"{PROGRAM} is not built")
+class OnATerminal(unittest.TestCase):
+    def begin(self, *words, **more):
+        """The command on a terminal of its own, which `seen` reads."""
+        self.seen, theirs = pty.openpty()
+        self.addCleanup(os.close, self.seen)
+        its = {**os.environ, "TERM": "xterm", "COBRA_AUDIT": os.path.abspath(PROGRAM), **more}
+        if "NO_COLOR" not in more:
+            its.pop("NO_COLOR", None)
+        running = subprocess.Popen(
+            [sys.executable, "-m", "zanteyard", *words],
+            env=its, stdin=subprocess.PIPE, stdout=theirs, stderr=subprocess.DEVNULL,
+        )
+        os.close(theirs)
+        self.addCleanup(running.stdin.close)
+        self.addCleanup(running.kill)
+        return running
+
+    def read(self, wanted=None):
+        """Up to the text, or to its end."""
+        found, ends = "", time.monotonic() + SECONDS
+        while wanted is None or wanted not in found:
+            self.assertLess(time.monotonic(), ends, found)
+            if not select.select([self.seen], [], [], 1.0)[0]:
+                continue
+            try:
+                data = os.read(self.seen, 4096)
+            except OSError:  # nobody has the other side
+                data = b""
+            if not data:
+                self.assertIsNone(wanted, found)
+                break
+            found += data.decode()
+        return found
+
+    def of(self, script, **more):
+        with tempfile.NamedTemporaryFile("w", suffix=".jsonl") as file:
+            file.write(script)
+            file.flush()
+            running = self.begin("check", file.name, **more)
+            text = self.read()
+            running.wait(SECONDS)
+            return text
+
+    def test_verdicts_have_their_colours(self):
+        self.assertIn(f"at the end: {RED}violated{PLAIN}: no order", self.of(LOST))
+        self.assertIn(f"at the end: {GREEN}serial{PLAIN}: ", self.of(SERIAL))
+
+    def test_none_where_they_arent_wanted(self):
+        for more in ({"NO_COLOR": "1"}, {"TERM": "dumb"}):
+            with self.subTest(more=more):
+                text = self.of(LOST, **more)
+                self.assertIn("at the end: violated: no order", text)
+                self.assertNotIn("\x1b[1", text)
+
+    def test_none_on_a_pipe(self):
+        ended = subprocess.run(
+            [sys.executable, "-m", "zanteyard", "check", "-"], input=LOST, capture_output=True,
+            text=True, env={**os.environ, "TERM": "xterm", "COBRA_AUDIT": os.path.abspath(PROGRAM)},
+        )
+        self.assertEqual(ended.returncode, 1)
+        self.assertNotIn("\x1b", ended.stdout + ended.stderr)
+
+    def test_how_far_it_is(self):
+        """While it waits for the rest of a script; what is shown then is gone from the line."""
+        running = self.begin("check", "-")
+        first, second, third = LOST.splitlines(True)
+        running.stdin.write((first + second).encode())
+        running.stdin.flush()
+        self.assertIn("(line 2, ", self.read("(line 2, "))
+        running.stdin.write(third.encode())
+        running.stdin.close()
+        text = self.read()
+        before, after = text.split("at the end: ", 1)
+        self.assertTrue(before.endswith("\r\x1b[K"), before)
+        self.assertTrue(after.startswith(f"{RED}violated"), after)
+        self.assertNotIn("(line", after)
+        self.assertEqual(running.wait(SECONDS), 1)
+
+
+if __name__ == "__main__":
+    unittest.main()

@@ -1,0 +1,89 @@
+"""`zanteyard demo`, `audit` and `journal`: a run of clients, as it is made or afterwards."""
+
+from __future__ import annotations
+
+import argparse
+from typing import Any
+
+from ..core._visible import say
+from ..explain._report import EXPLAINED, Story, violation_story
+from ..program._auditor import Auditor
+from ..program._binaries import find_program
+from ..trial import _demo as demo
+from ._told import STATUSES, UNDECIDED, complain, origin, tell_with_page, write
+
+
+def add_demo(command: argparse.ArgumentParser) -> None:
+    command.add_argument(
+        "name",
+        nargs="?",
+        default="lost-update",
+        choices=demo.NAMES,
+        metavar="NAME",
+        help="one of " + ", ".join(demo.NAMES) + " (lost-update)",
+    )
+    command.add_argument(
+        "--html", metavar="FILE", help="where the page is written (zanteyard-NAME.html)"
+    )
+    command.add_argument("--no-html", action="store_true", help="writes no page")
+    command.set_defaults(run=run_demo)
+
+
+def run_demo(asked: Any) -> int:
+    program = find_program()
+    say(f"{asked.name}: {demo.about(asked.name)}.")
+    with Auditor(demo.SESSIONS, program=program) as auditor:
+        demo.run_demo(asked.name, auditor)
+        report = auditor.round()
+        if report.kind == "violated":
+            counts, certificate = report.counts, report.certificate
+            story = violation_story(auditor, program, counts, certificate=certificate)
+        else:
+            order = tuple(f"{session}.{number}" for session, number in report.certificate)
+            story = Story(report.kind, tuple(report.counts), order=order)
+    asked.status = STATUSES[report.kind]
+    page = None if asked.no_html else asked.html or f"zanteyard-{asked.name}.html"
+    tell_with_page(story, f"a store in memory, {asked.name}", page)
+    return STATUSES[report.kind]
+
+
+def run_audit(asked: Any) -> int:
+    from . import audit as audit_command
+
+    ran = audit_command.run(asked)
+    asked.status = status = STATUSES.get(ran.outcome.whole.kind, UNDECIDED)
+    why_not = ""
+    if asked.html:
+        try:
+            write(ran.page(origin()), asked.html)
+        except OSError as error:  # what came of the run is printed, and won't come again
+            why_not = f"{asked.html} can't be written: {error.strerror}"
+    for line in ran.lines():
+        say(line)
+    if why_not:
+        complain(status, why_not)
+    elif asked.html:
+        say(f"(to look at: {asked.html})")
+    return status
+
+
+def add_journal(command: argparse.ArgumentParser) -> None:
+    command.add_argument("journal", metavar="JOURNAL", help="its file (docs/JOURNAL.md)")
+    command.set_defaults(run=run_journal)
+
+
+def run_journal(asked: Any) -> int:
+    program = find_program()
+    with Auditor.resumed(asked.journal, program) as auditor:
+        count, sessions = sum(auditor.received), auditor.sessions
+        say(f"{auditor.run_name}: {count} transactions of {sessions} sessions were taken in")
+        report = auditor.last_round()
+        if report.kind == "violated":
+            asked.status = STATUSES["violated"]
+            round_told = (report.counts, EXPLAINED, report.certificate, auditor.promise)
+            tell_with_page(violation_story(auditor, program, *round_told))
+            return STATUSES["violated"]
+        outcome = auditor.outcome()
+        asked.status = STATUSES.get(outcome.kind, UNDECIDED)
+        say(f"over these the last round is {report.kind}; {outcome}")
+        return STATUSES.get(outcome.kind, UNDECIDED)

@@ -1,0 +1,189 @@
+"""`zanteyard check`, `explain` and `levels`: what a script says, in words and on a page."""
+
+from __future__ import annotations
+
+import argparse
+import os
+import sys
+from typing import Any, Iterator, List, Optional
+
+from ..core._visible import say
+from ..core.errors import CantBeAskedError, ScriptMistakeError
+from ..explain._levels import Levels, levels_lines
+from ..explain._report import EXPLAINED, Story, verdict_story, violation_story
+from ..explain._script_names import ScriptNames, read_names
+from ..explain._script_times import ScriptTimes, read_times
+from ..explain._scripts import MORE, ScriptRun, Verdict
+from ..program._binaries import find_program
+from ..promises._kinds import ASKED
+from ._progress import Progress
+from ._told import STATUSES, tell, tell_with_page
+
+
+def add_check(command: argparse.ArgumentParser) -> None:
+    _add_script(command)
+    _add_promise(command)
+    command.set_defaults(run=check)
+
+
+def add_explain(command: argparse.ArgumentParser) -> None:
+    _add_script(command)
+    _add_promise(command)
+    command.add_argument("--html", metavar="FILE", help="writes a page to look at")
+    command.set_defaults(run=explain)
+
+
+def add_levels(command: argparse.ArgumentParser) -> None:
+    _add_script(command)
+    command.set_defaults(run=levels)
+
+
+def _add_script(command: argparse.ArgumentParser) -> None:
+    command.add_argument(
+        "script", metavar="SCRIPT", help="a file of lines as docs/FORMATS.md has them; - for input"
+    )
+    command.add_argument(
+        "--nodes",
+        type=_nodes,
+        default=MORE[1][0],
+        metavar="N",
+        help="the greatest budget that a round is given again with, in nodes of the search "
+        f"({MORE[1][0]}; at most {MORE[-1][0]})",
+    )
+    command.add_argument(
+        "--seconds",
+        type=float,
+        default=EXPLAINED,
+        metavar="S",
+        help=f"how long making a violated history small may take ({EXPLAINED:.0f})",
+    )
+
+
+def _add_promise(command: argparse.ArgumentParser) -> None:
+    command.add_argument(
+        "--promise",
+        choices=tuple(ASKED),
+        help="what the store promises (serializable; strict for a script that was imported "
+        "with --strict); strict takes the times in SCRIPT.times (docs/PROMISES.md)",
+    )
+    command.add_argument(
+        "--all",
+        action="store_true",
+        help="tells each violation that lies apart from the first whole",
+    )
+
+
+def _nodes(text: str) -> int:
+    nodes = int(text) if text.isdecimal() else 0
+    if not 1 <= nodes <= MORE[-1][0]:
+        raise argparse.ArgumentTypeError(f"{text!r} is no whole number from 1 to {MORE[-1][0]:,}")
+    return nodes
+
+
+def _lines(path: str) -> Iterator[bytes]:
+    if path == "-":
+        if sys.stdin is None:  # so Python has it where it is closed
+            raise OSError("standard input is closed")
+        yield from sys.stdin.buffer
+    else:
+        with open(path, "rb") as file:
+            yield from file
+
+
+def _names(path: str) -> Optional[ScriptNames]:
+    """The names beside the script, where it has some."""
+    names, why_not = read_names(path) if path != "-" else (None, "")
+    if why_not:
+        say(f"({why_not})")
+    return names
+
+
+def _times(path: str) -> Optional[ScriptTimes]:
+    """The times beside the script, where it has some."""
+    return read_times(path) if path != "-" else None
+
+
+def _run_of(asked: Any) -> ScriptRun:
+    """Raises CantBeAskedError where the script can't be asked about the promise."""
+    names = _names(asked.script)
+    is_timed = names is not None and names.asks_time
+    promise = ASKED[asked.promise or ("strict" if is_timed else "serializable")]
+    if is_timed and not promise.is_timed and names is not None and names.has_pauses:
+        raise CantBeAskedError(
+            f"the script asks for the order of time itself, by its fences, which {promise.title} "
+            "doesn't: import it again without --strict"
+        )
+    times = _times(asked.script)
+    return ScriptRun(find_program(), asked.nodes, names, promise, times)
+
+
+def check(asked: Any) -> int:
+    is_told = False
+    with _run_of(asked) as run, Progress("line") as progress:
+        for verdict in run.verdicts(progress.of(_lines(asked.script))):
+            if verdict.kind == "violated":
+                asked.status = STATUSES[verdict.kind]  # which nothing can change
+            if verdict.kind == "violated" and is_told:
+                say(f"{_where(verdict)} violated, still")
+                continue
+            tell(_story(verdict, run, asked.seconds), asked.all, _where(verdict))
+            is_told = verdict.kind == "violated"
+        _tell_no_cuts(run)
+        _tell_resumed(run)
+    return _status(run)
+
+
+def explain(asked: Any) -> int:
+    with _run_of(asked) as run, Progress("line") as progress:
+        for verdict in run.verdicts(progress.of(_lines(asked.script))):
+            if verdict.kind == "violated":
+                break  # violated is final
+        assert run.verdict is not None
+        story = _story(run.verdict, run, asked.seconds)
+        asked.status = _status(run)
+        about = os.path.basename(asked.script) if asked.script != "-" else "a script"
+        tell_with_page(story, about, asked.html, asked.all, _where(run.verdict))
+        _tell_resumed(run)
+    return _status(run)
+
+
+def levels(asked: Any) -> int:
+    lines = [*_lines(asked.script)]
+    names, times = _names(asked.script), _times(asked.script)
+    more = (asked.nodes, asked.seconds)
+    for line in levels_lines(Levels(find_program(), lines, names, times, *more).found()):
+        say(line)
+    return 0
+
+
+def _story(verdict: Verdict, run: ScriptRun, seconds: float) -> Story:
+    if verdict.kind == "violated":
+        round_told = (verdict.counts, seconds, verdict.certificate)
+        return violation_story(run.history, find_program(), *round_told, run.promise)
+    return verdict_story(verdict, run.history, run.promise)
+
+
+def _where(verdict: Verdict) -> str:
+    """Which round it is that says so."""
+    line = f"line {verdict.line_number}" if verdict.line_number else "at the end"
+    again = f", given {verdict.rounds} times, the last with {verdict.nodes:,} nodes"
+    return f"{line}{again if verdict.rounds > 1 else ''}:"
+
+
+def _tell_no_cuts(run: ScriptRun) -> None:
+    if run.no_cut_lines:
+        lines: List[str] = [str(number) for number in run.no_cut_lines[:8]]
+        more = " and more" if len(run.no_cut_lines) > 8 else ""
+        say(f"(nothing was settled, so nothing forgotten, at line {', '.join(lines)}{more})")
+
+
+def _tell_resumed(run: ScriptRun) -> None:
+    if run.is_resumed:  # what had gone before isn't in the script
+        what = "a verdict is of every history that the parts stand for"
+        say(f"(the script resumes another: {what})")
+
+
+def _status(run: ScriptRun) -> int:
+    if run.verdict is None:
+        raise ScriptMistakeError(0, "nothing")
+    return STATUSES[run.verdict.kind]

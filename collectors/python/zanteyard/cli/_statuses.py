@@ -1,0 +1,25 @@
+"""The exit statuses of the commands that tell a verdict."""
+
+from __future__ import annotations
+
+import contextlib
+import sys
+from typing import Mapping
+
+from ..core._visible import say
+
+MISTAKE, UNDECIDED = 2, 4
+STATUSES: Mapping[str, int] = {"serial": 0, "violated": 1, "pending": 3, "spent": UNDECIDED}
+STATUS_WORDS = (
+    "The exit status is that of the last verdict: 0 serial, 1 violated, "
+    "2 a mistake in the script or the call, 3 pending, 4 undecided."
+)
+
+
+def complain(status: int, *lines: str) -> int:
+    """Prints the lines on standard error, and gives the status, also if they can't be printed:
+    Python's own would be 1."""
+    with contextlib.suppress(OSError):
+        for line in lines:
+            say(line, file=sys.stderr, flush=True)
+    return status

@@ -1,0 +1,54 @@
+"""What the commands share: their statuses, and how a story is printed and written as a page."""
+
+from __future__ import annotations
+
+from typing import Optional
+
+from ..core._private_files import private
+from ..core._visible import say
+from ..explain._html import page_of
+from ..explain._report import Story, story_lines
+from ..program._binaries import find_program, origin_of
+from ._statuses import STATUSES as STATUSES
+from ._statuses import UNDECIDED as UNDECIDED
+from ._statuses import complain as complain
+
+
+def tell(story: Story, tells_all: bool = False, lead: str = "") -> None:
+    """In words. `lead` begins the first line."""
+    for line in story_lines(story, tells_all):
+        say(f"{lead} {line}" if lead else line)
+        lead = ""
+
+
+def tell_with_page(
+    story: Story,
+    about: str = "",
+    path: Optional[str] = None,
+    tells_all: bool = False,
+    lead: str = "",
+) -> None:
+    """Writes the page first, if there is to be one: whoever reads the words may stop before their
+    end. `lead` begins their first line. Raises OSError if the page can't be written, after the
+    words."""
+    why_not: Optional[OSError] = None
+    if path is not None:
+        try:
+            write(page_of(story, about, origin()), path)
+        except OSError as error:
+            why_not = error
+    tell(story, tells_all, lead)
+    if why_not is not None:
+        raise why_not
+    if path is not None:
+        say(f"(to look at: {path})")
+
+
+def write(page: str, path: str) -> None:
+    with open(path, "w", encoding="utf-8", opener=private) as file:
+        file.write(page)
+
+
+def origin() -> str:
+    """How the auditor was made."""
+    return origin_of(find_program()).sentence()

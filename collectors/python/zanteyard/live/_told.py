@@ -1,0 +1,91 @@
+"""What a live audit tells as it goes on: as values to who asks for them, and as lines of the
+log."""
+
+from __future__ import annotations
+
+import logging
+from typing import Any, Callable, NamedTuple, Optional
+
+from ..core._records import Cut, Report
+
+logger = logging.getLogger("zanteyard")
+Tell = Callable[[str], object]
+
+
+class RoundTold(NamedTuple):
+    """A round, and what became of it: over so many `transactions`, which came at a `rate` a second,
+    and of which one waited for `behind` seconds to be taken in, at most. `remaining` transactions
+    aren't forgotten after it. Where there was no cut, `no_cut` says why, if there is more to say
+    than that the verdict leaves none."""
+
+    report: Report
+    transactions: int
+    rate: float
+    behind: float
+    remaining: int
+    cut: Optional[Cut]
+    no_cut: str = ""
+
+    def __str__(self) -> str:
+        return (
+            f"round {self.report.number}: {self.report.kind}; {self.transactions} transactions, "
+            f"{self.rate:.0f} a second, {self.behind:.2f} s behind; {self.remaining} remain; "
+            f"{self._what_is_forgotten()}"
+        )
+
+    def _what_is_forgotten(self) -> str:
+        if self.cut is None:
+            return f"no cut: {self.no_cut}" if self.no_cut else "no cut"
+        (session, number), gone = self.cut
+        return f"cut at {session}.{number}: {gone} forgotten"
+
+
+class ClientTold(NamedTuple):
+    """A client's first transaction: a session `joins` with it, goes on, or begins."""
+
+    client: int
+    session: int
+    number: int
+    joins: bool
+
+    def __str__(self) -> str:
+        how = "joins as" if self.joins else "goes on in" if self.number else "begins"
+        return (
+            f"client {self.client} {how} session {self.session} with "
+            f"{self.session}.{self.number}"
+        )
+
+
+class Teller:
+    """For the auditor's thread. What a caller's function raises is told once, and harms nothing."""
+
+    def __init__(
+        self,
+        tell: Optional[Tell] = None,
+        on_round: Optional[Callable[[RoundTold], object]] = None,
+        on_client: Optional[Callable[[ClientTold], object]] = None,
+    ) -> None:
+        self._lines, self._rounds, self._clients = tell, on_round, on_client
+        self._has_failed = False
+
+    def line(self, line: str) -> None:
+        logger.info("%s", line)
+        self._call(self._lines, line)
+
+    def round(self, told: RoundTold) -> None:
+        self.line(str(told))
+        self._call(self._rounds, told)
+
+    def client(self, told: ClientTold) -> None:
+        logger.info("%s", told)
+        self._call(self._clients, told)
+
+    def _call(self, function: Optional[Callable[[Any], object]], told: Any) -> None:
+        if function is None:
+            return
+        try:
+            function(told)
+        except BaseException as error:  # in this thread nothing but the audit would be ended by it
+            if not self._has_failed:
+                self._has_failed = True
+                logger.error("rounds can't be told: %r", error)

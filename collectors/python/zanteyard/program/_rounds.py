@@ -1,0 +1,136 @@
+"""Rounds of an auditor, which takes in more while each is searched."""
+
+from __future__ import annotations
+
+import time
+from collections import deque
+from contextlib import contextmanager
+from typing import Any, Deque, Iterator, List, Optional, Sequence
+
+from ..core._records import Report
+from ..core.errors import NoRoundError
+from ._intake import EFFORTS, GUIDED, SECONDS, Effort
+from ._lines import Lines, refusal_of, written
+from ._searched_round import COLLECT, REPORT, SKIP, SearchedRound
+from ._supervised import SupervisedProgram
+
+COLLECTED = b'["collect","wait"]'  # which has the same reply whenever a script is read
+SPENT = "spent"  # that nothing was decided
+
+
+class Rounds(Lines):
+    """For threads, but for the caller's of `begin_round`."""
+
+    def _have_no_round(self, told: int = 0) -> None:
+        """With a new program; so many rounds were told before."""
+        self.effort = EFFORTS[0]  # of the last round
+        self._efforts: Deque[Effort] = deque()  # to be tried where it is spent
+        self._search: Optional[SearchedRound] = None
+        self._may_be_open = False  # a round, for whatever has come between
+        self._report: Optional[Report] = None  # which nobody has yet
+        self._told = told  # rounds
+        self._uncounted = 0  # of these, which the program doesn't count
+
+    def _begin_search(self, efforts: Sequence[Effort]) -> None:
+        with self.lock:
+            self._report = None
+            if self._may_be_open:
+                self._leave_round()
+            self._efforts = deque(efforts)
+            self._search_next()
+
+    def _leave_round(self) -> None:
+        try:
+            self.ask(SKIP)
+        except NoRoundError:
+            pass
+        self._search, self._may_be_open = None, False
+
+    def _search_next(self) -> None:
+        self._search, self._may_be_open = None, True
+        self.effort, self._begun_with = self._efforts.popleft(), [*self.received]
+        asked = (*self.effort, GUIDED)
+        self._search = SearchedRound(self._ask_of_round, asked, self.round_seconds)
+
+    def _await_report(self, seconds: float) -> bool:
+        until = time.monotonic() + seconds
+        while not self._has_report():
+            search, left = self._search, until - time.monotonic()
+            if left <= 0:
+                return False
+            if search is not None:
+                search.pause(left)
+        return True
+
+    def _has_report(self) -> bool:
+        with self.lock:
+            if self._report is None:
+                if self._search is None:  # in a process that is gone, or an interrupt has ended it
+                    self._begin_search(EFFORTS)
+                self._look()
+            return self._report is not None
+
+    def _look(self) -> None:
+        assert self._search is not None
+        try:
+            reply = self._search.look()
+        except NoRoundError:
+            self._search, self._may_be_open = None, False
+            return
+        if reply is not None:
+            report = Report(*reply[1:])
+            self._told = report.number + self._uncounted
+            if report.kind == SPENT and self._efforts:
+                self._search_next()
+                return
+            self._report = report._replace(number=self._told)
+        elif self._search.is_skipped:
+            self._told += 1
+            if not isinstance(self.program, SupervisedProgram):
+                self._uncounted += 1
+            self._report = Report(self._told, SPENT, self._begun_with)
+        else:
+            return
+        self._search, self._may_be_open = None, False
+
+    def _take_report(self) -> Report:
+        report, self._report = self._report, None
+        assert report is not None
+        return report
+
+    @contextmanager
+    def _between_rounds(self, is_wanted: bool = True) -> Iterator[None]:
+        """With the lock; while no round is open, if that is wanted: the report of one that was
+        stays for its caller."""
+        if not is_wanted:
+            with self.lock:
+                yield
+            return
+        while True:
+            with self.lock:
+                if self._search is not None:
+                    self._look()
+                search = self._search
+                if search is None:
+                    if self._may_be_open:
+                        self._leave_round()
+                    yield
+                    return
+            search.pause(SECONDS)
+
+    def _ask_of_round(self, line: Sequence[Any]) -> List[Any]:
+        return self._collect() if line == COLLECT else self.ask(line)
+
+    def _collect(self) -> List[Any]:
+        """The script has it once, behind what came while it was searched."""
+        text = written(COLLECT)
+        with self.lock:
+            self._begin_to_ask()
+            (reply,) = self._replies_to([text], is_kept=False)
+            if reply[0] == REPORT:
+                self._keep([COLLECTED])
+            self._be_in_step()
+        refusal = refusal_of(text, reply)
+        if refusal is not None:
+            raise refusal
+        return reply

@@ -1,0 +1,64 @@
+"""One round of cobra_audit, whose search goes on beside the lines that come meanwhile
+(docs/FORMATS.md)."""
+
+from __future__ import annotations
+
+import time
+from typing import Any, Callable, List, Optional, Sequence
+
+from ..core.errors import BadLineError, NoMemoryError, ProgramTooOldError
+from ._intake import pause_after
+
+Ask = Callable[[Sequence[Any]], List[Any]]  # gives a line, and has its reply; raises RefusedError
+BEGIN, COLLECT, SKIP = ["begin"], ["collect"], ["skip"]
+REPORT = "report"
+WAITS = (0.1, 0.5)  # seconds after which a search that was refused memory is given again
+TOO_OLD = (
+    "this cobra_audit is of an earlier version than the package, and can't search beside a script: "
+    "build it anew, or name another one"
+)
+
+
+class SearchedRound:
+    """For one thread at a time. It is about what was taken in as this was made, which begins it.
+    Each call raises what `ask` does."""
+
+    def __init__(self, ask: Ask, asked: Sequence[Any], seconds: float) -> None:
+        """What is behind the word in a line of a round; the search may take so many seconds."""
+        self._ask, self._search, self._seconds = ask, ["search", *asked], seconds
+        self._waits, self.is_skipped, self._is_late = [*WAITS], False, False
+        self._began = time.monotonic()
+        ask(BEGIN)
+        try:
+            ask(self._search)
+        except BadLineError as error:
+            raise ProgramTooOldError(TOO_OLD) from error
+
+    def look(self) -> Optional[List[Any]]:
+        """The report, if the search has ended. One that takes too long is skipped: then the round
+        is over, and `is_skipped`. Raises NoMemoryError where it was refused memory again and again,
+        and the round is over, too."""
+        try:
+            reply = self._ask(COLLECT)
+        except NoMemoryError as error:
+            self._search_again(error)
+            return None
+        if reply[0] == REPORT:
+            return reply
+        if self._is_late:
+            self._ask(SKIP)
+            self.is_skipped = True
+        # At the next look only: the program may have been stopped, and not have searched at all.
+        self._is_late = time.monotonic() > self._began + self._seconds
+        return None
+
+    def _search_again(self, error: NoMemoryError) -> None:
+        if not self._waits:
+            self._ask(SKIP)
+            raise error
+        time.sleep(self._waits.pop(0))
+        self._ask(self._search)
+
+    def pause(self, seconds: float) -> None:
+        """Until the next look, for so many seconds at most."""
+        time.sleep(max(0.0, min(seconds, pause_after(time.monotonic() - self._began))))

@@ -1,0 +1,39 @@
+"""Which store the audit is about, as the auditor's process says it."""
+
+from __future__ import annotations
+
+import threading
+import time
+from typing import Any
+
+from ..core._store_identity import AuditedStore, StoreIdentity, checked
+
+
+class StoreAnswers:
+    """For threads. It is asked once: what is answered stays so."""
+
+    def __init__(self, messages: Any) -> None:
+        self._messages, self._audited = messages, AuditedStore()
+        self._has_answered, self._has_ended = threading.Event(), False
+
+    def meet(self, identity: StoreIdentity, seconds: float) -> bool:
+        """Raises StoreUnfitError where that isn't the audit's store. False where nobody answers
+        within so many seconds. Where nothing more is answered any is let in: nothing of it is
+        audited."""
+        if not (self._has_answered.is_set() or self._has_ended):
+            ends = time.monotonic() + seconds
+            self._messages.tell("store", *identity, seconds=seconds)
+            if not self._has_answered.wait(max(0.0, ends - time.monotonic())):
+                return False
+        if not self._has_ended:
+            self._audited.meet(identity)
+        return True
+
+    def take_answer(self, known: Any, shown: Any) -> None:
+        self._audited.first(checked(known, shown))
+        self._has_answered.set()
+
+    def end(self) -> None:
+        """Nothing more is answered."""
+        self._has_ended = True
+        self._has_answered.set()

@@ -1,0 +1,53 @@
+"""Where the program zanteyard-proxy is, and what it says of its build."""
+
+from __future__ import annotations
+
+import os
+import subprocess
+from typing import Mapping
+
+from ..core._visible import visible
+from ..core.errors import ProgramMissingError
+from ..program._binaries import CRATES, PACKED
+
+NAME = "zanteyard-proxy"
+ENVIRONMENT = "ZANTEYARD_PROXY"
+BUILT = os.path.join(os.path.dirname(CRATES), "proxy", "out", NAME)  # in a clone
+ENDING = 10.0  # seconds in which it has to answer
+
+
+def proxy_path(environment: Mapping[str, str] = os.environ) -> str:
+    """The program that would be started: the one that the environment names, else the one that came
+    with the package, else the one that a clone has built."""
+    named = environment.get(ENVIRONMENT)
+    if named:
+        return named
+    packed = os.path.join(PACKED, NAME)
+    return packed if os.path.isfile(packed) else BUILT
+
+
+def find_proxy(environment: Mapping[str, str] = os.environ) -> str:
+    """The same; raises ProgramMissingError if there is none that can be started."""
+    path = proxy_path(environment)
+    if not os.path.isfile(path):
+        raise ProgramMissingError(
+            f"{path} isn't there: install the wheel, build the proxy, or name it by {ENVIRONMENT}"
+        )
+    if not os.access(path, os.X_OK):
+        raise ProgramMissingError(f"{path} can't be executed")
+    return path
+
+
+def build_of(environment: Mapping[str, str] = os.environ) -> str:
+    """Where the program is, and what it says of its build."""
+    path = proxy_path(environment)
+    if not os.path.isfile(path):
+        return f"{path}: not there"
+    try:
+        its = subprocess.run(
+            [path, "--version"], stdin=subprocess.DEVNULL, capture_output=True, timeout=ENDING
+        )
+    except (OSError, subprocess.SubprocessError) as error:
+        return f"{path}: it can't be started ({visible(str(error), 200)})"
+    told = visible(its.stdout.decode("utf-8", "replace"), 200)
+    return f"{path}: {told or 'it says nothing of its build'}"

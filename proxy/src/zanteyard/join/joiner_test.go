@@ -1,0 +1,545 @@
+package join
+
+import (
+	"context"
+	"encoding/json"
+	"errors"
+	"fmt"
+	"strings"
+	"sync"
+	"testing"
+	"time"
+
+	"zanteyard/record"
+)
+
+// stage is a server, its slot, a proxy's sessions and an auditor, around a whole joiner in real time.
+type stage struct {
+	t      testing.TB
+	joiner *Joiner
+	inbox  *Inbox
+	cancel context.CancelFunc
+	ended  chan error
+
+	lock    sync.Mutex
+	at      uint64 // place in the server's log
+	number  uint32
+	rows    map[string]uint32 // who wrote the last version
+	places  map[uint64]uint64 // of a connection, what it tells next
+	open    []uint64
+	busy    map[uint64]bool // they don't come to meetings
+	happens []string        // what was asked of server and sessions, in order
+	model   *model
+	lines   []string
+	events  []Event
+	held    bool          // the auditor doesn't answer
+	slow    chan struct{} // if it isn't nil the first thing that is asked when sessions meet waits for it
+	failing map[string]error
+}
+
+func newStage(t testing.TB, opt Options) *stage {
+	s := &stage{
+		t: t, inbox: NewInbox(1 << 20), ended: make(chan error, 1), at: 100, number: base, rows: map[string]uint32{},
+		places: map[uint64]uint64{}, busy: map[uint64]bool{}, failing: map[string]error{},
+	}
+	s.joiner = New(opt, s.inbox, plainTables{}, s, false, byStage{s}, s)
+	var ctx context.Context
+	ctx, s.cancel = context.WithCancel(context.Background())
+	go func() { s.ended <- s.joiner.Run(ctx) }()
+	t.Cleanup(s.cancel)
+	return s
+}
+
+func (s *stage) happened(what string) error {
+	s.happens = append(s.happens, what)
+	return s.failing[what]
+}
+
+// Place implements Server.
+func (s *stage) Place(context.Context) (Place, error) {
+	s.lock.Lock()
+	defer s.lock.Unlock()
+	s.joiner.Advance(s.at)
+	return Place{At: s.at}, s.failing["place"]
+}
+
+// Base implements Server.
+func (s *stage) Base(context.Context) (uint32, error) {
+	s.lock.Lock()
+	defer s.lock.Unlock()
+	return s.number, s.failing["base"]
+}
+
+// Subtransactions implements Server.
+func (s *stage) Subtransactions(_ context.Context, places []uint64) ([][]uint32, error) {
+	return make([][]uint32, len(places)), nil
+}
+
+// Fence implements Server.
+func (s *stage) Fence(context.Context) (uint64, error) {
+	s.lock.Lock()
+	defer s.lock.Unlock()
+	if err := s.happened("spare"); err != nil {
+		return 0, err
+	}
+	return uint64(s.commit(nil, true)), nil
+}
+
+// commit has the server commit what writes these rows, and the slot tell it. The lock is held.
+func (s *stage) commit(rows []string, fence bool) uint32 {
+	s.number++
+	s.at += 100
+	it := record.Commit{Number: s.number, LSN: s.at, Start: s.at - 50, Fence: fence}
+	for _, row := range rows {
+		it.Writes = append(it.Writes, record.Write{Relation: 1, Key: record.Key(row)})
+		s.rows[row] = s.number
+	}
+	if err := s.joiner.Commit(it); err != nil && !errors.Is(err, errEnded) {
+		s.t.Error(err)
+	}
+	return s.number
+}
+
+// connect begins connections, which stay until they leave.
+func (s *stage) connect(numbers ...uint64) {
+	s.lock.Lock()
+	defer s.lock.Unlock()
+	for _, number := range numbers {
+		s.open = append(s.open, number)
+		s.inbox.Connection(record.Connection{Number: number})
+	}
+}
+
+func (s *stage) leave(number uint64) {
+	s.lock.Lock()
+	defer s.lock.Unlock()
+	for i, one := range s.open {
+		if one == number {
+			s.open = append(s.open[:i:i], s.open[i+1:]...)
+		}
+	}
+	s.inbox.Connection(record.Connection{Number: number, Ended: true})
+}
+
+// update has a connection read a row and overwrite it.
+func (s *stage) update(connection uint64, row string) {
+	s.lock.Lock()
+	defer s.lock.Unlock()
+	began := time.Now()
+	seen := s.rows[row]
+	if seen == 0 {
+		seen = 7
+	}
+	number := s.commit([]string{row}, false)
+	s.tell(connection, record.Transaction{Began: began, Number: uint64(number), Reads: []record.Read{read(row, seen)}})
+}
+
+func (s *stage) tell(connection uint64, it record.Transaction) {
+	it.Connection, it.Place, it.Ended, it.Level = connection, s.places[connection], time.Now(), record.Serializable
+	s.places[connection]++
+	s.inbox.Transaction(it)
+}
+
+func (s *stage) fences() (n int) {
+	for _, one := range s.open {
+		if s.busy[one] {
+			continue
+		}
+		began := time.Now()
+		s.tell(one, record.Transaction{Began: began, Number: uint64(s.commit(nil, true)), Fence: true})
+		n++
+	}
+	return n
+}
+
+// MeetAround implements Meeter.
+func (s *stage) MeetAround(ctx context.Context, between func(context.Context)) (int, time.Duration, error) {
+	s.lock.Lock()
+	slow := s.slow
+	s.slow = nil
+	s.lock.Unlock()
+	if slow != nil {
+		<-slow
+	}
+	s.lock.Lock()
+	err := s.happened("meet")
+	n := s.fences()
+	s.lock.Unlock()
+	between(ctx)
+	s.lock.Lock()
+	defer s.lock.Unlock()
+	s.happened("met")
+	return n + s.fences(), time.Millisecond, err
+}
+
+// fenceOf has a connection make a fence that the joiner asked it for.
+func (s *stage) fenceOf(connection uint64) {
+	s.lock.Lock()
+	defer s.lock.Unlock()
+	s.happened("join")
+	s.tell(connection, record.Transaction{Began: time.Now(), Number: uint64(s.commit(nil, true)), Fence: true})
+}
+
+// Busy implements Meeter.
+func (s *stage) Busy() int { return 0 }
+
+// Line implements Output: the auditor takes the lines, and tells what can be forgotten at once.
+func (s *stage) Line(text []byte) {
+	s.lock.Lock()
+	defer s.lock.Unlock()
+	var it []any
+	if err := json.Unmarshal(text, &it); err != nil {
+		s.t.Errorf("line %s: %v", text, err)
+		return
+	}
+	s.lines = append(s.lines, string(text))
+	if it[0] == "open" {
+		s.model = &model{sessions: make([]modelSession, int(it[1].(float64))), limit: int(it[2].(float64))}
+		return
+	}
+	if refusal := s.model.take(it); refusal != "" {
+		s.t.Errorf("line %s is refused: %s", text, refusal)
+	}
+	if it[0] == "truncate" && !s.held {
+		marks, _ := s.model.settled()
+		go s.joiner.Cut(marks)
+	}
+}
+
+// Event implements Output.
+func (s *stage) Event(it Event) {
+	s.lock.Lock()
+	defer s.lock.Unlock()
+	s.events = append(s.events, it)
+}
+
+// until waits for something that is to come.
+func (s *stage) until(what string, is func() bool) {
+	s.t.Helper()
+	for end := time.Now().Add(time.Minute); ; {
+		s.lock.Lock()
+		came := is()
+		s.lock.Unlock()
+		if came {
+			return
+		}
+		if time.Now().After(end) {
+			s.t.Fatalf("%s doesn't come: %v\n%s", what, s.happens, strings.Join(s.lines, "\n"))
+		}
+		time.Sleep(time.Millisecond)
+	}
+}
+
+func (s *stage) lined(word string) (n int) {
+	for _, line := range s.lines {
+		if strings.HasPrefix(line, `["`+word+`"`) {
+			n++
+		}
+	}
+	return n
+}
+
+func (s *stage) warnings(part string) (n int) {
+	for _, one := range s.events {
+		if it, is := one.(Warning); is && strings.Contains(it.Text, part) {
+			n++
+		}
+	}
+	return n
+}
+
+// byStage gives the joiner the stage's sessions, whose own Fence has another form than the server's.
+type byStage struct{ *stage }
+
+func (s byStage) Fence(_ context.Context, connection uint64) error {
+	s.fenceOf(connection)
+	return nil
+}
+
+// often are bounds of an audit whose sessions meet as often as they can.
+var often = Options{
+	Sessions: 4, Reserve: 1, Every: 1, Between: 30 * time.Millisecond, Within: 30 * time.Millisecond, Late: 30 * time.Millisecond,
+	Stale: time.Hour, Idle: time.Hour,
+}
+
+// Sessions meet: those without a connection have a fence made for them before, those that are busy between the first
+// fences and the second ones, and behind these; each meeting is followed by a round and a cut, by which all is forgotten.
+func TestWhoMakesTheFences(t *testing.T) {
+	s := newStage(t, often)
+	s.connect(1, 2, 3)
+	for i := 0; i < 3; i++ {
+		s.update(1, "a")
+		s.update(2, "b")
+	}
+	s.update(3, "c")
+	s.until("a first round", func() bool { return s.lined("truncate") > 0 })
+	s.lock.Lock()
+	s.busy[2], s.happens = true, nil
+	s.lock.Unlock()
+	s.update(2, "b")
+	s.update(3, "c")
+	s.leave(3)
+	s.until("a whole meeting", func() bool { return s.meetings("spare meet spare met spare") > 0 })
+	s.lock.Lock()
+	s.busy[2] = false
+	s.lock.Unlock()
+	s.update(1, "a")
+	s.until("that nothing is left but fences", func() bool {
+		for _, one := range s.model.sessions {
+			for _, it := range one.its[one.mark:] {
+				if !it.isFence() {
+					return false
+				}
+			}
+		}
+		return s.lined("truncate") > 1
+	})
+	s.lock.Lock()
+	defer s.lock.Unlock()
+	if n := s.warnings(""); n > 0 {
+		t.Errorf("%d warnings: %v", n, s.events)
+	}
+}
+
+// meetings counts those around which these things happened, in this order.
+func (s *stage) meetings(want string) (n int) {
+	var its []string
+	for _, one := range s.happens {
+		if k := len(its); k > 0 && its[k-1] == one {
+			continue
+		}
+		its = append(its, one)
+	}
+	return strings.Count(strings.Join(its, " "), want)
+}
+
+// A connection that gets a closed session is asked for the fence by which the session comes back.
+func TestClosedSessionsComeBack(t *testing.T) {
+	s := newStage(t, often)
+	s.connect(1, 2, 3, 4)
+	for connection := uint64(1); connection <= 4; connection++ {
+		s.update(connection, "a")
+	}
+	s.until("a first round", func() bool { return s.lined("truncate") > 0 })
+	s.leave(2)
+	s.leave(3)
+	s.leave(4)
+	for i := 0; i < 20000 && s.count("close") == 0; i++ {
+		s.update(1, "a")
+		time.Sleep(time.Millisecond)
+	}
+	s.until("that sessions are closed", func() bool { return s.lined("close") > 0 })
+	for i := 0; i < 20000 && s.count("join") == 0; i++ {
+		number := uint64(5 + i)
+		s.connect(number)
+		s.update(1, "a")
+		time.Sleep(time.Millisecond)
+	}
+	s.until("a join", func() bool { return s.lined("join") > 0 && s.meetings("join") > 0 })
+}
+
+func (s *stage) count(word string) int {
+	s.lock.Lock()
+	defer s.lock.Unlock()
+	return s.lined(word)
+}
+
+// What can't be made is told once a minute, and the sessions meet all the same; the cuts come back with the server.
+func TestServerThatMakesNoFence(t *testing.T) {
+	s := newStage(t, often)
+	s.lock.Lock()
+	s.failing["spare"], s.failing["meet"] = errors.New("no room"), errors.New("somebody left")
+	s.lock.Unlock()
+	s.connect(1, 2)
+	s.update(2, "b")
+	s.leave(2)
+	for i := 0; i < 20000 && s.count("truncate") < 4; i++ {
+		s.update(1, "a")
+		time.Sleep(time.Millisecond)
+	}
+	s.lock.Lock()
+	if a, b := s.warnings("no room"), s.warnings("somebody left"); a != 1 || b != 1 {
+		t.Errorf("told %d and %d times", a, b)
+	}
+	gone := s.model.remain()
+	delete(s.failing, "spare")
+	s.lock.Unlock()
+	s.until("a cut", func() bool {
+		go s.update(1, "a")
+		return s.model.remain() < gone
+	})
+}
+
+// A server that doesn't say where its log is has what was told wait until it does.
+func TestServerThatDoesntTellItsPlace(t *testing.T) {
+	s := newStage(t, often)
+	s.lock.Lock()
+	s.failing["place"] = errors.New("away")
+	s.lock.Unlock()
+	s.connect(1)
+	s.update(1, "a")
+	s.until("that it is asked again", func() bool { return len(s.events) > 0 })
+	time.Sleep(3 * askPlace)
+	if s.count("offer") > 0 {
+		t.Error("something was offered whose writes may not have been told")
+	}
+	s.lock.Lock()
+	delete(s.failing, "place")
+	s.lock.Unlock()
+	s.until("an offer", func() bool { return s.lined("offer") > 0 })
+}
+
+// Stop has a last round made and says so; the audit goes on.
+func TestStop(t *testing.T) {
+	opt := often
+	opt.Every, opt.Between, opt.Within = 1<<20, time.Hour, time.Hour
+	s := newStage(t, opt)
+	s.connect(1)
+	s.update(1, "a")
+	s.until("an offer", func() bool { return s.lined("offer") > 0 })
+	if s.count("round") > 0 {
+		t.Fatal("there was a round that nobody wanted")
+	}
+	s.joiner.Stop()
+	s.until("that it was the last round", func() bool {
+		_, is := s.events[len(s.events)-1].(Stopped)
+		return is && s.lined("round") == 1 && s.lined("truncate") == 1
+	})
+	s.update(1, "b")
+	s.joiner.Round()
+	s.until("one more round", func() bool { return s.lined("round") == 2 })
+	stopped := 0
+	s.lock.Lock()
+	defer s.lock.Unlock()
+	for _, one := range s.events {
+		if _, is := one.(Stopped); is {
+			stopped++
+		}
+	}
+	if stopped != 1 {
+		t.Errorf("it was told %d times that it was stopped", stopped)
+	}
+}
+
+// Restart begins again with the connections that are there. What was under way for the audit before is dropped: a
+// meeting that it began tells the new one nothing.
+func TestRestart(t *testing.T) {
+	opt := often
+	opt.Every, opt.Between, opt.Within = 1<<20, time.Hour, time.Hour
+	s := newStage(t, opt)
+	slow := make(chan struct{})
+	s.slow = slow
+	s.connect(1, 2)
+	s.update(1, "a")
+	s.update(2, "b")
+	s.until("offers", func() bool { return s.lined("offer") > 1 })
+	s.joiner.Round()
+	s.until("that they meet", func() bool { return s.slow == nil })
+	s.joiner.Restart()
+	s.until("another audit", func() bool { return s.lined("open") == 2 })
+	close(slow)
+	s.update(1, "b")
+	s.update(2, "a")
+	s.until("offers of the new one, and the meeting's end", func() bool {
+		return s.model.remain() > 1 && s.meetings("met") == 1
+	})
+	for i := 0; i < 20; i++ { // what the meeting still says comes within some steps
+		s.update(1, "b")
+		time.Sleep(step)
+	}
+	if n := s.count("round"); n > 0 {
+		t.Errorf("%d rounds came of a meeting of the audit before", n)
+	}
+	s.lock.Lock()
+	defer s.lock.Unlock()
+	var words []string
+	for _, one := range s.events {
+		switch it := one.(type) {
+		case Coverage:
+			if len(words) == 0 && it.Offered > 0 {
+				words = append(words, "offered")
+			}
+		case Restarted:
+			words = append(words, "restarted")
+		}
+	}
+	if fmt.Sprint(words) != "[offered restarted]" {
+		t.Errorf("told: %v", words)
+	}
+}
+
+// An audit ends for a reason, and tells it last; who feeds it is told that it has ended.
+func TestEnd(t *testing.T) {
+	s := newStage(t, often)
+	s.connect(1)
+	s.joiner.End(errors.New("the slot was lost"))
+	s.joiner.End(errors.New("another reason"))
+	if err := <-s.ended; err == nil || err.Error() != "the slot was lost" {
+		t.Errorf("it ended by %v", err)
+	}
+	if err := s.joiner.Commit(record.Commit{}); !errors.Is(err, errEnded) {
+		t.Errorf("a commit afterwards: %v", err)
+	}
+	s.joiner.Cut(nil) // none of these waits
+	s.joiner.Round()
+	last, is := s.events[len(s.events)-1].(Ended)
+	if !is || last.Reason != "the slot was lost" {
+		t.Errorf("told last: %+v", s.events[len(s.events)-1])
+	}
+	if _, is := s.events[len(s.events)-2].(Coverage); !is {
+		t.Errorf("told before: %+v", s.events[len(s.events)-2])
+	}
+}
+
+// An audit that can't begin ends with that.
+func TestServerThatIsAwayAtFirst(t *testing.T) {
+	s := &stage{t: t, inbox: NewInbox(1000), failing: map[string]error{"base": errors.New("away")}}
+	err := New(often, s.inbox, plainTables{}, s, false, byStage{s}, s).Run(context.Background())
+	if err == nil || !strings.Contains(err.Error(), "begin the audit: away") {
+		t.Error(err)
+	}
+}
+
+// Marks of another audit are told, and nothing is forgotten by them.
+func TestCutOfAnotherAudit(t *testing.T) {
+	opt := often
+	opt.Every, opt.Between, opt.Within = 1<<20, time.Hour, time.Hour
+	s := newStage(t, opt)
+	s.connect(1)
+	s.update(1, "a")
+	s.until("an offer", func() bool { return s.lined("offer") > 0 })
+	s.joiner.Cut([]uint64{1 << 40, 0, 0, 0})
+	s.until("a warning", func() bool { return s.warnings("aren't of this audit") == 1 })
+	s.joiner.Describe(9, [][2]uint64{{0, 0}, {0, 1 << 40}, {99, 0}})
+	s.until("the answer", func() bool {
+		it, is := s.events[len(s.events)-1].(Transactions)
+		return is && it.ID == 9 && len(it.Given) == 3 && it.Given[0].Known && !it.Given[1].Known && !it.Given[2].Known
+	})
+}
+
+// What the auditor doesn't answer has the sessions meet no more, until it does.
+func TestRoundsWaitForTheAuditor(t *testing.T) {
+	s := newStage(t, often)
+	s.held = true
+	s.connect(1)
+	for i := 0; i < 20000 && s.count("truncate") == 0; i++ {
+		s.update(1, "a")
+		time.Sleep(time.Millisecond)
+	}
+	for i := 0; i < 100; i++ {
+		s.update(1, "a")
+		time.Sleep(2 * time.Millisecond)
+	}
+	s.lock.Lock()
+	if n := s.lined("truncate"); n != 1 {
+		t.Errorf("%d rounds, and none was answered", n)
+	}
+	s.held = false
+	marks, _ := s.model.settled()
+	s.lock.Unlock()
+	s.joiner.Cut(marks)
+	s.until("the next round", func() bool {
+		go s.update(1, "a")
+		return s.lined("truncate") > 1
+	})
+}
