@@ -17,7 +17,7 @@ use Rattle.snapshot_histories.proofs.Places.{place_in}
 use Rattle.snapshot_histories.proofs.WellFormedSplit.{split_length}
 
 -- there are as many sessions
-sessions_from : (m : ℕ) (history : History) → length (split_sessions m history) ≡ length history
+pub sessions_from : (m : ℕ) (history : History) → length (split_sessions m history) ≡ length history
 sessions_from m [] = refl
 sessions_from m (txns ∷ history) = ap suc (sessions_from (m + 1) history)
 

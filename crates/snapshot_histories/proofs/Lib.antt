@@ -1,8 +1,12 @@
 mod Arrivals
 mod Coming
 mod CommitReads
+mod Counts
+mod Doubling
+mod Effects
 mod EventHalves
 mod EventPlaces
+mod Faults
 mod FromOrder
 mod Isolation
 mod Lookups

@@ -1,13 +1,14 @@
 -- What stands where in a split history.
-use Rattle.std.proofs.Common.{◌≡◌, ℕ, ◌+◌, ◌*◌, ◌<◌, ◌^◌, ◌⊎◌, true, false, cond, ◌||◌, List, [], ◌∷◌, Some, None, Option, refl, sym, ap, subst, ◌∙◌, inl, inr, arith, suc, zero, add-zero}
+use Rattle.std.proofs.Common.{◌≡◌, ℕ, ◌+◌, ◌-◌, ◌*◌, ◌<◌, ◌^◌, ◌⊎◌, nat_lt, true, false, cond, ◌||◌, List, [], ◌∷◌, Some, None, Option, refl, sym, ap, subst, ◌∙◌, inl, inr, arith, suc, zero, add-zero}
 use Rattle.std.specs.Prelude.{map, nat_eq, option_map}
 use Rattle.std.specs.List.{slice_get, list_any}
+use Rattle.std.proofs.lemmas.Bool.{le-ltb}
 use Rattle.std.proofs.lemmas.Bool.Decides.{eqb_tells}
 use Rattle.txn.specs.declared.transactions.TxnId.{TxnId}
 use Rattle.txn.specs.declared.transactions.Txn.{Txn}
 use Rattle.txn.specs.History.{History, session_of, txn_at, writes_key}
 use Rattle.snapshot_histories.specs.Halves.{begin_half, commit_half}
-use Rattle.snapshot_histories.specs.Split.{star, begin_txn, commit_txn, split_txns, split_sessions, split_history}
+use Rattle.snapshot_histories.specs.Split.{star, plain_key, begin_txn, commit_txn, split_txns, split_sessions, split_history}
 
 session_from : (m : ℕ) (history : History) (s : ℕ) → session_of (split_sessions m history) s ≡ split_txns (m + s) 0 (session_of history s)
 session_from m [] s = refl
@@ -58,6 +59,18 @@ star_of_one a b h = by_zero (eqb_tells a 0) (eqb_tells b 0)
     by_zero (inl x) (inr y) = let p = plain a x.0 in let q = high b y.0 in absurd (omega (arith, p, q, h))
     by_zero (inr x) (inl y) = let p = high a x.0 in let q = plain b y.0 in absurd (omega (arith, p, q, h))
     by_zero (inr x) (inr y) = let p = high a x.0 in let q = high b y.0 in omega (arith, p, q, h)
+
+-- the key of a star is the one that it is made of
+pub key_of_star : (k : ℕ) → k < 2 ^ 63 → plain_key (star k) ≡ k
+key_of_star k low = by_zero (eqb_tells k 0)
+  where
+    by_zero : ((nat_eq k 0 ≡ true) × (k ≡ 0)) ⊎ ((nat_eq k 0 ≡ false) × (k ≡ 0 → ⊥)) → plain_key (star k) ≡ k
+    by_zero (inl x) = ap plain_key (ap (λ t. cond t 0 (k + 2 ^ 63)) x.0) ∙ sym x.1
+    by_zero (inr x) =
+        let high : star k ≡ k + 2 ^ 63 = ap (λ t. cond t 0 (k + 2 ^ 63)) x.0 in
+        let over : nat_lt (k + 2 ^ 63) (2 ^ 63) ≡ false = le-ltb (k + 2 ^ 63) (2 ^ 63) (omega arith) in
+        let less : k + 2 ^ 63 - 2 ^ 63 ≡ k = omega arith in
+        ap plain_key high ∙ ap (λ t. cond t (k + 2 ^ 63) (k + 2 ^ 63 - 2 ^ 63)) over ∙ less
 
 -- a star below 2^63 is that of the epoch key
 pub low_star : (k : ℕ) → star k < 2 ^ 63 → k ≡ 0

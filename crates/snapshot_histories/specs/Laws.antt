@@ -1,16 +1,19 @@
 -- Laws of split histories.
-use Rattle.std.specs.Prelude.{◌≡◌, ◌≤◌, ◌↔◌, List, length, map}
+use Rattle.std.specs.Prelude.{◌≡◌, ℕ, ◌*◌, ◌<◌, ◌≤◌, ◌^◌, ◌↔◌, List, length, map}
 use Rattle.txn.specs.declared.transactions.TxnId.{TxnId}
 use Rattle.txn.specs.declared.transactions.Txn.{Txn}
 use Rattle.txn.specs.declared.transactions.Fragment.{Fragment}
 use Rattle.txn.specs.Transactions.{IsWellFormedFragment}
-use Rattle.txn.specs.History.{History}
+use Rattle.txn.specs.History.{History, session_of}
+use Rattle.logged_fragments.specs.Effects.{effects}
+use Rattle.logged_fragments.specs.declared.logged.LoggedFragment.{LoggedFragment}
 use Rattle.order_check.specs.declared.remainder.Kind.{Kind}
 use Rattle.order_check.specs.StandsFor.{Arrival, IsFenceFrom, history_after}
 use Rattle.order_check.specs.Whole.{ExplainsWhole, HasOrderWhole, HasPendingWhole, IsVerdictWhole}
 use Rattle.snapshot_histories.specs.Halves.{begin_half, commit_half, event_at}
+use Rattle.snapshot_histories.specs.Logged.{split_logged}
 use Rattle.snapshot_histories.specs.Snapshot.{IsSnapshotOrder, KeepsSnapshotIsolation, IsSnapshotVerdict}
-use Rattle.snapshot_histories.specs.Split.{begin_txn, commit_txn, split_history, split_of, split_arrival, HistoryCanBeSplit, IsNextArrival}
+use Rattle.snapshot_histories.specs.Split.{star, plain_key, begin_txn, commit_txn, split_history, split_of, split_arrival, HistoryCanBeSplit, IsNextArrival}
 use Rattle.snapshot_histories.specs.Splittable.{IsSplittable, fragment_of}
 
 -- A history keeps snapshot isolation exactly where some order explains its split history.
@@ -48,3 +51,24 @@ SplitIsWellFormed = (fragment : Fragment) → IsSplittable fragment → length f
 -- A fence is split into two: the first reads from the commit of what the fence reads from, and the second from the first.
 abbrev pub SplitKeepsFences : Type 0
 SplitKeepsFences = (id source : TxnId) (txn : Txn) → IsFenceFrom source txn → IsFenceFrom (commit_half source) (begin_txn txn) × IsFenceFrom (begin_half id) (commit_txn id txn)
+
+-- A split history has as many sessions, and two transactions for each.
+pub record SplitDoubles (history : History) : Type 0 where
+  pub sessions : length (split_history history) ≡ length history
+  pub session : (s : ℕ) → length (session_of (split_history history) s) ≡ 2 * length (session_of history s)
+  pub counts : map length (split_history history) ≡ map (λ txns. 2 * length txns) history
+
+abbrev pub SplitDoublesCounts : Type 0
+SplitDoublesCounts = (history : History) → SplitDoubles history
+
+-- The key of a star is the one that it is made of.
+abbrev pub StarsAreOfKeys : Type 0
+StarsAreOfKeys = (key : ℕ) → key < 2 ^ 63 → plain_key (star key) ≡ key
+
+-- What a fragment did is split into what the split fragment did.
+abbrev pub SplitKeepsEffects : Type 0
+SplitKeepsEffects = (logged : LoggedFragment) → effects (split_logged logged) ≡ split_of (effects logged)
+
+-- What a splittable fragment did is splittable.
+abbrev pub EffectsCanBeSplit : Type 0
+EffectsCanBeSplit = (logged : LoggedFragment) → IsSplittable logged.fragment → IsSplittable (effects logged)

@@ -1,5 +1,5 @@
 -- Histories and fragments split: two transactions for each, of which the first reads what it reads, and the second writes what it writes.
-use Rattle.std.specs.Prelude.{◌≡◌, ℕ, ◌+◌, ◌*◌, ◌<◌, ◌^◌, cond, nat_eq, List, [], ◌∷◌, length, Some, All, map}
+use Rattle.std.specs.Prelude.{◌≡◌, ℕ, ◌+◌, ◌-◌, ◌*◌, ◌<◌, ◌^◌, cond, nat_eq, nat_lt, if◌then◌else◌, List, [], ◌∷◌, length, Some, All, map}
 use Rattle.txn.specs.declared.transactions.TxnId.{TxnId}
 use Rattle.txn.specs.declared.transactions.Source.{Source}
 use Rattle.txn.specs.declared.transactions.Source.TheVariants.{Init, By}
@@ -14,6 +14,10 @@ use Rattle.snapshot_histories.specs.Halves.{begin_half, commit_half}
 -- the epoch key is the epoch key, so that fences stay fences; keys of histories are below 2^63, the others of these not.
 abbrev pub star : ℕ → ℕ
 star key = cond (nat_eq key 0) 0 (key + 2 ^ 63)
+
+-- the key that a star is of; any other key is its own
+abbrev pub plain_key : ℕ → ℕ
+plain_key key = if nat_lt key (2 ^ 63) then key else key - 2 ^ 63
 
 -- a version is read from the half that commits it
 abbrev pub split_source : Source → Source

@@ -1,4 +1,4 @@
-ghost use Rattle.snapshot_histories.specs.Laws.{SplitKeepsIsolation, OrdersIsolate, SplitKeepsPending, SplitKeepsVerdict, SplitGoesWithArrivals, SplitComesNext, ArrivalsCanBeSplit, SplitIsWellFormed, SplitKeepsFences};
+ghost use Rattle.snapshot_histories.specs.Laws.{SplitKeepsIsolation, OrdersIsolate, SplitKeepsPending, SplitKeepsVerdict, SplitGoesWithArrivals, SplitComesNext, ArrivalsCanBeSplit, SplitIsWellFormed, SplitKeepsFences, SplitDoublesCounts, StarsAreOfKeys, SplitKeepsEffects, EffectsCanBeSplit};
 
 /// A history keeps snapshot isolation exactly where some order explains its split history.
 pub fn split_keeps_isolation()
@@ -43,4 +43,24 @@ pub fn split_is_well_formed()
 /// A fence is split into two fences.
 pub fn split_keeps_fences()
     ensures { SplitKeepsFences }
+{}
+
+/// A split history has as many sessions, and two transactions for each.
+pub fn split_doubles_counts()
+    ensures { SplitDoublesCounts }
+{}
+
+/// The key of a star is the one that it is made of.
+pub fn stars_are_of_keys()
+    ensures { StarsAreOfKeys }
+{}
+
+/// What a fragment did is split into what the split fragment did.
+pub fn split_keeps_effects()
+    ensures { SplitKeepsEffects }
+{}
+
+/// What a splittable fragment did is splittable.
+pub fn effects_can_be_split()
+    ensures { EffectsCanBeSplit }
 {}

@@ -4,14 +4,19 @@
 
 mod events;
 mod laws;
+mod logged;
+mod offered;
 mod splittable;
 mod splitting;
 
 pub use events::{Event, event_of};
 pub use laws::{
-    arrivals_can_be_split, orders_isolate, split_comes_next, split_goes_with_arrivals,
-    split_is_well_formed, split_keeps_fences, split_keeps_isolation, split_keeps_pending,
-    split_keeps_verdict,
+    arrivals_can_be_split, effects_can_be_split, orders_isolate, split_comes_next,
+    split_doubles_counts, split_goes_with_arrivals, split_is_well_formed, split_keeps_effects,
+    split_keeps_fences, split_keeps_isolation, split_keeps_pending, split_keeps_verdict,
+    stars_are_of_keys,
 };
+pub use logged::split_logged;
+pub use offered::check_offered;
 pub use splittable::is_splittable;
-pub use splitting::split_fragment;
+pub use splitting::{plain_key, split_fragment};

@@ -19,7 +19,8 @@ fn is_low_source(source: Source) -> bool
     }
 }
 
-fn has_low_numbers(txn: &Txn) -> bool
+/// Whether each key of the transaction is below 2^63, and each writer that it reads from numbered below 2^47.
+pub(crate) fn has_low_numbers(txn: &Txn) -> bool
     ensures { IsTrue result ↔ HasLowNumbers txn.now }
 {
     txn.reads

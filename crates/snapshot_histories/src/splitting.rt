@@ -1,6 +1,6 @@
 ghost use Rattle.std.specs.Prelude.{◌≡◌, ◌+◌, ◌<◌, ◌^◌, [], ◌∷◌, ◌++◌, All, map, IfOk, OnOk};
 ghost use Rattle.snapshot_histories.specs.Halves.{begin_half, commit_half};
-ghost use Rattle.snapshot_histories.specs.Split.{star, split_source, begin_read_of, commit_read_of, begin_txn, commit_txn, split_of};
+ghost use Rattle.snapshot_histories.specs.Split.{star, plain_key, split_source, begin_read_of, commit_read_of, begin_txn, commit_txn, split_of};
 ghost use Rattle.snapshot_histories.specs.Splittable.{IsLowRead, IsLowSource, HasLowNumbers, IsSplittable};
 
 use crate::splittable::KEYS;
@@ -13,6 +13,13 @@ fn starred(key: u64) -> u64
     ensures { result ≡ star key }
 {
     if key == EPOCH { EPOCH } else { key + KEYS }
+}
+
+/// The key that a star is of; any other key is its own.
+pub fn plain_key(key: u64) -> u64
+    ensures { result ≡ plain_key key }
+{
+    if key < KEYS { key } else { key - KEYS }
 }
 
 /// What stands for a transaction's begin.

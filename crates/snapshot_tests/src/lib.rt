@@ -3,3 +3,5 @@
 
 #[cfg(test)]
 mod histories;
+#[cfg(test)]
+mod offered;

@@ -1,0 +1,23 @@
+ghost use Rattle.snapshot_scripts.specs.Legal.{FreshEnginesAreSplit, SplitStepsAreLegal};
+
+use snapshot_histories::{
+    arrivals_can_be_split, effects_can_be_split, split_doubles_counts, split_goes_with_arrivals,
+    split_keeps_effects, split_keeps_verdict,
+};
+
+/// A fresh engine is one of split histories.
+pub fn fresh_engines_are_split()
+    ensures { FreshEnginesAreSplit }
+{}
+
+/// What an engine of split histories replies to a split step is right of the history as it was offered.
+pub fn split_steps_are_legal()
+    ensures { SplitStepsAreLegal }
+{
+    arrivals_can_be_split();
+    split_doubles_counts();
+    split_goes_with_arrivals();
+    split_keeps_verdict();
+    split_keeps_effects();
+    effects_can_be_split();
+}
