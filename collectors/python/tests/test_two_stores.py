@@ -721,14 +721,18 @@ class InMemory(Quiet):
 
 
 class OverJournals(Quiet):
+    def with_one(self, kind):
+        """An auditor that has taken in one transaction of a store, its journal, and the store."""
+        path, store = f"{self.folder}/{kind.__name__}", MemoryStore()
+        auditor = self.auditor(kind=kind, journal=path)
+        Session(auditor, 0, store.connect()).run(count)
+        self.assertTrue(wait_until(lambda: auditor.received[0] == 1))
+        return auditor, path, store
+
     def test_a_journal_knows_which_store_it_is(self):
         for kind in (Auditor, AuditorApart):
             with self.subTest(kind=kind.__name__):
-                path = f"{self.folder}/{kind.__name__}"
-                store = MemoryStore()
-                auditor = self.auditor(kind=kind, journal=path)
-                Session(auditor, 0, store.connect()).run(count)
-                self.assertTrue(wait_until(lambda: auditor.received[0] == 1))
+                auditor, path, store = self.with_one(kind)
                 auditor.end()
                 resumed = Auditor.resumed(path, PLAIN)
                 self.addCleanup(resumed.end)
@@ -754,11 +758,7 @@ class OverJournals(Quiet):
     def test_that_of_a_runs_next_audit_knows_it(self):
         for kind in (Auditor, AuditorApart):
             with self.subTest(kind=kind.__name__):
-                path = f"{self.folder}/{kind.__name__}"
-                store = MemoryStore()
-                auditor = self.auditor(kind=kind, journal=path)
-                Session(auditor, 0, store.connect()).run(count)
-                self.assertTrue(wait_until(lambda: auditor.received[0] == 1))
+                auditor, path, store = self.with_one(kind)
                 auditor.start_anew()
                 auditor.end()
                 resumed = Auditor.resumed(path, PLAIN)

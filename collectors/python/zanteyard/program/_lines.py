@@ -100,8 +100,8 @@ class Lines(Intake):
         return reply, refusal_of(text, reply)
 
     def _replies_to(self, texts: Sequence[str], is_kept: bool = True) -> List[List[Any]]:
-        """Of lines that are given one behind the other, and kept in the script; raises
-        ProgramLateError where that takes too long. For who has left the step."""
+        """To lines that are given one after another, and kept in the script. Raises
+        ProgramLateError if that takes too long. The caller has called `_begin_to_ask`."""
         self._give(texts, is_kept)
         try:
             assert self.program is not None

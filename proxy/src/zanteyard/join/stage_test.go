@@ -1,0 +1,274 @@
+package join
+
+import (
+	"context"
+	"encoding/json"
+	"errors"
+	"strings"
+	"sync"
+	"testing"
+	"time"
+
+	"zanteyard/record"
+)
+
+// stage is a server, its slot, a proxy's sessions and an auditor, around a whole joiner in real time.
+type stage struct {
+	t      testing.TB
+	joiner *Joiner
+	inbox  *Inbox
+	cancel context.CancelFunc
+	ended  chan error
+
+	lock    sync.Mutex
+	at      uint64 // place in the server's log
+	number  uint32
+	rows    map[string]uint32 // who wrote the last version
+	places  map[uint64]uint64 // of a connection, what it tells next
+	open    []uint64
+	busy    map[uint64]bool // they don't come to meetings
+	happens []string        // what was asked of server and sessions, in order
+	model   *model
+	lines   []string
+	events  []Event
+	held    bool          // the auditor doesn't answer
+	slow    chan struct{} // if it isn't nil the first thing that is asked when sessions meet waits for it
+	failing map[string]error
+}
+
+func newStage(t testing.TB, opt Options) *stage {
+	s := &stage{
+		t: t, inbox: NewInbox(1 << 20), ended: make(chan error, 1), at: 100, number: base, rows: map[string]uint32{},
+		places: map[uint64]uint64{}, busy: map[uint64]bool{}, failing: map[string]error{},
+	}
+	s.joiner = New(opt, s.inbox, plainTables{}, s, false, byStage{s}, s)
+	var ctx context.Context
+	ctx, s.cancel = context.WithCancel(context.Background())
+	go func() { s.ended <- s.joiner.Run(ctx) }()
+	t.Cleanup(s.cancel)
+	return s
+}
+
+func (s *stage) happened(what string) error {
+	s.happens = append(s.happens, what)
+	return s.failing[what]
+}
+
+// Place implements Server.
+func (s *stage) Place(context.Context) (Place, error) {
+	s.lock.Lock()
+	defer s.lock.Unlock()
+	s.joiner.Advance(s.at)
+	return Place{At: s.at}, s.failing["place"]
+}
+
+// Base implements Server.
+func (s *stage) Base(context.Context) (uint32, error) {
+	s.lock.Lock()
+	defer s.lock.Unlock()
+	return s.number, s.failing["base"]
+}
+
+// Subtransactions implements Server.
+func (s *stage) Subtransactions(_ context.Context, places []uint64) ([][]uint32, error) {
+	return make([][]uint32, len(places)), nil
+}
+
+// Fence implements Server.
+func (s *stage) Fence(context.Context) (uint64, error) {
+	s.lock.Lock()
+	defer s.lock.Unlock()
+	if err := s.happened("spare"); err != nil {
+		return 0, err
+	}
+	return uint64(s.commit(nil, true)), nil
+}
+
+// commit has the server commit what writes these rows, and the slot tell it. The lock is held.
+func (s *stage) commit(rows []string, fence bool) uint32 {
+	s.number++
+	s.at += 100
+	it := record.Commit{Number: s.number, LSN: s.at, Start: s.at - 50, Fence: fence}
+	for _, row := range rows {
+		it.Writes = append(it.Writes, record.Write{Relation: 1, Key: record.Key(row)})
+		s.rows[row] = s.number
+	}
+	if err := s.joiner.Commit(it); err != nil && !errors.Is(err, errEnded) {
+		s.t.Error(err)
+	}
+	return s.number
+}
+
+// connect begins connections, which stay until they leave.
+func (s *stage) connect(numbers ...uint64) {
+	s.lock.Lock()
+	defer s.lock.Unlock()
+	for _, number := range numbers {
+		s.open = append(s.open, number)
+		s.inbox.Connection(record.Connection{Number: number})
+	}
+}
+
+func (s *stage) leave(number uint64) {
+	s.lock.Lock()
+	defer s.lock.Unlock()
+	for i, one := range s.open {
+		if one == number {
+			s.open = append(s.open[:i:i], s.open[i+1:]...)
+		}
+	}
+	s.inbox.Connection(record.Connection{Number: number, Ended: true})
+}
+
+// update has a connection read a row and overwrite it.
+func (s *stage) update(connection uint64, row string) {
+	s.lock.Lock()
+	defer s.lock.Unlock()
+	began := time.Now()
+	seen := s.rows[row]
+	if seen == 0 {
+		seen = 7
+	}
+	number := s.commit([]string{row}, false)
+	s.tell(connection, record.Transaction{Began: began, Number: uint64(number), Reads: []record.Read{read(row, seen)}})
+}
+
+func (s *stage) tell(connection uint64, it record.Transaction) {
+	it.Connection, it.Place, it.Ended, it.Level = connection, s.places[connection], time.Now(), record.Serializable
+	s.places[connection]++
+	s.inbox.Transaction(it)
+}
+
+func (s *stage) fences() (n int) {
+	for _, one := range s.open {
+		if s.busy[one] {
+			continue
+		}
+		began := time.Now()
+		s.tell(one, record.Transaction{Began: began, Number: uint64(s.commit(nil, true)), Fence: true})
+		n++
+	}
+	return n
+}
+
+// MeetAround implements Meeter.
+func (s *stage) MeetAround(ctx context.Context, between func(context.Context)) (int, time.Duration, error) {
+	s.lock.Lock()
+	slow := s.slow
+	s.slow = nil
+	s.lock.Unlock()
+	if slow != nil {
+		<-slow
+	}
+	s.lock.Lock()
+	err := s.happened("meet")
+	n := s.fences()
+	s.lock.Unlock()
+	between(ctx)
+	s.lock.Lock()
+	defer s.lock.Unlock()
+	s.happened("met")
+	return n + s.fences(), time.Millisecond, err
+}
+
+// fenceOf has a connection make a fence that the joiner asked it for.
+func (s *stage) fenceOf(connection uint64) {
+	s.lock.Lock()
+	defer s.lock.Unlock()
+	s.happened("join")
+	s.tell(connection, record.Transaction{Began: time.Now(), Number: uint64(s.commit(nil, true)), Fence: true})
+}
+
+// Busy implements Meeter.
+func (s *stage) Busy() int { return 0 }
+
+// Line implements Output: the auditor takes the lines, and tells what can be forgotten at once.
+func (s *stage) Line(text []byte) {
+	s.lock.Lock()
+	defer s.lock.Unlock()
+	var it []any
+	if err := json.Unmarshal(text, &it); err != nil {
+		s.t.Errorf("line %s: %v", text, err)
+		return
+	}
+	s.lines = append(s.lines, string(text))
+	if it[0] == "open" {
+		s.model = &model{sessions: make([]modelSession, int(it[1].(float64))), limit: int(it[2].(float64))}
+		return
+	}
+	if refusal := s.model.take(it); refusal != "" {
+		s.t.Errorf("line %s is refused: %s", text, refusal)
+	}
+	if it[0] == "truncate" && !s.held {
+		marks, _ := s.model.settled()
+		go s.joiner.Cut(marks)
+	}
+}
+
+// Event implements Output.
+func (s *stage) Event(it Event) {
+	s.lock.Lock()
+	defer s.lock.Unlock()
+	s.events = append(s.events, it)
+}
+
+// until waits for something that is to come.
+func (s *stage) until(what string, is func() bool) {
+	s.t.Helper()
+	for end := time.Now().Add(time.Minute); ; {
+		s.lock.Lock()
+		came := is()
+		s.lock.Unlock()
+		if came {
+			return
+		}
+		if time.Now().After(end) {
+			s.t.Fatalf("%s doesn't come: %v\n%s", what, s.happens, strings.Join(s.lines, "\n"))
+		}
+		time.Sleep(time.Millisecond)
+	}
+}
+
+func (s *stage) lined(word string) (n int) {
+	for _, line := range s.lines {
+		if strings.HasPrefix(line, `["`+word+`"`) {
+			n++
+		}
+	}
+	return n
+}
+
+func (s *stage) warnings(part string) (n int) {
+	for _, one := range s.events {
+		if it, is := one.(Warning); is && strings.Contains(it.Text, part) {
+			n++
+		}
+	}
+	return n
+}
+
+// byStage gives the joiner the stage's sessions, whose own Fence has another form than the server's.
+type byStage struct{ *stage }
+
+func (s byStage) Fence(_ context.Context, connection uint64) error {
+	s.fenceOf(connection)
+	return nil
+}
+
+// meetings counts those around which these things happened, in this order.
+func (s *stage) meetings(want string) (n int) {
+	var its []string
+	for _, one := range s.happens {
+		if k := len(its); k > 0 && its[k-1] == one {
+			continue
+		}
+		its = append(its, one)
+	}
+	return strings.Count(strings.Join(its, " "), want)
+}
+
+func (s *stage) count(word string) int {
+	s.lock.Lock()
+	defer s.lock.Unlock()
+	return s.lined(word)
+}
