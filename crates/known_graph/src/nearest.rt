@@ -1,4 +1,4 @@
-// The shortest path, found backwards from the goal over the index. Whether it leads is seen as it is walked.
+// A path, looked for backwards from the goal over the index, the nearest first. Whether it leads is seen as it is walked.
 ghost use Rattle.std.specs.Prelude.{IfOk, MatchOption};
 ghost use Rattle.txn.specs.declared.transactions.TxnId.{TxnId};
 ghost use Rattle.known_graph.specs.Reach.{Reaches, IsPathOf};
@@ -84,7 +84,7 @@ impl Search {
     }
 }
 
-/// What lies between the two, each with an arc on a shortest path to the goal.
+/// What lies between the two, the nearest to the goal first, each with an arc on a path to the goal.
 fn found_between(alloc: Global, index: &Index, ends: &Ends) -> Result<Vec<Found>, NoMemory> {
     let mut search = Search::new(alloc, index.width(), ends.goal)?;
     for turn in 0..index.width() {

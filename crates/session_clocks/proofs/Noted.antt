@@ -1,10 +1,9 @@
 -- Transactions that are noted one after another.
-use Rattle.std.proofs.Common.{◌≡◌, ◌⊎◌, ℕ, ◌+◌, ◌-◌, ◌<◌, ◌≤◌, List, [], ◌∷◌, ◌++◌, length, get_or, refl, sym, ap, subst, ◌∙◌, inl, inr, arith, Contains}
-use Rattle.std.proofs.lemmas.Bool.{cases_eq, cases_lt}
+use Rattle.std.proofs.Common.{◌⊎◌, List, [], ◌∷◌, ◌++◌, refl, sym, ap, subst, ◌∙◌, inl, inr, Contains}
 use Rattle.std.proofs.lemmas.List.{append-nil, append_assoc}
-use Rattle.std.proofs.lemmas.List.Elements.{Contains-append_left, Contains-push, Contains-push_cases}
+use Rattle.std.proofs.lemmas.List.Elements.{Contains-append_left, Contains-push_cases}
 use Rattle.txn.specs.declared.transactions.TxnId.{TxnId}
-use Rattle.session_clocks.specs.Notes.{IsFrontOf}
+use Rattle.session_clocks.specs.Additions.{IsFrontOf}
 
 pub IsFrontOf-same : (old : List TxnId) → IsFrontOf old old
 IsFrontOf-same old = record { more = []; is = sym (append-nil old) }

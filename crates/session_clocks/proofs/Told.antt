@@ -1,12 +1,12 @@
 -- Which transactions an arc makes reach more, or be reached by more, are those that are noted.
-use Rattle.std.proofs.Common.{◌≡◌, ◌⊎◌, ℕ, ◌+◌, ◌-◌, ◌<◌, ◌≤◌, List, [], ◌∷◌, ◌++◌, Vec, Global, length, get_or, refl, sym, subst, inl, inr, arith, Contains}
+use Rattle.std.proofs.Common.{◌≡◌, ◌⊎◌, ℕ, ◌+◌, ◌-◌, ◌<◌, ◌≤◌, List, Vec, Global, length, get_or, refl, sym, subst, inl, inr, arith, Contains}
 use Rattle.std.proofs.lemmas.Bool.{cases_lt}
 use Rattle.txn.specs.declared.transactions.TxnId.{TxnId}
 use Rattle.txn.specs.declared.choices.Arc.{Arc}
 use Rattle.txn.specs.Arcs.{start_of, end_of}
-use Rattle.session_clocks.specs.Additions.{HasGrown, AreTold}
+use Rattle.session_clocks.specs.Additions.{HasGrown, AreTold, IsFrontOf}
 use Rattle.session_clocks.specs.Clocks.{IsKept}
-use Rattle.session_clocks.specs.Notes.{IsFrontOf, AreTailsNoted, AreSpansNoted, IsOfTails, IsOfSpans, first_of, id_at}
+use Rattle.session_clocks.specs.Notes.{AreTailsNoted, AreSpansNoted, IsOfTails, IsOfSpans, first_of, id_at}
 use Rattle.session_clocks.specs.Reach.{IsThere, Reaches}
 use Rattle.session_clocks.specs.Rows.{line_at, number_at, clock_of, IsFirstOf, IsCountOf}
 use Rattle.session_clocks.proofs.Closures.{IsOrder-reaches, IsJoinOf-push, Reaches-push_cases}

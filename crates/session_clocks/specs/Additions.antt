@@ -1,5 +1,5 @@
 -- What an arc that is added answers, and which transactions it tells.
-use Rattle.std.specs.Prelude.{◌⊎◌, ℕ, List, [], ◌∷◌, ◌++◌, Contains}
+use Rattle.std.specs.Prelude.{◌≡◌, ◌⊎◌, ℕ, List, [], ◌∷◌, ◌++◌, Contains}
 use Rattle.txn.specs.declared.transactions.TxnId.{TxnId}
 use Rattle.txn.specs.declared.choices.Arc.{Arc}
 use Rattle.txn.specs.Arcs.{start_of, end_of}
@@ -19,6 +19,11 @@ ComesToReach gone received arcs arc a b = (¬ Reaches gone received arcs a b) ×
 -- by the arc it comes to reach another one, or another one comes to reach it
 abbrev pub HasGrown : List ℕ → List ℕ → List Arc → Arc → TxnId → Type 0
 HasGrown gone received arcs arc id = (other : TxnId) × (ComesToReach gone received arcs arc id other ⊎ ComesToReach gone received arcs arc other id)
+
+-- the list has more at its end
+pub record IsFrontOf (old new : List TxnId) : Type 0 where
+  pub more : List TxnId
+  pub is : new ≡ old ++ more
 
 -- both of any two are told of which the one reaches the other by the arc alone, no others are, and what was told before stays
 pub record AreTold (gone received : List ℕ) (arcs : List Arc) (arc : Arc) (old new : List TxnId) : Type 0 where

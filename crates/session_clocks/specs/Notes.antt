@@ -1,13 +1,8 @@
 -- For private clauses: transactions whose rows an arc changes, as they are noted before it changes them.
-use Rattle.std.specs.Prelude.{◌≡◌, ◌⊎◌, ℕ, ◌+◌, ◌-◌, ◌<◌, ◌≤◌, min, List, ◌++◌, Vec, Contains, slice_index, length}
+use Rattle.std.specs.Prelude.{◌≡◌, ◌⊎◌, ℕ, ◌+◌, ◌-◌, ◌<◌, ◌≤◌, min, List, Vec, Contains, slice_index, length}
 use Rattle.std.specs.declared.alloc.Global.{Global}
 use Rattle.txn.specs.declared.transactions.TxnId.{TxnId}
 use Rattle.session_clocks.specs.Rows.{line_at, number_at}
-
--- the list has more at its end
-pub record IsFrontOf (old new : List TxnId) : Type 0 where
-  pub more : List TxnId
-  pub is : new ≡ old ++ more
 
 -- the first transaction that is there of a session
 abbrev pub first_of : List ℕ → ℕ → TxnId

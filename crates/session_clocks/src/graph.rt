@@ -1,10 +1,9 @@
 ghost use Rattle.std.specs.Prelude.{◌≡◌, ◌≢◌, ◌⊎◌, ◌↔◌, ℕ, [], ◌∷◌, ◌++◌, ◌+◌, ◌-◌, ◌*◌, ◌^◌, ◌<◌, ◌≤◌, IsTrue, filter, IfOk, OnOk, OnErr, length, slice_index};
 ghost use Rattle.txn.specs.declared.transactions.TxnId.{TxnId};
 ghost use Rattle.txn.specs.Arcs.{start_of, end_of};
-ghost use Rattle.session_clocks.specs.Additions.{IsAddition, AreTold};
+ghost use Rattle.session_clocks.specs.Additions.{IsAddition, AreTold, IsFrontOf};
 ghost use Rattle.session_clocks.specs.Drops.{arc_stays};
 ghost use Rattle.session_clocks.specs.Graphs.{HasNode, IsOneMore, back_to, last_mark};
-ghost use Rattle.session_clocks.specs.Notes.{IsFrontOf};
 ghost use Rattle.session_clocks.specs.Reach.{IsThere, Reaches, IsOrReaches};
 
 use crate::drops::{drop_arcs, drop_rows};
@@ -270,6 +269,7 @@ impl Graph {
         ensures arcs { OnOk result (self.new.arcs ≡ self.old.arcs ++ arc ∷ []) }
         ensures addition { IfOk result (IsAddition self.old.gone self.old.received self.old.arcs arc) }
         ensures told { OnOk result (AreTold self.old.gone self.old.received self.old.arcs arc told.old.items told.new.items) }
+        ensures front { OnOk result (IsFrontOf told.old.items told.new.items) }
         ensures marks { self.new.marks ≡ self.old.marks }
         ensures last { last_mark self.new ≡ last_mark self.old }
         ensures err { OnErr result ((self.new ≡ self.old) × (told.new.items ≡ told.old.items)) }

@@ -1,6 +1,7 @@
 // Which transactions an arc makes reach more, or be reached by more: those whose rows it changes, noted before it changes them.
 ghost use Rattle.std.specs.Prelude.{◌≡◌, ◌+◌, ◌*◌, ◌^◌, ◌<◌, ◌≤◌, OnOk, length, slice_index};
-ghost use Rattle.session_clocks.specs.Notes.{IsFrontOf, AreTailNoted, AreTailsNoted, AreSpanNoted, AreSpansNoted};
+ghost use Rattle.session_clocks.specs.Additions.{IsFrontOf};
+ghost use Rattle.session_clocks.specs.Notes.{AreTailNoted, AreTailsNoted, AreSpanNoted, AreSpansNoted};
 ghost use Rattle.session_clocks.specs.Sweeps.{FitTops, FitSpans};
 
 use crate::rows::line;

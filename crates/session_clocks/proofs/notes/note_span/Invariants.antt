@@ -1,7 +1,7 @@
 use Rattle.std.proofs.Common.{◌⊎◌, ℕ, ◌<◌, ◌≤◌, Contains}
 use Rattle.txn.specs.declared.transactions.TxnId.{TxnId}
-use Rattle.session_clocks.specs.Rows.{number_at}
-use Rattle.session_clocks.specs.Notes.{IsFrontOf, IsOfSpan, id_at}
+use Rattle.session_clocks.specs.Additions.{IsFrontOf}
+use Rattle.session_clocks.specs.Notes.{IsOfSpan, id_at}
 use Rattle.session_clocks.proofs.notes.note_span.Given as goal
 
 abbrev pub invariant-loop-i : goal.invariant-loop-i

@@ -1,8 +1,8 @@
-use Rattle.std.proofs.Common.{◌≡◌, ◌⊎◌, ◌+◌, ◌*◌, ◌-◌, ◌<◌, ◌∷◌, ◌++◌, [], ℕ, List, arith, ap, sym, subst, get_or, inl, inr, Contains}
+use Rattle.std.proofs.Common.{◌+◌, ◌*◌, ◌-◌, ◌<◌, ◌∷◌, ◌++◌, [], arith, sym, subst, get_or, inl, inr, Contains}
 use Rattle.std.proofs.lemmas.Bool.{cases_eq}
 use Rattle.std.proofs.lemmas.List.Elements.{Contains-append_left, Contains-push}
 use Rattle.txn.specs.declared.transactions.TxnId.{TxnId}
-use Rattle.session_clocks.specs.Notes.{IsFrontOf, IsOfTail, id_at}
+use Rattle.session_clocks.specs.Notes.{IsOfTail, id_at}
 use Rattle.session_clocks.specs.Rows.{number_at}
 use Rattle.session_clocks.proofs.Noted.{IsFrontOf-push, only-push}
 use Rattle.session_clocks.proofs.notes.note_tail.Goals as goal

@@ -1,7 +1,8 @@
 use Rattle.std.proofs.Common.{◌⊎◌, ℕ, ◌<◌, ◌≤◌, Contains}
 use Rattle.txn.specs.declared.transactions.TxnId.{TxnId}
 use Rattle.session_clocks.specs.Rows.{number_at}
-use Rattle.session_clocks.specs.Notes.{IsFrontOf, IsOfTail, id_at}
+use Rattle.session_clocks.specs.Additions.{IsFrontOf}
+use Rattle.session_clocks.specs.Notes.{IsOfTail, id_at}
 use Rattle.session_clocks.proofs.notes.note_tail.Given as goal
 
 abbrev pub invariant-loop-i : goal.invariant-loop-i

@@ -1,7 +1,6 @@
-use Rattle.std.proofs.Common.{◌≡◌, ◌⊎◌, ◌-◌, ◌<◌, ℕ, List, arith, ap, sym, subst, get_or, length, inl, inr, Contains}
+use Rattle.std.proofs.Common.{◌-◌, arith, sym, subst, get_or, length, inl, inr}
 use Rattle.std.proofs.lemmas.Bool.{cases_eq}
-use Rattle.txn.specs.declared.transactions.TxnId.{TxnId}
-use Rattle.session_clocks.specs.Notes.{AreTailNoted, IsAllOfTail, IsOfTails, first_of, id_at}
+use Rattle.session_clocks.specs.Notes.{AreTailNoted, IsAllOfTail, first_of, id_at}
 use Rattle.session_clocks.specs.Rows.{line_at}
 use Rattle.session_clocks.proofs.Noted.{IsFrontOf-both, noted_stays}
 use Rattle.session_clocks.proofs.notes.note_tails.Goals as goal

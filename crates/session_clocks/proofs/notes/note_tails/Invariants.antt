@@ -1,7 +1,8 @@
 use Rattle.std.proofs.Common.{◌⊎◌, ℕ, ◌-◌, ◌<◌, Contains, get_or, length}
 use Rattle.txn.specs.declared.transactions.TxnId.{TxnId}
 use Rattle.session_clocks.specs.Rows.{line_at}
-use Rattle.session_clocks.specs.Notes.{IsFrontOf, IsAllOfTail, IsOfTails, first_of}
+use Rattle.session_clocks.specs.Additions.{IsFrontOf}
+use Rattle.session_clocks.specs.Notes.{IsAllOfTail, IsOfTails, first_of}
 use Rattle.session_clocks.proofs.notes.note_tails.Given as goal
 
 abbrev pub invariant-loop-at_line : goal.invariant-loop-at_line
