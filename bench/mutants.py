@@ -12,6 +12,7 @@ import collections
 import concurrent.futures
 import copy
 import glob
+import json
 import os
 import random
 import re
@@ -20,6 +21,7 @@ import signal
 import subprocess
 import sys
 import tempfile
+import threading
 
 TOP = os.path.dirname(os.path.dirname(os.path.abspath(__file__)))
 PYTHON, PROXY = os.path.join(TOP, "collectors", "python"), os.path.join(TOP, "proxy")
@@ -32,12 +34,16 @@ FILES = {
     ),
     "go": ("src/zanteyard/join/*.go",),
 }
-# Those that take a second or two come first.
-TESTS = (
-    *("transactions", "meetings", "places", "forks", "notes", "circumstances", "redacting", "processes", "no_harm"),
-    *("aborted", "joining", "live", "rounds", "killed.Killed"),
-)
-SECONDS = 150.0  # for the tests of a mutant
+# Of the Python package, those that can see a mutant of a folder; those that end soon, or that see most, come first.
+TESTS = {
+    "session": ("transactions", "meetings", "places", "aborted", "no_harm", "joining", "live", "redacting", "circumstances"),
+    "live": ("meetings", "places", "live", "joining", "no_harm", "processes", "aborted", "rounds", "redacting"),
+    "program": ("rounds", "live", "no_harm", "joining"),
+    "core": ("notes", "forks", "joining", "aborted", "no_harm", "live", "killed.Killed"),
+    "remote": ("notes", "joining", "killed.Killed"),
+}
+GO_SLOW = "Lives|MakesUpNo|MemoryIsBounded|HotRow"  # of the joiner's tests, those that take seconds
+SECONDS = 300.0  # for a call of tests
 Mutant = collections.namedtuple("Mutant", "path line about text")
 COMPARED = {
     ast.Lt: ast.LtE, ast.LtE: ast.Lt, ast.Gt: ast.GtE, ast.GtE: ast.Gt, ast.Eq: ast.NotEq, ast.NotEq: ast.Eq,
@@ -133,52 +139,73 @@ def go_mutants(path):
                 yield Mutant(path, at + 1, f"{line.strip()}   ({changed_line.strip()})", text)
 
 
-def tests_of(kind, names):
-    """The calls that run them, one after another, until one fails."""
-    if kind == "go":
-        return [["go", "build", "zanteyard/join"], ["go", "test", "-failfast", "zanteyard/join"],
-                ["go", "test", "-failfast", "zanteyard/audit"]]
-    unittest = [sys.executable, "-W", "ignore", "-m", "unittest", "-f"]
-    return [[*unittest, f"tests.test_{name}"] for name in names]
+def tests_of(path):
+    return TESTS[os.path.basename(os.path.dirname(path))]
 
 
-def fate(kind, names, mutant):
-    """Of a mutant: "found", "hangs", "lives", or "isn't one" where it can't even be compiled."""
-    home = PYTHON if kind == "python" else PROXY
+def fate(kind, names, slow, mutant):
+    """Of a mutant: "found", "hangs", "lives", or "isn't one" where it can't even be compiled; and what found it."""
     with tempfile.TemporaryDirectory() as folder:
         os.chmod(folder, 0o711)
-        tree = os.path.join(folder, os.path.relpath(home, TOP))
-        shutil.copytree(home, tree, ignore=shutil.ignore_patterns("__pycache__", "out"))
-        with open(os.path.join(tree, os.path.relpath(mutant.path, home)), "w", encoding="utf-8") as file:
-            file.write(mutant.text)
-        environment = {**os.environ, "TMPDIR": folder}
-        if kind == "go":
-            environment["GOPATH"] = os.pathsep.join(
-                tree if each == PROXY else each for each in os.environ["GOPATH"].split(os.pathsep)
-            )
-        for at, call in enumerate(tests_of(kind, names)):
-            status = status_of(call, tree, environment)
-            if status is None:
-                return "hangs"
-            if status != 0:
-                return "isn't one" if kind == "go" and at == 0 else "found"
-    return "lives"
+        return (python_fate if kind == "python" else go_fate)(folder, names, slow, mutant)
 
 
-def status_of(call, tree, environment):
-    """None where it took too long: all that it has begun is ended."""
-    nothing = subprocess.DEVNULL
-    with subprocess.Popen(call, cwd=tree, env=environment, stdin=nothing, stdout=nothing, stderr=nothing,
-                          start_new_session=True) as process:
-        try:
-            return process.wait(SECONDS)
-        except subprocess.TimeoutExpired:
-            return None
-        finally:
+def python_fate(folder, names, _, mutant):
+    """By the modules of tests, one after another, in a copy of the tree."""
+    tree = os.path.join(folder, os.path.relpath(PYTHON, TOP))
+    shutil.copytree(PYTHON, tree, ignore=shutil.ignore_patterns("__pycache__", "out"))
+    with open(os.path.join(tree, os.path.relpath(mutant.path, PYTHON)), "w", encoding="utf-8") as file:
+        file.write(mutant.text)
+    for name in names or tests_of(mutant.path):
+        call = [sys.executable, "-W", "ignore", "-m", "unittest", "-f", f"tests.test_{name}"]
+        if (ended := end_of(call, tree, {**os.environ, "TMPDIR": folder}, name)) is not None:
+            return ended
+    return "lives", ""
+
+
+def go_fate(folder, names, slow, mutant):
+    """By the tests of the package, those that end at once first; then, if asked, by those of others."""
+    text, overlay, program = (os.path.join(folder, name) for name in ("mutant.go", "overlay", "tests"))
+    with open(text, "w", encoding="utf-8") as file:
+        file.write(mutant.text)
+    with open(overlay, "w", encoding="utf-8") as file:
+        json.dump({"Replace": {mutant.path: text}}, file)
+    environment = {**os.environ, "TMPDIR": folder}
+    package = os.path.dirname(mutant.path)
+    made = ["go", "test", "-c", "-vet=off", "-overlay", overlay, "-o", program, "zanteyard/join"]
+    if subprocess.run(made, cwd=PROXY, env=environment, capture_output=True, check=False).returncode:
+        return "isn't one", ""
+    listed = subprocess.run([program, "-test.list", "^Test"], cwd=package, capture_output=True, text=True, check=False)
+    every = listed.stdout.split()
+    for some in ([it for it in every if not re.search(GO_SLOW, it)], [it for it in every if re.search(GO_SLOW, it)]):
+        call = [program, "-test.failfast", "-test.run", f"^({'|'.join(some)})$"]
+        if some and (ended := end_of(call, package, environment, "join")) is not None:
+            return ended
+    for name in [*(names or ()), *(["audit"] if slow else [])]:
+        call = ["go", "test", "-vet=off", "-failfast", "-overlay", overlay, f"zanteyard/{name}"]
+        if (ended := end_of(call, PROXY, environment, name)) is not None:
+            return ended
+    return "lives", ""
+
+
+def end_of(call, folder, environment, name):
+    """None where all of them passed; what has begun is ended with them."""
+    with tempfile.TemporaryFile() as told:
+        with subprocess.Popen(call, cwd=folder, env=environment, stdin=subprocess.DEVNULL, stdout=told,
+                              stderr=subprocess.STDOUT, start_new_session=True) as process:
             try:
-                os.killpg(process.pid, signal.SIGKILL)
-            except ProcessLookupError:
-                pass
+                if process.wait(SECONDS) == 0:
+                    return None
+            except subprocess.TimeoutExpired:
+                return "hangs", name
+            finally:
+                try:
+                    os.killpg(process.pid, signal.SIGKILL)
+                except ProcessLookupError:
+                    pass
+        told.seek(0)
+        failed = re.search(r"^(?:--- FAIL|FAIL|ERROR): (\w+)", told.read().decode(errors="replace"), re.M)
+        return "found", f"{name} {failed[1]}" if failed else name
 
 
 def drawn(kind, count, seed, only):
@@ -191,6 +218,14 @@ def drawn(kind, count, seed, only):
     return random.Random(seed).sample(every, min(count, len(every)))
 
 
+def written_rows(path):
+    """The rows of an earlier run, by place and what was changed there."""
+    if not path or not os.path.exists(path):
+        return {}
+    with open(path, encoding="utf-8") as file:
+        return {tuple(row[:2]): row[2:] for row in map(json.loads, file)}
+
+
 def main():
     parser = argparse.ArgumentParser(description=__doc__.splitlines()[0])
     parser.add_argument("kind", choices=FILES)
@@ -198,17 +233,32 @@ def main():
     parser.add_argument("--seed", type=int, default=1)
     parser.add_argument("--processes", type=int, default=2)
     parser.add_argument("--only", metavar="FILE:LINE", help="those of this line")
-    parser.add_argument("--tests", nargs="+", default=TESTS, metavar="NAME", help="of the Python package, as notes")
+    parser.add_argument("--tests", nargs="+", metavar="NAME", help="modules of the Python package's tests, as notes, "
+                        "in place of those that can see the mutant; or further packages of the proxy, as slot")
+    parser.add_argument("--slow", action="store_true", help="tests with servers too, of those that nothing else has found")
+    parser.add_argument("--rows", metavar="FILE", help="a row for each goes there; what is there isn't run again")
     asked = parser.parse_args()
     if asked.kind == "go":  # as proxy/env.sh has it
         words = subprocess.run(["sh", "-c", ". ./env.sh && env"], cwd=PROXY, capture_output=True, text=True, check=True)
         os.environ.update(line.split("=", 1) for line in words.stdout.splitlines() if re.match(r"(GO|CGO_)\w+=", line))
-    mutants, fates = drawn(asked.kind, asked.count, asked.seed, asked.only), collections.Counter()
-    with concurrent.futures.ThreadPoolExecutor(asked.processes) as threads:
-        for mutant, its in zip(mutants, threads.map(lambda it: fate(asked.kind, asked.tests, it), mutants)):
+    fates, earlier, writing = collections.Counter(), written_rows(asked.rows), threading.Lock()
+
+    def run(mutant):
+        place = f"{os.path.relpath(mutant.path, TOP)}:{mutant.line}"
+        its = earlier.get((place, mutant.about))
+        if its is None:
+            its = fate(asked.kind, asked.tests, asked.slow, mutant)
+            if asked.rows:
+                with writing, open(asked.rows, "a", encoding="utf-8") as file:
+                    file.write(json.dumps([place, mutant.about, *its]) + "\n")
+        return place, its[0]
+
+    mutants = drawn(asked.kind, asked.count, asked.seed, asked.only)
+    with concurrent.futures.ThreadPoolExecutor(asked.processes) as pool:
+        for mutant, (place, its) in zip(mutants, pool.map(run, mutants)):
             fates[its] += 1
             if its in ("lives", "hangs"):
-                print(f"{its}: {os.path.relpath(mutant.path, TOP)}:{mutant.line}: {mutant.about}", flush=True)
+                print(f"{its}: {place}: {mutant.about}", flush=True)
     print(", ".join(f"{count} {word}" for word, count in fates.most_common()))
     seen = fates["found"] + fates["hangs"]
     return 0 if 20 * seen >= 19 * (seen + fates["lives"]) else 1
