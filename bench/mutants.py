@@ -10,8 +10,9 @@ import argparse
 import ast
 import collections
 import concurrent.futures
-import copy
+import functools
 import glob
+import itertools
 import json
 import os
 import random
@@ -44,7 +45,7 @@ TESTS = {
 }
 GO_SLOW = "Lives|MakesUpNo|MemoryIsBounded|HotRow"  # of the joiner's tests, those that take seconds
 SECONDS = 300.0  # for a call of tests
-Mutant = collections.namedtuple("Mutant", "path line about text")
+Mutant = collections.namedtuple("Mutant", "path line about text")  # of which the text is made when it is asked for
 COMPARED = {
     ast.Lt: ast.LtE, ast.LtE: ast.Lt, ast.Gt: ast.GtE, ast.GtE: ast.Gt, ast.Eq: ast.NotEq, ast.NotEq: ast.Eq,
     ast.Is: ast.IsNot, ast.IsNot: ast.Is, ast.In: ast.NotIn, ast.NotIn: ast.In,
@@ -113,16 +114,21 @@ def is_of_annotation(source, node):
 def python_mutants(path):
     with open(path, encoding="utf-8") as file:
         text = file.read()
-    whole, source = ast.parse(text), text.splitlines()
-    for at, node in enumerate(ast.walk(whole)):
+    source = text.splitlines()
+    for at, node in enumerate(ast.walk(ast.parse(text))):
         if not hasattr(node, "lineno") or is_of_annotation(source, node):
             continue
-        for way, _ in enumerate(changed(node)):
-            mutated = copy.deepcopy(whole)
-            there = next(it for number, it in enumerate(ast.walk(mutated)) if number == at)
-            about = [*changed(there)][way]()
-            ast.fix_missing_locations(mutated)
-            yield Mutant(path, node.lineno, f"{source[node.lineno - 1].strip()}   ({about})", ast.unparse(mutated))
+        for way, change in enumerate(changed(node)):
+            about = f"{source[node.lineno - 1].strip()}   ({change()})"
+            yield Mutant(path, node.lineno, about, functools.partial(python_mutant, text, at, way))
+
+
+def python_mutant(text, at, way):
+    """The text with one node changed, in one of the ways."""
+    mutated = ast.parse(text)
+    its = [*changed(next(itertools.islice(ast.walk(mutated), at, None)))][way]
+    its()
+    return ast.unparse(ast.fix_missing_locations(mutated))
 
 
 def go_mutants(path):
@@ -135,8 +141,12 @@ def go_mutants(path):
         for old, new in GO:
             if re.search(old, code):
                 changed_line = re.sub(old, new, code, count=1) + slashes + comment
-                text = "\n".join([*lines[:at], changed_line, *lines[at + 1 :]])
-                yield Mutant(path, at + 1, f"{line.strip()}   ({changed_line.strip()})", text)
+                about = f"{line.strip()}   ({changed_line.strip()})"
+                yield Mutant(path, at + 1, about, functools.partial(go_mutant, lines, at, changed_line))
+
+
+def go_mutant(lines, at, line):
+    return "\n".join([*lines[:at], line, *lines[at + 1 :]])
 
 
 def tests_of(path):
@@ -155,7 +165,7 @@ def python_fate(folder, names, _, mutant):
     tree = os.path.join(folder, os.path.relpath(PYTHON, TOP))
     shutil.copytree(PYTHON, tree, ignore=shutil.ignore_patterns("__pycache__", "out"))
     with open(os.path.join(tree, os.path.relpath(mutant.path, PYTHON)), "w", encoding="utf-8") as file:
-        file.write(mutant.text)
+        file.write(mutant.text())
     for name in names or tests_of(mutant.path):
         call = [sys.executable, "-W", "ignore", "-m", "unittest", "-f", f"tests.test_{name}"]
         if (ended := end_of(call, tree, {**os.environ, "TMPDIR": folder}, name)) is not None:
@@ -167,7 +177,7 @@ def go_fate(folder, names, slow, mutant):
     """By the tests of the package, those that end at once first; then, if asked, by those of others."""
     text, overlay, program = (os.path.join(folder, name) for name in ("mutant.go", "overlay", "tests"))
     with open(text, "w", encoding="utf-8") as file:
-        file.write(mutant.text)
+        file.write(mutant.text())
     with open(overlay, "w", encoding="utf-8") as file:
         json.dump({"Replace": {mutant.path: text}}, file)
     environment = {**os.environ, "TMPDIR": folder}
