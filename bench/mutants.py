@@ -1,11 +1,12 @@
 """Whether the tests see small faults: each mutant is the code with one of its places changed.
 
-    /usr/bin/python3 bench/mutants.py python|go [--count 60] [--seed 1] [--processes 2] [--only FILE:LINE]
+    /usr/bin/python3 bench/mutants.py python|go [--count 60] [--seed 1] [--processes 2] [--only FILE:LINE] [--rows FILE]
 
-Mutants of the Python package's sessions, live audits, rounds, notes and searches for killed clients, or of the proxy's joiner,
-are drawn by the seed, and each is run under the tests beside it, in a copy of the tree. One is found if a test fails,
-or none ends in its time. Prints a line for each that isn't found, which is to be read: it means the same, or a test is
-missing. The status is 1 if more than one in twenty isn't found."""
+Mutants of the Python package's sessions, live audits, rounds, notes and searches for killed clients, or of the proxy's
+joiner, are drawn by the seed. Each is run under the tests that can see it, in a copy of the tree (Python) or by an overlay
+(Go); tests that fail without a mutant are named, and left out. One is found if a test fails, or doesn't end in five times
+the time that it takes without a mutant. Prints a line for each that isn't found, which is to be read: it means the same, or
+a test is missing. The status is 1 if more than one in twenty isn't found."""
 import argparse
 import ast
 import collections
@@ -23,6 +24,7 @@ import subprocess
 import sys
 import tempfile
 import threading
+import time
 
 TOP = os.path.dirname(os.path.dirname(os.path.abspath(__file__)))
 PYTHON, PROXY = os.path.join(TOP, "collectors", "python"), os.path.join(TOP, "proxy")
@@ -37,15 +39,15 @@ FILES = {
 }
 # Of the Python package, those that can see a mutant of a folder; those that end soon, or that see most, come first.
 TESTS = {
-    "session": ("transactions", "meetings", "places", "aborted", "no_harm", "joining", "live", "redacting", "circumstances"),
-    "live": ("meetings", "places", "live", "joining", "no_harm", "processes", "aborted", "rounds", "redacting"),
-    "program": ("rounds", "live", "no_harm", "joining"),
-    "core": ("notes", "forks", "joining", "aborted", "no_harm", "live", "killed.Killed"),
+    "session": ("transactions", "meetings", "places", "joining", "live", "redacting", "circumstances", "aborted", "no_harm"),
+    "live": ("places", "meetings", "joining", "live", "processes", "rounds", "redacting", "aborted", "no_harm"),
+    "program": ("rounds", "live", "joining", "no_harm"),
+    "core": ("notes", "forks", "joining", "live", "killed.Killed", "aborted", "no_harm"),
     "remote": ("notes", "joining", "killed.Killed"),
 }
 GO_SLOW = "Lives|MakesUpNo|MemoryIsBounded|HotRow"  # of the joiner's tests, those that take seconds
-SECONDS = 300.0  # for a call of tests
-Mutant = collections.namedtuple("Mutant", "path line about text")  # of which the text is made when it is asked for
+LONGEST = 1800.0  # seconds for a call of tests without a mutant
+Mutant = collections.namedtuple("Mutant", "path line about text")  # the text is made when it is asked for
 COMPARED = {
     ast.Lt: ast.LtE, ast.LtE: ast.Lt, ast.Gt: ast.GtE, ast.GtE: ast.Gt, ast.Eq: ast.NotEq, ast.NotEq: ast.Eq,
     ast.Is: ast.IsNot, ast.IsNot: ast.Is, ast.In: ast.NotIn, ast.NotIn: ast.In,
@@ -149,73 +151,96 @@ def go_mutant(lines, at, line):
     return "\n".join([*lines[:at], line, *lines[at + 1 :]])
 
 
-def tests_of(path):
-    return TESTS[os.path.basename(os.path.dirname(path))]
-
-
-def fate(kind, names, slow, mutant):
-    """Of a mutant: "found", "hangs", "lives", or "isn't one" where it can't even be compiled; and what found it."""
-    with tempfile.TemporaryDirectory() as folder:
-        os.chmod(folder, 0o711)
-        return (python_fate if kind == "python" else go_fate)(folder, names, slow, mutant)
-
-
-def python_fate(folder, names, _, mutant):
-    """By the modules of tests, one after another, in a copy of the tree."""
+def python_calls(folder, names, mutant):
+    """The modules of tests one after another, in a copy of the tree."""
     tree = os.path.join(folder, os.path.relpath(PYTHON, TOP))
     shutil.copytree(PYTHON, tree, ignore=shutil.ignore_patterns("__pycache__", "out"))
-    with open(os.path.join(tree, os.path.relpath(mutant.path, PYTHON)), "w", encoding="utf-8") as file:
-        file.write(mutant.text())
-    for name in names or tests_of(mutant.path):
-        call = [sys.executable, "-W", "ignore", "-m", "unittest", "-f", f"tests.test_{name}"]
-        if (ended := end_of(call, tree, {**os.environ, "TMPDIR": folder}, name)) is not None:
-            return ended
-    return "lives", ""
+    if mutant is not None:
+        with open(os.path.join(tree, os.path.relpath(mutant.path, PYTHON)), "w", encoding="utf-8") as file:
+            file.write(mutant.text())
+    for name in names:
+        yield name, [sys.executable, "-W", "ignore", "-m", "unittest", "-f", f"tests.test_{name}"], tree
 
 
-def go_fate(folder, names, slow, mutant):
-    """By the tests of the package, those that end at once first; then, if asked, by those of others."""
+def go_calls(folder, names, mutant):
+    """The tests of the joiner, those that end at once first; then those of other packages. None if it can't be compiled."""
     text, overlay, program = (os.path.join(folder, name) for name in ("mutant.go", "overlay", "tests"))
-    with open(text, "w", encoding="utf-8") as file:
-        file.write(mutant.text())
+    if mutant is not None:
+        with open(text, "w", encoding="utf-8") as file:
+            file.write(mutant.text())
     with open(overlay, "w", encoding="utf-8") as file:
-        json.dump({"Replace": {mutant.path: text}}, file)
-    environment = {**os.environ, "TMPDIR": folder}
-    package = os.path.dirname(mutant.path)
+        json.dump({"Replace": {mutant.path: text} if mutant is not None else {}}, file)
+    package = os.path.join(PROXY, "src/zanteyard/join")
     made = ["go", "test", "-c", "-vet=off", "-overlay", overlay, "-o", program, "zanteyard/join"]
-    if subprocess.run(made, cwd=PROXY, env=environment, capture_output=True, check=False).returncode:
-        return "isn't one", ""
+    if subprocess.run(made, cwd=PROXY, capture_output=True, check=False).returncode:
+        yield None
+        return
     listed = subprocess.run([program, "-test.list", "^Test"], cwd=package, capture_output=True, text=True, check=False)
     every = listed.stdout.split()
-    for some in ([it for it in every if not re.search(GO_SLOW, it)], [it for it in every if re.search(GO_SLOW, it)]):
-        call = [program, "-test.failfast", "-test.run", f"^({'|'.join(some)})$"]
-        if some and (ended := end_of(call, package, environment, "join")) is not None:
-            return ended
-    for name in [*(names or ()), *(["audit"] if slow else [])]:
-        call = ["go", "test", "-vet=off", "-failfast", "-overlay", overlay, f"zanteyard/{name}"]
-        if (ended := end_of(call, PROXY, environment, name)) is not None:
-            return ended
+    slow = [name for name in every if re.search(GO_SLOW, name)]
+    for name, some in (("join", [name for name in every if name not in slow]), ("join, slow ones", slow)):
+        yield name, [program, "-test.failfast", "-test.run", f"^({'|'.join(some)})$"], package
+    for name in names:
+        yield name, ["go", "test", "-vet=off", "-failfast", "-overlay", overlay, f"zanteyard/{name}"], PROXY
+
+
+def calls(kind, folder, names, mutant):
+    os.chmod(folder, 0o711)
+    return (python_calls if kind == "python" else go_calls)(folder, names, mutant)
+
+
+def fate(kind, names, limits, mutant):
+    """Of a mutant: "found", "hangs", "lives", or "isn't one" where it can't even be compiled; and what found it."""
+    with tempfile.TemporaryDirectory() as folder:
+        for one in calls(kind, folder, names, mutant):
+            if one is None:
+                return "isn't one", ""
+            name, call, home = one
+            if limits[name] is None:
+                continue
+            status, told = end_of(call, home, folder, limits[name])
+            if status is None:
+                return "hangs", name
+            if status:
+                failed = re.search(r"^(?:--- FAIL|FAIL|ERROR): (\w+)", told, re.M)
+                return "found", f"{name} {failed[1]}" if failed else name
     return "lives", ""
 
 
-def end_of(call, folder, environment, name):
-    """None where all of them passed; what has begun is ended with them."""
+def limits_of(kind, names, earlier, write):
+    """Of each call, the seconds after which it counts as hanging: five times what it takes without a mutant. None where it
+    fails without one, too: it would find whatever there is."""
+    limits = {about: seconds for (place, about), (_, seconds) in earlier.items() if not place}
+    names = [name for name in names if name not in limits]
+    with tempfile.TemporaryDirectory() as folder:
+        for name, call, home in calls(kind, folder, names, None):
+            if name in limits:
+                continue
+            began = time.monotonic()
+            status, told = end_of(call, home, folder, LONGEST)
+            limits[name] = None if status != 0 else 60.0 + 5 * (time.monotonic() - began)
+            if status != 0:
+                print(f"left out, since it fails without a mutant: {name}", *told.splitlines()[-3:], sep="\n    ", flush=True)
+            write(["", name, "limit", limits[name]])
+    return limits
+
+
+def end_of(call, home, folder, seconds):
+    """Its status, None where it doesn't end, and what it told; what it has begun is ended with it."""
     with tempfile.TemporaryFile() as told:
-        with subprocess.Popen(call, cwd=folder, env=environment, stdin=subprocess.DEVNULL, stdout=told,
+        with subprocess.Popen(call, cwd=home, env={**os.environ, "TMPDIR": folder}, stdin=subprocess.DEVNULL, stdout=told,
                               stderr=subprocess.STDOUT, start_new_session=True) as process:
             try:
-                if process.wait(SECONDS) == 0:
-                    return None
+                status = process.wait(seconds)
             except subprocess.TimeoutExpired:
-                return "hangs", name
+                status = None
             finally:
                 try:
                     os.killpg(process.pid, signal.SIGKILL)
                 except ProcessLookupError:
                     pass
         told.seek(0)
-        failed = re.search(r"^(?:--- FAIL|FAIL|ERROR): (\w+)", told.read().decode(errors="replace"), re.M)
-        return "found", f"{name} {failed[1]}" if failed else name
+        return status, told.read().decode(errors="replace")
 
 
 def drawn(kind, count, seed, only):
@@ -253,17 +278,27 @@ def main():
         os.environ.update(line.split("=", 1) for line in words.stdout.splitlines() if re.match(r"(GO|CGO_)\w+=", line))
     fates, earlier, writing = collections.Counter(), written_rows(asked.rows), threading.Lock()
 
+    def write(row):
+        if asked.rows:
+            with writing, open(asked.rows, "a", encoding="utf-8") as file:
+                file.write(json.dumps(row) + "\n")
+
+    def names_of(mutant):
+        if asked.kind == "go":
+            return [*(asked.tests or ()), *(["audit"] if asked.slow else [])]
+        return asked.tests or TESTS[os.path.basename(os.path.dirname(mutant.path))]
+
     def run(mutant):
         place = f"{os.path.relpath(mutant.path, TOP)}:{mutant.line}"
         its = earlier.get((place, mutant.about))
         if its is None:
-            its = fate(asked.kind, asked.tests, asked.slow, mutant)
-            if asked.rows:
-                with writing, open(asked.rows, "a", encoding="utf-8") as file:
-                    file.write(json.dumps([place, mutant.about, *its]) + "\n")
+            its = fate(asked.kind, names_of(mutant), limits, mutant)
+            write([place, mutant.about, *its])
         return place, its[0]
 
     mutants = drawn(asked.kind, asked.count, asked.seed, asked.only)
+    names = dict.fromkeys(name for mutant in mutants for name in names_of(mutant))
+    limits = limits_of(asked.kind, names, earlier, write)
     with concurrent.futures.ThreadPoolExecutor(asked.processes) as pool:
         for mutant, (place, its) in zip(mutants, pool.map(run, mutants)):
             fates[its] += 1
