@@ -27,6 +27,7 @@ func TestWhichFencesBringASessionBack(t *testing.T) {
 			e.its.Began = s.fence.Add(-time.Millisecond)
 		}, false},
 		{"without room", func(c *core, _ *session, _ *entry) { c.opt.Limit = c.remaining() }, false},
+		{"with one number left", func(_ *core, s *session, _ *entry) { s.next, s.mark = lastNumber, lastNumber }, true},
 		{"with all numbers used up", func(_ *core, s *session, _ *entry) { s.next, s.mark = lastNumber+1, lastNumber+1 }, false},
 	} {
 		t.Run(one.name, func(t *testing.T) {
@@ -106,6 +107,36 @@ func TestRoomForStatements(t *testing.T) {
 		}
 		if !b.core.cut([]uint64{3}) || b.core.texts != 0 || len(s.kept) != 0 {
 			t.Errorf("after a cut %d bytes are counted", b.core.texts)
+		}
+	}
+}
+
+// A transaction whose connection was lost may have been committed as late as the slot told of it, on whatever machine its
+// proxy runs: it stands behind what ended by then, and isn't offered if a quiet moment lies between.
+func TestUnclearOnesMayHaveEndedLate(t *testing.T) {
+	for _, far := range []bool{false, true} {
+		for _, moment := range []bool{false, true} {
+			b := newBench(t, Options{Sessions: 1, Late: time.Second})
+			b.connect(1)
+			b.core.quiet()
+			b.later(time.Millisecond)
+			it := record.Transaction{Number: 1001, Outcome: record.Unclear, Began: b.now, Ended: b.now.Add(time.Millisecond)}
+			if far {
+				it.After, it.Known = it.Began, it.Ended
+			}
+			b.tell(1, 0, it)
+			b.later(time.Millisecond)
+			if moment {
+				b.core.quiet()
+			}
+			b.commit(1001, "a")
+			b.later(time.Millisecond)
+			b.pass()
+			n, s := b.core.counts, b.core.sessions[0]
+			if moment && (n.offered != 0 || n.folded[acrossMoment] != 1) || !moment && (n.offered != 1 || !s.last.Equal(b.now)) {
+				t.Errorf("from elsewhere %v, with a moment %v: %d offered, folded %v; it ended at %v, and now is %v", far, moment,
+					n.offered, n.folded, s.last, b.now)
+			}
 		}
 	}
 }
