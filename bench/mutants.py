@@ -39,7 +39,10 @@ FILES = {
 }
 # Of the Python package, those that can see a mutant of a folder; those that end soon, or that see most, come first.
 TESTS = {
-    "session": ("transactions", "meetings", "places", "joining", "live", "redacting", "circumstances", "aborted", "no_harm"),
+    "session": (
+        *("transactions", "meetings", "places", "two_stores.InMemory", "two_stores.Told", "joining", "live"),
+        *("redacting", "circumstances", "aborted", "no_harm"),
+    ),
     "live": ("places", "meetings", "joining", "live", "processes", "rounds", "redacting", "aborted", "no_harm"),
     "program": ("rounds", "live", "joining", "no_harm"),
     "core": ("notes", "forks", "joining", "live", "killed.Killed", "aborted", "no_harm"),
