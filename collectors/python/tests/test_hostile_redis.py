@@ -300,7 +300,7 @@ class Daemons(WithRedis, unittest.TestCase):
         daemon = self.serve()
         self.tells.set("zanteyard audit audit:auditor", b"somebody \xff else")
         self.assertEqual(daemon.wait(SOON), 2, self.said())
-        self.assertIn("another auditor has taken the audit", self.said())
+        self.assertIn("another auditor took over the audit", self.said())
         self.assertLess(len(self.said()), 4000)
         self.assertEqual(self.tells.get("zanteyard audit audit:auditor"), b"somebody \xff else")
 
@@ -326,7 +326,7 @@ class Daemons(WithRedis, unittest.TestCase):
             thread = threading.Thread(target=lambda: [][1])
             thread.start()
             thread.join()
-        self.assertEqual(faults, ["a thread ended by IndexError: list index out of range"])
+        self.assertEqual(faults, ["a thread died of IndexError: list index out of range"])
         self.assertIn("Traceback", told.output[0])
 
 

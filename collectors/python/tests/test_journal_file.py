@@ -160,7 +160,7 @@ class File(WithFolder):
             self.room(None)
             self.assertEqual(self.bytes(), whole)
             self.room(room)
-            with self.assertRaisesRegex(JournalError, "can't be written anew: "):
+            with self.assertRaisesRegex(JournalError, "can't be rewritten: "):
                 journal.begin_anew([*texts, b"another"])
             self.room(None)
             self.assertEqual(journal.read(), texts)

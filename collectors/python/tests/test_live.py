@@ -27,7 +27,7 @@ def set_to(key, value):
 
 
 def no_cut():
-    raise NoCutError("no fence is settled")
+    raise NoCutError("no fence was settled")
 
 
 class WithProgram(unittest.TestCase):

@@ -77,7 +77,7 @@ class Guarded(unittest.TestCase):
         late = logging.FileHandler("/nowhere/at/all.log", delay=True)
         with handled(late) as told:
             LOGGER.error("one")
-            self.assertIn("one (the log can't be written: FileNotFoundError", told.getvalue())
+            self.assertIn("one (can't write the log: FileNotFoundError", told.getvalue())
 
     def test_without_standard_error(self) -> None:
         class Full(io.StringIO):
@@ -143,7 +143,7 @@ class Audits(unittest.TestCase):
                 session.run(lambda transaction: transaction.put("x", 11))
             self.assertEqual(session.run(lambda transaction: transaction.get("x")), 11)
             self.assertEqual(auditor.outcome().kind, "incomplete")
-        self.assertIn("nothing more of session 0 is audited", told.getvalue())
+        self.assertIn("auditing of session 0 has stopped", told.getvalue())
 
 
 if __name__ == "__main__":

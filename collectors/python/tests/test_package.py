@@ -154,7 +154,7 @@ class Package(unittest.TestCase):
                 self.assertIn("These transactions can't have run one at a time", file.read())
         ended = subprocess.run([f"{TOP}/try.sh", self.folder], env=its, capture_output=True, text=True)
         self.assertEqual(ended.returncode, 1)
-        self.assertIn(f"{self.folder} is there, and no earlier try's", ended.stderr)
+        self.assertIn(f"{self.folder} exists, and isn't from an earlier try", ended.stderr)
 
     def test_python_dash_m_is_the_same(self):
         ended = self.run_it(f"{self.folder}/venv/bin/python", "-m", "zanteyard", "--version")

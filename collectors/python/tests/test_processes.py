@@ -93,7 +93,7 @@ class Elsewhere(TwoProcesses, test_live.Meetings):
         self.cut_off(other)
         self.wait_for(lambda: live.is_over and self.client.is_over and other.is_over)
         self.assertIsInstance(live.failure, ProgramEndedError)
-        self.assertIn(f"the process of the sessions {b.number} is lost", str(live.failure))
+        self.assertIn(f"the client process with sessions {b.number} was lost", str(live.failure))
         self.assertEqual((live.report.kind, live.taken_in), ("serial", 2))
         a.run(add_one("x"))  # the client goes on
 

@@ -221,7 +221,7 @@ class Told(unittest.TestCase):
         self.assertEqual((status, err), (1, ""))
         self.assertIn("lost update", told)
         self.assertIn("0.2 and 1.1 both read key 5 ", told)
-        self.assertNotIn("nothing was settled", told)
+        self.assertNotIn("no fence was settled", told)
 
 
 @unittest.skipUnless(os.path.isfile(PROGRAM), f"{PROGRAM} is not built")

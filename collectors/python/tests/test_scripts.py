@@ -37,7 +37,7 @@ HANDED = [  # the same, handed over
     '["offer",1,0,[[[[0,0,1]],[0]]]]',
     '["resumed"]',
 ]
-OF_PARTS = "(the script resumes another: a verdict is of every history that the parts stand for)"
+OF_PARTS = "(the script continues another one: a verdict holds for every history that the parts can stand for)"
 
 
 ENDS = b'["round"', b'["finish"', b'["answer"', b'["collect"'  # lines that are answered by a report

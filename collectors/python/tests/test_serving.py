@@ -82,7 +82,7 @@ class Serving(unittest.TestCase):
 
     def test_a_daemon_of_one_machine_and_its_figures(self):
         daemon = self.begun("--metrics", "127.0.0.1:0", "--rather-wait")
-        port = re.search(r"metrics are at port (\d+)", self.said()).group(1)
+        port = re.search(r"serving metrics on port (\d+)", self.said()).group(1)
         store = MemoryStore()
         with AuditClient(self.socket) as client:
             session = client.session(store.connect())

@@ -214,7 +214,7 @@ class Each:
         self.assertEqual(status, 1, told)
         self.assertIn(f"{workload} at ", told)
         self.assertIn(" can come first", told)
-        self.assertIn("(to look at: page.html)", told)
+        self.assertIn("(page: page.html)", told)
         status, told = self.audit("--workload", workload, "--seconds", "3", "--processes", "--rather-wait")
         self.assertEqual(status, 0, told)
 
@@ -430,7 +430,7 @@ class MariaDB(Each, unittest.TestCase):
         a.store.connection.cursor().execute(make)
         b.run(lambda t: t.put("x", "2"))
         transaction.put("x", "3")
-        with self.assertRaisesRegex(AbortedError, "make tables"):
+        with self.assertRaisesRegex(AbortedError, "CREATE TABLE"):
             transaction.commit()
         self.assertEqual(self.value("x"), "2")
         transaction = a.begin()

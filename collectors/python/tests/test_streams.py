@@ -284,7 +284,7 @@ class Behind(WithRedis, TwoProcesses, test_live.Meetings):
         names, given_up = self.server.names, other._messages.client
         self.assertEqual(self.tells.hkeys(names.clients), [])  # what is read ten times a second
         self.assertGreater(self.tells.ttl(names.buried(given_up)), 0)
-        self.assertIn(f"the sessions {b.number} from its transaction 1 on isn't known", str(outcome.failure))
+        self.assertIn(f"sessions {b.number} (from transaction 1 on) did is unknown", str(outcome.failure))
         self.assertEqual([one.source for one in outcome.pending], [(b.number, 1)])
 
 
@@ -424,10 +424,10 @@ class GoneOnWith(WithRedis, unittest.TestCase):
                 self.wait_for(lambda: again.taken_in == 2)
             server.close()
             self.assertEqual(again.stop().kind, "serial")
-            with self.assertRaisesRegex(JournalError, "is older than what its audit came to"):
+            with self.assertRaisesRegex(JournalError, "is older than the state of its audit"):
                 self.begun(Auditor.resumed(f"{older}/journal"))
             self.tells.delete(names.written)
-            with mock.patch("zanteyard.remote.streams.FORM", 0), self.assertRaisesRegex(JournalError, "has clients of version"):
+            with mock.patch("zanteyard.remote.streams.FORM", 0), self.assertRaisesRegex(JournalError, "has clients of zanteyard"):
                 self.begun(Auditor.resumed(f"{self.copied(folder, 'newest')}/journal"))
             self.assertIsNone(self.tells.get(names.auditor))
 

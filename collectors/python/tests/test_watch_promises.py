@@ -102,7 +102,7 @@ class ByAFeed(test_watch_audit.Audits):
         self.assertTrue(broken in text or breaks in text, text)
         self.assertIn("--promise snapshot", violation_page(found, "shop", "proved"))
         self.assertIn("It breaks serializability", violation_page(found, "shop", "proved"))
-        self.assertIn("that snapshot isolation doesn’t allow", whole_page(status))
+        self.assertIn("The transactions violate snapshot isolation", whole_page(status))
         figures = {name: samples for name, _, _, samples in families(status)}
         self.assertIn(("promise", "snapshot"), figures["zanteyard_info"][0][0])
         self.assertIn(((("promise", "snapshot"),), 1.0), figures["zanteyard_promise_broken"])

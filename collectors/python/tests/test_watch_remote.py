@@ -56,7 +56,7 @@ class Words(unittest.TestCase):
         shared = ["--redis", "redis://127.0.0.1:1", "--audit", "shop"]
         for command, words, wanted in (
             ("proxy", ["postgresql://x/y"], "--redis is missing"),
-            ("proxy", [*shared, "--key", "k"], "no server is named"),
+            ("proxy", [*shared, "--key", "k"], "no server was given"),
             ("proxy", ["postgresql://x/y", *shared], "--key is missing"),
             ("watch", ["postgresql://x/y", *shared], "--key is missing"),
             ("watch", ["postgresql://x/y", *shared, "--key", "/nowhere/k"], "can't be read"),

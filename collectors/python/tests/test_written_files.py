@@ -92,11 +92,11 @@ class Folders(unittest.TestCase):
 
     def test_who_else_has_it(self):
         with mock.patch("os.geteuid", return_value=os.geteuid() + 1):
-            with self.assertRaisesRegex(FolderUnfitError, "is of user .*mkdir -m 700"):
+            with self.assertRaisesRegex(FolderUnfitError, "belongs to user .*mkdir -m 700"):
                 check_folder(self.folder)
         link = f"{self.folder}.link"
         os.symlink(self.folder, link)
-        with self.assertRaisesRegex(FolderUnfitError, "is no folder"):
+        with self.assertRaisesRegex(FolderUnfitError, "isn't a folder"):
             check_folder(link)
 
     def test_a_journal(self):

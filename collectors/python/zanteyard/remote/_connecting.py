@@ -50,11 +50,13 @@ def door_to(address: str, audit: str, key: Optional[str]) -> Door:
 
 def welcomed(messages: Any) -> Any:
     if not messages.comes(ANSWERING):
-        message = f"the auditor's process hasn't answered for {ANSWERING:g} s"
+        message = f"the auditor's process didn't answer for {ANSWERING:g} s"
         raise ProgramEndedError(message)
     _, form, version, *welcome = messages.receive()
     if form != FORM:
-        message = f"of zanteyard {version}" if isinstance(version, str) else "of an earlier version"
+        message = f"from zanteyard {version}" if isinstance(version, str) else (
+            "from an earlier version"
+        )
         message = (
             f"the auditor's process is {message}, and this one of {VERSION}: they don't understand"
         )

@@ -58,14 +58,14 @@ func ReadKey(path string) ([]byte, error) {
 		return nil, fmt.Errorf("%w: %v", ErrKey, err)
 	}
 	if state.Mode().Perm()&0o077 != 0 {
-		return nil, fmt.Errorf("%w: others than its owner may use the file %s: chmod 600 it", ErrKey, path)
+		return nil, fmt.Errorf("%w: other users can access the file %s: run chmod 600 on it", ErrKey, path)
 	}
 	key, err := os.ReadFile(path)
 	if err != nil {
 		return nil, fmt.Errorf("%w: %v", ErrKey, err)
 	}
 	if len(key) < leastKey {
-		return nil, fmt.Errorf("%w: the file %s has fewer than %d bytes", ErrKey, path, leastKey)
+		return nil, fmt.Errorf("%w: the file %s has less than %d bytes", ErrKey, path, leastKey)
 	}
 	return key, nil
 }
