@@ -256,7 +256,7 @@ class Each:
         example = os.path.join(PLACE, "../../examples/store_faults.py")
         status, told = self.command(example, *self.command_words, "--level", level, "--fault", "lost update")
         self.assertEqual(status, 0, told)
-        self.assertIn("Two clients count up from the same number.\n", told)
+        self.assertIn("Two clients increment the same number.\n", told)
         self.assertIn("0.1 and 1.0 both read x from 0.0 and both overwrote it", told)
 
     def test_a_store_that_is_there(self):
