@@ -168,7 +168,7 @@ def stage(folder: str, programs: Sequence[str], is_proved: bool) -> None:
     shutil.copytree(os.path.join(HERE, "zanteyard"), package, ignore=hidden)
     for name in ("pyproject.toml", "README.md"):
         shutil.copy(os.path.join(HERE, name), folder)
-    for name in ("LICENSE", "LICENSES.md"):
+    for name in ("LICENSE", "LICENSES.md", "LICENSE-TEXTS.txt"):
         shutil.copy(os.path.join(TOP, name), folder)
     shutil.copytree(os.path.join(TOP, "docs"), os.path.join(package, "docs"))  # errors name them
     inside = os.path.join(package, "program", "bin")

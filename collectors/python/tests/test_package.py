@@ -117,7 +117,7 @@ class Package(unittest.TestCase):
     def test_it_has_the_licences_of_what_is_inside(self):
         with zipfile.ZipFile(self.wheel) as packed:
             names = {os.path.basename(name) for name in packed.namelist() if ".dist-info/" in name}
-        wanted = {"LICENSE", "LICENSES.md"}
+        wanted = {"LICENSE", "LICENSES.md", "LICENSE-TEXTS.txt"}
         if os.path.isfile(make_wheel.PROXY) and os.path.isfile(make_wheel.LGPL):
             wanted.add("LICENSE.LGPL-2.1")
         self.assertLessEqual(wanted, names)
