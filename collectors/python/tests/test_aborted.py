@@ -414,7 +414,7 @@ class Kept(WithJournal):
         with open(old, "w", encoding="utf-8") as file:
             file.write(OLD)
         os.chmod(old, 0o755)
-        with self.assertRaisesRegex(JournalError, "of an earlier version"):
+        with self.assertRaisesRegex(JournalError, "older than this package"):
             Auditor.resumed(self.path, old)
 
 

@@ -288,7 +288,7 @@ class Daemons(WithRedis, unittest.TestCase):
             daemon = subprocess.Popen(call, stderr=log, env={**os.environ, "PYTHONPATH": PLACE})
         self.addCleanup(daemon.wait)
         self.addCleanup(daemon.kill)
-        self.assertTrue(wait_until(lambda: "it keeps" in self.said() or daemon.poll() is not None), self.said())
+        self.assertTrue(wait_until(lambda: "its folder is" in self.said() or daemon.poll() is not None), self.said())
         self.assertTrue(wait_until(lambda: self.tells.exists("zanteyard audit audit:written")))
         return daemon
 

@@ -321,7 +321,7 @@ class Resumed(WithJournal):
                 self.resumed()
             self.assertEqual(self.bytes(), found)
         os.unlink(self.path)
-        with self.assertRaisesRegex(JournalError, "there is no journal"):
+        with self.assertRaisesRegex(JournalError, "no such journal"):
             self.resumed()
 
     def test_damaged_while_it_runs(self):
@@ -357,7 +357,7 @@ class Resumed(WithJournal):
             with self.assertRaises(JournalInUseError):
                 self.resumed()
             auditor.offer(0, 0, ONE)
-        with self.assertRaisesRegex(JournalError, "there already"):
+        with self.assertRaisesRegex(JournalError, "exists: continue it"):
             self.auditor()
         self.path = os.path.join(self.path, "journal")
         with self.assertRaisesRegex(JournalError, "isn't a folder"):

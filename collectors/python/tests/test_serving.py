@@ -56,7 +56,7 @@ class Serving(unittest.TestCase):
 
     def begun(self, *more):
         daemon = self.serve(*more)
-        self.wait_for(lambda: "it keeps" in self.said() or daemon.poll() is not None)
+        self.wait_for(lambda: "its folder is" in self.said() or daemon.poll() is not None)
         self.assertIsNone(daemon.poll(), self.said())
         return daemon
 

@@ -112,7 +112,7 @@ class Behind(WithRedis, TwoProcesses, test_live.Meetings):
         self.server._held_at = time.monotonic() + SOON  # else it might say meanwhile that it has it for half a second
         with Auditor(1) as auditor, mock.patch("zanteyard.remote.streams.HELD", 0.5):
             live = LiveAuditor(auditor)
-            with self.assertRaisesRegex(AuditTakenError, "another auditor has it"):
+            with self.assertRaisesRegex(AuditTakenError, "another auditor has the audit"):
                 StreamServer(live, self.redis.dsn, "bank")
             live.stop()
 

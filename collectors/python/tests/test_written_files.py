@@ -85,7 +85,7 @@ class Folders(unittest.TestCase):
                 if deed is None:
                     check_folder(self.folder)
                     continue
-                with self.assertRaisesRegex(FolderUnfitError, f"others may {deed} .*chmod go-rw"):
+                with self.assertRaisesRegex(FolderUnfitError, f"other users may {deed} .*chmod go-rw"):
                     check_folder(self.folder)
                 subprocess.run(["chmod", "go-rw", self.folder], check=True)  # as it says
                 check_folder(self.folder)

@@ -275,7 +275,7 @@ def _add(commands: Any, name: str, about: str) -> argparse.ArgumentParser:
     added: argparse.ArgumentParser = commands.add_parser(
         name,
         help=about,
-        description=about,
+        description=f"{about[:1].upper()}{about[1:]}.",
         epilog=STATUS_WORDS,
         formatter_class=argparse.RawDescriptionHelpFormatter,
     )

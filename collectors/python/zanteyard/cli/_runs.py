@@ -57,7 +57,7 @@ def run_audit(asked: Any) -> int:
         try:
             write(ran.page(origin()), asked.html)
         except OSError as error:  # what came of the run is printed, and won't come again
-            why_not = f"{asked.html} can't be written: {error.strerror}"
+            why_not = f"can't write {asked.html}: {error.strerror}"
     for line in ran.lines():
         say(line)
     if why_not:

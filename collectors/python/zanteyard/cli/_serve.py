@@ -60,8 +60,7 @@ logger = logging.getLogger("zanteyard")
 
 def add_arguments(command: argparse.ArgumentParser) -> None:
     command.add_argument(
-        "--journal", metavar="DIR", required=True, help="the audit's folder, created if it is "
-        "missing"
+        "--journal", metavar="DIR", required=True, help="the audit's folder, created if missing"
     )
     command.add_argument(
         "--redis",
@@ -125,8 +124,7 @@ def add_arguments(command: argparse.ArgumentParser) -> None:
         help="seconds that the search of a round may take before the round is skipped (60)",
     )
     command.add_argument(
-        "--rather-wait", action="store_true", help="let clients wait longer before the audit is "
-        "given up"
+        "--rather-wait", action="store_true", help="let clients wait longer for the auditor"
     )
     command.add_argument(
         "--redact", action="store_true",

@@ -34,10 +34,7 @@ def families(status: Status) -> Iterator[Family]:
         ("transactions_committed_total", "committed", "Commits in the server's log."),
         ("transactions_aborted_total", "aborted", "Transactions of clients that aborted."),
         ("reads_taken_total", "reads", "Row reads given to the auditor."),
-        (
-            "reads_from_before_total", "reads_before", "Of these, reads of versions from before "
-            "the audit."
-        ),
+        ("reads_from_before_total", "reads_before", "Of these, of versions from before the audit."),
         ("writes_taken_total", "writes", "Row writes given to the auditor."),
         ("clients_total", "connections_ever", "Connections opened by clients."),
     ):
@@ -53,10 +50,8 @@ def families(status: Status) -> Iterator[Family]:
     yield one(
         "transactions_waiting", "gauge", "Transactions not yet given to the auditor.", seen.waiting
     )
-    yield one(
-        "transactions_remaining", "gauge", "Transactions given and not yet "
-        "forgotten.", status.remaining
-    )
+    about = "Transactions given and not yet forgotten."
+    yield one("transactions_remaining", "gauge", about, status.remaining)
     rounds = [((("kind", kind),), float(status.kinds.get(kind, 0))) for kind in KINDS]
     yield "zanteyard_rounds_total", "counter", "Rounds, by verdict.", rounds
     yield one("cuts_total", "counter", "How often transactions were forgotten.", status.cuts)
