@@ -440,7 +440,7 @@ class TooOld(WithFolder):
         with mock.patch.dict(os.environ, COBRA_AUDIT=self.old), redirect_stdout(out), redirect_stderr(out):
             status = main(["check", self.path])
         self.assertEqual(status, 2)
-        self.assertIn("an earlier version", out.getvalue())
+        self.assertIn("older than this package", out.getvalue())
 
 
 if __name__ == "__main__":

@@ -108,10 +108,10 @@ class File(WithFolder):
 
     def test_other_versions(self):
         for found, told in (
-            (b"", "is no journal"),
+            (b"", "isn't a journal"),
             (b"zanteyard journal 3\n", "version 3"),
             (b"zanteyard journal 12\nwhatever", "version 12"),
-            (b'["open",2,16]\n', "is no journal"),
+            (b'["open",2,16]\n', "isn't a journal"),
         ):
             self.overwrite(found)
             journal = Journal(self.path)

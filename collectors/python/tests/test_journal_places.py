@@ -194,7 +194,7 @@ class Sessions(WithJournal):
                 self.assertEqual(auditor.last_round().kind, "serial")
                 outcome = auditor.outcome()
                 self.assertEqual(outcome.kind, "incomplete")
-                self.assertIn("isn't known", str(outcome))
+                self.assertIn("are unknown", str(outcome))
                 with self.assertRaises(AuditLostError):
                     auditor.round()
 

@@ -491,7 +491,7 @@ class MadeUp(unittest.TestCase):
 
     def test_a_program_that_can_not_search_beside_its_lines(self):
         auditor = self.auditor(1, {"search": [["no", 1, "BadLine"]]})
-        with self.assertRaisesRegex(ProgramTooOldError, "earlier version"):
+        with self.assertRaisesRegex(ProgramTooOldError, "older than the package"):
             auditor.round()
 
 

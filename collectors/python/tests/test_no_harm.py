@@ -167,7 +167,7 @@ class AfterTheCommit(NoHarm):
         auditor = self.auditor()
         with self.assertLogs("zanteyard", "ERROR") as log:
             self.debit(auditor, auditor.program.kill)
-        self.assertIn("nothing more is audited", log.output[0])
+        self.assertIn("auditing has stopped", log.output[0])
 
     def test_an_auditor_of_somebody_elses_that_fails(self):
         class Fails:

@@ -129,7 +129,7 @@ class Serving(unittest.TestCase):
     def test_a_client_of_another_version_is_told(self):
         daemon = self.begun()
         with mock.patch("zanteyard.remote._connecting.FORM", 0), mock.patch("zanteyard.remote._connecting.VERSION", "9"):
-            with self.assertRaisesRegex(OtherVersionError, f"of zanteyard {VERSION}, and this one of 9"):
+            with self.assertRaisesRegex(OtherVersionError, f"from zanteyard {VERSION}, and this one from 9"):
                 AuditClient(self.socket)
         self.ended(daemon, 4)
 

@@ -186,7 +186,7 @@ class Behind(WithRedis, TwoProcesses, test_live.Meetings):
     def nobody_answers(self, client):
         """Who asks for a session is told that soon."""
         with mock.patch("zanteyard.remote._client.ANSWERING", 0.3), mock.patch.object(client, "policy", Policy(0.0)):
-            with self.assertRaisesRegex(ProgramLateError, "hasn't answered"):
+            with self.assertRaisesRegex(ProgramLateError, "didn't answer"):
                 yield
 
     def test_a_place_that_is_told_too_late_to_who_leaves_keeps_no_cut_away(self):

@@ -102,7 +102,7 @@ class Folders(unittest.TestCase):
     def test_a_journal(self):
         os.chmod(self.folder, 0o750)
         path = os.path.join(self.folder, "journal")
-        with self.assertRaisesRegex(JournalError, "others may read .*chmod go-rw"):
+        with self.assertRaisesRegex(JournalError, "other users may read .*chmod go-rw"):
             Journal(path)
         self.assertEqual(os.listdir(self.folder), [])
         link = f"{self.folder}.link"
@@ -118,7 +118,7 @@ class Folders(unittest.TestCase):
         with contextlib.redirect_stderr(told), mock.patch("signal.signal"):
             with mock.patch("logging.basicConfig"):
                 self.assertEqual(main(["serve", "--journal", self.folder]), 2)
-        self.assertRegex(told.getvalue(), "^mistake: .*others may read .*chmod go-rw")
+        self.assertRegex(told.getvalue(), "^mistake: .*other users may read .*chmod go-rw")
         self.assertEqual(os.listdir(self.folder), [])
 
     def server(self):

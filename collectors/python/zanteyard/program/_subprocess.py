@@ -100,7 +100,8 @@ class AuditorApart(Intake):
     def _start_again(self, error: ProgramEndedError) -> None:
         """Another process goes on by the journal."""
         self._end_program()
-        logger.warning("%s; another one continues from %s", error, self.journal)
+        why = str(error).rstrip(": ")  # a pipe's end has no words
+        logger.warning("%s; another one continues from %s", why, self.journal)
         self._be_in_step()
         files = (self.script_path, self.journal, self.round_seconds)
         self._begin_process("resume", self.path, *files)

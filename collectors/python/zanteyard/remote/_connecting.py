@@ -54,14 +54,10 @@ def welcomed(messages: Any) -> Any:
         raise ProgramEndedError(message)
     _, form, version, *welcome = messages.receive()
     if form != FORM:
-        message = f"from zanteyard {version}" if isinstance(version, str) else (
-            "from an earlier version"
-        )
-        message = (
-            f"the auditor's process is {message}, and this one of {VERSION}: they don't understand"
-        )
+        its = f"zanteyard {version}" if isinstance(version, str) else "an earlier version"
         raise OtherVersionError(
-            f"{message} one another, and nothing is audited (docs/OPERATION.md)"
+            f"the auditor's process is from {its}, and this one from {VERSION}: they don't "
+            "understand one another, and nothing is audited (docs/OPERATION.md)"
         )
     return welcome
 
