@@ -111,7 +111,7 @@ class Keys(unittest.TestCase):
             self.assertFalse(same.is_signed(number, text, signature))
 
     def test_stores_are_those_of_the_list(self):
-        with self.assertRaisesRegex(ZanteyardError, "store 1 is no connection string") as raised:
+        with self.assertRaisesRegex(ZanteyardError, "store 1 isn't a PostgreSQL connection string") as raised:
             ListedStores(["nonsense secret"])
         self.assertNotIn("secret", str(raised.exception))
         listed = ListedStores(["host=a dbname=bank", "postgresql://b/bank"])

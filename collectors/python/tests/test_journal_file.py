@@ -142,7 +142,7 @@ class File(WithFolder):
         file = os.path.join(self.folder, "file")
         open(file, "w").close()
         for path in (f"{file}/journal", f"{self.folder}/nowhere/journal", "/proc/journal"):
-            with self.assertRaisesRegex(JournalError, "can't be (locked|there)"):
+            with self.assertRaisesRegex(JournalError, "can't be locked|can't open"):
                 Journal(path)
 
     def test_full_disk(self):

@@ -131,7 +131,7 @@ class Audits(unittest.TestCase):
             self.assertTrue(wait_until(lambda: len(live.earlier) == 1))
             session.run(lambda transaction: transaction.put("x", 1))
             self.assertIs(live.failure, None)
-        self.assertIn("for a test (the log can't be written", told.getvalue())
+        self.assertIn("for a test (can't write the log", told.getvalue())
 
 
     def test_a_commit_that_isnt_audited_is_no_failure(self) -> None:

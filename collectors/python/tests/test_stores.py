@@ -956,7 +956,7 @@ class SQLite(Each, unittest.TestCase):
     def test_a_file_that_isnt_there_isnt_made(self):
         status, told = self.audit("--dsn", f"{self.folder}/typo.db", "--seconds", "1")
         self.assertEqual(status, 2, told)
-        self.assertIn("typo.db isn't there", told)
+        self.assertIn("typo.db doesn't exist", told)
         self.assertNotIn("typo.db", os.listdir(self.folder))
 
     def test_the_journal_is_as_was_asked_for(self):

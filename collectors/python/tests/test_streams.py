@@ -80,7 +80,7 @@ class Behind(WithRedis, TwoProcesses, test_live.Meetings):
         return client
 
     def test_a_key_that_can_not_be_handed_over_ends_the_audit_and_no_client(self):
-        self.assertIn("transaction 0 of session 0 can't be handed over", str(self.failure_by_a_key()))
+        self.assertIn("can't hand over transaction 0 of session 0", str(self.failure_by_a_key()))
 
     def test_two_processes_meet(self):
         """And the Redis, and they themselves, keep little of it."""

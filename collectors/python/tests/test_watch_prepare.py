@@ -193,8 +193,8 @@ class OverAServer(unittest.TestCase):
         whole = "\n".join(lines)
         for wanted in (
             "MISSING wal_level is replica, but must be logical",
-            f"MISSING the table {facts.FENCE} isn't there",
-            "ok      the role postgres may replicate",
+            f"MISSING the table {facts.FENCE} doesn't exist",
+            "ok      the role postgres has the right to replicate",
             "note    max_slot_wal_keep_size has no limit",
             "2 things are missing",
         ):

@@ -75,7 +75,7 @@ class Words(unittest.TestCase):
         self.assertEqual((seen.others.refused, seen.others.down), (3, "connection refused"))
         self.assertIsNone(seen_of(feed.coverage()).others)
         page = live_page.whole_page(status(seen=seen))
-        for wanted in ("Other proxies", "web-2", "not heard for 9.0 s", "3 messages refused", "refused."):
+        for wanted in ("Other proxies", "web-2", "silent for 9.0 s", "3 messages refused", "refused."):
             self.assertIn(wanted, page)
         told = figures.text_of(figures.families(status(seen=seen)))
         for wanted in ("other_proxies 0", "messages_refused_total 3", "redis_up 0"):

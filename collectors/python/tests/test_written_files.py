@@ -131,7 +131,7 @@ class Folders(unittest.TestCase):
         os.mkdir(notes, 0o777)
         os.chmod(notes, 0o777)
         with mock.patch("shutil.rmtree"):  # as it fails on what is another user's
-            with self.assertRaisesRegex(FolderUnfitError, "others may write"):
+            with self.assertRaisesRegex(FolderUnfitError, "other users may write"):
                 self.server()
         os.chmod(notes, 0o700)
         server = self.server()
@@ -149,7 +149,7 @@ class Folders(unittest.TestCase):
 
     def test_notes_of_a_server_that_is_anothers(self):
         os.chmod(self.folder, 0o777)
-        with self.assertRaisesRegex(FolderUnfitError, "others may write"):
+        with self.assertRaisesRegex(FolderUnfitError, "other users may write"):
             self.door(f"{self.folder}/3")
         os.chmod(self.folder, 0o700)
         self.assertEqual(self.door(f"{self.folder}/3"), ["its words"])
