@@ -203,7 +203,7 @@ class Told(WithFolder):
             file.write(self.SCRIPT.replace(",8,2]", ",8]"))
         status, text = self.told("check")
         self.assertEqual(status, 2)
-        self.assertIn("line 2 was answered BadLine", text)
+        self.assertIn("line 2 was refused: BadLine", text)
 
 
 class Found(WithFolder):

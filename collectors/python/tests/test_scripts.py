@@ -242,7 +242,7 @@ class Scripts(unittest.TestCase):
             with self.subTest(refusal=refusal):
                 status, out, err = run("check", self.path([*CUT, line]))
                 self.assertEqual(status, 2, out)
-                self.assertIn(f"mistake: line 6 was answered {refusal}: ", err)
+                self.assertIn(f"mistake: line 6 was refused: {refusal}: ", err)
                 self.assertIn(advice, err)
 
     def test_a_script_that_resumes_another(self):
