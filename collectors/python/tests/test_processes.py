@@ -235,7 +235,7 @@ class Elsewhere(TwoProcesses, test_live.Meetings):
         return live.cuts > 0
 
     def test_a_key_that_can_not_be_handed_over_ends_the_audit_and_no_client(self):
-        told = "transaction 0 of session 0 can't be handed over"
+        told = "can't hand over transaction 0 of session 0"
         self.assertIn(told, str(self.failure_by_a_key()))
 
     def test_another_program_is_let_in(self):

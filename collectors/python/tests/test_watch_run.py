@@ -109,7 +109,7 @@ class Runs(InAFolder):
         self.assertEqual(status, 0)
         wanted = "kept: 8 of 11 transactions were checked for snapshot isolation, in 2 rounds"
         self.assertEqual(told[0], wanted)
-        self.assertTrue(any("round 1: kept, of " in line for line in logged.output))
+        self.assertTrue(any("round 1: kept; " in line for line in logged.output))
         self.assertFalse(any("serial" in line for line in [*logged.output, *told]))
 
     def test_a_violated_one_is_kept(self):
@@ -197,7 +197,7 @@ class Runs(InAFolder):
             "zanteyard_transactions_taken_total 8",
             'zanteyard_rounds_total{kind="serial"} 1',
             "zanteyard_reads_from_before_total 4",
-            'zanteyard_reads_left_out_total{reason="its version isn\'t known"} 4',
+            'zanteyard_reads_left_out_total{reason="its version is unknown"} 4',
             "zanteyard_violated 0",
             "zanteyard_auditing 1",
         ):
