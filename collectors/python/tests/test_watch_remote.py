@@ -59,7 +59,7 @@ class Words(unittest.TestCase):
             ("proxy", [*shared, "--key", "k"], "no server was given"),
             ("proxy", ["postgresql://x/y", *shared], "--key is missing"),
             ("watch", ["postgresql://x/y", *shared], "--key is missing"),
-            ("watch", ["postgresql://x/y", *shared, "--key", "/nowhere/k"], "can't be read"),
+            ("watch", ["postgresql://x/y", *shared, "--key", "/nowhere/k"], "can't read the key"),
             ("watch", ["postgresql://x/y", *shared, "--key", self.key(0o640)], "chmod 600"),
             ("proxy", ["postgresql://x/y", *shared, "--key", self.key(0o600, "x")], "fewer than 16"),
         ):

@@ -40,7 +40,7 @@ def mistake_of(asked: Any, is_needed: bool = False) -> Optional[str]:
     if stat.S_IMODE(state.st_mode) & 0o077:
         return f"other users can access the key {asked.key}: run chmod 600 {asked.key}"
     if state.st_size < LEAST:
-        return f"the key {asked.key} has less than {LEAST} bytes. {MAKE}"
+        return f"the key {asked.key} has fewer than {LEAST} bytes. {MAKE}"
     return None
 
 

@@ -461,7 +461,7 @@ func (h *Hub) audited(ctx context.Context, mark int64) error {
 	ctx, cancel := context.WithTimeout(ctx, patience)
 	defer cancel()
 	if is, err := sees(ctx, mark); err == nil && !is {
-		return errors.New("the audit reads the log of a server other than theirs")
+		return errors.New("the audit reads the log of another server than theirs")
 	}
 	return nil
 }

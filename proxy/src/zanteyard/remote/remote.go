@@ -65,7 +65,7 @@ func ReadKey(path string) ([]byte, error) {
 		return nil, fmt.Errorf("%w: %v", ErrKey, err)
 	}
 	if len(key) < leastKey {
-		return nil, fmt.Errorf("%w: the file %s has less than %d bytes", ErrKey, path, leastKey)
+		return nil, fmt.Errorf("%w: the file %s has fewer than %d bytes", ErrKey, path, leastKey)
 	}
 	return key, nil
 }
