@@ -396,7 +396,7 @@ class MeetingsApart(Meetings):
         self.assertIsInstance(self.failure_by_a_key(), ValueError)
 
     def test_a_program_that_is_not_there(self):
-        with self.assertRaisesRegex(ProgramEndedError, "nowhere can't be started"):
+        with self.assertRaisesRegex(ProgramEndedError, "can't start /nowhere"):
             AuditorApart(1, program="/nowhere")
 
 

@@ -278,7 +278,7 @@ class Scripts(unittest.TestCase):
             status, _, err = run("check", self.path(HANDED[:end]))
             self.assertEqual((status, 'up to ["resumed"]' in err), (2, True), err)
         status, _, err = run("check", self.path([*HANDED[:2], '["last",[[5,0,2]]]', HANDED[-1]]))
-        self.assertEqual((status, "answered BadParts" in err), (2, True), err)
+        self.assertEqual((status, "refused: BadParts" in err), (2, True), err)
 
 
 def _read(read):

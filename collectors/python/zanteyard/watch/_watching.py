@@ -143,7 +143,7 @@ class Watching:
             logger.warning("a round was refused: %s", refusal_of(reply))
         else:
             shown = line[:60].decode(errors="replace")
-            raise RefusedLineError(f"the auditor answered {shown} with {refusal_of(reply)}")
+            raise RefusedLineError(f"the auditor answered {refusal_of(reply)} to {shown}")
 
     def _reported(self, reply: bytes) -> None:
         _, number, kind, counts, *_ = json.loads(reply)
