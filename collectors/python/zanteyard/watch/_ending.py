@@ -62,8 +62,7 @@ def lines_of(status: Status) -> Iterator[str]:
         f"  {seen.reads:,} of {seen.whole_reads:,} row reads and {seen.writes:,} of "
         f"{seen.whole_writes:,} row writes were checked"
     )
-    if seen.reads_before:
-        yield f"  {seen.reads_before:,} of the row reads were of versions from before the audit"
+    yield from (f"  {line}" for line in seen.lines_of_reads())
     if seen.empty:
         its = counted(seen.empty, "more transaction")
         yield f"  {its} read and wrote no row that the audit sees"

@@ -202,6 +202,7 @@ def _shares(status: Status) -> Iterator[str]:
         ("Writes", seen.writes, seen.whole_writes, "rows written"),
     ):
         yield from _bar(name, part, whole, f"{_share(part, whole)}: {part:,} of {whole:,} {what}")
+    yield from (f"<p>{line}.</p>" for line in seen.lines_of_reads())
     if seen.empty:
         its = counted(seen.empty, "transaction")
         yield f"<p>{its} read and wrote no row that the audit sees.</p>"

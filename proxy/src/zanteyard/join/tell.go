@@ -9,6 +9,7 @@ import (
 // Why a transaction isn't offered, or its writes aren't.
 const (
 	byOthers     = "committed without the proxy, or reported too late"
+	withoutRows  = "without a row in the replication slot, such as the server's own ANALYZE"
 	noConnection = "unknown connection"
 	noSession    = "its connection has no session"
 	noFence      = "its session was waiting for a fence"
