@@ -110,14 +110,14 @@ class Live(unittest.TestCase):
             (
                 status(),
                 [
-                    "<p>4 of the rows read were from before the audit.</p>",
-                    "<p>2 of the rows read were written by unchecked transactions.</p>",
+                    "<p>4 of the row reads were of versions from before the audit.</p>",
+                    "<p>2 of the row reads were of versions that unchecked transactions wrote.</p>",
                 ],
             ),
             (status(kind="running", rounds_count=0), ["Nothing has been checked yet"]),
             (
                 status(violations=(violation(),), violations_count=22),
-                ["22 violations found", "/violation/1", "21 violations more, whose"],
+                ["22 violations found", "/violation/1", "21 more violations, whose"],
             ),
             (
                 status(kind="pending", pending=("1.0 read key 5",), pending_count=1),

@@ -180,7 +180,7 @@ def _violations(status: Status) -> Iterator[str]:
     more = status.violations_count - len(status.violations)
     if more > 0:
         told = "whose explanations aren’t ready or weren’t kept"
-        yield f"<p>{counted(more, 'violation')} more, {told}.</p>"
+        yield f"<p>{counted(more, 'more violation')}, {told}.</p>"
 
 
 def _standing(one: Violation) -> str:
