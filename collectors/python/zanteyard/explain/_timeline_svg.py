@@ -10,7 +10,9 @@ from typing import Dict, List, Mapping, Sequence, Tuple
 
 from ..core._records import ABORTED, ShownId
 from ..core._visible import html_text
-from ._report import IN_ONE_SESSION, Link, Step, Story
+from ._arcs import SESSION
+from ._explanation import Link
+from ._report import Step, Story
 
 WIDTH, GAP, LANE_GAP = 316.0, 110.0, 76.0  # of a box, and between boxes, in the picture's units
 LINE, PADDING, LEFT = 18.0, 8.0, 100.0
@@ -96,16 +98,17 @@ def _told(step: Step) -> List[str]:
     return lines or ["did nothing that matters here"]
 
 
-def draw_story(story: Story) -> str:
-    """The picture, as an `svg` element; an empty text where there is nothing to draw."""
+def draw_story(story: Story, links: Sequence[Link] = ()) -> str:
+    """The picture with these links, as an `svg` element; an empty text where there is nothing to
+    draw. Without links it shows who read from whom."""
     if not story.steps:
         return ""
     boxes = boxes_of(story)
     arcs: List[Tuple[bool, str]] = []
     points: List[Point] = []
-    for number, link in enumerate(story.links or _reads(story.steps), 1):
+    for link in links or _reads(story.steps):
         if link.start in boxes and link.end in boxes:
-            text, around = _arc(link, boxes, number if story.links else 0)
+            text, around = _arc(link, boxes)
             arcs.append((link.is_of_circle, text))
             points += around
     for box in boxes.values():
@@ -211,20 +214,21 @@ def _short(text: str) -> str:
     return text if len(text) <= MOST_LETTERS else text[: MOST_LETTERS - 1] + "…"
 
 
-def _arc(link: Link, boxes: Mapping[ShownId, Box], number: int) -> Tuple[str, List[Point]]:
-    """The arc, with a number unless that is 0, and what it reaches. One that leads to the right in
-    another lane swings over; any other bends to its right, so that opposite ones stand apart."""
-    start, end = boxes[link.start], boxes[link.end]
+def _arc(link: Link, boxes: Mapping[ShownId, Box]) -> Tuple[str, List[Point]]:
+    """The arc, with its number unless that is 0, and what it reaches. One that leads to the right
+    in another lane swings over; any other bends to its right, so that opposite ones stand apart."""
+    start, end, number = boxes[link.start], boxes[link.end], link.number
     (x, y), (to_x, to_y) = start.middle, end.middle
     if all(link.events):
         first, last, way, middle = _between_edges(link, start, end, number)
     elif to_x > x + WIDTH and abs(to_y - y) > 1:
         first, last = (start.left + WIDTH, y), (end.left, to_y)
         swing = max(70.0, (last[0] - first[0]) * 0.5)
-        way = f"C{first[0] + swing:.1f} {y:.1f} {last[0] - swing:.1f} {to_y:.1f}"
-        middle = (first[0] + last[0]) / 2, (y + to_y) / 2
+        turns = (first[0] + swing, y), (last[0] - swing, to_y)
+        way = f"C{turns[0][0]:.1f} {y:.1f} {turns[1][0]:.1f} {to_y:.1f}"
+        middle = _on_curve((first, *turns, last), number)
     else:
-        bent = _bent(start.middle, end.middle, link.why == IN_ONE_SESSION)
+        bent = _bent(start.middle, end.middle, link.why == SESSION)
         first, last = start.edge_towards(bent), end.edge_towards(bent)
         way = f"Q{bent[0]:.1f} {bent[1]:.1f}"
         middle = (
@@ -260,16 +264,20 @@ def _between_edges(
         return first, last, way, (start.middle[0], start.top - 6)
     swing = 60 + 0.15 * (abs(last[0] - first[0]) + abs(last[1] - first[1]))
     out, back = (swing if event == "commit" else -swing for event in link.events)
-    turns = first[0] + out, last[0] + back
-    way = f"C{turns[0]:.1f} {first[1]:.1f} {turns[1]:.1f} {last[1]:.1f}"
-    at = (0.5, 0.36, 0.64)[number % 3]  # so that numbers of arcs that cross stand apart
+    turns = (first[0] + out, first[1]), (last[0] + back, last[1])
+    way = f"C{turns[0][0]:.1f} {first[1]:.1f} {turns[1][0]:.1f} {last[1]:.1f}"
+    return first, last, way, _on_curve((first, *turns, last), number)
+
+
+def _on_curve(points: Sequence[Point], number: int) -> Point:
+    """Where the number stands on a curve of Bezier's: numbers of arcs that cross stand apart."""
+    at = (0.5, 0.36, 0.64)[number % 3]
     before = 1 - at
     shares = before**3, 3 * before**2 * at, 3 * before * at**2, at**3
-    middle = (
-        sum(share * x for share, x in zip(shares, (first[0], *turns, last[0]))),
-        (shares[0] + shares[1]) * first[1] + (shares[2] + shares[3]) * last[1],
+    return (
+        sum(share * x for share, (x, _) in zip(shares, points)),
+        sum(share * y for share, (_, y) in zip(shares, points)),
     )
-    return first, last, way, middle
 
 
 def _bent(start: Point, end: Point, is_in_one_session: bool) -> Point:
