@@ -12,8 +12,11 @@ from zanteyard import Logged
 from zanteyard.explain._shrinking import name
 from zanteyard.explain._charts import RoundSeen
 from zanteyard.explain._html import page_of
+from zanteyard.explain._reasons import explain_history
 from zanteyard.explain._report import Story, story_of
-from zanteyard.promises._kinds import SNAPSHOT
+from zanteyard.promises._kinds import SERIALIZABLE, SNAPSHOT
+
+from .killing import PLAIN
 
 BROWSER = shutil.which("chromium") or shutil.which("chromium-browser")
 STATEMENT = "SELECT value FROM t WHERE key = '<x>' & 1"
@@ -26,8 +29,16 @@ def history():
     return [[first, second], [second]]
 
 
+def story(its=None, script="", **more):
+    """Of a history, by the refutation of a plain auditor."""
+    its = its or history()
+    promise = more.get("promise", SERIALIZABLE)
+    explanation = explain_history(its, name, PLAIN, promise)
+    return story_of(its, name, explanation, script, **more)
+
+
 def page(**more):
-    return page_of(story_of(history(), name, '["open",2,3]\n'), "a bank", "proved", **more)
+    return page_of(story(script='["open",2,3]\n'), "a bank", "proved", **more)
 
 
 class Tags(html.parser.HTMLParser):
@@ -70,7 +81,7 @@ class Page(unittest.TestCase):
 
     def test_a_transaction_reaches_from_its_begin_to_its_commit(self):
         """Under snapshot isolation, where arrows lead between these."""
-        text = page_of(story_of(history(), name, "", promise=SNAPSHOT), "a bank", "proved")
+        text = page_of(story(promise=SNAPSHOT), "a bank", "proved")
         tags = Tags(text)
         self.assertEqual((tags.open, tags.wrong, tags.asked), ([], [], []))
         self.assertEqual(text.count('class="edge"'), 6)  # of three transactions
@@ -80,7 +91,7 @@ class Page(unittest.TestCase):
             ">commit</text>",
             "0.1 begins before 1.0 commits</strong>",
             "A box reaches from the transaction’s begin to its commit.",
-            " begin → ",
+            " begins → ",
         ):
             with self.subTest(wanted=wanted):
                 self.assertIn(wanted, text)
@@ -109,7 +120,7 @@ class Page(unittest.TestCase):
             ((2, 1), "a bank: 3 transactions of 2 sessions</p>"),
             ((4, 1), "a bank: 5 transactions of 2 sessions; 3 of the transactions are shown here</p>"),
         ):
-            text = page_of(story_of(history(), name, counts=counts), "a bank", "proved")
+            text = page_of(story(counts=counts), "a bank", "proved")
             self.assertIn(wanted, text)
 
     def test_other_verdicts(self):
@@ -224,7 +235,7 @@ class InABrowser(unittest.TestCase):
         self.assertGreater(boxes, 1000)  # of the second column
         write, first = Logged((), ("y",)), history()
         first[1].append(Logged((("x", (1, 0)), ("y", (2, 0))), ("x",)))
-        three = page_of(story_of([*first, [write]], name, ""), "a bank", "proved")
+        three = page_of(story([*first, [write]]), "a bank", "proved")
         self.assertIn("columns-3", three)
         shades = [row[-1] for row in seen(three)]
         self.assertGreater(sum(max(it) < 240 for it in shades), 50)

@@ -120,6 +120,12 @@ class ArcWords:
         why = NO_WRITE.get(self.txns[source].outcome, "which didn't write it")
         return f"{self.name(reader)} read {key} from {self.name(source)}, {why}"
 
+    def step(self, node: Node) -> str:
+        """As one of a circle."""
+        if isinstance(node, Event):
+            return f"{self.name(node.id)} {node.what}s"
+        return self.name(ShownId(node))
+
     def none_first(self, around: Sequence[Arc]) -> str:
         """That none of a circle's transactions can come before the others."""
         *others, last = (told_node(arc.start, self.name) for arc in around)

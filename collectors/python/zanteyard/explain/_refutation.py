@@ -7,14 +7,14 @@ two circles are one choice's: each rules one side out. Then the shorter one is t
 
 from __future__ import annotations
 
-from typing import Any, Callable, Dict, List, Mapping, Optional, Sequence, Tuple
+from typing import Any, Callable, Dict, List, Mapping, Sequence, Tuple
 
 from ..core._records import History, Naming, ShownId
 from ..promises._kinds import EVENTS
 from ..promises._times import TIME_KEYS
 from ._arc_words import ArcWords, is_of_writers
-from ._arcs import READ_BEFORE, SESSION, Arc, Choice, Ends, Event, Node, merged, table
-from ._arcs import told_node, transaction_of
+from ._arcs import SESSION, WRITTEN, Arc, Choice, Ends, Event, Node, below, merged, table
+from ._arcs import transaction_of
 from ._explanation import Case, Explanation
 
 MANY = 24  # splits of a refutation; with more it isn't told case by case
@@ -71,8 +71,8 @@ class _Reading:
                 facts.setdefault(arc.ends, arc)
             elif kind == "split":
                 choice = self._choice(rest[0])
-                cases = tuple(self._case(choice, side, facts) for side in (1, 2))
-                return Explanation(self.words.between(choice), cases=cases)
+                first, second = (self._case(choice, 1, facts), self._case(choice, 2, facts))
+                return Explanation(self.words.between(choice), cases=(first, second))
             elif kind == "cycle":
                 return self._circle([self._arc(arc, facts) for arc in rest[0]], facts)
             else:
@@ -107,11 +107,8 @@ class _Reading:
         return self.words.forced(choice, side, needs)
 
     def _circle(self, arcs: Sequence[Arc], facts: Facts) -> Explanation:
-        around = self._turned(arcs)
-        other = self._other_way(around, facts)
-        if other is not None:
-            around = self._turned(other)
-        names = [told_node(arc.start, self.name) for arc in around]
+        around = self._turned(self._better(self._turned(arcs), facts))
+        names = [self.words.step(arc.start) for arc in around]
         end = self.words.none_first(around)
         return Explanation(end, tuple(around), tuple([*names, names[0]]))
 
@@ -122,24 +119,23 @@ class _Reading:
         at = min(range(len(around)), key=lambda at: _place(around[at].start))
         return [*around[at:], *around[:at]]
 
-    def _other_way(self, around: Sequence[Arc], facts: Facts) -> Optional[List[Arc]]:
-        """The circle that ruled out the other side of what was forced last of this one, where that
-        one is the better end."""
+    def _better(self, around: List[Arc], facts: Facts) -> List[Arc]:
+        """Of this circle, and the one that ruled out the other side of what was forced last in it,
+        the one that is told in fewer words."""
         order = [*facts]
         forced = [at for at, arc in enumerate(around) if arc.needs and arc.ends in facts]
         if not forced:
-            return None
+            return around
         at = max(forced, key=lambda at: order.index(around[at].ends))
         last, rest = around[at], [*around[at + 1 :], *around[:at]]
         choice = last.choice
         assert choice is not None
         side = 2 if last.ends == choice.sides()[0] else 1
-        other = self.words.forced(choice, side, merged(rest, self.name))
+        other = self._forced(choice, side, merged(rest, self.name))
         ways = [other, *last.needs]
         if any(one.end != two.start for one, two in zip(ways, [*ways[1:], ways[0]])):
-            return None
-        is_better = (len(ways), other.kind != READ_BEFORE) < (len(around), last.kind != READ_BEFORE)
-        return ways if is_better else None
+            return around
+        return min(around, ways, key=_length)
 
     # what items are made of
 
@@ -179,6 +175,12 @@ class _Reading:
 
 
 KEY_OF = {"read": "key", "base": "key"}  # kinds of arcs that name one
+
+
+def _length(around: Sequence[Arc]) -> Tuple[int, int, int]:
+    """What it takes to tell of a circle: all that it rests on, its own arcs, and those of them that
+    say which of two writers came first, and not which of them was read."""
+    return len(below(around)), len(around), sum(arc.kind == WRITTEN for arc in around)
 
 
 def _place(node: Node) -> Tuple[ShownId, str]:
