@@ -45,7 +45,7 @@ class Explaining(unittest.TestCase):
 
     def test_two_sources(self):
         history = [[txn(writes="x")], [txn(writes="x")], [txn(("x", (0, 0)), ("x", (1, 0)))]]
-        self.assertEqual(reasons(history)[-1], "so neither 0.0 nor 1.0 can come first")
+        self.assertEqual(reasons(history)[-1], "so neither 0.0 nor 2.0 can come first")
 
     def test_what_has_an_order(self):
         told = explain_history([[txn(writes="x")], [txn(("x", "init"))]], program=PLAIN)

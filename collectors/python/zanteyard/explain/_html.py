@@ -52,8 +52,8 @@ svg .transaction.aborted rect { stroke-dasharray: 7 5; }
 svg .arc path { fill: none; stroke-width: 2.2; }
 svg .arc.aborted path { stroke-dasharray: 7 5; }
 svg .arc.circle path { stroke: var(--red); } svg .arc.other path { stroke: #8491a1; }
-svg .arc circle { stroke: #fff; stroke-width: 1.5; }
-svg .arc.circle circle { fill: var(--red); } svg .arc.other circle { fill: #5d6a7a; }
+svg .mark circle { stroke: #fff; stroke-width: 1.5; }
+svg .mark.circle circle { fill: var(--red); } svg .mark.other circle { fill: #5d6a7a; }
 svg .arc:hover path { stroke-width: 4.5; }
 svg .number { fill: #fff; font-size: 12px; font-weight: 700; text-anchor: middle; }
 svg marker path.circle-head { fill: var(--red); } svg marker path.other-head { fill: #8491a1; }
@@ -175,14 +175,18 @@ def _capital(text: str) -> str:
 
 
 def picture_part(story: Story) -> Iterable[str]:
-    """What happened, with the circle if there is one."""
-    drawn = draw_story(story, story.reasons.drawn)
-    if not drawn:
-        return
-    yield "<h2>What happened</h2>"
-    yield f'<figure><div class="wide">{drawn}</div>'
+    """What happened, with the circle if there is one. Cases have a picture each instead."""
+    drawn = "" if story.reasons.cases else draw_story(story, story.reasons.drawn)
+    if drawn:
+        yield "<h2>What happened</h2>"
+        yield f'<figure><div class="wide">{drawn}</div>'
+        yield f"<figcaption>{_caption(story)}</figcaption></figure>"
+
+
+def _caption(story: Story) -> str:
+    """What a picture shows."""
     caption = "A row for each session, its transactions from left to right. "
-    if story.reasons.drawn:
+    if story.reasons.drawn or story.reasons.cases:
         caption += ARROWS
     else:
         caption += "A grey arrow leads from a writer to who read from it."
@@ -190,21 +194,26 @@ def picture_part(story: Story) -> Iterable[str]:
         caption += " A box reaches from the transaction’s begin to its commit."
     if any(step.outcome == ABORTED for step in story.steps):
         caption += " What was aborted is dashed."
-    yield f"<figcaption>{caption}</figcaption></figure>"
+    return caption
 
 
 def reasons_part(story: Story) -> Iterable[str]:
     """Why no order is left; two cases are two parts that fold."""
     yield "<h2>Why no order is left</h2>"
+    if story.reasons.cases and story.reasons.links:
+        yield "<p>In any order:</p>"
     yield from _reasons(story.reasons, story)
+    if story.reasons.cases:
+        yield f'<p class="soft">The pictures: {_caption(story)}</p>'
 
 
-def _reasons(reasons: Reasons, story: Story) -> Iterable[str]:
+def _reasons(reasons: Reasons, story: Story, picture: str = "") -> Iterable[str]:
     """The end first, and then what it rests on; but what two cases share comes before them."""
     if reasons.circle:
         around = " → ".join(html_text(called) for called in reasons.circle)
         yield "<p>These go round in a circle, so that none of them can come first:</p>"
         yield f'<p class="around">{around}</p>'
+    yield picture
     red = {link.number for link in reasons.drawn if link.is_of_circle}
     if reasons.links:
         yield '<ol class="reasons">'
@@ -240,10 +249,9 @@ def _case(case: ShownCase, story: Story) -> Iterable[str]:
     inner = case.reasons
     named = {id for link in inner.drawn for id in (link.start, link.end)}
     involved = replace(story, steps=tuple(step for step in story.steps if step.id in named))
-    drawn = draw_story(involved, inner.drawn)
-    if drawn:
-        yield f'<figure><div class="wide">{drawn}</div></figure>'
-    yield from _reasons(replace(inner, links=(case.link, *inner.links)), story)
+    drawn = draw_story(involved, inner.drawn) if inner.drawn else ""
+    picture = f'<figure><div class="wide">{drawn}</div></figure>' if drawn else ""
+    yield from _reasons(replace(inner, links=(case.link, *inner.links)), story, picture)
     yield "</details>"
 
 

@@ -1,8 +1,8 @@
 """Reads a refutation of the auditor's, a flat list of items, into an Explanation. What is told is
 what the auditor has checked: its circles, what they force, and its splits.
 
-One thing is told in another way. Where the last step forced an arc of the circle at the end, the
-two circles are one choice's: each rules one side out. Then the shorter one is told last.
+One thing is turned round. Where an arc of the circle at the end was forced, that circle and the one
+that forced the arc each rule out one side of a choice. The shorter of the two is told at the end.
 """
 
 from __future__ import annotations
@@ -121,7 +121,7 @@ class _Reading:
 
     def _better(self, around: List[Arc], facts: Facts) -> List[Arc]:
         """Of this circle, and the one that ruled out the other side of what was forced last in it,
-        the one that is told in fewer words."""
+        the one that is told in fewer steps."""
         order = [*facts]
         forced = [at for at, arc in enumerate(around) if arc.needs and arc.ends in facts]
         if not forced:
@@ -178,9 +178,9 @@ KEY_OF = {"read": "key", "base": "key"}  # kinds of arcs that name one
 
 
 def _length(around: Sequence[Arc]) -> Tuple[int, int, int]:
-    """What it takes to tell of a circle: all that it rests on, its own arcs, and those of them that
-    say which of two writers came first, and not which of them was read."""
-    return len(below(around)), len(around), sum(arc.kind == WRITTEN for arc in around)
+    """What it takes to tell of a circle: its own arcs, all that it rests on, and those of its arcs
+    that say which of two writers came first, and not who read what."""
+    return len(around), len(below(around)), sum(arc.kind == WRITTEN for arc in around)
 
 
 def _place(node: Node) -> Tuple[ShownId, str]:
