@@ -17,6 +17,7 @@ from zanteyard.explain._report import Story, story_of
 from zanteyard.promises._kinds import SERIALIZABLE, SNAPSHOT
 
 from .killing import PLAIN
+from .test_explanations import VIOLATED
 
 BROWSER = shutil.which("chromium") or shutil.which("chromium-browser")
 STATEMENT = "SELECT value FROM t WHERE key = '<x>' & 1"
@@ -96,6 +97,24 @@ class Page(unittest.TestCase):
             with self.subTest(wanted=wanted):
                 self.assertIn(wanted, text)
         self.assertNotIn("class=\"edge\"", page())
+
+    def test_two_cases_fold(self):
+        """Each has its circle, its picture and its reasons; and each number is in both."""
+        text = page_of(story(VIOLATED["a split"][0]), "a bank", "proved")
+        tags = Tags(text)
+        self.assertEqual((tags.open, tags.wrong, tags.asked), ([], [], []))
+        self.assertNotIn("script", tags.seen)
+        for each in ('<details class="case" open>', '<svg class="timeline', '<p class="around">'):
+            self.assertEqual(text.count(each), 2)
+        self.assertIn("<summary>If 1.0 comes before 0.0</summary>", text)
+        self.assertIn("<summary>If 4.0 comes before 1.0</summary>", text)
+        self.assertEqual(text.count("Neither is possible."), 2)  # where it begins, and its reasons
+        told = re.findall(r'<span class="mark">(\d+)</span>', text)
+        drawn = re.findall(r'<text class="number"[^>]*>(\d+)</text>', text)
+        self.assertEqual(sorted(told), sorted(drawn))
+        self.assertEqual(len(told), len({*told}))
+        ids = re.findall(r' id="([^"]*)"', text)
+        self.assertEqual(len(ids), len({*ids}))
 
     def test_what_is_on_it(self):
         text = page()

@@ -65,7 +65,8 @@ ol.reasons li { position: relative; padding-left: 2.1rem; }
 ol.reasons .mark { position: absolute; left: 0; top: .12rem; min-width: 1.6rem; text-align: center;
   color: #fff; border-radius: 1rem; font-size: .8rem; font-weight: 700; background: #5d6a7a; }
 ol.reasons .circle .mark { background: var(--red); }
-.case { margin: .8rem 0 .8rem .2rem; padding: .1rem 0 .1rem 1rem; border-left: 3px solid var(--line); }
+.case { margin: .8rem 0 .8rem .2rem; padding: .1rem 0 .1rem 1rem;
+  border-left: 3px solid var(--line); }
 .case > summary { font-weight: 700; font-size: 1.05rem; cursor: pointer; }
 .choice { font-weight: 600; }
 .around { font-size: 1.05rem; font-weight: 600; color: var(--red); }
@@ -237,8 +238,8 @@ def _reason(link: Link, is_of_circle: bool) -> str:
     numbers = " and ".join([", ".join(first), last] if first else [last])
     follows = f" (by {numbers})" if numbers else ""
     return (
-        f'<li{kind}><span class="mark">{link.number}</span><strong>{html_text(link.told)}</strong>: '
-        f"{html_text(link.why)}{follows}.</li>"
+        f'<li{kind}><span class="mark">{link.number}</span>'
+        f"<strong>{html_text(link.told)}</strong>: {html_text(link.why)}{follows}.</li>"
     )
 
 
@@ -249,7 +250,7 @@ def _case(case: ShownCase, story: Story) -> Iterable[str]:
     inner = case.reasons
     named = {id for link in inner.drawn for id in (link.start, link.end)}
     involved = replace(story, steps=tuple(step for step in story.steps if step.id in named))
-    drawn = draw_story(involved, inner.drawn) if inner.drawn else ""
+    drawn = draw_story(involved, inner.drawn, case.link.number) if inner.drawn else ""
     picture = f'<figure><div class="wide">{drawn}</div></figure>' if drawn else ""
     yield from _reasons(replace(inner, links=(case.link, *inner.links)), story, picture)
     yield "</details>"

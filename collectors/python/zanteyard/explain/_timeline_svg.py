@@ -105,9 +105,10 @@ def _told(step: Step) -> List[str]:
     return lines or ["did nothing that matters here"]
 
 
-def draw_story(story: Story, links: Sequence[Link] = ()) -> str:
+def draw_story(story: Story, links: Sequence[Link] = (), place: int = 0) -> str:
     """The picture with these links, as an `svg` element; an empty text where there is nothing to
-    draw. Without links it shows who read from whom."""
+    draw. Without links it shows who read from whom. The place is another for each picture of a
+    page: what one of them defines isn't there for the others while it is folded away."""
     if not story.steps:
         return ""
     boxes = boxes_of(story)
@@ -118,7 +119,7 @@ def draw_story(story: Story, links: Sequence[Link] = ()) -> str:
         if link.start in boxes and link.end in boxes
     ]
     marks = _places_of_numbers([curve for _, curve in curves], [*boxes.values()])
-    arcs = [(link.is_of_circle, _arc(link, curve)) for link, curve in curves]
+    arcs = [(link.is_of_circle, _arc(link, curve, place)) for link, curve in curves]
     points = [point for _, curve in curves for point in (curve[0], curve[-1])]
     for x, y in marks:
         points += [(x - 12, y - 12), (x + 12, y + 12)]
@@ -137,7 +138,7 @@ def draw_story(story: Story, links: Sequence[Link] = ()) -> str:
             f'<svg class="timeline columns-{columns}" role="img" '
             f'viewBox="{left:.0f} {top:.0f} {width} {height}" width="{width}" height="{height}">',
             f"<title>{html_text(about)}</title>",
-            _ends_of_arcs(),
+            _ends_of_arcs(place),
             *_lanes(story, boxes, right),
             *(text for is_red, text in arcs if not is_red),
             *(_box(step, boxes[step.id], story.promise.is_split) for step in story.steps),
@@ -164,13 +165,13 @@ def _reads(steps: Sequence[Step]) -> List[Link]:
     ]
 
 
-def _ends_of_arcs() -> str:
+def _ends_of_arcs(place: int) -> str:
     heads = [("red", "circle-head"), ("grey", "other-head")]
     return (
         "<defs>"
         + "".join(
-            f'<marker id="{colour}-head" viewBox="0 0 10 10" refX="9" refY="5" markerWidth="7" '
-            f'markerHeight="7" orient="auto-start-reverse"><path class="{name}" '
+            f'<marker id="{colour}-head-{place}" viewBox="0 0 10 10" refX="9" refY="5" '
+            f'markerWidth="7" markerHeight="7" orient="auto-start-reverse"><path class="{name}" '
             'd="M0 0L10 5L0 10z"/></marker>'
             for colour, name in heads
         )
@@ -226,14 +227,14 @@ def _short(text: str) -> str:
     return text if len(text) <= MOST_LETTERS else text[: MOST_LETTERS - 1] + "…"
 
 
-def _arc(link: Link, curve: Curve) -> str:
+def _arc(link: Link, curve: Curve, place: int) -> str:
     """The arc without its number."""
     colour = "red" if link.is_of_circle else "grey"
     first, *turns, last = (f"{x:.1f} {y:.1f}" for x, y in curve)
     way = f"M{first}{'Q' if len(turns) == 1 else 'C'}{' '.join(turns)} {last}"
     return (
         f'<g class="arc {_kind(link)}"><title>{_title(link)}</title>'
-        f'<path d="{way}" marker-end="url(#{colour}-head)"/></g>'
+        f'<path d="{way}" marker-end="url(#{colour}-head-{place})"/></g>'
     )
 
 

@@ -22,7 +22,7 @@ from ._retained import Retained, Transaction
 from ._sql_anomalies import LostUpdate, both_replaced, lost_update
 from ._sql_anomalies import named as named_story
 
-EXPLAINING = 15.0  # seconds for making a violated history small, and as many for the reasons
+EXPLAINING = 15.0  # seconds for making a violated history small, and as many for its promises
 CLOSED_ENDS = re.compile(rb"(?:true|false)\],")  # in a reply to `show`, before the last writers
 
 
@@ -201,7 +201,7 @@ def explained(
     promise: Promise = SERIALIZABLE,
 ) -> Violation:
     """The violation that this report of a round tells of, with what the proxy said of it. Takes up
-    to three times so many seconds. Raises ProgramEndedError and the like."""
+    to twice so many seconds. Raises ProgramEndedError and the like."""
     _, round_number, _, counts, certificate = report
     history, names = from_start(held)
     part = held.lost_part(history, program, promise)
