@@ -1,17 +1,20 @@
 """Whether the tests see small faults: each mutant is the code with one of its places changed.
 
-    /usr/bin/python3 bench/mutants.py python|go [--count 60] [--seed 1] [--processes 2] [--only FILE:LINE]
+    /usr/bin/python3 bench/mutants.py python|go [--count 60] [--seed 1] [--processes 2] [--only FILE:LINE] [--rows FILE]
 
-Mutants of the Python package's sessions, live audits, rounds, notes and searches for killed clients, or of the proxy's joiner,
-are drawn by the seed, and each is run under the tests beside it, in a copy of the tree. One is found if a test fails,
-or none ends in its time. Prints a line for each that isn't found, which is to be read: it means the same, or a test is
-missing. The status is 1 if more than one in twenty isn't found."""
+Mutants of the Python package's sessions, live audits, rounds, notes and searches for killed clients, or of the proxy's
+joiner, are drawn by the seed. Each is run under the tests that can see it, in a copy of the tree (Python) or by an overlay
+(Go); tests that fail without a mutant are named, and left out. One is found if a test fails, or doesn't end in five times
+the time that it takes without a mutant. Prints a line for each that isn't found, which is to be read: it means the same, or
+a test is missing. The status is 1 if more than one in twenty isn't found."""
 import argparse
 import ast
 import collections
 import concurrent.futures
-import copy
+import functools
 import glob
+import itertools
+import json
 import os
 import random
 import re
@@ -20,6 +23,8 @@ import signal
 import subprocess
 import sys
 import tempfile
+import threading
+import time
 
 TOP = os.path.dirname(os.path.dirname(os.path.abspath(__file__)))
 PYTHON, PROXY = os.path.join(TOP, "collectors", "python"), os.path.join(TOP, "proxy")
@@ -32,13 +37,20 @@ FILES = {
     ),
     "go": ("src/zanteyard/join/*.go",),
 }
-# Those that take a second or two come first.
-TESTS = (
-    *("transactions", "meetings", "places", "forks", "notes", "circumstances", "redacting", "processes", "no_harm"),
-    *("aborted", "joining", "live", "rounds", "killed.Killed"),
-)
-SECONDS = 150.0  # for the tests of a mutant
-Mutant = collections.namedtuple("Mutant", "path line about text")
+# Of the Python package, those that can see a mutant of a folder; those that end soon, or that see most, come first.
+TESTS = {
+    "session": (
+        *("transactions", "meetings", "places", "two_stores.InMemory", "two_stores.Told", "joining", "live"),
+        *("redacting", "circumstances", "aborted", "no_harm"),
+    ),
+    "live": ("places", "meetings", "joining", "live", "processes", "rounds", "redacting", "aborted", "no_harm"),
+    "program": ("rounds", "live", "joining", "no_harm"),
+    "core": ("notes", "forks", "joining", "live", "killed.Killed", "aborted", "no_harm"),
+    "remote": ("notes", "joining", "killed.Killed"),
+}
+GO_SLOW = "Lives|MakesUpNo|MemoryIsBounded|HotRow"  # of the joiner's tests, those that take seconds
+LONGEST = 1800.0  # seconds for a call of tests without a mutant
+Mutant = collections.namedtuple("Mutant", "path line about text")  # the text is made when it is asked for
 COMPARED = {
     ast.Lt: ast.LtE, ast.LtE: ast.Lt, ast.Gt: ast.GtE, ast.GtE: ast.Gt, ast.Eq: ast.NotEq, ast.NotEq: ast.Eq,
     ast.Is: ast.IsNot, ast.IsNot: ast.Is, ast.In: ast.NotIn, ast.NotIn: ast.In,
@@ -107,16 +119,21 @@ def is_of_annotation(source, node):
 def python_mutants(path):
     with open(path, encoding="utf-8") as file:
         text = file.read()
-    whole, source = ast.parse(text), text.splitlines()
-    for at, node in enumerate(ast.walk(whole)):
+    source = text.splitlines()
+    for at, node in enumerate(ast.walk(ast.parse(text))):
         if not hasattr(node, "lineno") or is_of_annotation(source, node):
             continue
-        for way, _ in enumerate(changed(node)):
-            mutated = copy.deepcopy(whole)
-            there = next(it for number, it in enumerate(ast.walk(mutated)) if number == at)
-            about = [*changed(there)][way]()
-            ast.fix_missing_locations(mutated)
-            yield Mutant(path, node.lineno, f"{source[node.lineno - 1].strip()}   ({about})", ast.unparse(mutated))
+        for way, change in enumerate(changed(node)):
+            about = f"{source[node.lineno - 1].strip()}   ({change()})"
+            yield Mutant(path, node.lineno, about, functools.partial(python_mutant, text, at, way))
+
+
+def python_mutant(text, at, way):
+    """The text with one node changed, in one of the ways."""
+    mutated = ast.parse(text)
+    its = [*changed(next(itertools.islice(ast.walk(mutated), at, None)))][way]
+    its()
+    return ast.unparse(ast.fix_missing_locations(mutated))
 
 
 def go_mutants(path):
@@ -129,56 +146,104 @@ def go_mutants(path):
         for old, new in GO:
             if re.search(old, code):
                 changed_line = re.sub(old, new, code, count=1) + slashes + comment
-                text = "\n".join([*lines[:at], changed_line, *lines[at + 1 :]])
-                yield Mutant(path, at + 1, f"{line.strip()}   ({changed_line.strip()})", text)
+                about = f"{line.strip()}   ({changed_line.strip()})"
+                yield Mutant(path, at + 1, about, functools.partial(go_mutant, lines, at, changed_line))
 
 
-def tests_of(kind, names):
-    """The calls that run them, one after another, until one fails."""
-    if kind == "go":
-        return [["go", "build", "zanteyard/join"], ["go", "test", "-failfast", "zanteyard/join"],
-                ["go", "test", "-failfast", "zanteyard/audit"]]
-    unittest = [sys.executable, "-W", "ignore", "-m", "unittest", "-f"]
-    return [[*unittest, f"tests.test_{name}"] for name in names]
+def go_mutant(lines, at, line):
+    return "\n".join([*lines[:at], line, *lines[at + 1 :]])
 
 
-def fate(kind, names, mutant):
-    """Of a mutant: "found", "hangs", "lives", or "isn't one" where it can't even be compiled."""
-    home = PYTHON if kind == "python" else PROXY
+def python_calls(folder, names, mutant):
+    """The modules of tests one after another, in a copy of the tree."""
+    tree = os.path.join(folder, os.path.relpath(PYTHON, TOP))
+    shutil.copytree(PYTHON, tree, ignore=shutil.ignore_patterns("__pycache__", "out"))
+    if mutant is not None:
+        with open(os.path.join(tree, os.path.relpath(mutant.path, PYTHON)), "w", encoding="utf-8") as file:
+            file.write(mutant.text())
+    for name in names:
+        yield name, [sys.executable, "-W", "ignore", "-m", "unittest", "-f", f"tests.test_{name}"], tree
+
+
+def go_calls(folder, names, mutant):
+    """The tests of the joiner, those that end at once first; then those of other packages. None if it can't be compiled."""
+    text, overlay, program = (os.path.join(folder, name) for name in ("mutant.go", "overlay", "tests"))
+    if mutant is not None:
+        with open(text, "w", encoding="utf-8") as file:
+            file.write(mutant.text())
+    with open(overlay, "w", encoding="utf-8") as file:
+        json.dump({"Replace": {mutant.path: text} if mutant is not None else {}}, file)
+    package = os.path.join(PROXY, "src/zanteyard/join")
+    made = ["go", "test", "-c", "-vet=off", "-overlay", overlay, "-o", program, "zanteyard/join"]
+    if subprocess.run(made, cwd=PROXY, capture_output=True, check=False).returncode:
+        yield None
+        return
+    listed = subprocess.run([program, "-test.list", "^Test"], cwd=package, capture_output=True, text=True, check=False)
+    every = listed.stdout.split()
+    slow = [name for name in every if re.search(GO_SLOW, name)]
+    for name, some in (("join", [name for name in every if name not in slow]), ("join, slow ones", slow)):
+        yield name, [program, "-test.failfast", "-test.run", f"^({'|'.join(some)})$"], package
+    for name in names:
+        yield name, ["go", "test", "-vet=off", "-failfast", "-overlay", overlay, f"zanteyard/{name}"], PROXY
+
+
+def calls(kind, folder, names, mutant):
+    os.chmod(folder, 0o711)
+    return (python_calls if kind == "python" else go_calls)(folder, names, mutant)
+
+
+def fate(kind, names, limits, mutant):
+    """Of a mutant: "found", "hangs", "lives", or "isn't one" where it can't even be compiled; and what found it."""
     with tempfile.TemporaryDirectory() as folder:
-        os.chmod(folder, 0o711)
-        tree = os.path.join(folder, os.path.relpath(home, TOP))
-        shutil.copytree(home, tree, ignore=shutil.ignore_patterns("__pycache__", "out"))
-        with open(os.path.join(tree, os.path.relpath(mutant.path, home)), "w", encoding="utf-8") as file:
-            file.write(mutant.text)
-        environment = {**os.environ, "TMPDIR": folder}
-        if kind == "go":
-            environment["GOPATH"] = os.pathsep.join(
-                tree if each == PROXY else each for each in os.environ["GOPATH"].split(os.pathsep)
-            )
-        for at, call in enumerate(tests_of(kind, names)):
-            status = status_of(call, tree, environment)
+        for one in calls(kind, folder, names, mutant):
+            if one is None:
+                return "isn't one", ""
+            name, call, home = one
+            if limits[name] is None:
+                continue
+            status, told = end_of(call, home, folder, limits[name])
             if status is None:
-                return "hangs"
+                return "hangs", name
+            if status:
+                failed = re.search(r"^(?:--- FAIL|FAIL|ERROR): (\w+)", told, re.M)
+                return "found", f"{name} {failed[1]}" if failed else name
+    return "lives", ""
+
+
+def limits_of(kind, names, earlier, write):
+    """Of each call, the seconds after which it counts as hanging: five times what it takes without a mutant. None where it
+    fails without one, too: it would find whatever there is."""
+    limits = {about: seconds for (place, about), (_, seconds) in earlier.items() if not place}
+    names = [name for name in names if name not in limits]
+    with tempfile.TemporaryDirectory() as folder:
+        for name, call, home in calls(kind, folder, names, None):
+            if name in limits:
+                continue
+            began = time.monotonic()
+            status, told = end_of(call, home, folder, LONGEST)
+            limits[name] = None if status != 0 else 60.0 + 5 * (time.monotonic() - began)
             if status != 0:
-                return "isn't one" if kind == "go" and at == 0 else "found"
-    return "lives"
+                print(f"left out, since it fails without a mutant: {name}", *told.splitlines()[-3:], sep="\n    ", flush=True)
+            write(["", name, "limit", limits[name]])
+    return limits
 
 
-def status_of(call, tree, environment):
-    """None where it took too long: all that it has begun is ended."""
-    nothing = subprocess.DEVNULL
-    with subprocess.Popen(call, cwd=tree, env=environment, stdin=nothing, stdout=nothing, stderr=nothing,
-                          start_new_session=True) as process:
-        try:
-            return process.wait(SECONDS)
-        except subprocess.TimeoutExpired:
-            return None
-        finally:
+def end_of(call, home, folder, seconds):
+    """Its status, None where it doesn't end, and what it told; what it has begun is ended with it."""
+    with tempfile.TemporaryFile() as told:
+        with subprocess.Popen(call, cwd=home, env={**os.environ, "TMPDIR": folder}, stdin=subprocess.DEVNULL, stdout=told,
+                              stderr=subprocess.STDOUT, start_new_session=True) as process:
             try:
-                os.killpg(process.pid, signal.SIGKILL)
-            except ProcessLookupError:
-                pass
+                status = process.wait(seconds)
+            except subprocess.TimeoutExpired:
+                status = None
+            finally:
+                try:
+                    os.killpg(process.pid, signal.SIGKILL)
+                except ProcessLookupError:
+                    pass
+        told.seek(0)
+        return status, told.read().decode(errors="replace")
 
 
 def drawn(kind, count, seed, only):
@@ -191,6 +256,14 @@ def drawn(kind, count, seed, only):
     return random.Random(seed).sample(every, min(count, len(every)))
 
 
+def written_rows(path):
+    """The rows of an earlier run, by place and what was changed there."""
+    if not path or not os.path.exists(path):
+        return {}
+    with open(path, encoding="utf-8") as file:
+        return {tuple(row[:2]): row[2:] for row in map(json.loads, file)}
+
+
 def main():
     parser = argparse.ArgumentParser(description=__doc__.splitlines()[0])
     parser.add_argument("kind", choices=FILES)
@@ -198,17 +271,42 @@ def main():
     parser.add_argument("--seed", type=int, default=1)
     parser.add_argument("--processes", type=int, default=2)
     parser.add_argument("--only", metavar="FILE:LINE", help="those of this line")
-    parser.add_argument("--tests", nargs="+", default=TESTS, metavar="NAME", help="of the Python package, as notes")
+    parser.add_argument("--tests", nargs="+", metavar="NAME", help="modules of the Python package's tests, as notes, "
+                        "in place of those that can see the mutant; or further packages of the proxy, as slot")
+    parser.add_argument("--slow", action="store_true", help="tests with servers too, of those that nothing else has found")
+    parser.add_argument("--rows", metavar="FILE", help="a row for each goes there; what is there isn't run again")
     asked = parser.parse_args()
     if asked.kind == "go":  # as proxy/env.sh has it
         words = subprocess.run(["sh", "-c", ". ./env.sh && env"], cwd=PROXY, capture_output=True, text=True, check=True)
         os.environ.update(line.split("=", 1) for line in words.stdout.splitlines() if re.match(r"(GO|CGO_)\w+=", line))
-    mutants, fates = drawn(asked.kind, asked.count, asked.seed, asked.only), collections.Counter()
-    with concurrent.futures.ThreadPoolExecutor(asked.processes) as threads:
-        for mutant, its in zip(mutants, threads.map(lambda it: fate(asked.kind, asked.tests, it), mutants)):
+    fates, earlier, writing = collections.Counter(), written_rows(asked.rows), threading.Lock()
+
+    def write(row):
+        if asked.rows:
+            with writing, open(asked.rows, "a", encoding="utf-8") as file:
+                file.write(json.dumps(row) + "\n")
+
+    def names_of(mutant):
+        if asked.kind == "go":
+            return [*(asked.tests or ()), *(["audit"] if asked.slow else [])]
+        return asked.tests or TESTS[os.path.basename(os.path.dirname(mutant.path))]
+
+    def run(mutant):
+        place = f"{os.path.relpath(mutant.path, TOP)}:{mutant.line}"
+        its = earlier.get((place, mutant.about))
+        if its is None:
+            its = fate(asked.kind, names_of(mutant), limits, mutant)
+            write([place, mutant.about, *its])
+        return place, its[0]
+
+    mutants = drawn(asked.kind, asked.count, asked.seed, asked.only)
+    names = dict.fromkeys(name for mutant in mutants for name in names_of(mutant))
+    limits = limits_of(asked.kind, names, earlier, write)
+    with concurrent.futures.ThreadPoolExecutor(asked.processes) as pool:
+        for mutant, (place, its) in zip(mutants, pool.map(run, mutants)):
             fates[its] += 1
             if its in ("lives", "hangs"):
-                print(f"{its}: {os.path.relpath(mutant.path, TOP)}:{mutant.line}: {mutant.about}", flush=True)
+                print(f"{its}: {place}: {mutant.about}", flush=True)
     print(", ".join(f"{count} {word}" for word, count in fates.most_common()))
     seen = fates["found"] + fates["hangs"]
     return 0 if 20 * seen >= 19 * (seen + fates["lives"]) else 1

@@ -111,6 +111,13 @@ class Live(unittest.TestCase):
     def test_what_it_says(self):
         for one, wanted in (
             (status(), ["No violation so far", "72.7 % of 11", "an aggregate", "checked up to "]),
+            (
+                status(),
+                [
+                    "<p>4 of the rows read were from before the audit.</p>",
+                    "<p>2 of the rows read were written by unchecked transactions.</p>",
+                ],
+            ),
             (status(kind="running", rounds_count=0), ["Nothing has been checked yet"]),
             (
                 status(violations=(violation(),), violations_count=22),

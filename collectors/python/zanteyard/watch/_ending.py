@@ -63,8 +63,7 @@ def lines_of(status: Status) -> Iterator[str]:
         f"  {seen.reads:,} of {seen.whole_reads:,} rows read were checked, "
         f"{seen.writes:,} of {seen.whole_writes:,} rows written"
     )
-    if seen.reads_before:
-        yield f"  {seen.reads_before:,} of the rows read were from before the audit"
+    yield from (f"  {line}" for line in seen.lines_of_reads())
     if seen.empty:
         yield f"  besides, {counted(seen.empty, 'transaction')} read and wrote no row that was seen"
     yield from _left_out(seen)

@@ -35,6 +35,7 @@ def families(status: Status) -> Iterator[Family]:
         ("transactions_aborted_total", "aborted", "Transactions of clients that aborted."),
         ("reads_taken_total", "reads", "Rows read, in what was given to the auditor."),
         ("reads_from_before_total", "reads_before", "Of these, of rows from before the audit."),
+        ("reads_of_unchecked_total", "reads_folded", "Of these, of rows by unchecked writers."),
         ("writes_taken_total", "writes", "Rows written, in what was given to the auditor."),
         ("clients_total", "connections_ever", "Connections that clients made."),
     ):

@@ -201,6 +201,7 @@ def _shares(status: Status) -> Iterator[str]:
         ("Writes", seen.writes, seen.whole_writes, "rows that were written"),
     ):
         yield from _bar(name, part, whole, f"{_share(part, whole)}: {part:,} of {whole:,} {what}")
+    yield from (f"<p>{line}.</p>" for line in seen.lines_of_reads())
     if seen.empty:
         its = counted(seen.empty, "transaction")
         yield f"<p>Besides, {its} read and wrote no row that was seen.</p>"

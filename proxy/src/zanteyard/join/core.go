@@ -103,7 +103,7 @@ func (c *core) commit(it record.Commit) {
 	if w == nil {
 		w = &writer{number: it.Number}
 	}
-	w.place, w.start, w.seen = c.commits, it.Start, c.now
+	w.place, w.start, w.seen, w.bare = c.commits, it.Start, c.now, it.Bare
 	w.subs = append(w.subs, it.Subs...)
 	c.addVersions(w, it)
 	if w.fate == undecided {
@@ -225,8 +225,12 @@ func (c *core) foldLate() {
 			if c.now.Sub(w.seen) < c.opt.Late {
 				return
 			}
-			c.counts.fold(byOthers)
-			c.fold(w, byOthers)
+			reason := byOthers
+			if w.bare {
+				reason = withoutRows
+			}
+			c.counts.fold(reason)
+			c.fold(w, reason)
 		}
 		c.late[0] = nil
 		c.late = c.late[1:]

@@ -29,6 +29,7 @@ type resolution struct {
 	left   map[string]uint64
 	own    uint64
 	before uint64 // of the reads, how many found a version that was written before the audit
+	folded uint64 // and how many one that isn't offered: they count as reads of the offered one before it
 }
 
 func (r *resolution) leave(reason string) {
@@ -101,6 +102,9 @@ func (c *core) resolveReads(e *entry, to *resolution) bool {
 			if !known {
 				return false
 			}
+			if v.isFolded() {
+				to.folded++
+			}
 			c.add(e, to, id, r, from)
 		case c.isOld(one.Version):
 			c.add(e, to, id, r, initial)
@@ -162,6 +166,9 @@ func (c *core) resolveAbsent(e *entry, to *resolution) bool {
 				known := false
 				if from, known = under(v); !known {
 					return false
+				}
+				if v.isFolded() {
+					to.folded++
 				}
 				found = true
 			}

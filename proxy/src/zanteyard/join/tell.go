@@ -9,6 +9,7 @@ import (
 // Why a transaction isn't offered, or its writes aren't.
 const (
 	byOthers     = "committed by others than the proxy, or told too late"
+	withoutRows  = "without a row that the replication slot shows, such as the server's own ANALYZE"
 	noConnection = "its connection isn't known"
 	noSession    = "its connection has no session of the auditor"
 	noFence      = "its session waits for a fence"

@@ -42,6 +42,7 @@ type writer struct {
 	named   bool   // a session told of it: it isn't somebody else's
 	fences  bool   // and that it is a fence
 	fence   bool   // the slot tells that it wrote the fences' row
+	bare    bool   // the slot told of no row in it
 	number  uint32 // the server's
 	name    name   // where it is offered
 	place   uint64 // in the order of commits, from 1; 0 until the slot has told of it

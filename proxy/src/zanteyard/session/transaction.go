@@ -250,7 +250,11 @@ func (s *Session) leftOut(p *plan.Plan, e *expectation) {
 		s.options.Sink.Unseen(u.Shape, u.Reason, true)
 	}
 	if !e.changed && e.use != nil {
-		s.options.Sink.Unseen(p.Shape, s.trust.why(e.use), p.Kind != plan.Write)
+		reason := s.trust.why(e.use)
+		if p.Kind == plan.Declare && differs(p.Shape) {
+			reason = "a cursor WITH HOLD or BINARY"
+		}
+		s.options.Sink.Unseen(p.Shape, reason, p.Kind != plan.Write)
 	}
 	if e.hidden > 0 && p.Asked && e.rows == 0 {
 		if e.at != nil && e.at.asked.known || e.at == nil && e.on.asked.known {
