@@ -205,8 +205,8 @@ class Mutants(unittest.TestCase):
         for case, (history, promise) in WORKED.items():
             its = audited(case)
             try:
-                told = read_refutation(its.report.certificate, history, its.keys, name, its.moved)
-                check(history, promise, told)
+                told = its.report.certificate, history, its.keys, name, its.moved, its.ids is None
+                check(history, promise, read_refutation(*told))
             except Wrong:
                 count += 1
             except UnreadableError:
@@ -274,6 +274,27 @@ class Words(unittest.TestCase):
         told = read_refutation(items, history, [f"key{at}" for at in range(7)], name)
         check(history, SERIALIZABLE, told)
         self.assertEqual("\n".join(told.lines), REAL_SPLIT)
+
+    def test_a_read_from_the_own_session_is_told_by_it(self):
+        """The tree of docs/FORMATS.md, of a lost update. Without sessions it's told by the read."""
+        forced = [
+            ["force", [0, 1, 1, 0, 0, 1, 0], 2, [["taken", 1, 0, 0, 0], ["read", 1, 0, 0, 1, 0]]],
+            ["force", [1, 0, 1, 0, 0, 0, 1], 1, [["taken", 1, 0, 0, 1], ["taken", 0, 1, 1, 0]]],
+        ]
+        items = [*forced, ["cycle", [["read", 1, 0, 0, 0, 1], ["taken", 0, 1, 0, 0]]]]
+        for keeps_sessions, why in ((True, "they are in one session"), (False, "0.1 read x from 0.0")):
+            told = read_refutation(items, LOST, ["fence", "x"], name, keeps_sessions=keeps_sessions)
+            check(LOST, SERIALIZABLE, told)
+            self.assertEqual(
+                told.lines,
+                (
+                    "0.0 comes before 1.0: 1.0 read x from 0.0",
+                    "0.1 comes before 1.0: 0.1 read x from 0.0, and 1.0, which wrote it too, comes after 0.0",
+                    f"0.0 comes before 0.1: {why}",
+                    "1.0 comes before 0.1: 1.0 read x from 0.0, and 0.1, which wrote it too, comes after 0.0",
+                    "so neither 0.1 nor 1.0 can come first",
+                ),
+            )
 
     def test_what_is_shared_is_told_above_the_cases(self):
         told = laid_out(explained("a split behind what is forced"))

@@ -21,7 +21,7 @@ def explanation_of(audited: Audited, history: History, name: Naming = name) -> E
         return Explanation(f"the auditor finds these by themselves {report.kind}")
     try:
         its = (report.certificate, history, audited.keys, name, audited.moved)
-        return read_refutation(*its)
+        return read_refutation(*its, keeps_sessions=audited.ids is None)
     except UnreadableError as error:
         return Explanation(f"the auditor's refutation can't be read: {error}")
 

@@ -31,14 +31,16 @@ def read_refutation(
     keys: Sequence[str],
     name: Naming,
     moved: Callable[[ShownId], ShownId] = ShownId,
+    keeps_sessions: bool = True,
 ) -> Explanation:
     """What the items tell of the history. `keys` are the names of keys by their numbers, and
-    `moved` gives the place in the history of a transaction of the items. Raises UnreadableError."""
+    `moved` gives the place in the history of a transaction of the items. A read from the reader's
+    own session is told by the session, if its order is kept. Raises UnreadableError."""
     count = sum(item[0] == "split" for item in items)
     if count > MANY:
         return Explanation(f"the auditor's refutation has {count + 1:,} cases, too many to tell")
     try:
-        return _Reading(items, history, keys, name, moved).part({})
+        return _Reading(items, history, keys, name, moved, keeps_sessions).part({})
     except (LookupError, TypeError, ValueError, StopIteration) as error:
         raise UnreadableError(f"{error!r}") from error
 
@@ -53,8 +55,9 @@ class _Reading:
         keys: Sequence[str],
         name: Naming,
         moved: Callable[[ShownId], ShownId],
+        keeps_sessions: bool,
     ) -> None:
-        self.items = iter(items)
+        self.items, self.keeps_sessions = iter(items), keeps_sessions
         self.keys, self.name, self.moved = keys, name, moved
         self.txns = table(history)
         self.words = ArcWords(self.txns, name)
@@ -156,6 +159,9 @@ class _Reading:
         if key[0] >= TIME_KEYS:
             return self.words.in_time(start, end)
         if kind == "read":
+            first, second = transaction_of(start), transaction_of(end)
+            if self.keeps_sessions and first[0] == second[0] and first[1] < second[1]:
+                return self.words.in_session(start, end)
             return self.words.read(self.keys[key[0]], start, end)
         return self.words.read_before_all(self.keys[key[0]], start, end)
 
