@@ -3,10 +3,10 @@
     /usr/bin/python3 bench/mutants.py python|go [--count 60] [--seed 1] [--processes 2] [--only FILE:LINE] [--rows FILE]
 
 Mutants of the Python package's sessions, live audits, rounds, notes and searches for killed clients, or of the proxy's
-joiner, are drawn by the seed. Each is run under the tests that can see it, in a copy of the tree (Python) or by an overlay
-(Go); tests that fail without a mutant are named, and left out. One is found if a test fails, or doesn't end in five times
-the time that it takes without a mutant. Prints a line for each that isn't found, which is to be read: it means the same, or
-a test is missing. The status is 1 if more than one in twenty isn't found."""
+joiner, are drawn by the seed. Python: the tests are traced once; each mutant is run under those that run its line and pass
+without it, in a copy of the tree. Go: under the joiner's tests, by an overlay. One is found if a test fails, or takes eight
+times as long as without a mutant. Prints a line for each that isn't found, which is to be read: it means the same, or a test
+is missing. The status is 1 if more than one in twenty isn't found."""
 import argparse
 import ast
 import collections
@@ -25,6 +25,7 @@ import sys
 import tempfile
 import threading
 import time
+import unittest
 
 TOP = os.path.dirname(os.path.dirname(os.path.abspath(__file__)))
 PYTHON, PROXY = os.path.join(TOP, "collectors", "python"), os.path.join(TOP, "proxy")
@@ -37,17 +38,11 @@ FILES = {
     ),
     "go": ("src/zanteyard/join/*.go",),
 }
-# Of the Python package, those that can see a mutant of a folder; those that end soon, or that see most, come first.
-TESTS = {
-    "session": (
-        *("transactions", "meetings", "places", "two_stores.InMemory", "two_stores.Told", "joining", "live"),
-        *("redacting", "circumstances", "aborted", "no_harm"),
-    ),
-    "live": ("places", "meetings", "joining", "live", "processes", "rounds", "redacting", "aborted", "no_harm"),
-    "program": ("rounds", "live", "joining", "no_harm"),
-    "core": ("notes", "forks", "joining", "live", "killed.Killed", "aborted", "no_harm"),
-    "remote": ("notes", "joining", "killed.Killed"),
-}
+# Of the Python package: each mutant is run under those of their tests that run its line.
+TESTS = (
+    *("transactions", "meetings", "places", "forks", "notes", "circumstances", "redacting", "processes", "no_harm"),
+    *("two_stores.InMemory", "two_stores.Told", "aborted", "joining", "live", "rounds", "killed.Killed"),
+)
 GO_SLOW = "Lives|MakesUpNo|MemoryIsBounded|HotRow"  # of the joiner's tests, those that take seconds
 LONGEST = 1800.0  # seconds for a call of tests without a mutant
 Mutant = collections.namedtuple("Mutant", "path line about text")  # the text is made when it is asked for
@@ -154,15 +149,100 @@ def go_mutant(lines, at, line):
     return "\n".join([*lines[:at], line, *lines[at + 1 :]])
 
 
-def python_calls(folder, names, mutant):
-    """The modules of tests one after another, in a copy of the tree."""
+def trace(name, path):
+    """Runs a module of tests, and writes of each that passes its seconds and which lines of the mutants' files it ran, if it
+    wasn't in another process."""
+    home = os.path.join(PYTHON, "zanteyard")
+    files = {file for name in FILES["python"] for file in glob.glob(os.path.join(home, name))}
+    lines, ran = set(), {}
+
+    def line(frame, event, _):
+        if event == "line":
+            lines.add((frame.f_code.co_filename, frame.f_lineno))
+        return line
+
+    class Traced(unittest.TextTestResult):
+        def startTest(self, test):
+            super().startTest(test)
+            lines.clear()
+            self.began = time.monotonic()
+
+        def addSuccess(self, test):
+            super().addSuccess(test)
+            its = sorted([os.path.relpath(file, PYTHON), number] for file, number in lines.copy())
+            ran[test.id()] = [time.monotonic() - self.began, its]
+
+    def called(frame, *_):
+        return line if frame.f_code.co_filename in files else None
+
+    sys.path.insert(0, PYTHON)
+    threading.settrace(called)
+    sys.settrace(called)
+    unittest.TextTestRunner(resultclass=Traced).run(unittest.defaultTestLoader.loadTestsFromName(f"tests.test_{name}"))
+    sys.settrace(None)
+    with open(path, "w", encoding="utf-8") as file:
+        json.dump(ran, file)
+    os._exit(0)  # whatever threads there are
+
+
+def traced(names, folder):
+    """Of each test that passes, its seconds and lines, by modules that are traced once; the file of one stays in the folder."""
+    ran = {}
+    for name in names:
+        path = os.path.join(folder, f"{name}.lines")
+        if not os.path.exists(path):
+            call = [sys.executable, "-W", "ignore", os.path.abspath(__file__), "--trace", name, path]
+            if end_of(call, PYTHON, folder, LONGEST)[0] != 0:
+                print(f"can't be traced: {name}", flush=True)
+                continue
+        with open(path, encoding="utf-8") as file:
+            ran.update(json.load(file))
+    return ran
+
+
+def places_of(mutant):
+    """The lines of which one is run by who runs what is changed: those of the innermost statement, of a function its body's."""
+    with open(mutant.path, encoding="utf-8") as file:
+        whole = ast.parse(file.read())
+    its = [node for node in ast.walk(whole) if isinstance(node, ast.stmt) and node.lineno <= mutant.line <= node.end_lineno]
+    inner = min(its, key=lambda node: node.end_lineno - node.lineno)
+    if isinstance(inner, (ast.FunctionDef, ast.AsyncFunctionDef)):
+        return range(inner.body[0].lineno, inner.end_lineno + 1)
+    end = inner.body[0].lineno - 1 if getattr(inner, "body", None) else inner.end_lineno
+    return range(inner.lineno, max(end, inner.lineno) + 1)
+
+
+def covering(mutant, ran):
+    """The tests that can see it, the quickest first, and the seconds that they take."""
+    file, lines = os.path.relpath(mutant.path, PYTHON), places_of(mutant)
+    its = [(seconds, id) for id, (seconds, ran_lines) in ran.items()
+           if any(path == file and number in lines for path, number in ran_lines)]
+    return [id for _, id in sorted(its)], sum(seconds for seconds, _ in its)
+
+
+def python_fate(folder, mutant, ran):
+    """Of a mutant: "found", "hangs", or "lives"; and what found it. The tests are run in a copy of the tree."""
+    names, seconds = covering(mutant, ran)
+    if not names:
+        return "lives", "no test runs it"
     tree = os.path.join(folder, os.path.relpath(PYTHON, TOP))
     shutil.copytree(PYTHON, tree, ignore=shutil.ignore_patterns("__pycache__", "out"))
-    if mutant is not None:
-        with open(os.path.join(tree, os.path.relpath(mutant.path, PYTHON)), "w", encoding="utf-8") as file:
-            file.write(mutant.text())
-    for name in names:
-        yield name, [sys.executable, "-W", "ignore", "-m", "unittest", "-f", f"tests.test_{name}"], tree
+    with open(os.path.join(tree, os.path.relpath(mutant.path, PYTHON)), "w", encoding="utf-8") as file:
+        file.write(mutant.text())
+    call = [sys.executable, "-W", "ignore", "-m", "unittest", "-f", *names]
+    return fate_by(*end_of(call, tree, folder, limit_of(seconds)))
+
+
+def fate_by(status, told):
+    if status is None:
+        return "hangs", ""
+    failed = re.search(r"^(?:--- FAIL|FAIL|ERROR): (\w+)", told, re.M)
+    return ("found", failed[1] if failed else f"status {status}") if status else ("lives", "")
+
+
+def limit_of(seconds):
+    """After how many seconds tests count as hanging that take so many without a mutant."""
+    return 120.0 + 8 * seconds
 
 
 def go_calls(folder, names, mutant):
@@ -187,44 +267,28 @@ def go_calls(folder, names, mutant):
         yield name, ["go", "test", "-vet=off", "-failfast", "-overlay", overlay, f"zanteyard/{name}"], PROXY
 
 
-def calls(kind, folder, names, mutant):
-    os.chmod(folder, 0o711)
-    return (python_calls if kind == "python" else go_calls)(folder, names, mutant)
-
-
-def fate(kind, names, limits, mutant):
-    """Of a mutant: "found", "hangs", "lives", or "isn't one" where it can't even be compiled; and what found it."""
-    with tempfile.TemporaryDirectory() as folder:
-        for one in calls(kind, folder, names, mutant):
-            if one is None:
-                return "isn't one", ""
-            name, call, home = one
-            if limits[name] is None:
-                continue
-            status, told = end_of(call, home, folder, limits[name])
-            if status is None:
-                return "hangs", name
-            if status:
-                failed = re.search(r"^(?:--- FAIL|FAIL|ERROR): (\w+)", told, re.M)
-                return "found", f"{name} {failed[1]}" if failed else name
+def go_fate(folder, mutant, names, limits):
+    """As python_fate; "isn't one" where it can't be compiled."""
+    for one in go_calls(folder, names, mutant):
+        if one is None:
+            return "isn't one", ""
+        name, call, home = one
+        if limits[name] is not None:
+            fate, by = fate_by(*end_of(call, home, folder, limits[name]))
+            if fate != "lives":
+                return fate, f"{name} {by}"
     return "lives", ""
 
 
-def limits_of(kind, names, earlier, write):
-    """Of each call, the seconds after which it counts as hanging: five times what it takes without a mutant. None where it
-    fails without one, too: it would find whatever there is."""
-    limits = {about: seconds for (place, about), (_, seconds) in earlier.items() if not place}
-    names = [name for name in names if name not in limits]
-    with tempfile.TemporaryDirectory() as folder:
-        for name, call, home in calls(kind, folder, names, None):
-            if name in limits:
-                continue
-            began = time.monotonic()
-            status, told = end_of(call, home, folder, LONGEST)
-            limits[name] = None if status != 0 else 60.0 + 5 * (time.monotonic() - began)
-            if status != 0:
-                print(f"left out, since it fails without a mutant: {name}", *told.splitlines()[-3:], sep="\n    ", flush=True)
-            write(["", name, "limit", limits[name]])
+def go_limits(folder, names):
+    """Of each call its limit; None where it fails without a mutant, too: it would find whatever there is."""
+    limits = {}
+    for name, call, home in go_calls(folder, names, None):
+        began = time.monotonic()
+        status, told = end_of(call, home, folder, LONGEST)
+        limits[name] = limit_of(time.monotonic() - began) if status == 0 else None
+        if status != 0:
+            print(f"left out, since it fails without a mutant: {name}", *told.splitlines()[-3:], sep="\n    ", flush=True)
     return limits
 
 
@@ -257,56 +321,59 @@ def drawn(kind, count, seed, only):
 
 
 def written_rows(path):
-    """The rows of an earlier run, by place and what was changed there."""
+    """The rows of an earlier run, by place and what was changed there; what lived is run again."""
     if not path or not os.path.exists(path):
         return {}
     with open(path, encoding="utf-8") as file:
-        return {tuple(row[:2]): row[2:] for row in map(json.loads, file)}
+        return {tuple(row[:2]): row[2:] for row in map(json.loads, file) if row[2] != "lives"}
 
 
 def main():
+    if sys.argv[1:2] == ["--trace"]:
+        trace(*sys.argv[2:])
     parser = argparse.ArgumentParser(description=__doc__.splitlines()[0])
     parser.add_argument("kind", choices=FILES)
     parser.add_argument("--count", type=int, default=60)
     parser.add_argument("--seed", type=int, default=1)
     parser.add_argument("--processes", type=int, default=2)
     parser.add_argument("--only", metavar="FILE:LINE", help="those of this line")
-    parser.add_argument("--tests", nargs="+", metavar="NAME", help="modules of the Python package's tests, as notes, "
-                        "in place of those that can see the mutant; or further packages of the proxy, as slot")
-    parser.add_argument("--slow", action="store_true", help="tests with servers too, of those that nothing else has found")
-    parser.add_argument("--rows", metavar="FILE", help="a row for each goes there; what is there isn't run again")
+    parser.add_argument("--tests", nargs="+", metavar="NAME", help="modules of the Python package's tests, as notes, in place of "
+                        "the usual ones; or further packages of the proxy, as audit, for what the joiner's own don't find")
+    parser.add_argument("--rows", metavar="FILE", help="a row for each goes there; what is found there isn't run again")
+    parser.add_argument("--lines", metavar="FOLDER", help="where the lines that tests run are kept, and looked for first")
     asked = parser.parse_args()
     if asked.kind == "go":  # as proxy/env.sh has it
         words = subprocess.run(["sh", "-c", ". ./env.sh && env"], cwd=PROXY, capture_output=True, text=True, check=True)
         os.environ.update(line.split("=", 1) for line in words.stdout.splitlines() if re.match(r"(GO|CGO_)\w+=", line))
     fates, earlier, writing = collections.Counter(), written_rows(asked.rows), threading.Lock()
-
-    def write(row):
-        if asked.rows:
-            with writing, open(asked.rows, "a", encoding="utf-8") as file:
-                file.write(json.dumps(row) + "\n")
-
-    def names_of(mutant):
+    mutants = drawn(asked.kind, asked.count, asked.seed, asked.only)
+    with tempfile.TemporaryDirectory() as folder:
+        os.chmod(folder, 0o711)
         if asked.kind == "go":
-            return [*(asked.tests or ()), *(["audit"] if asked.slow else [])]
-        return asked.tests or TESTS[os.path.basename(os.path.dirname(mutant.path))]
+            limits = go_limits(folder, asked.tests or ())
+        else:
+            ran = traced(asked.tests or TESTS, asked.lines or folder)
 
     def run(mutant):
         place = f"{os.path.relpath(mutant.path, TOP)}:{mutant.line}"
         its = earlier.get((place, mutant.about))
         if its is None:
-            its = fate(asked.kind, names_of(mutant), limits, mutant)
-            write([place, mutant.about, *its])
-        return place, its[0]
+            with tempfile.TemporaryDirectory() as folder:
+                os.chmod(folder, 0o711)  # servers run as another user, where this runs as root
+                if asked.kind == "go":
+                    its = go_fate(folder, mutant, asked.tests or (), limits)
+                else:
+                    its = python_fate(folder, mutant, ran)
+            if asked.rows:
+                with writing, open(asked.rows, "a", encoding="utf-8") as file:
+                    file.write(json.dumps([place, mutant.about, *its]) + "\n")
+        return place, its
 
-    mutants = drawn(asked.kind, asked.count, asked.seed, asked.only)
-    names = dict.fromkeys(name for mutant in mutants for name in names_of(mutant))
-    limits = limits_of(asked.kind, names, earlier, write)
     with concurrent.futures.ThreadPoolExecutor(asked.processes) as pool:
-        for mutant, (place, its) in zip(mutants, pool.map(run, mutants)):
+        for mutant, (place, (its, by)) in zip(mutants, pool.map(run, mutants)):
             fates[its] += 1
             if its in ("lives", "hangs"):
-                print(f"{its}: {place}: {mutant.about}", flush=True)
+                print(f"{its}: {place}: {mutant.about}" + (f" ({by})" if by else ""), flush=True)
     print(", ".join(f"{count} {word}" for word, count in fates.most_common()))
     seen = fates["found"] + fates["hangs"]
     return 0 if 20 * seen >= 19 * (seen + fates["lives"]) else 1

@@ -95,7 +95,7 @@ func TestWhatIsFoldedTakesNoRoom(t *testing.T) {
 		t.Fatalf("the writer is %v", w)
 	}
 	b.core.fold(w, byOthers)
-	if its := b.core.writers[1001]; its != nil || w.fate != folded || len(w.writes) != 0 {
+	if its := b.core.writers[1001]; its != nil || w.fate != folded || len(w.writes()) != 0 {
 		t.Errorf("it is still there: %v", its)
 	}
 }

@@ -64,7 +64,7 @@ func (c *core) resolveWrites(e *entry, to *resolution) bool {
 	if e.writer == nil {
 		return true
 	}
-	for _, one := range e.writer.writes {
+	for _, one := range e.writer.writes() {
 		from, known := one.version.predecessor()
 		if !known {
 			return false
@@ -269,7 +269,7 @@ func (c *core) answered(writers []*writer, subs [][]uint32) {
 	for i, w := range writers {
 		w.subsAre = answered
 		if i < len(subs) {
-			w.subs = append(w.subs, subs[i]...)
+			w.addSubs(subs[i]...)
 		}
 	}
 }

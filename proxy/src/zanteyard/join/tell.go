@@ -82,7 +82,7 @@ func (c *core) leave(it record.Transaction, reason string) {
 }
 
 func (c *core) leaveWriter(w *writer, reason string) {
-	c.counts.leftWrites[reason] += uint64(len(w.writes))
+	c.counts.leftWrites[reason] += uint64(len(w.writes()))
 	c.fold(w, reason)
 	if w.place == 0 {
 		c.expected = append(c.expected, expected{c.batch, w})
@@ -101,7 +101,7 @@ func (c *core) writer(it record.Transaction) *writer {
 	w.named, w.fences = true, it.Fence
 	for _, sub := range it.Versions {
 		if sub != number && !w.is(sub) {
-			w.subs = append(w.subs, sub)
+			w.addSubs(sub)
 		}
 	}
 	return w
@@ -275,7 +275,7 @@ func (c *core) join(e *entry) bool {
 		}
 		return true // its next fence may do
 	}
-	from, known := w.writes[0].version.predecessor()
+	from, known := w.writes()[0].version.predecessor()
 	if !known || from != initial && c.sessions[from.session()].written <= from.number() {
 		return false
 	}

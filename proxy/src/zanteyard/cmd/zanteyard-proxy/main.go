@@ -14,6 +14,7 @@ import (
 	"os"
 	"os/signal"
 	"runtime"
+	"runtime/debug"
 	"strings"
 	"sync"
 	"sync/atomic"
@@ -194,10 +195,14 @@ func run(ctx context.Context, f flags, in io.Reader, out io.Writer) error {
 		Shared:    session.NewShared(),
 		Log:       func(text string) { log.Print(text) },
 	}
-	// Go collects garbage when there is as much of it as of what is in use, which here is little. This counts as in use but
-	// takes no memory, since nothing is ever written to it: so there are some 16 MiB more of garbage, collected less often.
-	ballast := make([]byte, 16<<20)
+	// Go collects garbage when there is as much of it as of what is in use. That is more than needs be where 250,000 rows
+	// are known, and too little where few are: half as much is enough, with some that counts as in use but takes no memory,
+	// since nothing is ever written to it. It has 32 MiB of garbage be there before any is collected.
+	ballast := make([]byte, 64<<20)
 	defer runtime.KeepAlive(ballast)
+	if os.Getenv("GOGC") == "" {
+		debug.SetGCPercent(50)
+	}
 	loops, err := loop.New()
 	if err != nil {
 		return err
