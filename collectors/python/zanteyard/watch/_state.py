@@ -88,7 +88,8 @@ class Seen:
 
     COUNTED: ClassVar[Tuple[str, ...]] = (
         "committed", "offered", "fences", "aborted", "empty", "reads", "reads_seen", "reads_own",
-        "reads_before", "reads_folded", "writes", "writes_seen", "connections_ever", "statements_dropped",
+        "reads_before", "reads_folded", "writes", "writes_seen", "connections_ever",
+        "statements_dropped",
     )
     BY_REASON: ClassVar[Tuple[str, ...]] = ("folded", "reads_left_out", "writes_left_out")
 
