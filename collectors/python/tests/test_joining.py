@@ -197,7 +197,7 @@ class TakenIn(WithProgram):
         self.assertEqual(self.received(), [2, 0])
         with self.assertLogs("zanteyard", logging.INFO) as log:
             self.hand_in((1, 0, fence((0, 0))))
-        self.assertEqual(log.output, ["INFO:zanteyard:client 1 joins as session 2 with 2.0"])
+        self.assertEqual(log.output, ["INFO:zanteyard:client 1 joins as session 2, first with 2.0"])
         self.assertEqual(self.received(), [2, 1, 3])
         self.assertTrue(self.backlog.is_taken(2, 2))
         self.audit.run_round()
@@ -225,7 +225,7 @@ class TakenIn(WithProgram):
         self.hand_in((0, 0, fence("init")), (0, 1, fence((0, 0))), (0, 2, fence((0, 1))), (1, None, None))
         self.audit.run_round()
         self.assertEqual(self.audit.vacant(), {1: 0})
-        with self.assertRaisesRegex(AuditLostError, "session 1 can't join: .* from 0.1, and not the last"):
+        with self.assertRaisesRegex(AuditLostError, "session 1 can't join: .* from 0.1, not from the last"):
             self.hand_in((1, 0, fence((0, 1))))
 
     def test_what_follows_a_missing_one_is_not_told_in_its_place(self):
