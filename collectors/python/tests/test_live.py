@@ -8,11 +8,14 @@ import time
 import unittest
 
 from zanteyard import FENCE, AbortedError, Auditor, AuditorApart, ProgramEndedError, FullError, LiveAuditor, Logged, NoCutError
-from zanteyard import NoMemoryError, Policy, ProgramTooOldError, RefusedError, audited, dot_text, draw, from_start, reasons, smaller, words
+from zanteyard import Explanation, NoMemoryError, Policy, ProgramTooOldError, RefusedError, audited, dot_text, draw
+from zanteyard import explain_history, from_start, reasons, smaller, words
 from zanteyard.core._own_keys import FLAG, MARK
 from zanteyard.program._auditor import PROGRAM
 from zanteyard.live._fragments import fragments
 from zanteyard.stores.memory import MemoryStore
+
+from .killing import PLAIN
 
 
 def add_one(key):
@@ -499,7 +502,9 @@ class Pictures(unittest.TestCase):
     def test_the_text(self):
         lost = Logged((("x", "init"),), ("x",))
         with tempfile.TemporaryDirectory() as folder:
-            files = draw([[lost], [lost]], os.path.join(folder, "lost"))
+            explanation = explain_history([[lost], [lost]], program=PLAIN)
+            path = os.path.join(folder, "lost")
+            files = draw([[lost], [lost]], path, explanation=explanation)
             with open(files[0]) as file:
                 text = file.read()
             self.assertTrue(all(os.path.getsize(name) for name in files))
@@ -508,7 +513,8 @@ class Pictures(unittest.TestCase):
         self.assertEqual(text.count("->"), 2)
 
     def test_statements_are_in_the_tooltip(self):
-        text = dot_text([[Logged((), ("x",), "committed", ((("x",), "UPDATE \"t\""),))]])
+        wrote = Logged((), ("x",), "committed", ((("x",), "UPDATE \"t\""),))
+        text = dot_text([[wrote]], explanation=Explanation("so"))
         self.assertIn('group=session0, tooltip="wrote x: UPDATE \\"t\\""];', text)
 
 

@@ -10,9 +10,11 @@ import unittest
 from dataclasses import replace
 
 from tests import watch_feed as feed
+from tests.killing import PLAIN
 from tests.test_page import BROWSER, Tags, pixels
 from zanteyard.core._records import Logged
 from zanteyard.explain._charts import RoundSeen
+from zanteyard.explain._reasons import explain_history
 from zanteyard.explain._report import story_of
 from zanteyard.watch import _ending as ending
 from zanteyard.watch import _live_page as live_page
@@ -36,7 +38,9 @@ def violation(evil=""):
     read = ("stock(7)", (0, 0))
     both = Logged((read,), ("stock(7)",))
     names = {(0, 0): "T1", (0, 1): "T2", (1, 0): "T3"}
-    story = story_of([[first, both], [both]], names.__getitem__, '["open",2,3]\n', (2, 1))
+    history = [[first, both], [both]]
+    explanation = explain_history(history, names.__getitem__, PLAIN)
+    story = story_of(history, names.__getitem__, explanation, '["open",2,3]\n', (2, 1))
     statements = (
         Statement(f"SELECT qty FROM stock WHERE id = $1 {evil}", ("7" + evil,), feed.AT, (evil,)),
         Statement(f"UPDATE stock SET qty = 4 {evil} /*file='shop.py{evil}',line='3'*/"),

@@ -13,6 +13,7 @@ from zanteyard.core._private_files import check_folder, private
 from zanteyard.core._prometheus import text_of
 from zanteyard.core._records import Logged
 from zanteyard.core.errors import FolderUnfitError, JournalError
+from zanteyard.explain._explanation import Explanation
 from zanteyard.explain._graphviz import draw
 from zanteyard.journal._file import Journal
 from zanteyard.remote._connecting import SocketDoor
@@ -58,7 +59,7 @@ class Pictures(unittest.TestCase):
         before = os.umask(0)
         self.addCleanup(os.umask, before)
         with tempfile.TemporaryDirectory() as folder:
-            names = draw([[Logged([], ["k"])]], f"{folder}/violation", arcs=())
+            names = draw([[Logged([], ["k"])]], f"{folder}/violation", explanation=Explanation("so"))
             self.assertEqual(len(names), 2 if shutil.which("dot") else 1)
             for name in names:
                 self.assertEqual(os.stat(name).st_mode & 0o777, 0o600, name)

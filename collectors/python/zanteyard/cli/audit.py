@@ -11,16 +11,16 @@ import os
 import signal
 import threading
 import time
-from dataclasses import dataclass
+from dataclasses import dataclass, replace
 from typing import Any, Iterator, List, Optional, Tuple
 
 from ..core._outcome import RATHER_LOSE_THE_AUDIT, RATHER_WAIT, Outcome, words_of_before
 from ..core._visible import say
 from ..explain._charts import RoundSeen
 from ..explain._html import page_of
-from ..explain._report import Story, story_of
+from ..explain._report import Story
 from ..explain._shrinking import from_start, refuted
-from ..explain._violation_text import tell_violation
+from ..explain._violation_text import tell_story
 from ..live._live_auditor import LiveAuditor
 from ..live._told import RoundTold
 from ..program._subprocess import AuditorApart
@@ -33,7 +33,6 @@ from ..trial.store_kinds import POSTGRES, MakesStore, StoreKind
 from ..trial.store_kinds import CantAuditError as CantAuditError
 from ..trial.workloads import EVERY_WORKLOAD, ChurningClients, ClientProcesses, Clients, Nothing
 
-PAGE_SECONDS = 5.0  # that finding the reasons for the page may take
 STAYING, CHURNING = 8, 16  # clients at a time, where nothing else is asked for
 
 
@@ -181,10 +180,8 @@ def audited_run(
             history, called = from_start(auditor)
             known = refuted(auditor, live.report.certificate if live.report else ())
             path = _unused("violation")
-            small = tell_violation(history, path, called, known=known, promise=auditor.promise)
-            if asked.html:
-                about = (_script(path), outcome.counts or (), PAGE_SECONDS, auditor.promise)
-                story = story_of(small, called, *about)
+            _, story = tell_story(history, path, called, known=known, promise=auditor.promise)
+            story = replace(story, counts=tuple(outcome.counts or ()))
         return live, outcome, clients, story, tuple(rounds.seen)
 
 
@@ -199,15 +196,6 @@ def _unused(name: str) -> str:
         if not any(map(os.path.isfile, glob.glob(f"{path}.*"))):
             break
     return path
-
-
-def _script(path: str) -> str:
-    """What was written of the violation."""
-    try:
-        with open(f"{path}.jsonl", encoding="utf-8") as file:
-            return file.read()
-    except OSError:
-        return ""
 
 
 def count_of_clients(text: str) -> int:

@@ -14,6 +14,7 @@ from typing import Any, Callable, Dict, Iterator, List, Mapping, Optional, Seque
 from ..core._outcome import RATHER_WAIT, Outcome
 from ..core.errors import AbortedError, OutcomeUnknownError
 from ..explain._anomalies import find_anomaly
+from ..explain._reasons import explain_history
 from ..explain._report import story_lines, story_of
 from ..explain._standing import standing
 from ..explain._words import name as plain_name
@@ -227,7 +228,8 @@ def _told(auditor: Auditor, outcome: Outcome) -> Iterator[str]:
         for number, logged in enumerate(transactions):
             yield f"  {session}.{number} {logged.outcome}"
     if outcome.kind == "violated":
-        yield from story_lines(story_of(auditor.history, plain_name))
+        explanation = explain_history(auditor.history, plain_name)
+        yield from story_lines(story_of(auditor.history, plain_name, explanation))
     else:
         yield str(outcome)
 
