@@ -169,6 +169,15 @@ class Noted(unittest.TestCase):
         if outcome is not None:
             self.notes.write(0, 0, outcome, None, None, True, is_last, self.UNCLEAR)
 
+    def test_who_was_to_join_and_was_not_answered_has_its_number_for_good(self):
+        """The store may have been asked of an attempt before; one that was answered left nothing."""
+        self.before(0, Logged([("x", "init")], ()))
+        found, place = self.told(Place(0, must_join=True))
+        self.assertEqual((found, place.begun, place.is_ended, place.unknown), ([], 1, True, ((0, 1),)))
+        self.notes.write(0, 0, "aborted", None)
+        found, place = self.told(Place(0, must_join=True))
+        self.assertEqual((found, place.begun, place.is_ended, place.unknown), ([], 0, False, ()))
+
     def told_of_the_living(self, come=0):
         """Of a process that isn't heard of, and may go on."""
         backlog, place = Backlog(8), Place(0)

@@ -1,12 +1,13 @@
 """No session is ever given to two clients, in whatever order those that have it give it back."""
 import os
+import tempfile
 import threading
 import unittest
 from contextlib import suppress
 from dataclasses import fields
 from unittest import mock
 
-from zanteyard import AbortedError, Auditor, LiveAuditor
+from zanteyard import AbortedError, Auditor, LiveAuditor, Session
 from zanteyard.program._auditor import PROGRAM
 from zanteyard.live._backlog import Backlog
 from zanteyard.live._audit_start import coverage_from_now
@@ -59,6 +60,27 @@ class Meetings(unittest.TestCase):
 
 @unittest.skipUnless(os.path.isfile(PROGRAM), f"{PROGRAM} is not built")
 class Added(unittest.TestCase):
+    def test_the_place_of_a_session_that_could_not_be_made_is_free_again(self):
+        with Auditor(1) as auditor:
+            live = LiveAuditor(auditor, seconds=3600.0)
+            with mock.patch.object(live, "_notes_of", side_effect=MemoryError):
+                with self.assertRaises(MemoryError):
+                    live.session(MemoryStore().connect())
+            self.assertEqual((live._pool.taken, live._pool.numbers()), (0, [0]))
+            self.assertEqual(live.session(MemoryStore().connect()).number, 0)
+            live.stop()
+
+    def test_what_came_before_an_audit_goes_on_is_no_reason_to_meet(self):
+        with tempfile.TemporaryDirectory() as folder:
+            with Auditor(1, journal=f"{folder}/journal") as auditor:
+                session = Session(auditor, 0, MemoryStore().connect())
+                for _ in range(3):
+                    session.run(add_one("x"))
+            with Auditor.resumed(f"{folder}/journal") as auditor:
+                live = LiveAuditor(auditor, seconds=3600.0, elsewhere=True)
+                self.assertEqual((sum(auditor.received), live._coordinator.new), (3, 0))
+                live.stop()
+
     def test_a_session_that_comes_as_its_process_leaves_hands_nothing_in(self):
         class Leaving(LiveAuditor):
             _leaves = property(lambda self: True)
