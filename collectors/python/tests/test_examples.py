@@ -73,7 +73,7 @@ class Examples(unittest.TestCase):
     def test_what_is_no_fault_is_told(self):
         status, lines, _ = self.told("sqlite_collector.py", "foo", PROGRAM)
         self.assertEqual((status, len(lines)), (2, 1))
-        self.assertIn("foo is no fault", lines[0])
+        self.assertIn("unknown fault foo", lines[0])
         for fault in FAULTS:
             self.assertIn(fault, lines[0])
 

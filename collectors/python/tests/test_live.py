@@ -30,7 +30,7 @@ def set_to(key, value):
 
 
 def no_cut():
-    raise NoCutError("no fence is settled")
+    raise NoCutError("no fence was settled")
 
 
 class WithProgram(unittest.TestCase):
@@ -399,7 +399,7 @@ class MeetingsApart(Meetings):
         self.assertIsInstance(self.failure_by_a_key(), ValueError)
 
     def test_a_program_that_is_not_there(self):
-        with self.assertRaisesRegex(ProgramEndedError, "nowhere can't be started"):
+        with self.assertRaisesRegex(ProgramEndedError, "can't start /nowhere"):
             AuditorApart(1, program="/nowhere")
 
 
@@ -494,7 +494,7 @@ class MadeUp(unittest.TestCase):
 
     def test_a_program_that_can_not_search_beside_its_lines(self):
         auditor = self.auditor(1, {"search": [["no", 1, "BadLine"]]})
-        with self.assertRaisesRegex(ProgramTooOldError, "earlier version"):
+        with self.assertRaisesRegex(ProgramTooOldError, "older than the package"):
             auditor.round()
 
 

@@ -161,7 +161,7 @@ class Noted(unittest.TestCase):
         with self.assertRaises(LostError):
             in_files({self.path: None})
 
-    UNCLEAR = "it has read what a forked child wrote"
+    UNCLEAR = "it read what a forked child wrote"
 
     def unclear(self, outcome, is_last=False):
         """A transaction of which its client didn't know itself what it had done."""
@@ -366,7 +366,7 @@ os.kill(os.getpid(), signal.SIGKILL)
                 self.assertEqual(os.listdir(server.notes), [])
             outcome = live.stop()
             self.assertEqual(outcome.kind, "incomplete", outcome)
-            self.assertIn("it has forked", str(outcome.failure))
+            self.assertIn("it forked", str(outcome.failure))
 
     def test_they_are_found_from_any_folder(self):
         self.addCleanup(os.chdir, os.getcwd())

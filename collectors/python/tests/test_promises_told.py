@@ -226,7 +226,7 @@ class Told(unittest.TestCase):
         self.assertEqual((status, err), (1, ""))
         self.assertIn("lost update", told)
         self.assertIn("0.2 and 1.1 both read key 5 ", told)
-        self.assertNotIn("nothing was settled", told)
+        self.assertNotIn("no fence was settled", told)
 
 
 @unittest.skipUnless(os.path.isfile(PROGRAM), f"{PROGRAM} is not built")
@@ -291,7 +291,7 @@ class OfPostgres(unittest.TestCase):
         example = os.path.join(TOP, "examples/store_faults.py")
         asked = [sys.executable, example, "postgres", "--promises"]
         ran = subprocess.run(asked, capture_output=True, text=True, timeout=600)
-        if "psycopg2 is wanted" in ran.stderr:
+        if "psycopg2 is missing" in ran.stderr:
             self.skipTest("psycopg2 isn't installed")
         self.assertEqual((ran.returncode, ran.stderr), (0, ""))
         with open(os.path.join(TOP, "docs/STORES.md"), encoding="utf-8") as file:

@@ -86,7 +86,7 @@ class Client:
 
 
 def _dirty_read(clients: Sequence[Client]) -> None:
-    """A client reads what another one has written and then takes back."""
+    """A client reads what another one wrote and then rolls back."""
     writer, reader, _ = clients
     writer.run(x="1")
     writer.begin()
@@ -96,7 +96,7 @@ def _dirty_read(clients: Sequence[Client]) -> None:
 
 
 def _half_written(clients: Sequence[Client]) -> None:
-    """A client reads two keys while another one has written one of the two."""
+    """A client reads two keys when another one has written one of the two."""
     writer, reader, _ = clients
     writer.run(x="1", y="1")
     writer.begin()
@@ -130,7 +130,7 @@ def _newer_write(clients: Sequence[Client]) -> None:
 
 
 def _lost_update(clients: Sequence[Client]) -> None:
-    """Two clients count up from the same number."""
+    """Two clients increment the same number."""
     first, other, _ = clients
     first.run(x="1")
     for client in (first, other):
@@ -149,7 +149,7 @@ def _write_skew(clients: Sequence[Client]) -> None:
 
 
 def _absent_keys(clients: Sequence[Client]) -> None:
-    """Two clients each see that neither of two keys is there, and each makes one."""
+    """Two clients each see that neither of two keys exists, and each creates one."""
     _take_each_one(*clients[:2])
 
 

@@ -88,7 +88,8 @@ class Seen:
 
     COUNTED: ClassVar[Tuple[str, ...]] = (
         "committed", "offered", "fences", "aborted", "empty", "reads", "reads_seen", "reads_own",
-        "reads_before", "reads_folded", "writes", "writes_seen", "connections_ever", "statements_dropped",
+        "reads_before", "reads_folded", "writes", "writes_seen", "connections_ever",
+        "statements_dropped",
     )
     BY_REASON: ClassVar[Tuple[str, ...]] = ("folded", "reads_left_out", "writes_left_out")
 
@@ -118,9 +119,10 @@ class Seen:
     def lines_of_reads(self) -> Iterator[str]:
         """Of the rows whose reads were checked, those whose version tells less than it could."""
         if self.reads_before:
-            yield f"{self.reads_before:,} of the rows read were from before the audit"
+            yield f"{self.reads_before:,} of the row reads were of versions from before the audit"
         if self.reads_folded:
-            yield f"{self.reads_folded:,} of the rows read were written by unchecked transactions"
+            its = f"{self.reads_folded:,} of the row reads"
+            yield f"{its} were of versions that unchecked transactions wrote"
 
     @property
     def writes_left_out_count(self) -> int:

@@ -95,7 +95,7 @@ class Violation:
         told = [*story_lines(replace(self.story, because=()))]
         yield visible(told[0])
         yield from (visible_line(line) for line in told[1:])
-        yield "what the application ran"
+        yield "what the application ran:"
         for one in self.told:
             label = f"{one.label} ({one.id[0]}.{one.id[1]})"
             yield from (f"    {line}" for line in lines_of(label, one.its))

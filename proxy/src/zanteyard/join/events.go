@@ -144,7 +144,7 @@ func (j *Joiner) coverageEvent(isLast bool) Coverage {
 		Remaining: c.remaining(),
 	}
 	if n.lost > 0 {
-		it.Folded["told faster than they could be taken in"] = n.lost
+		it.Folded["reported faster than they could be processed"] = n.lost
 	}
 	for reason, n := range gone {
 		it.Folded[reason] = n

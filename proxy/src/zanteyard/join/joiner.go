@@ -279,7 +279,7 @@ func (j *Joiner) tick(ctx context.Context) error {
 		return j.failed
 	}
 	if !j.failing.IsZero() && now.Sub(j.failing) > patience {
-		return fmt.Errorf("ask the server how far its log is: %w", j.failure)
+		return fmt.Errorf("ask the server for its WAL position: %w", j.failure)
 	}
 	return nil
 }

@@ -13,12 +13,12 @@ const mostOfEach = 256
 
 // Why a read of a transaction that is offered is left out.
 const (
-	versionUnknown = "its version isn't known"
-	subUnknown     = "its version may be a savepoint's, and these can't be looked up"
-	readOfItself   = "its version was written behind its own"
-	absentAtLevel  = "a row that wasn't there, without a snapshot that says so"
-	absentUnknown  = "a row that wasn't there, although its last known version is"
-	absentOwn      = "a row that wasn't there, and that the transaction itself wrote"
+	versionUnknown = "its version is unknown"
+	subUnknown     = "its version may be from a savepoint, which can't be looked up"
+	readOfItself   = "its version was written after the reader's own"
+	absentAtLevel  = "an absent row, read without a snapshot"
+	absentUnknown  = "an absent row whose last known version exists"
+	absentOwn      = "an absent row that the transaction itself wrote"
 	tooMany        = "more than 256 reads of one transaction"
 )
 

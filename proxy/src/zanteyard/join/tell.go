@@ -8,19 +8,19 @@ import (
 
 // Why a transaction isn't offered, or its writes aren't.
 const (
-	byOthers     = "committed by others than the proxy, or told too late"
-	withoutRows  = "without a row that the replication slot shows, such as the server's own ANALYZE"
-	noConnection = "its connection isn't known"
-	noSession    = "its connection has no session of the auditor"
-	noFence      = "its session waits for a fence"
-	acrossMoment = "it ran while the sessions met, or were handed on"
-	noRoom       = "the auditor's limit is reached"
-	isUnclear    = "its outcome isn't known"
-	elsewhere    = "its connection is of another database"
+	byOthers     = "committed without the proxy, or reported too late"
+	withoutRows  = "without a row in the replication slot, such as the server's own ANALYZE"
+	noConnection = "unknown connection"
+	noSession    = "its connection has no session"
+	noFence      = "its session was waiting for a fence"
+	acrossMoment = "it ran during a meeting, or while sessions changed hands"
+	noRoom       = "the auditor's limit was reached"
+	isUnclear    = "its outcome is unknown"
+	elsewhere    = "its connection uses another database"
 	sampledOut   = "its connection isn't in the sample"
 	itAborted    = "it aborted"
-	notKept      = "a transaction read more than is kept of one: all of that counts once here"
-	noNumber     = "its number wasn't learned"
+	notKept      = "a transaction read more than is kept (counted once)"
+	noNumber     = "its transaction number is unknown"
 )
 
 // tell takes in a transaction that has ended.

@@ -15,7 +15,7 @@ const (
 )
 
 // borrowed is why a read is left out.
-const borrowed = "read by another transaction's snapshot"
+const borrowed = "read in another transaction's snapshot"
 
 // transaction is what is known of the transaction that runs.
 type transaction struct {
