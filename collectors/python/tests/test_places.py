@@ -57,6 +57,22 @@ class Meetings(unittest.TestCase):
                 self.assertEqual(live._in_vain == 0, is_cut)
 
 
+@unittest.skipUnless(os.path.isfile(PROGRAM), f"{PROGRAM} is not built")
+class Added(unittest.TestCase):
+    def test_a_session_that_comes_as_its_process_leaves_hands_nothing_in(self):
+        class Leaving(LiveAuditor):
+            _leaves = property(lambda self: True)
+
+        with Auditor(2) as auditor:
+            live = Leaving(auditor, seconds=3600.0)
+            session = live.session(MemoryStore().connect())
+            self.assertEqual((session.is_open, session.renew), (False, None))
+            with self.assertRaisesRegex(ValueError, "has ended"):
+                session.run(add_one("x"))
+            outcome = live.stop()
+            self.assertEqual((outcome.handed_in, [*map(list, auditor.history)]), (0, [[], []]))
+
+
 class LentPlaces(unittest.TestCase):
     """A place that was lent to a process for a meeting, which answers when that is over."""
 
