@@ -103,6 +103,29 @@ def below(arcs: Iterable[Arc]) -> List[Arc]:
     return [*found.values()]
 
 
+def shortest_circle(arcs: Iterable[Arc]) -> List[Arc]:
+    """The fewest of these arcs that lead round, if they do."""
+    after: Dict[Node, List[Arc]] = {}
+    for arc in arcs:
+        after.setdefault(arc.start, []).append(arc)
+    return min((way for way in (_around(after, node) for node in after) if way), key=len)
+
+
+def _around(after: Dict[Node, List[Arc]], node: Node) -> List[Arc]:
+    """The fewest that lead from the node back to it; none if it can't be reached."""
+    reached: Dict[Node, Arc] = {}
+    waiting = [node]
+    for at in waiting:
+        for arc in after.get(at, ()):
+            if arc.end not in reached:
+                reached[arc.end] = arc
+                waiting.append(arc.end)
+    way: List[Arc] = [reached[node]] if node in reached else []
+    while way and way[0].start != node:
+        way.insert(0, reached[way[0].start])
+    return way
+
+
 def told_arc(start: Node, end: Node, name: Naming) -> str:
     """What comes before what."""
     if not isinstance(start, Event):

@@ -1,8 +1,9 @@
 """Reads a refutation of the auditor's, a flat list of items, into an Explanation. What is told is
 what the auditor has checked: its circles, what they force, and its splits.
 
-One thing is turned round. Where an arc of the circle at the end was forced, that circle and the one
-that forced the arc each rule out one side of a choice. The shorter of the two is told at the end.
+Two things make it shorter. If what a circle rests on goes round by itself in fewer arcs, that is
+the circle that is told. And if an arc of the circle at the end was forced, that circle and the one
+that forced the arc each rule out one side of a choice: the shorter of the two is told at the end.
 """
 
 from __future__ import annotations
@@ -13,10 +14,11 @@ from ..core._records import History, Naming, ShownId
 from ..promises._kinds import EVENTS
 from ..promises._times import TIME_KEYS
 from ._arc_words import ArcWords, is_of_writers
-from ._arcs import SESSION, WRITTEN, Arc, Choice, Ends, Event, Node, below, merged, table
-from ._arcs import transaction_of
+from ._arcs import SESSION, WRITTEN, Arc, Choice, Ends, Event, Node, below, merged
+from ._arcs import shortest_circle, table, transaction_of
 from ._explanation import Case, Explanation
 
+MOST_ARCS = 256  # among which a shorter circle is looked for
 MANY = 24  # splits of a refutation; with more it isn't told case by case
 Facts = Mapping[Ends, Arc]  # what is taken, in the order in which it was
 
@@ -110,6 +112,9 @@ class _Reading:
         return self.words.forced(choice, side, needs)
 
     def _circle(self, arcs: Sequence[Arc], facts: Facts) -> Explanation:
+        needed = below(arcs)
+        if len(needed) <= MOST_ARCS:  # what it rests on may go round already
+            arcs = shortest_circle([*arcs, *needed])
         around = self._turned(self._better(self._turned(arcs), facts))
         names = [self.words.step(arc.start) for arc in around]
         end = self.words.none_first(around)
