@@ -1,12 +1,15 @@
 package session
 
 import (
+	"context"
 	"flag"
 	"math/rand"
 	"strings"
+	"syscall"
 	"testing"
 	"time"
 
+	"github.com/jackc/pgconn"
 	"github.com/jackc/pgproto3/v2"
 
 	"zanteyard/wire"
@@ -102,5 +105,24 @@ func TestNonsense(t *testing.T) {
 		case <-time.After(time.Minute):
 			t.Fatal("the session doesn't end")
 		}
+		p.session.state.Lock()
+		process := p.session.backend
+		p.session.state.Unlock()
+		recovered(t, process)
 	}
+}
+
+// recovered waits until the server's process of a session is gone, and the server takes connections. Nonsense may crash
+// that process, as it has one of PostgreSQL 15.18. The server then ends all connections and starts anew.
+func recovered(t *testing.T, process int) {
+	t.Helper()
+	until(t, "the server's process has ended", func() bool { return syscall.Kill(process, 0) == syscall.ESRCH })
+	until(t, "the server takes connections", func() bool {
+		ctx := context.Background()
+		conn, err := pgconn.ConnectConfig(ctx, config())
+		if err == nil {
+			conn.Close(ctx)
+		}
+		return err == nil
+	})
 }
