@@ -3,6 +3,7 @@ pub mod Closures
 pub mod Counts
 pub mod Dropped
 pub mod Firsts
+pub mod FoundPaths
 pub mod Kept
 pub mod LineLists
 pub mod Marked

@@ -1,20 +1,22 @@
-ghost use Rattle.std.specs.Prelude.{◌≡◌, ◌≢◌, ◌⊎◌, ◌↔◌, ℕ, [], ◌∷◌, ◌++◌, ◌+◌, ◌-◌, ◌*◌, ◌^◌, ◌<◌, ◌≤◌, IsTrue, filter, IfOk, OnOk, OnErr, length, slice_index};
+ghost use Rattle.std.specs.Prelude.{◌≡◌, ◌≢◌, ◌⊎◌, ◌↔◌, ℕ, [], ◌∷◌, ◌++◌, ◌+◌, ◌-◌, ◌*◌, ◌^◌, ◌<◌, ◌≤◌, IsTrue, filter, IfOk, MatchOption, OnOk, OnErr, length, slice_index, take};
 ghost use Rattle.txn.specs.declared.transactions.TxnId.{TxnId};
 ghost use Rattle.txn.specs.Arcs.{start_of, end_of};
 ghost use Rattle.session_clocks.specs.Additions.{IsAddition, AreTold, IsFrontOf};
 ghost use Rattle.session_clocks.specs.Drops.{arc_stays};
 ghost use Rattle.session_clocks.specs.Graphs.{HasNode, IsOneMore, back_to, last_mark};
+ghost use Rattle.session_clocks.specs.Paths.{IsPathOf};
 ghost use Rattle.session_clocks.specs.Reach.{IsThere, Reaches, IsOrReaches};
 
 use crate::drops::{drop_arcs, drop_rows};
 use crate::lines::{copied, no_lines, push_rows};
 use crate::notes::{note_spans, note_tails};
+use crate::paths::find_path;
 use crate::rows::{clock, count_row, first_row};
 use crate::sweeps::{lower_all, raise_all};
 use crate::trail::{Mark, Trail, put_back};
 use std::alloc::Global;
 use std::marker::Model;
-use txn::{Arc, NoMemory, TxnId};
+use txn::{Arc, NoMemory, Sequence, TxnId};
 
 /// What became of an arc.
 #[derive(Clone, Copy, Debug, PartialEq, Eq)]
@@ -159,6 +161,33 @@ impl Graph {
         self.arcs.as_slice()
     }
 
+    /// One or more steps that lead from the one to the other, each one of the first so many arcs or one to a later transaction of
+    /// the session, if there are any.
+    pub fn path_within(
+        &self,
+        alloc: Global,
+        len: usize,
+        from: TxnId,
+        to: TxnId,
+    ) -> Result<Option<Sequence<Arc>>, NoMemory>
+        requires from { HasNode self.now from }
+        requires to { HasNode self.now to }
+        requires len { len ≤ length self.now.arcs }
+        ensures { IfOk result (λ found. MatchOption found
+            (¬ Reaches self.now.gone self.now.received (take len self.now.arcs) from to)
+            (λ path. Reaches self.now.gone self.now.received (take len self.now.arcs) from to
+            × IsPathOf self.now.gone self.now.received (take len self.now.arcs) from path to)) }
+    {
+        find_path(
+            alloc,
+            &self.gone,
+            &self.received,
+            &self.arcs[..len],
+            from,
+            to,
+        )
+    }
+
     /// Adds the next transaction of a session, which all of its session reach, and takes all marks away.
     pub fn add_node(&mut self, session: u8) -> Result<TxnId, NoMemory>
         requires session { session < length self.old.gone }
@@ -294,6 +323,13 @@ impl Graph {
         };
         self.trail.marks.push(mark)?;
         Ok(())
+    }
+
+    /// Takes all marks away, and leaves the arcs as they are. It takes no memory.
+    pub fn forget_marks(&mut self)
+        ensures { self.new ≡ record self.old { marks = [] } }
+    {
+        self.trail.clear();
     }
 
     /// Takes the arcs behind the last mark back, and the mark away, in time of what they changed. It takes no memory.

@@ -6,6 +6,7 @@ mod drops;
 mod graph;
 mod lines;
 mod notes;
+mod paths;
 mod rows;
 mod sweeps;
 mod tails;
