@@ -3,3 +3,7 @@
 
 #[cfg(test)]
 mod closures;
+#[cfg(test)]
+mod drawn;
+#[cfg(test)]
+mod paths;
