@@ -21,7 +21,7 @@ pub(crate) fn id(session: u8, number: u64) -> TxnId {
 }
 
 // A generator of numbers (Knuth's constants for 64 bits), whose high bits are taken.
-fn next(state: &mut u64, below: usize) -> usize {
+pub(crate) fn next(state: &mut u64, below: usize) -> usize {
     *state = state
         .wrapping_mul(6364136223846793005)
         .wrapping_add(1442695040888963407);
@@ -29,7 +29,7 @@ fn next(state: &mut u64, below: usize) -> usize {
 }
 
 // The session's next transaction, behind the others of its session.
-fn add_node(
+pub(crate) fn add_node(
     rt: &impl Abort,
     graph: &mut Graph,
     ids: &mut Vec<TxnId>,
@@ -100,13 +100,13 @@ pub(crate) struct Drawn {
     pub pairs: Vec<(TxnId, TxnId)>,
 }
 
-fn pick(ids: &[TxnId], state: &mut u64) -> Result<TxnId, Fail> {
+pub(crate) fn pick(ids: &[TxnId], state: &mut u64) -> Result<TxnId, Fail> {
     let found = ids.get(next(state, ids.len())).copied();
     Ok(found.ok_or("no transaction")?)
 }
 
 // An arc between two of them, and whether it closes a cycle.
-fn draw_arc(
+pub(crate) fn draw_arc(
     rt: &impl Abort,
     alloc: Global,
     graph: &mut Graph,
@@ -159,7 +159,7 @@ pub(crate) fn draw_arcs(
 }
 
 // None drawn yet.
-fn nothing(alloc: Global) -> Drawn {
+pub(crate) fn nothing(alloc: Global) -> Drawn {
     Drawn {
         ids: Vec::new(alloc),
         pairs: Vec::new(alloc),

@@ -6,4 +6,8 @@ mod closures;
 #[cfg(test)]
 mod drawn;
 #[cfg(test)]
+mod drops;
+#[cfg(test)]
 mod paths;
+#[cfg(test)]
+mod sessions;

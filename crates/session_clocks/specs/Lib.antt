@@ -7,8 +7,10 @@ pub mod Marks
 pub mod Notes
 pub mod Paths
 pub mod Reach
+pub mod Removals
 pub mod Rows
 pub mod SavedNumbers
 pub mod Sweeps
 pub mod Tails
 pub mod Trees
+pub mod Widths
