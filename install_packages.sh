@@ -12,13 +12,13 @@ missing() { # the packages of packages.txt that aren't installed, one a line
     done
 }
 if ! command -v dpkg-query > /dev/null || ! command -v apt-get > /dev/null; then
-    echo "no packages installed: this isn't Debian; packages.txt names what the tests want"
+    echo "installed no packages: this isn't Debian; packages.txt lists what the tests need"
     exit 0
 fi
 mapfile -t names < <(missing "$@")
 [ "${#names[@]}" -gt 0 ] || exit 0
 if [ "$(id -u)" -ne 0 ]; then
-    echo "not installed, since this doesn't run as root: ${names[*]}"
+    echo "not installed, because this doesn't run as root: ${names[*]}"
     exit 0
 fi
 echo "installing ${#names[@]} packages: ${names[*]}"
@@ -30,5 +30,5 @@ if ! timeout 1200 apt-get install -y -qq --no-install-recommends "${names[@]}" >
     done
 fi
 mapfile -t names < <(missing "$@")
-[ "${#names[@]}" -eq 0 ] || echo "could not be installed: ${names[*]}"
+[ "${#names[@]}" -eq 0 ] || echo "couldn't install: ${names[*]}"
 exit 0

@@ -14,5 +14,5 @@ for python in /usr/bin/python3 python3; do
         exec "$python" "$here/collectors/python/make_wheel.py" "$@"
     fi
 done
-echo "no wheel: Python's setuptools and wheel are wanted (on Debian: apt-get install python3-setuptools python3-wheel)" >&2
+echo "package.sh: Python's setuptools and wheel are missing (Debian: apt-get install python3-setuptools python3-wheel)" >&2
 exit 1

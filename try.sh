@@ -12,7 +12,7 @@ auditor=${COBRA_AUDIT:-}
 unset COBRA_AUDIT COBRA_CHECK PYTHONPATH
 began=$SECONDS
 step() { echo; echo "== $* (after $((SECONDS - began)) s)"; }
-fail() { echo "no try: $*" >&2; exit 1; }
+fail() { echo "try.sh: $*" >&2; exit 1; }
 
 step "Debian's packages"
 ./install_packages.sh wheel
@@ -20,15 +20,15 @@ python=
 for each in /usr/bin/python3 python3; do
     if "$each" -c "import venv, ensurepip, setuptools, wheel" 2> /dev/null; then python=$each; break; fi
 done
-[ -n "$python" ] || fail "Python 3.9 or later is wanted, with$(sed -n 's/^wheel://p' packages.txt)"
+[ -n "$python" ] || fail "Python 3.9 or later is missing, with$(sed -n 's/^wheel://p' packages.txt)"
 
 step "the wheel"
-[ ! -e "$folder" ] || [ -e "$folder/.try" ] || fail "$folder is there, and no earlier try's"
+[ ! -e "$folder" ] || [ -e "$folder/.try" ] || fail "$folder exists, and isn't from an earlier try"
 rm -rf "$folder"
 mkdir -p "$folder"
 touch "$folder/.try"
 if ./package.sh --built --output "$folder" > "$folder/log" 2>&1; then
-    echo "with the programs that the gate has proved and built here"
+    echo "with the programs that the gate proved and built here"
 elif [ -n "$auditor" ]; then
     ./package.sh "--unproved=$auditor" --output "$folder"
 else
@@ -41,22 +41,23 @@ step "an environment: $folder/venv"
 "$folder/venv/bin/pip" install -q --no-index --disable-pip-version-check "$folder"/zanteyard-*.whl
 "$folder/venv/bin/zanteyard" --version
 
-step "an audit: four clients count in SQLite, a statement a transaction, which loses updates"
+step "an audit: four clients count in SQLite, each statement a transaction of its own, which loses updates"
 cd "$folder"
 status=0
 venv/bin/zanteyard audit sqlite --level autocommit --workload counter --clients 4 --rate 40 --every 60 \
     --seconds 120 --unaudited 0 --rather-wait --html violation.html || status=$?
-[ "$status" -eq 1 ] || fail "the audit ended with status $status, and a violation (1) was owed"
+[ "$status" -eq 1 ] || fail "the audit ended with status $status, but should have found a violation (status 1)"
 
 step "what next"
 cat << END
 The violation's page is $folder/violation.html: open it in a browser.
 The command is $folder/venv/bin/zanteyard. In that folder:
 
-    zanteyard demo write-skew            another fault, in a store in memory
-    zanteyard check violation.jsonl      says of the script what was said here
-    zanteyard audit sqlite --seconds 10  the same store at a level that promises serializability
-    zanteyard help                       all commands; docs/WATCH.md has how an application over PostgreSQL is watched
+    zanteyard demo write-skew            another fault, in an in-memory store
+    zanteyard check violation.jsonl      checks the violation's script again
+    zanteyard audit sqlite --seconds 10  the same store, at a level that promises serializability
+    zanteyard help                       all commands
 
-./test.sh proves and tests everything, within three hours.
+docs/WATCH.md shows how to audit an application that uses PostgreSQL.
+./test.sh proves and tests everything, in up to three hours.
 END

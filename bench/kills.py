@@ -40,7 +40,7 @@ KINDS = (  # a word of its command line, and what it is
 class Counting(unittest.TextTestResult):
     """Of processes that this one has begun, those that have ended by SIGKILL before their test was over."""
 
-    kills, ended, is_over = collections.Counter(), [], False
+    kills, ended, is_over, last = collections.Counter(), [], False, None
 
     def startTest(self, test):
         Counting.last = test
@@ -77,6 +77,12 @@ def cleaning_up(deed):
     return done
 
 
+def classes_of(tests):
+    if isinstance(tests, unittest.TestSuite):
+        return {each for its in tests if its is not None for each in classes_of(its)}
+    return {type(tests)}
+
+
 def main():
     parser = argparse.ArgumentParser(description=__doc__.splitlines()[0])
     parser.add_argument("--seed", default="1")
@@ -100,8 +106,11 @@ def main():
     try:
         found = unittest.TextTestRunner(verbosity=2, resultclass=Counting).run(tests)
     except KeyboardInterrupt:  # unittest leaves what is begun: servers and clients
-        Counting.last.doCleanups()
-        type(Counting.last).doClassCleanups()
+        signal.signal(signal.SIGTERM, signal.SIG_IGN)  # once is enough
+        if Counting.last is not None:
+            Counting.last.doCleanups()
+        for each in classes_of(tests):
+            each.doClassCleanups()
         sys.exit(1)
     print("| Killed | times |")
     print("|---|---|")

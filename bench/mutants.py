@@ -1,17 +1,20 @@
 """Whether the tests see small faults: each mutant is the code with one of its places changed.
 
-    /usr/bin/python3 bench/mutants.py python|go [--count 60] [--seed 1] [--processes 2] [--only FILE:LINE]
+    /usr/bin/python3 bench/mutants.py python|go [--count 60] [--seed 1] [--processes 2] [--only FILE:LINE] [--rows FILE]
 
-Mutants of the Python package's sessions, live audits, rounds, notes and searches for killed clients, or of the proxy's joiner,
-are drawn by the seed, and each is run under the tests beside it, in a copy of the tree. One is found if a test fails,
-or none ends in its time. Prints a line for each that isn't found, which is to be read: it means the same, or a test is
-missing. The status is 1 if more than one in twenty isn't found."""
+Mutants of the Python package's sessions, live audits, rounds, notes and searches for killed clients, or of the proxy's
+joiner, are drawn by the seed. Python: the tests are traced once; each mutant is run under those that run its line and pass
+without it, in a copy of the tree. Go: under the joiner's tests, by an overlay. One is found if a test fails, or takes eight
+times as long as without a mutant. Prints a line for each that isn't found, which is to be read: it means the same, or a test
+is missing. The status is 1 if more than one in twenty isn't found."""
 import argparse
 import ast
 import collections
 import concurrent.futures
-import copy
+import functools
 import glob
+import itertools
+import json
 import os
 import random
 import re
@@ -20,6 +23,9 @@ import signal
 import subprocess
 import sys
 import tempfile
+import threading
+import time
+import unittest
 
 TOP = os.path.dirname(os.path.dirname(os.path.abspath(__file__)))
 PYTHON, PROXY = os.path.join(TOP, "collectors", "python"), os.path.join(TOP, "proxy")
@@ -32,13 +38,14 @@ FILES = {
     ),
     "go": ("src/zanteyard/join/*.go",),
 }
-# Those that take a second or two come first.
+# Of the Python package: each mutant is run under those of their tests that run its line.
 TESTS = (
     *("transactions", "meetings", "places", "forks", "notes", "circumstances", "redacting", "processes", "no_harm"),
-    *("aborted", "joining", "live", "rounds", "killed.Killed"),
+    *("two_stores.InMemory", "two_stores.Told", "aborted", "joining", "live", "rounds", "killed.Killed"),
 )
-SECONDS = 150.0  # for the tests of a mutant
-Mutant = collections.namedtuple("Mutant", "path line about text")
+GO_SLOW = "Lives|MakesUpNo|MemoryIsBounded|HotRow"  # of the joiner's tests, those that take seconds
+LONGEST = 1800.0  # seconds for a call of tests without a mutant
+Mutant = collections.namedtuple("Mutant", "path line about text")  # the text is made when it is asked for
 COMPARED = {
     ast.Lt: ast.LtE, ast.LtE: ast.Lt, ast.Gt: ast.GtE, ast.GtE: ast.Gt, ast.Eq: ast.NotEq, ast.NotEq: ast.Eq,
     ast.Is: ast.IsNot, ast.IsNot: ast.Is, ast.In: ast.NotIn, ast.NotIn: ast.In,
@@ -107,16 +114,21 @@ def is_of_annotation(source, node):
 def python_mutants(path):
     with open(path, encoding="utf-8") as file:
         text = file.read()
-    whole, source = ast.parse(text), text.splitlines()
-    for at, node in enumerate(ast.walk(whole)):
+    source = text.splitlines()
+    for at, node in enumerate(ast.walk(ast.parse(text))):
         if not hasattr(node, "lineno") or is_of_annotation(source, node):
             continue
-        for way, _ in enumerate(changed(node)):
-            mutated = copy.deepcopy(whole)
-            there = next(it for number, it in enumerate(ast.walk(mutated)) if number == at)
-            about = [*changed(there)][way]()
-            ast.fix_missing_locations(mutated)
-            yield Mutant(path, node.lineno, f"{source[node.lineno - 1].strip()}   ({about})", ast.unparse(mutated))
+        for way, change in enumerate(changed(node)):
+            about = f"{source[node.lineno - 1].strip()}   ({change()})"
+            yield Mutant(path, node.lineno, about, functools.partial(python_mutant, text, at, way))
+
+
+def python_mutant(text, at, way):
+    """The text with one node changed, in one of the ways."""
+    mutated = ast.parse(text)
+    its = [*changed(next(itertools.islice(ast.walk(mutated), at, None)))][way]
+    its()
+    return ast.unparse(ast.fix_missing_locations(mutated))
 
 
 def go_mutants(path):
@@ -129,56 +141,173 @@ def go_mutants(path):
         for old, new in GO:
             if re.search(old, code):
                 changed_line = re.sub(old, new, code, count=1) + slashes + comment
-                text = "\n".join([*lines[:at], changed_line, *lines[at + 1 :]])
-                yield Mutant(path, at + 1, f"{line.strip()}   ({changed_line.strip()})", text)
+                about = f"{line.strip()}   ({changed_line.strip()})"
+                yield Mutant(path, at + 1, about, functools.partial(go_mutant, lines, at, changed_line))
 
 
-def tests_of(kind, names):
-    """The calls that run them, one after another, until one fails."""
-    if kind == "go":
-        return [["go", "build", "zanteyard/join"], ["go", "test", "-failfast", "zanteyard/join"],
-                ["go", "test", "-failfast", "zanteyard/audit"]]
-    unittest = [sys.executable, "-W", "ignore", "-m", "unittest", "-f"]
-    return [[*unittest, f"tests.test_{name}"] for name in names]
+def go_mutant(lines, at, line):
+    return "\n".join([*lines[:at], line, *lines[at + 1 :]])
 
 
-def fate(kind, names, mutant):
-    """Of a mutant: "found", "hangs", "lives", or "isn't one" where it can't even be compiled."""
-    home = PYTHON if kind == "python" else PROXY
-    with tempfile.TemporaryDirectory() as folder:
-        os.chmod(folder, 0o711)
-        tree = os.path.join(folder, os.path.relpath(home, TOP))
-        shutil.copytree(home, tree, ignore=shutil.ignore_patterns("__pycache__", "out"))
-        with open(os.path.join(tree, os.path.relpath(mutant.path, home)), "w", encoding="utf-8") as file:
-            file.write(mutant.text)
-        environment = {**os.environ, "TMPDIR": folder}
-        if kind == "go":
-            environment["GOPATH"] = os.pathsep.join(
-                tree if each == PROXY else each for each in os.environ["GOPATH"].split(os.pathsep)
-            )
-        for at, call in enumerate(tests_of(kind, names)):
-            status = status_of(call, tree, environment)
-            if status is None:
-                return "hangs"
-            if status != 0:
-                return "isn't one" if kind == "go" and at == 0 else "found"
-    return "lives"
+def trace(name, path):
+    """Runs a module of tests, and writes of each that passes its seconds and which lines of the mutants' files it ran, if it
+    wasn't in another process."""
+    home = os.path.join(PYTHON, "zanteyard")
+    files = {file for name in FILES["python"] for file in glob.glob(os.path.join(home, name))}
+    lines, ran = set(), {}
+
+    def line(frame, event, _):
+        if event == "line":
+            lines.add((frame.f_code.co_filename, frame.f_lineno))
+        return line
+
+    class Traced(unittest.TextTestResult):
+        def startTest(self, test):
+            super().startTest(test)
+            lines.clear()
+            self.began = time.monotonic()
+
+        def addSuccess(self, test):
+            super().addSuccess(test)
+            its = sorted([os.path.relpath(file, PYTHON), number] for file, number in lines.copy())
+            ran[test.id()] = [time.monotonic() - self.began, its]
+
+    def called(frame, *_):
+        return line if frame.f_code.co_filename in files else None
+
+    sys.path.insert(0, PYTHON)
+    threading.settrace(called)
+    sys.settrace(called)
+    unittest.TextTestRunner(resultclass=Traced).run(unittest.defaultTestLoader.loadTestsFromName(f"tests.test_{name}"))
+    sys.settrace(None)
+    with open(path, "w", encoding="utf-8") as file:
+        json.dump(ran, file)
+    os._exit(0)  # whatever threads there are
 
 
-def status_of(call, tree, environment):
-    """None where it took too long: all that it has begun is ended."""
-    nothing = subprocess.DEVNULL
-    with subprocess.Popen(call, cwd=tree, env=environment, stdin=nothing, stdout=nothing, stderr=nothing,
-                          start_new_session=True) as process:
-        try:
-            return process.wait(SECONDS)
-        except subprocess.TimeoutExpired:
-            return None
-        finally:
+def traced(names, folder):
+    """Of each test that passes, its seconds and lines, by modules that are traced once; the file of one stays in the folder."""
+    ran = {}
+    for name in names:
+        path = os.path.join(folder, f"{name}.lines")
+        if not os.path.exists(path):
+            call = [sys.executable, "-W", "ignore", os.path.abspath(__file__), "--trace", name, path]
+            if end_of(call, PYTHON, folder, LONGEST)[0] != 0:
+                print(f"can't be traced: {name}", flush=True)
+                continue
+        with open(path, encoding="utf-8") as file:
+            ran.update(json.load(file))
+    return ran
+
+
+def places_of(mutant):
+    """The lines of which one is run by who runs what is changed: those of the innermost statement, of a function its body's."""
+    with open(mutant.path, encoding="utf-8") as file:
+        whole = ast.parse(file.read())
+    its = [node for node in ast.walk(whole) if isinstance(node, ast.stmt) and node.lineno <= mutant.line <= node.end_lineno]
+    inner = min(its, key=lambda node: node.end_lineno - node.lineno)
+    if isinstance(inner, (ast.FunctionDef, ast.AsyncFunctionDef)):
+        return range(inner.body[0].lineno, inner.end_lineno + 1)
+    end = inner.body[0].lineno - 1 if getattr(inner, "body", None) else inner.end_lineno
+    return range(inner.lineno, max(end, inner.lineno) + 1)
+
+
+def covering(mutant, ran):
+    """The tests that can see it, the quickest first, and the seconds that they take."""
+    file, lines = os.path.relpath(mutant.path, PYTHON), places_of(mutant)
+    its = [(seconds, id) for id, (seconds, ran_lines) in ran.items()
+           if any(path == file and number in lines for path, number in ran_lines)]
+    return [id for _, id in sorted(its)], sum(seconds for seconds, _ in its)
+
+
+def python_fate(folder, mutant, ran):
+    """Of a mutant: "found", "hangs", or "lives"; and what found it. The tests are run in a copy of the tree."""
+    names, seconds = covering(mutant, ran)
+    if not names:
+        return "lives", "no test runs it"
+    tree = os.path.join(folder, os.path.relpath(PYTHON, TOP))
+    shutil.copytree(PYTHON, tree, ignore=shutil.ignore_patterns("__pycache__", "out"))
+    with open(os.path.join(tree, os.path.relpath(mutant.path, PYTHON)), "w", encoding="utf-8") as file:
+        file.write(mutant.text())
+    call = [sys.executable, "-W", "ignore", "-m", "unittest", "-f", *names]
+    return fate_by(*end_of(call, tree, folder, limit_of(seconds)))
+
+
+def fate_by(status, told):
+    if status is None:
+        return "hangs", ""
+    failed = re.search(r"^(?:--- FAIL|FAIL|ERROR): (\w+)", told, re.M)
+    return ("found", failed[1] if failed else f"status {status}") if status else ("lives", "")
+
+
+def limit_of(seconds):
+    """After how many seconds tests count as hanging that take so many without a mutant."""
+    return 120.0 + 8 * seconds
+
+
+def go_calls(folder, names, mutant):
+    """The tests of the joiner, those that end at once first; then those of other packages. None if it can't be compiled."""
+    text, overlay, program = (os.path.join(folder, name) for name in ("mutant.go", "overlay", "tests"))
+    if mutant is not None:
+        with open(text, "w", encoding="utf-8") as file:
+            file.write(mutant.text())
+    with open(overlay, "w", encoding="utf-8") as file:
+        json.dump({"Replace": {mutant.path: text} if mutant is not None else {}}, file)
+    package = os.path.join(PROXY, "src/zanteyard/join")
+    made = ["go", "test", "-c", "-vet=off", "-overlay", overlay, "-o", program, "zanteyard/join"]
+    if subprocess.run(made, cwd=PROXY, capture_output=True, check=False).returncode:
+        yield None
+        return
+    listed = subprocess.run([program, "-test.list", "^Test"], cwd=package, capture_output=True, text=True, check=False)
+    every = listed.stdout.split()
+    slow = [name for name in every if re.search(GO_SLOW, name)]
+    for name, some in (("join", [name for name in every if name not in slow]), ("join, slow ones", slow)):
+        yield name, [program, "-test.failfast", "-test.run", f"^({'|'.join(some)})$"], package
+    for name in names:
+        yield name, ["go", "test", "-vet=off", "-failfast", "-overlay", overlay, f"zanteyard/{name}"], PROXY
+
+
+def go_fate(folder, mutant, names, limits):
+    """As python_fate; "isn't one" where it can't be compiled."""
+    for one in go_calls(folder, names, mutant):
+        if one is None:
+            return "isn't one", ""
+        name, call, home = one
+        if limits[name] is not None:
+            fate, by = fate_by(*end_of(call, home, folder, limits[name]))
+            if fate != "lives":
+                return fate, f"{name} {by}"
+    return "lives", ""
+
+
+def go_limits(folder, names):
+    """Of each call its limit; None where it fails without a mutant, too: it would find whatever there is."""
+    limits = {}
+    for name, call, home in go_calls(folder, names, None):
+        began = time.monotonic()
+        status, told = end_of(call, home, folder, LONGEST)
+        limits[name] = limit_of(time.monotonic() - began) if status == 0 else None
+        if status != 0:
+            print(f"left out, since it fails without a mutant: {name}", *told.splitlines()[-3:], sep="\n    ", flush=True)
+    return limits
+
+
+def end_of(call, home, folder, seconds):
+    """Its status, None where it doesn't end, and what it told; what it has begun is ended with it."""
+    with tempfile.TemporaryFile() as told:
+        with subprocess.Popen(call, cwd=home, env={**os.environ, "TMPDIR": folder}, stdin=subprocess.DEVNULL, stdout=told,
+                              stderr=subprocess.STDOUT, start_new_session=True) as process:
             try:
-                os.killpg(process.pid, signal.SIGKILL)
-            except ProcessLookupError:
-                pass
+                status = process.wait(seconds)
+            except subprocess.TimeoutExpired:
+                status = None
+            finally:
+                try:
+                    os.killpg(process.pid, signal.SIGKILL)
+                except ProcessLookupError:
+                    pass
+        told.seek(0)
+        return status, told.read().decode(errors="replace")
 
 
 def drawn(kind, count, seed, only):
@@ -191,24 +320,60 @@ def drawn(kind, count, seed, only):
     return random.Random(seed).sample(every, min(count, len(every)))
 
 
+def written_rows(path):
+    """The rows of an earlier run, by place and what was changed there; what lived is run again."""
+    if not path or not os.path.exists(path):
+        return {}
+    with open(path, encoding="utf-8") as file:
+        return {tuple(row[:2]): row[2:] for row in map(json.loads, file) if row[2] != "lives"}
+
+
 def main():
+    if sys.argv[1:2] == ["--trace"]:
+        trace(*sys.argv[2:])
     parser = argparse.ArgumentParser(description=__doc__.splitlines()[0])
     parser.add_argument("kind", choices=FILES)
     parser.add_argument("--count", type=int, default=60)
     parser.add_argument("--seed", type=int, default=1)
     parser.add_argument("--processes", type=int, default=2)
     parser.add_argument("--only", metavar="FILE:LINE", help="those of this line")
-    parser.add_argument("--tests", nargs="+", default=TESTS, metavar="NAME", help="of the Python package, as notes")
+    parser.add_argument("--tests", nargs="+", metavar="NAME", help="modules of the Python package's tests, as notes, in place of "
+                        "the usual ones; or further packages of the proxy, as audit, for what the joiner's own don't find")
+    parser.add_argument("--rows", metavar="FILE", help="a row for each goes there; what is found there isn't run again")
+    parser.add_argument("--lines", metavar="FOLDER", help="where the lines that tests run are kept, and looked for first")
     asked = parser.parse_args()
     if asked.kind == "go":  # as proxy/env.sh has it
         words = subprocess.run(["sh", "-c", ". ./env.sh && env"], cwd=PROXY, capture_output=True, text=True, check=True)
         os.environ.update(line.split("=", 1) for line in words.stdout.splitlines() if re.match(r"(GO|CGO_)\w+=", line))
-    mutants, fates = drawn(asked.kind, asked.count, asked.seed, asked.only), collections.Counter()
-    with concurrent.futures.ThreadPoolExecutor(asked.processes) as threads:
-        for mutant, its in zip(mutants, threads.map(lambda it: fate(asked.kind, asked.tests, it), mutants)):
+    fates, earlier, writing = collections.Counter(), written_rows(asked.rows), threading.Lock()
+    mutants = drawn(asked.kind, asked.count, asked.seed, asked.only)
+    with tempfile.TemporaryDirectory() as folder:
+        os.chmod(folder, 0o711)
+        if asked.kind == "go":
+            limits = go_limits(folder, asked.tests or ())
+        else:
+            ran = traced(asked.tests or TESTS, asked.lines or folder)
+
+    def run(mutant):
+        place = f"{os.path.relpath(mutant.path, TOP)}:{mutant.line}"
+        its = earlier.get((place, mutant.about))
+        if its is None:
+            with tempfile.TemporaryDirectory() as folder:
+                os.chmod(folder, 0o711)  # servers run as another user, where this runs as root
+                if asked.kind == "go":
+                    its = go_fate(folder, mutant, asked.tests or (), limits)
+                else:
+                    its = python_fate(folder, mutant, ran)
+            if asked.rows:
+                with writing, open(asked.rows, "a", encoding="utf-8") as file:
+                    file.write(json.dumps([place, mutant.about, *its]) + "\n")
+        return place, its
+
+    with concurrent.futures.ThreadPoolExecutor(asked.processes) as pool:
+        for mutant, (place, (its, by)) in zip(mutants, pool.map(run, mutants)):
             fates[its] += 1
             if its in ("lives", "hangs"):
-                print(f"{its}: {os.path.relpath(mutant.path, TOP)}:{mutant.line}: {mutant.about}", flush=True)
+                print(f"{its}: {place}: {mutant.about}" + (f" ({by})" if by else ""), flush=True)
     print(", ".join(f"{count} {word}" for word, count in fates.most_common()))
     seen = fates["found"] + fates["hangs"]
     return 0 if 20 * seen >= 19 * (seen + fates["lives"]) else 1

@@ -132,14 +132,14 @@ def sides(parts, choice):
 def named(item):
     """The word that a list begins with."""
     if not isinstance(item, list) or not item or not isinstance(item[0], str):
-        raise Wrong(f"{item} is no list that begins with a word")
+        raise Wrong(f"{item} isn't a list that begins with a word")
     return item[0]
 
 
 def numbers(entry, count=None):
     """A list of so many whole numbers."""
     if not isinstance(entry, list) or any(type(number) is not int for number in entry):
-        raise Wrong(f"{entry} is no list of whole numbers")
+        raise Wrong(f"{entry} isn't a list of whole numbers")
     if count is not None and len(entry) != count:
         raise Wrong(f"{entry} hasn't {count} numbers")
     return entry

@@ -174,7 +174,7 @@ class Watch:
         ends = time.monotonic() + LISTENING
         while not os.path.exists(self.socket):
             if self.process.poll() is not None or time.monotonic() > ends:
-                sys.exit("the audit hasn't begun")
+                sys.exit("the audit didn't begin")
             time.sleep(0.05)
 
     def end(self):

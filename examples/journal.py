@@ -28,25 +28,25 @@ NOTED = [
 def offer(auditor, noted):
     for session, number, logged in noted:
         auditor.offer(session, number, logged)
-        print(f"{session}.{number} is taken in: {auditor.round().kind}")
+        print(f"{session}.{number} was accepted: {auditor.round().kind}")
 
 
 def begin(path):
     auditor = Auditor(sessions=2, run_name="bank", journal=path)
     offer(auditor, NOTED[:1])
-    print("the auditor is killed")
+    print("killing the auditor")
     os.kill(auditor.program.process.pid, signal.SIGKILL)
     offer(auditor, NOTED[1:3])
-    print("this program ends as if it were killed", flush=True)
+    print("ending this program as if it were killed", flush=True)
     os._exit(1)
 
 
 def go_on(path):
     with Auditor.resumed(path) as auditor:
-        print(f"of each session were taken in {auditor.received}")
+        print(f"transactions accepted of each session: {auditor.received}")
         offer(auditor, [each for each in NOTED if each[1] >= auditor.received[each[0]]])
     with Auditor.resumed(path) as auditor:
-        print(f"the journal tells of a round that was {auditor.violation.kind}")
+        print(f"the journal has a round that was {auditor.violation.kind}")
 
 
 def main():

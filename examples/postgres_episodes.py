@@ -127,11 +127,10 @@ def main():
         from zanteyard.stores.postgres import PostgresStore, prepare
     except ImportError:
         sys.exit(
-            "psycopg2 is wanted: apt-get install python3-psycopg2, and run this by the Python "
-            "that it is for (/usr/bin/python3)"
+            "psycopg2 is missing: apt-get install python3-psycopg2 (for /usr/bin/python3)"
         )
     if not program("initdb"):
-        sys.exit("PostgreSQL is wanted: apt-get install postgresql")
+        sys.exit("PostgreSQL is missing: apt-get install postgresql")
     with ended_by_signals(), PostgresServer() as cluster:
         stores = [PostgresStore(cluster.dsn, level) for _ in range(asked.clients)]
         prepare(cluster.dsn)

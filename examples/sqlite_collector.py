@@ -22,10 +22,10 @@ if FAULT in ("-h", "--help"):
     sys.exit(print(__doc__.strip()))
 if FAULT not in FAULTS or len(sys.argv) > 3:
     named = FAULT if FAULT not in FAULTS else sys.argv[3]
-    print(f"{named} is no fault: honest, or {', '.join(FAULTS[1:])}", file=sys.stderr)
+    print(f"unknown fault {named}: give honest, {', '.join(FAULTS[1:])}", file=sys.stderr)
     sys.exit(2)
 if not os.path.isfile(PROGRAM):
-    print(f"{PROGRAM} isn't there: README.md says how it is built", file=sys.stderr)
+    print(f"{PROGRAM} is missing: see README.md for how to build it", file=sys.stderr)
     sys.exit(2)
 
 
@@ -42,7 +42,7 @@ class Auditor:
         print(json.dumps(line), file=self.program.stdin, flush=True)
         reply = json.loads(self.program.stdout.readline() or '["no", 0, "the program ended"]')
         if reply[0] == "no":
-            sys.exit(f"{json.dumps(line)} was answered {reply}")
+            sys.exit(f"{json.dumps(line)} was answered with {reply}")
         return reply
 
     def number(self, key):

@@ -1,11 +1,12 @@
 #!/usr/bin/env python3
 """Draws which packages of `zanteyard` import which, and fails if they form a cycle.
 
-    ./import_graph.py [--dot] [FOLDER]
+    ./import_graph.py [--dot | --modules] [FOLDER]
 
 It prints a line for each package, lower ones first; `--dot` prints Graphviz text instead, with the
-number of imports on each arc. All import statements count, those in functions included. The status
-is 1 if packages form a cycle: then the imports on it are printed.
+number of imports on each arc, and `--modules` what each module is for, by its docstring's first
+sentence. All import statements count, those in functions included. The status is 1 if packages form
+a cycle: then the imports on it are printed.
 """
 
 from __future__ import annotations
@@ -127,9 +128,24 @@ def as_dot(graph: Graph) -> Iterator[str]:
     yield "}"
 
 
+def as_modules(graph: Graph, folder: str) -> Iterator[str]:
+    """Each package with its modules, and the first sentence of each one's docstring."""
+    for package in graph.in_order():
+        home = folder if package == TOP else os.path.join(folder, package)
+        yield package
+        for name in sorted(os.listdir(home)):
+            if name.endswith(".py") and (name != "__init__.py" or package == TOP):
+                with open(os.path.join(home, name), encoding="utf-8") as file:
+                    about = ast.get_docstring(ast.parse(file.read(), name)) or ""
+                sentence = " ".join(about.split("\n\n")[0].split()).split(". ")[0]
+                yield f"  {name}: {sentence.rstrip('.')}"
+
+
 def main(words: Optional[Sequence[str]] = None) -> int:
     asked = argparse.ArgumentParser(description="Draws which packages import which.")
-    asked.add_argument("--dot", action="store_true", help="as Graphviz text")
+    how = asked.add_mutually_exclusive_group()
+    how.add_argument("--dot", action="store_true", help="print Graphviz text")
+    how.add_argument("--modules", action="store_true", help="print what each module is for")
     asked.add_argument("folder", nargs="?", default=os.path.join(HERE, "zanteyard"))
     arguments = asked.parse_args(words)
     graph = graph_of(arguments.folder)
@@ -138,7 +154,10 @@ def main(words: Optional[Sequence[str]] = None) -> int:
     except CycleError as error:
         print("\n".join(told_cycle(graph, error.args[1])), file=sys.stderr)
         return 1
-    print("\n".join((as_dot if arguments.dot else as_lines)(graph)))
+    if arguments.modules:
+        print("\n".join(as_modules(graph, arguments.folder)))
+    else:
+        print("\n".join((as_dot if arguments.dot else as_lines)(graph)))
     return 0
 
 

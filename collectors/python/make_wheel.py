@@ -29,7 +29,7 @@ TOP = os.path.normpath(os.path.join(HERE, "../.."))
 PROGRAMS = ("cobra_audit", "cobra_check")  # each a crate of this name
 PROXY = os.path.join(TOP, "proxy", "out", "zanteyard-proxy")  # where its build.sh puts it
 LGPL = "/usr/share/common-licenses/LGPL-2.1"  # of the C library, which is linked into the proxy
-SLOWER = 300  # times, as docs/RUNNING.md measured it
+SLOWER = 300  # times, as docs/PERFORMANCE.md has it
 PATIENCE = 1200  # seconds in which a build without proofs has to have come to its run
 
 
@@ -168,7 +168,7 @@ def stage(folder: str, programs: Sequence[str], is_proved: bool) -> None:
     shutil.copytree(os.path.join(HERE, "zanteyard"), package, ignore=hidden)
     for name in ("pyproject.toml", "README.md"):
         shutil.copy(os.path.join(HERE, name), folder)
-    for name in ("LICENSE", "LICENSES.md"):
+    for name in ("LICENSE", "LICENSES.md", "LICENSE-TEXTS.txt"):
         shutil.copy(os.path.join(TOP, name), folder)
     shutil.copytree(os.path.join(TOP, "docs"), os.path.join(package, "docs"))  # errors name them
     inside = os.path.join(package, "program", "bin")

@@ -96,7 +96,7 @@ class Machines(unittest.TestCase):
             daemon = subprocess.Popen(call, cwd=folder, env={**os.environ, "PYTHONPATH": os.path.abspath(PLACE)}, stderr=log)
         self.daemons.append(daemon)
         self.addCleanup(self.end, daemon)
-        self.wait_for(lambda: "it keeps" in self.said() or daemon.poll() is not None)
+        self.wait_for(lambda: "its folder is" in self.said() or daemon.poll() is not None)
         return daemon
 
     @staticmethod

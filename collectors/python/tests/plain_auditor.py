@@ -1,6 +1,7 @@
 #!/usr/bin/env python3
 """A slow auditor in plain Python, over the model that the fuzzer judges cobra_audit by: it answers the
-lines of docs/FORMATS.md. Its refutations are empty, and its orders and cuts those of the model."""
+lines of docs/FORMATS.md. Its refutations are those of a plain search, up to so many transactions,
+and empty beyond; its orders and cuts are those of the model."""
 import copy
 import json
 import os
@@ -9,8 +10,10 @@ import sys
 TOP = os.path.normpath(os.path.join(os.path.dirname(os.path.abspath(__file__)), "../../.."))
 sys.path.insert(0, os.path.join(TOP, "bench"))
 from judge import Model, command_of, text  # noqa: E402
+from plain_trees import refuted  # noqa: E402
 from plain_verdicts import Relation, cut_of  # noqa: E402
 
+MOST_REFUTED = 64  # transactions
 MOST_KEYS = 3  # so that tests see that there are more
 
 
@@ -42,11 +45,15 @@ class Plain(Model):
         front = ["report", self.rounds]
         if solved is None:
             kind = "violated" if left else "spent"
-            return text([*front, kind, parts.received(), *([[]] if left else [])])
+            return text([*front, kind, parts.received(), *([refutation(parts)] if left else [])])
         self.held = cut_of(parts, relation)
         places = sorted(range(len(solved.ids)), key=lambda at: bin(solved.before[at]).count("1"))
         kind = "pending" if parts.has_pending() else "serial"
         return text([*front, kind, parts.received(), [solved.ids[at] for at in places]])
+
+
+def refutation(parts):
+    return refuted(parts) if len(parts.ids()) <= MOST_REFUTED else []
 
 
 def solve(relation, nodes):

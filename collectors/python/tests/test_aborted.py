@@ -203,7 +203,7 @@ class Told(WithFolder):
             file.write(self.SCRIPT.replace(",8,2]", ",8]"))
         status, text = self.told("check")
         self.assertEqual(status, 2)
-        self.assertIn("line 2 was answered BadLine", text)
+        self.assertIn("line 2 was refused: BadLine", text)
 
 
 class Found(WithFolder):
@@ -414,7 +414,7 @@ class Kept(WithJournal):
         with open(old, "w", encoding="utf-8") as file:
             file.write(OLD)
         os.chmod(old, 0o755)
-        with self.assertRaisesRegex(JournalError, "of an earlier version"):
+        with self.assertRaisesRegex(JournalError, "older than this package"):
             Auditor.resumed(self.path, old)
 
 
@@ -440,7 +440,7 @@ class TooOld(WithFolder):
         with mock.patch.dict(os.environ, COBRA_AUDIT=self.old), redirect_stdout(out), redirect_stderr(out):
             status = main(["check", self.path])
         self.assertEqual(status, 2)
-        self.assertIn("an earlier version", out.getvalue())
+        self.assertIn("older than this package", out.getvalue())
 
 
 if __name__ == "__main__":

@@ -69,7 +69,7 @@ class Bank(unittest.TestCase):
         application's own line that has sent it."""
         told, status = self.told("--level", "repeatable", "--seconds", ENOUGH, *how)
         self.assertEqual(status, 1, told)
-        self.assertTrue(told.startswith("violated: no order of these transactions"), told)
+        self.assertTrue(told.startswith("violated: no serial order"), told)
         self.assertRegex(told, r"\n  [\d,]+ violations? found: .*write skew")
         kinds = set()
         for verb, text, path, line in STATEMENT.findall(told):

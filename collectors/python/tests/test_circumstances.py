@@ -9,6 +9,7 @@ from zanteyard.stores.memory import MemoryStore
 from zanteyard.explain._html import page_of
 from zanteyard.core._records import Logged
 from zanteyard.explain._shrinking import name
+from zanteyard.explain._reasons import explain_history
 from zanteyard.explain._report import story_of
 
 
@@ -46,7 +47,7 @@ class Circumstances(unittest.TestCase):
             rf"0\.1 began at \d\d:\d\d:\d\d\.\d{{3}} from .*{here}:\d+; "
             "read rent: '100'; wrote rent: '90'",
         )
-        page = page_of(story_of(small, name), "a bank", "proved")
+        page = page_of(story_of(small, name, explain_history(small)), "a bank", "proved")
         self.assertIn("<td>&#x27;100&#x27;</td>", page)
         self.assertRegex(page, rf"\d\d:\d\d:\d\d\.\d{{3}} .*{here}:\d+")
 

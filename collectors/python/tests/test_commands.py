@@ -63,7 +63,7 @@ class Commands(unittest.TestCase):
     def test_mistakes_are_told_in_words(self):
         """Those that are made first: no file, one that is none, and one without a script."""
         begins = 'a script begins with ["open",..], or by ["resume",..] up to ["resumed"]'
-        not_open = f"mistake: no audit is open where the script ends: {begins}\n"
+        not_open = f"mistake: the script opens no audit: {begins}\n"
         missing = os.path.join(self.folder, "missing.jsonl")
         for path, told in (
             (missing, f"mistake: {missing}: No such file or directory\n"),
@@ -79,7 +79,7 @@ class Commands(unittest.TestCase):
         a_round = '["round",32,0,1]'
         for lines, wanted, told in (
             ([*LOST, a_round], 1, b""),
-            ([*LOST[:2], a_round, LOST[2]], 4, b"undecided: nobody reads what it tells\n"),
+            ([*LOST[:2], a_round, LOST[2]], 4, b"undecided: standard output was closed\n"),
         ):
             with self.subTest(lines=lines):
                 command = ["check", self.script(*lines)]
@@ -154,8 +154,7 @@ class Commands(unittest.TestCase):
         self.assertEqual(
             out.splitlines(),
             [
-                "line 4: violated: no order of these transactions explains what they read, "
-                "each session's own order kept",
+                "line 4: violated: no serial order that keeps each session's order explains these reads",
                 "  lost update "
                 "(two transactions read one version of a key, and both overwrote it):",
                 "  0.0 and 1.0 both read key 5 as it was at first and both overwrote it: "
@@ -183,7 +182,7 @@ class Commands(unittest.TestCase):
         lines = self.worked("real_split")
         status, out, _ = self.check(*lines[:-1], '["round",1,0,1]')
         self.assertEqual(status, 1)
-        self.assertIn("given 2 times, the last with 65,536 nodes: violated", out)
+        self.assertIn("after 2 tries, the last with 65,536 nodes: violated", out)
 
     def test_mistakes_of_the_call(self):
         missing = os.path.join(self.folder, "none.jsonl")
@@ -207,7 +206,7 @@ class Commands(unittest.TestCase):
 
     def test_a_cut_that_is_not_found_is_no_mistake(self):
         status, out, _ = self.check('["open",1,8]', '["round",9,0,1]', '["truncate"]')
-        self.assertEqual((status, out.splitlines()[-1][:22]), (0, "(nothing was settled, "))
+        self.assertEqual((status, out.splitlines()[-1][:22]), (0, "(no fence was settled "))
 
     def test_what_was_forgotten_is_told_as_the_cut(self):
         status, out, _ = run("explain", os.path.join(WORKED, "gone_read.jsonl"))
@@ -287,7 +286,7 @@ class Commands(unittest.TestCase):
             with mock.patch.object(audit_command, "run", return_value=ran):
                 status, out, err = run("audit", "postgres", "--html", self.folder)
             self.assertEqual((status, out), (wanted, "what came of it\n"), err)
-            self.assertEqual(err, f"{self.folder} can't be written: Is a directory\n")
+            self.assertEqual(err, f"can't write {self.folder}: Is a directory\n")
 
     def test_an_error_of_ours_never_looks_like_a_verdict(self):
         told = demo.STORIES
@@ -309,7 +308,7 @@ class Help(unittest.TestCase):
                 status, out, err = run("help", name)
                 self.assertEqual((status, err), (0, ""))
                 self.assertIn(f"\nexample:\n  {its.example}\n\n", out)
-                self.assertIn("exit status", " ".join(out.split()))
+                self.assertIn("Exit status: ", " ".join(out.split()))
                 self.assertEqual(run(name, "--help"), (0, out, ""))
         for kind in KINDS:
             out = run("help", "audit", kind.command)[1]
@@ -369,10 +368,10 @@ sys.exit(main(sys.argv[2:]))
     def test_numbers_that_are_none(self):
         """Python's names of functions are nobody's business."""
         for words, wanted in (
-            (("check", "a", "--nodes", "abc"), "argument --nodes: 'abc' is no whole number from 1 to 16,777,216"),
-            (("check", "a", "--nodes", "0"), "argument --nodes: '0' is no whole number from 1 to 16,777,216"),
-            (("audit", "sqlite", "--clients", "-3"), "argument --clients: '-3' is no whole number from 2 to 64"),
-            (("import", "csv", "a", "-o", "b", "--first", "x"), "argument --first: 'x' is no whole number from 1 on"),
+            (("check", "a", "--nodes", "abc"), "argument --nodes: 'abc' isn't a whole number from 1 to 16,777,216"),
+            (("check", "a", "--nodes", "0"), "argument --nodes: '0' isn't a whole number from 1 to 16,777,216"),
+            (("audit", "sqlite", "--clients", "-3"), "argument --clients: '-3' isn't a whole number from 2 to 64"),
+            (("import", "csv", "a", "-o", "b", "--first", "x"), "argument --first: 'x' isn't a whole number above 0"),
         ):
             with self.subTest(words=words):
                 status, out, err = run(*words)
@@ -381,7 +380,7 @@ sys.exit(main(sys.argv[2:]))
 
     def test_what_is_interrupted_later(self):
         for name, place, told in (
-            ("check", "zanteyard.cli._scripts._run_of", "undecided: it was interrupted\n"),
+            ("check", "zanteyard.cli._scripts._run_of", "undecided: interrupted\n"),
             ("import", "zanteyard.imports._command._text_of", "interrupted\n"),
         ):
             with self.subTest(name=name):
@@ -432,14 +431,14 @@ class Programs(unittest.TestCase):
     def test_which_program_is_started(self):
         self.assertEqual(program_path({"COBRA_AUDIT": "/no/such"}), "/no/such")
         self.assertTrue(program_path({}).endswith("cobra_audit"))
-        with self.assertRaisesRegex(Exception, "/no/such isn't there"):
+        with self.assertRaisesRegex(Exception, "/no/such is missing"):
             find_program({"COBRA_AUDIT": "/no/such"})
 
     def test_one_without_proofs_says_that_it_is_slow(self):
         """In its version, and where clients wait for it."""
         slow = "some 300 times slower than a proved one"
-        self.assertIn(f"NOT PROVED, built for a first try; {slow}", ProgramOrigin("p", False).sentence())
-        for is_proved, wanted in ((False, f" (it was built without proofs, and is {slow})"), (True, ""), (None, "")):
+        self.assertIn(f"NOT PROVED, built for a trial; {slow}", ProgramOrigin("p", False).sentence())
+        for is_proved, wanted in ((False, f" (it was built without proofs and is {slow})"), (True, ""), (None, "")):
             with mock.patch.object(_binaries, "origin_of", return_value=ProgramOrigin("p", is_proved)):
                 self.assertEqual(_binaries.slowness_of("p"), wanted)
         with mock.patch.object(_binaries, "origin_of", side_effect=OSError):
@@ -449,7 +448,7 @@ class Programs(unittest.TestCase):
         self.assertEqual(ProgramOrigin("p", True, "kit", "abc").sentence(), "p: proved by kit, commit abc")
         self.assertIn("NOT PROVED", ProgramOrigin("p", False).sentence())
         self.assertIn("NOT THE FILE", ProgramOrigin("p", True, is_as_noted=False).sentence())
-        self.assertIn("isn't noted", ProgramOrigin("p", None).sentence())
+        self.assertIn("not known whether", ProgramOrigin("p", None).sentence())
 
     def test_the_version(self):
         with open(os.path.join(TOP, "VERSION"), encoding="utf-8") as file:

@@ -10,6 +10,7 @@ import sys
 import tempfile
 import unittest
 
+import import_graph
 import make_wheel
 from zanteyard.program._auditor import PROGRAM
 
@@ -94,18 +95,27 @@ class Documents(unittest.TestCase):
                         self.assertTrue(os.path.exists(os.path.join(TOP, path)))
 
     def test_what_is_there_is_named(self):
-        """Benchmarks, modules and how many edits there are."""
+        """Benchmarks, packages, what each module is for, and how many edits there are."""
         text = text_of("CONTRIBUTING.md")
         for path in glob.glob(os.path.join(TOP, "bench/*.py")):
             with self.subTest(path=path):
                 self.assertTrue(re.search(rf"[`/]{re.escape(os.path.basename(path))}\b", text))
         text = text_of("collectors/python/README.md")
-        listed = dict(re.findall(r"^- `zanteyard/(\w+)`((?:.*\n)(?:  .*\n)*)", text, re.MULTILINE))
-        for path in glob.glob(os.path.join(TOP, "collectors/python/zanteyard/*/*.py")):
+        listed = re.findall(r"^- `zanteyard/(\w+)`: \w", text, re.MULTILINE)
+        folder = os.path.join(TOP, "collectors/python/zanteyard")
+        about, its = {}, ""  # of each package and module
+        for line in import_graph.as_modules(import_graph.graph_of(folder), folder):
+            if line.startswith("  "):
+                name, sentence = line[2:].split(": ", 1)
+                about[its, name] = sentence
+            else:
+                its = line
+        for path in glob.glob(os.path.join(folder, "*/*.py")):
             package, name = path.split(os.sep)[-2:]
             if name != "__init__.py":
                 with self.subTest(path=path):
-                    self.assertIn(f"`{name}`", listed.get(package, ""))
+                    self.assertIn(package, listed)
+                    self.assertGreater(len(about[package, name].split()), 2)
         (edits,) = re.findall(r"There are (\d+) edits", text_of("CONTRIBUTING.md"))
         self.assertEqual(int(edits), len(glob.glob(os.path.join(TOP, "crates/*/must-fail/*.edit"))))
 

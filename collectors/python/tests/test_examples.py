@@ -1,5 +1,6 @@
 """The examples at the top say what docs/COLLECTORS.md and README.md here say of them, and end
 well."""
+import glob
 import os
 import re
 import signal
@@ -72,7 +73,7 @@ class Examples(unittest.TestCase):
     def test_what_is_no_fault_is_told(self):
         status, lines, _ = self.told("sqlite_collector.py", "foo", PROGRAM)
         self.assertEqual((status, len(lines)), (2, 1))
-        self.assertIn("foo is no fault", lines[0])
+        self.assertIn("unknown fault foo", lines[0])
         for fault in FAULTS:
             self.assertIn(fault, lines[0])
 
@@ -145,6 +146,25 @@ class Examples(unittest.TestCase):
                 self.assertNotIn("Traceback", text)
                 self.assertEqual(os.listdir(f"{self.folder}/tmp"), [])
                 self.assertEqual(self.of_folder(), [])
+
+    def test_a_bench_that_is_ended_leaves_no_server_behind(self):
+        """At whatever moment, as while a server is made."""
+        self.postgres_is_there()
+        for is_made in (False, True):
+            with self.subTest(is_made=is_made):
+                running = self.begin("../bench/kills.py", "tests.test_killed.KilledOverPostgres")
+                self.addCleanup(running.kill)
+                while not (self.is_served() if is_made else self.of_folder()):
+                    self.assertIsNone(running.poll())
+                    time.sleep(0.02)
+                running.send_signal(signal.SIGTERM)
+                text = running.communicate(timeout=4 * ENDING)[0]
+                self.assertEqual(running.returncode, 1, text)
+                self.assertEqual((os.listdir(f"{self.folder}/tmp"), self.of_folder()), ([], []), text)
+
+    def is_served(self):
+        """A server takes connections at a socket in the folder."""
+        return bool(glob.glob(f"{self.folder}/tmp/*/.s.PGSQL.*"))
 
     def of_folder(self):
         """Processes that name the folder."""

@@ -1,8 +1,14 @@
-"""What is told of violated histories. No program is needed."""
+"""What is told of violated histories, by the refutations of a plain auditor. No built program is
+needed."""
+import functools
 import unittest
 
-from zanteyard import Logged, reasons, words
-from zanteyard.explain._reasons import circle
+from zanteyard import Logged, explain_history, words
+from zanteyard import reasons as reasons_of
+
+from .killing import PLAIN
+
+reasons = functools.partial(reasons_of, program=PLAIN)
 
 
 def txn(*reads, writes="", outcome="committed"):
@@ -39,24 +45,11 @@ class Explaining(unittest.TestCase):
 
     def test_two_sources(self):
         history = [[txn(writes="x")], [txn(writes="x")], [txn(("x", (0, 0)), ("x", (1, 0)))]]
-        self.assertEqual(reasons(history)[-1], "so neither 0.0 nor 1.0 can come first")
+        self.assertEqual(reasons(history)[-1], "so neither 0.0 nor 2.0 can come first")
 
-    def test_what_has_an_order_has_no_circle(self):
-        self.assertIsNone(circle([[txn(writes="x")], [txn(("x", "init"))], [txn(("x", (0, 0)), ("y", (7, 7)))]]))
-
-    def test_no_circle_where_both_sides_are_open(self):
-        reads = [("p", (0, 0)), ("q", (1, 0))]
-        history = [[txn(writes="pq")], [txn(writes="pq")], [txn(*reads)]]
-        self.assertIsNotNone(circle(history))  # p has 1.0 before 0.0, and q 0.0 before 1.0
-        self.assertIsNone(circle([[txn(writes="p")], [txn(writes="p")], [txn(("p", (0, 0)))]]))
-
-    def test_time_is_up(self):
-        base = ("x", (0, 0))
-        lost = [[txn(writes="x"), txn(base, writes="x")], [txn(base, writes="x")]]
-        self.assertEqual(reasons(lost, seconds=0), ["it takes more than 0 s to say why in words; the auditor's refutation says it"])
-        around = [[Logged((("x", (1, 0)),), ("y",))], [Logged((("y", (0, 0)),), ("x",))]]  # seen without what follows of other writers
-        self.assertEqual(len(reasons(around)), 3)
-        self.assertEqual(reasons(around, seconds=-1), ["it takes more than -1 s to say why in words; the auditor's refutation says it"])
+    def test_what_has_an_order(self):
+        told = explain_history([[txn(writes="x")], [txn(("x", "init"))]], program=PLAIN)
+        self.assertEqual((told.arcs, told.lines), ((), ("the auditor finds these by themselves serial",)))
 
     def test_statements_are_told_of_what_is_left(self):
         select, update = "SELECT v FROM t\n  WHERE k = 'x'", "UPDATE t SET v = v + 1 WHERE k = 'y' RETURNING name"

@@ -1,5 +1,5 @@
 """What goes wrong around an audit of a real server: what the application saw, what the audit said,
-and how long anybody waited for it. The table of README.md is what these tests print to the file
+and how long anybody waited for it. The table of README.md sums up what these tests print to the file
 that ZANTEYARD_FAULTS names, if it does."""
 import logging
 import os

@@ -111,7 +111,7 @@ class Keys(unittest.TestCase):
             self.assertFalse(same.is_signed(number, text, signature))
 
     def test_stores_are_those_of_the_list(self):
-        with self.assertRaisesRegex(ZanteyardError, "store 1 is no connection string") as raised:
+        with self.assertRaisesRegex(ZanteyardError, "store 1 isn't a PostgreSQL connection string") as raised:
             ListedStores(["nonsense secret"])
         self.assertNotIn("secret", str(raised.exception))
         listed = ListedStores(["host=a dbname=bank", "postgresql://b/bank"])
@@ -288,7 +288,7 @@ class Daemons(WithRedis, unittest.TestCase):
             daemon = subprocess.Popen(call, stderr=log, env={**os.environ, "PYTHONPATH": PLACE})
         self.addCleanup(daemon.wait)
         self.addCleanup(daemon.kill)
-        self.assertTrue(wait_until(lambda: "it keeps" in self.said() or daemon.poll() is not None), self.said())
+        self.assertTrue(wait_until(lambda: "its folder is" in self.said() or daemon.poll() is not None), self.said())
         self.assertTrue(wait_until(lambda: self.tells.exists("zanteyard audit audit:written")))
         return daemon
 
@@ -300,7 +300,7 @@ class Daemons(WithRedis, unittest.TestCase):
         daemon = self.serve()
         self.tells.set("zanteyard audit audit:auditor", b"somebody \xff else")
         self.assertEqual(daemon.wait(SOON), 2, self.said())
-        self.assertIn("another auditor has taken the audit", self.said())
+        self.assertIn("another auditor took over the audit", self.said())
         self.assertLess(len(self.said()), 4000)
         self.assertEqual(self.tells.get("zanteyard audit audit:auditor"), b"somebody \xff else")
 
@@ -326,7 +326,7 @@ class Daemons(WithRedis, unittest.TestCase):
             thread = threading.Thread(target=lambda: [][1])
             thread.start()
             thread.join()
-        self.assertEqual(faults, ["a thread ended by IndexError: list index out of range"])
+        self.assertEqual(faults, ["a thread died of IndexError: list index out of range"])
         self.assertIn("Traceback", told.output[0])
 
 

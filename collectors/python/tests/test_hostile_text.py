@@ -23,6 +23,7 @@ from zanteyard.core._visible import shown, shown_lines
 from zanteyard.core.errors import ScriptMistakeError, ZanteyardError
 from zanteyard.explain._graphviz import quoted
 from zanteyard.explain._html import page_of
+from zanteyard.explain._reasons import explain_history
 from zanteyard.explain._report import story_of
 from zanteyard.explain._script_names import NamedTransaction, ScriptNames, read_names, write_names
 from zanteyard.explain._violation_text import tell_violation
@@ -281,6 +282,14 @@ class Audits(Outputs):
             transaction.commit()
         return auditor
 
+    def story(self, history, before):
+        """Each name begins so."""
+
+        def name(id):
+            return f"{before}{id[0]}.{id[1]}"
+
+        return story_of(history, name, explain_history(history, name))
+
     def test_a_violation_told(self):
         auditor = self.violated()
         self.assertEqual(auditor.round().kind, "violated")
@@ -293,8 +302,7 @@ class Audits(Outputs):
             self.check_file(self.path(f"violation.{end}"), names_it=end == "dot")
         if os.path.exists(self.path("violation.svg")):
             self.check_file(self.path("violation.svg"))
-        story = story_of(auditor.history, lambda id: f"{EVIL}{id[0]}.{id[1]}")
-        self.check(page_of(story, EVIL, EVIL))
+        self.check(page_of(self.story(auditor.history, EVIL), EVIL, EVIL))
 
     def test_statements(self):
         history = [
@@ -305,7 +313,7 @@ class Audits(Outputs):
         tell_violation(history, self.path("violation"), tell=lines.append)
         self.check("\n".join(lines))
         self.check_file(self.path("violation.dot"))
-        self.check(page_of(story_of(history, lambda id: f"{id[0]}.{id[1]}"), "a", "b"))
+        self.check(page_of(self.story(history, ""), "a", "b"))
 
     def test_a_journal(self):
         auditor = self.violated(self.path("journal"))

@@ -89,7 +89,7 @@ class Generated(unittest.TestCase):
                         verdict = verdict_of(form, text)
                     except ImportRefusedError as error:
                         verdict = "refused"
-                        self.assertRegex(str(error), "more than once|nothing was committed")
+                        self.assertRegex(str(error), "more than once|no transaction was committed")
                     else:
                         right = judged(attempts_of(attempts, form == "jepsen-lists"))
                         self.assertIn(verdict, right)
@@ -170,7 +170,7 @@ class Mutated(unittest.TestCase):
             found = FORMS[form].read(text)
             verdict = judged_script(script_of(found).lines)
         except ImportRefusedError as error:
-            if not re.search("nothing was committed", error.why):
+            if not re.search("no transaction was committed", error.why):
                 self.assertIn(error.line_number, range(1, text.count("\n") + 2), error)
             return "refused"
         self.assertIn(verdict, judged(found.attempts))
@@ -203,7 +203,7 @@ class Refusals(unittest.TestCase):
                 6,
                 "once",
             ),
-            ("jepsen-registers", edn("[:w :x nil]"), 1, "what is written"),
+            ("jepsen-registers", edn("[:w :x nil]"), 1, "a written value"),
             ("jepsen-registers", edn("[:w 1.5 1]"), 1, "a key"),
             ("jepsen-registers", edn("[:append :x 1]"), 1, "r and w"),
             ("jepsen-registers", edn("[:r :x [1]]"), 1, "a value"),
@@ -211,48 +211,48 @@ class Refusals(unittest.TestCase):
             ("jepsen-registers", edn(w1).replace("txn", "read"), 1, "function"),
             ("jepsen-registers", edn(w1).replace(":process 0", ":process :a"), 1, "process"),
             ("jepsen-registers", edn(w1).replace(":ok", ":oops"), 2, "type"),
-            ("jepsen-registers", ok % ("ok", w1), 1, "hasn't invoked"),
+            ("jepsen-registers", ok % ("ok", w1), 1, "didn't invoke"),
             ("jepsen-registers", (ok % ("invoke", w1)) * 2, 2, "in flight"),
-            ("jepsen-registers", ok % ("invoke", w1) + ok % ("ok", r1), 2, "another operation"),
-            ("jepsen-registers", ok % ("invoke", w1) + ok % ("ok", ""), 2, "another operation"),
+            ("jepsen-registers", ok % ("invoke", w1) + ok % ("ok", r1), 2, "isn't the operation"),
+            ("jepsen-registers", ok % ("invoke", w1) + ok % ("ok", ""), 2, "isn't the operation"),
             ("jepsen-registers", edn(w1) + "17", 3, "a map"),
-            ("jepsen-registers", edn(w1) + "{", 3, "no end"),
-            ("jepsen-registers", "", 1, "no operation"),
+            ("jepsen-registers", edn(w1) + "{", 3, "isn't closed"),
+            ("jepsen-registers", "", 1, "no client operation"),
             (
                 "jepsen-registers",
                 ok % ("invoke", w1) + ok % ("info", w1) + ok % ("invoke", r1) + ok % ("ok", r1),
                 4,
-                "goes on behind its attempt of line 1",
+                "continues after its attempt on line 1",
             ),
             ("jepsen-lists", edn("[:append 1 1]", "[:append 1 1]", "[:r 1 [1]]"), 6, "once"),
             ("jepsen-lists", edn("[:append 1 1] [:append 1 1]", "[:r 1 [1]]"), 4, "once"),
             ("jepsen-lists", edn("[:r 1 1]"), 1, "a list"),
-            ("jepsen-lists", edn("[:r 1 [nil]]"), 1, "an element"),
+            ("jepsen-lists", edn("[:r 1 [nil]]"), 1, "a list element"),
             ("jepsen-lists", edn("[:w 1 1]"), 1, "r and append"),
             ("jepsen-registers", '{"process": 0, "process": 0}', 1, "twice"),
             ("jepsen-registers", '[{"process": 0.5}]', 1, "process"),
             ("jepsen-registers", '{"process": true}', 1, "process"),
-            ("jepsen-registers", '[\n{"process": NaN}]', 2, "no JSON"),
+            ("jepsen-registers", '[\n{"process": NaN}]', 2, "isn't JSON"),
             ("csv", "a,b\n", 1, "first line"),
             ("csv", csv + "a,0,read,x\n", 2, "fields"),
             ("csv", csv + "a,0,look,x,1\n", 2, "one of read, write"),
-            ("csv", csv + "a,-1,read,x,1\n", 2, "whole numbers"),
+            ("csv", csv + "a,-1,read,x,1\n", 2, "a whole number"),
             ("csv", csv + "a,1,read,x,\na,0,read,x,\n", 3, "ascend"),
             ("csv", csv + "a,0,commit,,\na,0,read,x,\n", 3, "ended"),
             ("csv", csv + "a,0,commit,x,\n", 2, "neither"),
             ("csv", csv + "a,0,write,x,\n", 2, "no value"),
-            ("csv", csv + 'a,0,write,x,"1\n', 2, "no CSV"),
+            ("csv", csv + 'a,0,write,x,"1\n', 2, "isn't CSV"),
             ("csv", csv, 1, "no transaction"),
-            ("polysi", "w(1,1,0,0)\nw(1,1,0)\n", 2, "a line is"),
+            ("polysi", "w(1,1,0,0)\nw(1,1,0)\n", 2, "a line must be"),
             ("polysi", "w(1,1,0,0)\nw(1,2,1,0)\n", 2, "in session 0"),
             ("polysi", "w(1,1,0,0)\nw(1,2,0,1)\nw(2,2,0,0)\n", 3, "ended"),
-            ("polysi", "w(1,0,0,0)\n", 1, "at first"),
-            ("dbcop", dbcop % (event % (1, "false")), 2, "its events did not"),
-            ("dbcop", dbcop % (event % ("0", "true")), 2, "at first"),
+            ("polysi", "w(1,0,0,0)\n", 1, "initial value"),
+            ("dbcop", dbcop % (event % (1, "false")), 2, "its events didn't"),
+            ("dbcop", dbcop % (event % ("0", "true")), 2, "initial value"),
             ("dbcop", dbcop % (event % ("null", "true")), 2, "no value"),
-            ("dbcop", dbcop % '{"write": true}', 2, "an event has"),
+            ("dbcop", dbcop % '{"write": true}', 2, "an event must have"),
             ("dbcop", '{"data": 1}', 1, "list of sessions"),
-            ("dbcop", '{"data": []} 1', 1, "behind"),
+            ("dbcop", '{"data": []} 1', 1, "text after"),
         )
         for form, text, line, why in rows:
             with self.subTest(form=form, text=text):
@@ -266,7 +266,7 @@ class Refusals(unittest.TestCase):
             with open(path, "wb") as file:
                 file.write(b"session,number,operation,key,value\na,0,read,\xff,\n")
             status, out, err = run("import", "csv", path, "-o", script)
-            self.assertEqual((status, out, err), (2, "", "refused: line 2: a.csv is no UTF-8\n"))
+            self.assertEqual((status, out, err), (2, "", "refused: line 2: a.csv isn't UTF-8\n"))
             self.assertEqual(os.listdir(folder), ["a.csv"])
 
     def test_the_initial_value(self):
@@ -441,7 +441,7 @@ class Strict(unittest.TestCase):
         self.assertGreaterEqual(verdicts["violated"], 5)
 
     def test_who_tells_nothing_of_time(self):
-        with self.assertRaisesRegex(ImportRefusedError, "csv tells nothing of time"):
+        with self.assertRaisesRegex(ImportRefusedError, "csv records no times"):
             import_text("csv", sample("sessions.csv"), asks_time=True)
         text = (
             "{:process 0 :type :invoke :f :txn :time 5 :value [[:w :x 1]]}\n"
@@ -488,8 +488,8 @@ class Strict(unittest.TestCase):
             for option in ("--strict", "--realtime"):
                 status, out, err = tried(option)
                 self.assertEqual((status, err), (0, ""))
-                self.assertNotIn("nothing was settled", out)
-                self.assertIn("and the order of time kept", out)
+                self.assertNotIn("no fence was settled", out)
+                self.assertIn("and real-time order explains", out)
                 self.assertGreaterEqual(out.count("serial"), 8)
             status, out, err = run("check", "--promise", "serializable", script)
             self.assertEqual(status, 2)
@@ -597,7 +597,7 @@ class Limits(unittest.TestCase):
                 with self.subTest(form=told, seed=seed, text=text):
                     right = judged(attempts_of(attempts, form == "jepsen-lists"))
                     self.assertIn(judged_script(imported.lines), right)
-                    shared["shared"] += "in the session of another" in " ".join(imported.about)
+                    shared["shared"] += "into the session of a client" in " ".join(imported.about)
         self.assertGreaterEqual(shared["shared"], 20)
         self.assertGreaterEqual(shared[True], 20)
 
@@ -607,7 +607,7 @@ class Limits(unittest.TestCase):
             f"s{at},0,read,x,{at or ''}\ns{at},0,write,x,{at + 1}\n" for at in range(70)
         )
         imported = import_text("csv", head + chain)
-        self.assertIn("6 clients in the session of another one", " ".join(imported.about))
+        self.assertIn("6 clients put into the session of a client", " ".join(imported.about))
         self.assertEqual(json.loads(imported.lines[0])[1], 64)
         apart = "".join(f"s{at},0,write,x,{at + 1}\n" for at in range(70))
         with self.assertRaisesRegex(ImportRefusedError, "70 clients .* at most 64"):

@@ -47,6 +47,16 @@ class ImportGraph(unittest.TestCase):
                 with self.subTest(package=package):
                     self.assertLessEqual({*imported}, {*listed[: listed.index(package)]})
 
+    def test_what_each_module_is_for(self):
+        files = {
+            "__init__.py": '"""All of it."""\n',
+            "lower/__init__.py": "",
+            "lower/_one.py": '"""Counts: one\nby one. And more."""\n',
+            "upper.py": "from .lower import _one\n",
+        }
+        wanted = ["lower", "  _one.py: Counts: one by one", "(top)", "  __init__.py: All of it", "  upper.py: "]
+        self.assertEqual(self.of(files, "--modules"), (0, wanted, []))
+
     def test_what_is_drawn(self):
         files = {
             "__init__.py": "from .upper import call\n",

@@ -197,7 +197,7 @@ class TakenIn(WithProgram):
         self.assertEqual(self.received(), [2, 0])
         with self.assertLogs("zanteyard", logging.INFO) as log:
             self.hand_in((1, 0, fence((0, 0))))
-        self.assertEqual(log.output, ["INFO:zanteyard:client 1 joins as session 2 with 2.0"])
+        self.assertEqual(log.output, ["INFO:zanteyard:client 1 joins as session 2, first with 2.0"])
         self.assertEqual(self.received(), [2, 1, 3])
         self.assertTrue(self.backlog.is_taken(2, 2))
         self.audit.run_round()
@@ -212,7 +212,7 @@ class TakenIn(WithProgram):
         self.assertEqual(self.received(), [1, 0])
         self.hand_in((0, 1, wrote("x")))
         self.assertEqual(self.received(), [2, 0])
-        with self.assertRaisesRegex(AuditLostError, "session 2 is to join behind the fence 4.0, which never came"):
+        with self.assertRaisesRegex(AuditLostError, "session 2 was to join after the fence 4.0, which never arrived"):
             self.audit.find_held()
 
     def test_what_is_closed_waits_too(self):
@@ -225,7 +225,7 @@ class TakenIn(WithProgram):
         self.hand_in((0, 0, fence("init")), (0, 1, fence((0, 0))), (0, 2, fence((0, 1))), (1, None, None))
         self.audit.run_round()
         self.assertEqual(self.audit.vacant(), {1: 0})
-        with self.assertRaisesRegex(AuditLostError, "session 1 can't join: .* from 0.1, and not the last"):
+        with self.assertRaisesRegex(AuditLostError, "session 1 can't join: .* from 0.1, not from the last"):
             self.hand_in((1, 0, fence((0, 1))))
 
     def test_what_follows_a_missing_one_is_not_told_in_its_place(self):
@@ -237,7 +237,7 @@ class TakenIn(WithProgram):
 
     def test_more_than_may_wait(self):
         self.hand_in((2, 0, fence((1, 0))), *((2, number, wrote("x")) for number in range(1, 8)))
-        with self.assertRaisesRegex(AuditLostError, "behind the fence 1.0, which never came"):
+        with self.assertRaisesRegex(AuditLostError, "after the fence 1.0, which never arrived"):
             self.hand_in((2, 8, wrote("x")))
 
     def test_there_is_room_behind_a_cut(self):
@@ -630,7 +630,7 @@ class Fences(WithProgram):
         self.assertEqual((session.number, session.begun), (64, 1))
         outcome = self.one.stop()
         self.assertEqual(outcome.kind, "incomplete")
-        self.assertRegex(str(outcome.failure), "a client can't join: again")
+        self.assertRegex(str(outcome.failure), "a client couldn't join: again")
         self.assertIsNone(self.one._pool.new)
 
     def test_where_the_store_can_not_be_reached_the_client_is_told_so(self):

@@ -305,7 +305,7 @@ class Harmless(WithProgram):
                 with mock.patch.object(live._pool, "take", lambda *_: time.sleep(1.0)):
                     session.run(add_one("y"))
             server.close()
-        self.assertRegex(str(live.stop().failure), "no session is left for a client")
+        self.assertRegex(str(live.stop().failure), "no session is free for a client")
 
     def test_a_client_elsewhere_for_whom_none_is_left_goes_on_unaudited(self):
         live, store = self.live(1, every=1000, policy=Policy(1.0, True, 0.01)), MemoryStore()
@@ -325,7 +325,7 @@ class Harmless(WithProgram):
             server.close()
         outcome = live.stop()
         self.assertEqual((outcome.kind, len(outcome.earlier)), ("incomplete", 1))
-        self.assertRegex(str(outcome.failure), "no session is left for a client: 1 clients have one")
+        self.assertRegex(str(outcome.failure), "no session is free for a client: 1 clients have one")
         self.assertEqual(live.report.kind, "serial")
 
     def test_who_comes_before_a_cut_has_a_session(self):
@@ -362,7 +362,7 @@ class Harmless(WithProgram):
         self.assertEqual([session for session in others if not session.place.is_audited], [])
         outcome = live.stop()
         self.assertEqual(outcome.kind, "incomplete")
-        self.assertIn("no session is left for a client: 33 clients", str(outcome.failure))
+        self.assertIn("no session is free for a client: 33 clients", str(outcome.failure))
 
 
 @unittest.skipUnless(StreamProcess, "redis-py isn't installed")

@@ -108,10 +108,10 @@ class File(WithFolder):
 
     def test_other_versions(self):
         for found, told in (
-            (b"", "is no journal"),
+            (b"", "isn't a journal"),
             (b"zanteyard journal 3\n", "version 3"),
             (b"zanteyard journal 12\nwhatever", "version 12"),
-            (b'["open",2,16]\n', "is no journal"),
+            (b'["open",2,16]\n', "isn't a journal"),
         ):
             self.overwrite(found)
             journal = Journal(self.path)
@@ -142,7 +142,7 @@ class File(WithFolder):
         file = os.path.join(self.folder, "file")
         open(file, "w").close()
         for path in (f"{file}/journal", f"{self.folder}/nowhere/journal", "/proc/journal"):
-            with self.assertRaisesRegex(JournalError, "can't be (locked|there)"):
+            with self.assertRaisesRegex(JournalError, "can't be locked|can't open"):
                 Journal(path)
 
     def test_full_disk(self):
@@ -160,7 +160,7 @@ class File(WithFolder):
             self.room(None)
             self.assertEqual(self.bytes(), whole)
             self.room(room)
-            with self.assertRaisesRegex(JournalError, "can't be written anew: "):
+            with self.assertRaisesRegex(JournalError, "can't be rewritten: "):
                 journal.begin_anew([*texts, b"another"])
             self.room(None)
             self.assertEqual(journal.read(), texts)

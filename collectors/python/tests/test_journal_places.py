@@ -93,7 +93,7 @@ class Places(WithJournal):
             auditor.offer(0, 0, ONE)
         with Auditor(3, 512, PROGRAM, "other", journal=f"{self.path}.other") as other:
             os.rename(self.path, f"{self.path}.other")
-            with self.assertRaisesRegex(JournalError, "is of another run, run"):
+            with self.assertRaisesRegex(JournalError, "belongs to another run, run"):
                 other.start_anew()
         with self.resumed_at(f"{self.path}.other") as auditor:
             self.assertEqual((auditor.run_name, auditor.received), ("run", [1, 0, 0]))
@@ -194,7 +194,7 @@ class Sessions(WithJournal):
                 self.assertEqual(auditor.last_round().kind, "serial")
                 outcome = auditor.outcome()
                 self.assertEqual(outcome.kind, "incomplete")
-                self.assertIn("isn't known", str(outcome))
+                self.assertIn("are unknown", str(outcome))
                 with self.assertRaises(AuditLostError):
                     auditor.round()
 
@@ -246,7 +246,7 @@ class Sessions(WithJournal):
             self.wait(lambda: live.taken_in == 1)
             self.room(50)  # of any file
             session.run(add_one("x"))
-            self.wait(lambda: any("another audit can't begin" in it for it in self.told))
+            self.wait(lambda: any("can't begin another audit" in it for it in self.told))
             session.run(add_one("x"))
             self.room(None)
             self.wait(lambda: live.earlier)

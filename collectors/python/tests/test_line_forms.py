@@ -116,7 +116,7 @@ class AsTheAuditorSays(unittest.TestCase):
                 with redirect_stdout(out), redirect_stderr(err):
                     status = main(["check", file.name])
                 self.assertEqual((status, out.getvalue()), (2, ""))
-                told = f"mistake: line {number} was answered BadLine: "
+                told = f"mistake: line {number} was refused: BadLine: "
                 self.assertTrue(err.getvalue().startswith(told), err.getvalue())
                 self.assertIn(wanted, err.getvalue())
 

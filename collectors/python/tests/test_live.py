@@ -8,11 +8,14 @@ import time
 import unittest
 
 from zanteyard import FENCE, AbortedError, Auditor, AuditorApart, ProgramEndedError, FullError, LiveAuditor, Logged, NoCutError
-from zanteyard import NoMemoryError, Policy, ProgramTooOldError, RefusedError, audited, dot_text, draw, from_start, reasons, smaller, words
+from zanteyard import Explanation, NoMemoryError, Policy, ProgramTooOldError, RefusedError, audited, dot_text, draw
+from zanteyard import explain_history, from_start, reasons, smaller, words
 from zanteyard.core._own_keys import FLAG, MARK
 from zanteyard.program._auditor import PROGRAM
 from zanteyard.live._fragments import fragments
 from zanteyard.stores.memory import MemoryStore
+
+from .killing import PLAIN
 
 
 def add_one(key):
@@ -27,7 +30,7 @@ def set_to(key, value):
 
 
 def no_cut():
-    raise NoCutError("no fence is settled")
+    raise NoCutError("no fence was settled")
 
 
 class WithProgram(unittest.TestCase):
@@ -396,7 +399,7 @@ class MeetingsApart(Meetings):
         self.assertIsInstance(self.failure_by_a_key(), ValueError)
 
     def test_a_program_that_is_not_there(self):
-        with self.assertRaisesRegex(ProgramEndedError, "nowhere can't be started"):
+        with self.assertRaisesRegex(ProgramEndedError, "can't start /nowhere"):
             AuditorApart(1, program="/nowhere")
 
 
@@ -491,7 +494,7 @@ class MadeUp(unittest.TestCase):
 
     def test_a_program_that_can_not_search_beside_its_lines(self):
         auditor = self.auditor(1, {"search": [["no", 1, "BadLine"]]})
-        with self.assertRaisesRegex(ProgramTooOldError, "earlier version"):
+        with self.assertRaisesRegex(ProgramTooOldError, "older than the package"):
             auditor.round()
 
 
@@ -499,7 +502,9 @@ class Pictures(unittest.TestCase):
     def test_the_text(self):
         lost = Logged((("x", "init"),), ("x",))
         with tempfile.TemporaryDirectory() as folder:
-            files = draw([[lost], [lost]], os.path.join(folder, "lost"))
+            explanation = explain_history([[lost], [lost]], program=PLAIN)
+            path = os.path.join(folder, "lost")
+            files = draw([[lost], [lost]], path, explanation=explanation)
             with open(files[0]) as file:
                 text = file.read()
             self.assertTrue(all(os.path.getsize(name) for name in files))
@@ -508,7 +513,8 @@ class Pictures(unittest.TestCase):
         self.assertEqual(text.count("->"), 2)
 
     def test_statements_are_in_the_tooltip(self):
-        text = dot_text([[Logged((), ("x",), "committed", ((("x",), "UPDATE \"t\""),))]])
+        wrote = Logged((), ("x",), "committed", ((("x",), "UPDATE \"t\""),))
+        text = dot_text([[wrote]], explanation=Explanation("so"))
         self.assertIn('group=session0, tooltip="wrote x: UPDATE \\"t\\""];', text)
 
 

@@ -77,7 +77,7 @@ class Guarded(unittest.TestCase):
         late = logging.FileHandler("/nowhere/at/all.log", delay=True)
         with handled(late) as told:
             LOGGER.error("one")
-            self.assertIn("one (the log can't be written: FileNotFoundError", told.getvalue())
+            self.assertIn("one (can't write the log: FileNotFoundError", told.getvalue())
 
     def test_without_standard_error(self) -> None:
         class Full(io.StringIO):
@@ -131,7 +131,7 @@ class Audits(unittest.TestCase):
             self.assertTrue(wait_until(lambda: len(live.earlier) == 1))
             session.run(lambda transaction: transaction.put("x", 1))
             self.assertIs(live.failure, None)
-        self.assertIn("for a test (the log can't be written", told.getvalue())
+        self.assertIn("for a test (can't write the log", told.getvalue())
 
 
     def test_a_commit_that_isnt_audited_is_no_failure(self) -> None:
@@ -143,7 +143,7 @@ class Audits(unittest.TestCase):
                 session.run(lambda transaction: transaction.put("x", 11))
             self.assertEqual(session.run(lambda transaction: transaction.get("x")), 11)
             self.assertEqual(auditor.outcome().kind, "incomplete")
-        self.assertIn("nothing more of session 0 is audited", told.getvalue())
+        self.assertIn("auditing of session 0 has stopped", told.getvalue())
 
 
 if __name__ == "__main__":

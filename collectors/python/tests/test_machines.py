@@ -56,7 +56,7 @@ class Kills(Machines):
         self.daemon()
         self.run_for(20)
         said = self.ended(0)
-        self.assertIn("goes on; it keeps", said)
+        self.assertIn("continues; its folder is", said)
 
     def test_an_audit_that_had_ended_has_ended_for_the_next_daemon_too(self):
         self.silence = self.soon_silent
@@ -67,7 +67,7 @@ class Kills(Machines):
         os.kill(client.pid, signal.SIGSTOP)
         self.kill_daemon()
         state = StateFile(f"{self.folder}/audit/audit.journal")
-        state.write(dataclasses.replace(state.read(), failure="something was done that isn't audited"))
+        state.write(dataclasses.replace(state.read(), failure="some transactions weren't audited"))
         self.daemon()
         self.wait_for(lambda: self.daemons[-1].poll() is not None)
         self.assertEqual(self.daemons[-1].returncode, 4, self.said())
@@ -83,10 +83,10 @@ class Kills(Machines):
             killed = self.client(where, 3 + at % 3, 0.02)
             self.begun(killed)
             killed.wait(SOON)
-        self.wait_for(lambda: self.said().count("nothing was heard of it for") >= len(self.PLACES))
-        self.wait_for(lambda: "cut at" in self.said().rsplit("nothing was heard of it for", 1)[1], 3 * SOON)
+        self.wait_for(lambda: self.said().count("it sent nothing for") >= len(self.PLACES))
+        self.wait_for(lambda: "cut at" in self.said().rsplit("it sent nothing for", 1)[1], 3 * SOON)
         said = self.ended(3)
-        self.assertIn("isn't known, if anything was: nothing was heard of it for 8 s", said)
+        self.assertIn("did is unknown: it sent nothing for 8 s", said)
         self.assertEqual(self.missed, set())  # what was noted was asked of the store
 
 
@@ -99,10 +99,10 @@ class Kills(Machines):
         os.kill(auditor, signal.SIGSTOP)
         self.addCleanup(end_if_there, auditor)
         self.clients[-1].wait(SOON)
-        self.wait_for(lambda: "by the store's word" in self.said() and "isn't known, if anything was" in self.said())
+        self.wait_for(lambda: "says the store" in self.said() and "did is unknown" in self.said())
         self.kill_daemon()
         self.daemon()
-        self.wait_for(lambda: "by the store's word" in self.said())
+        self.wait_for(lambda: "says the store" in self.said())
         self.run_for(10)
         self.ended(3)
         self.assertEqual(self.missed, set())
@@ -131,10 +131,10 @@ class LostSeconds(Machines):
         shutil.copytree(kept, f"{self.redis.folder}/appendonlydir")
         self.redis.start()
         self.daemon()
-        self.wait_for(lambda: "nothing was heard of it for" in self.said())
+        self.wait_for(lambda: "it sent nothing for" in self.said())
         self.run_for(30)
         said = self.ended(3)
-        self.assertRegex(said, r"what was done in the sessions \d+ from its transaction \d+ on isn't known")
+        self.assertRegex(said, r"anything that sessions \d+ \(from transaction \d+ on\) did is unknown")
         self.assertGreater(len(self.missed), 0)
         self.assertEqual(len({session for session, _, _ in self.missed}), 1)
 

@@ -21,7 +21,7 @@ class ManyReads(unittest.TestCase):
                 self.assertEqual(auditor.round().kind, "serial")
         for did in (Logged(reads, []), Logged([], keys)):
             with Auditor(1) as auditor:
-                with self.assertRaisesRegex(RefusedError, "was answered TooLong$") as refused:
+                with self.assertRaisesRegex(RefusedError, "was refused: TooLong$") as refused:
                     auditor.offer(0, 0, did)
                 self.assertLess(len(str(refused.exception)), 300)  # the line has thousands
                 self.assertEqual(auditor.received, [0])
@@ -53,7 +53,7 @@ class ManyReads(unittest.TestCase):
             with self.subTest(reads=reads, writes=writes):
                 outcome = self.outcome(reads, writes)
                 self.assertEqual(outcome.whole.kind, "incomplete")
-                self.assertIn("was answered TooLong", str(outcome))
+                self.assertIn("was refused: TooLong", str(outcome))
 
 
 if __name__ == "__main__":

@@ -167,7 +167,7 @@ class AfterTheCommit(NoHarm):
         auditor = self.auditor()
         with self.assertLogs("zanteyard", "ERROR") as log:
             self.debit(auditor, auditor.program.kill)
-        self.assertIn("nothing more is audited", log.output[0])
+        self.assertIn("auditing has stopped", log.output[0])
 
     def test_an_auditor_of_somebody_elses_that_fails(self):
         class Fails:
@@ -417,7 +417,7 @@ class Outcomes(NoHarm):
         outcome = live.stop()
         self.assertEqual(outcome.kind, "pending")
         self.assertEqual(outcome.pending, (((0, 0), "x", (2, 7)),))
-        self.assertIn("0.0 read x from 2.7, which never came", str(outcome))
+        self.assertIn("0.0 read x from 2.7, which never arrived", str(outcome))
 
     def test_serial_alone_where_all_was_audited(self):
         live = self.live(self.auditor())
@@ -498,12 +498,12 @@ class Standing(NoHarm):
         for number in range(40):
             backlog.put((0.0, 0, number, None))
         for room, why, wanted in (
-            (100, None, "the auditor can't keep up: 40 transactions wait for it"),
-            (100, "no fence was settled", "the auditor can't keep up: 40 transactions wait for it"),
-            (7, None, "the auditor has room for 7 transactions more, 40 transactions wait for it, "
-             "and the next cut hasn't come"),
-            (0, "no fence was settled", "the auditor has room for 0 transactions more, "
-             "40 transactions wait for it, and no fence was settled"),
+            (100, None, "the auditor can't keep up: 40 transactions are waiting"),
+            (100, "no fence was settled", "the auditor can't keep up: 40 transactions are waiting"),
+            (7, None, "the auditor has room for 7 more transactions, but 40 transactions are waiting: "
+             "the next cut hasn't been made"),
+            (0, "no fence was settled", "the auditor has room for 0 more transactions, "
+             "but 40 transactions are waiting: no fence was settled"),
         ):
             backlog.room, audit.why_no_cut = room, why
             self.assertEqual(live._no_room(), wanted)
@@ -526,7 +526,7 @@ class Standing(NoHarm):
                 outcome = live.stop()
                 self.assertEqual((outcome.kind, outcome.audited, outcome.earlier), ("serial", 3, ()))
                 self.assertEqual(len(log.output), 1)
-                self.assertIn("rounds can't be told", log.output[0])
+                self.assertIn("can't report a round", log.output[0])
 
     def test_who_rather_waits_waits_and_nothing_is_lost(self):
         auditor = self.auditor()

@@ -161,13 +161,55 @@ class Noted(unittest.TestCase):
         with self.assertRaises(LostError):
             in_files({self.path: None})
 
-    UNCLEAR = "it has read what a forked child wrote"
+    UNCLEAR = "it read what a forked child wrote"
 
     def unclear(self, outcome, is_last=False):
         """A transaction of which its client didn't know itself what it had done."""
         self.notes.write(0, 0, None, as_bytes(DID), ("x",), True, False, self.UNCLEAR)
         if outcome is not None:
             self.notes.write(0, 0, outcome, None, None, True, is_last, self.UNCLEAR)
+
+    def told_of_the_living(self, come=0):
+        """Of a process that isn't heard of, and may go on."""
+        backlog, place = Backlog(8), Place(0)
+        if come:
+            backlog.count(0, come - 1)
+        crashed = CrashedProcess(in_files({self.path: None}), "run", backlog.next_number, is_dead=False)
+        return [*crashed.told(place)], place
+
+    def test_what_a_process_may_do_behind_its_notes_is_left_open(self):
+        for number in range(2):
+            self.before(number)
+            self.notes.write(0, number, "committed", None)
+        found, place = self.told_of_the_living()
+        self.assertEqual((found, place.begun), ([(0, DID), (1, DID)], 2))
+        self.assertEqual((place.is_ended, place.unknown), (True, ((2, 3),)))
+        found, place = self.told_of_the_living(come=2)
+        self.assertEqual((found, place.begun, place.is_ended, place.unknown), ([], 2, True, ((2, 3),)))
+
+    def test_what_a_living_process_was_not_answered_is_left_open(self):
+        self.before(0)
+        self.notes.write(0, 0, "committed", None)
+        self.before(1)
+        found, place = self.told_of_the_living()
+        self.assertEqual([(number, logged.outcome) for number, logged in found], [(0, "committed"), (1, "unknown")])
+        self.assertEqual((place.begun, place.is_ended, place.unknown), (2, True, ((1, 2),)))
+
+    def test_of_what_can_not_be_found_out_the_writes_alone_are_told(self):
+        read, wrote = (("x", "init"), "SELECT x"), (("y",), "UPDATE y")
+        did = Logged([("x", "init")], ["y"], statements=[read, wrote], values=[("read", "x", "1"), ("wrote", "y", "2")])
+        self.before(0, did)
+        (_, told), = self.told()[0]
+        self.assertEqual((told.reads, told.writes, told.from_before), ((), ["y"], 0))
+        self.assertEqual((told.statements, told.values), ((wrote,), (("wrote", "y", "2"),)))
+
+    def test_where_the_second_file_can_not_be_made_the_first_one_goes(self):
+        path = f"{os.path.dirname(self.path)}/more"
+        os.mkdir(f"{path}.1")
+        opened = len(os.listdir("/proc/self/fd"))
+        with self.assertRaises(OSError):
+            CrashNotes(path, {}, lambda: None)
+        self.assertEqual((os.path.exists(f"{path}.0"), len(os.listdir("/proc/self/fd"))), (False, opened))
 
     def test_what_its_client_did_not_know_is_lost(self):
         for outcome, is_last in (("committed", False), ("unknown", True), ("unknown", False)):
@@ -324,7 +366,7 @@ os.kill(os.getpid(), signal.SIGKILL)
                 self.assertEqual(os.listdir(server.notes), [])
             outcome = live.stop()
             self.assertEqual(outcome.kind, "incomplete", outcome)
-            self.assertIn("it has forked", str(outcome.failure))
+            self.assertIn("it forked", str(outcome.failure))
 
     def test_they_are_found_from_any_folder(self):
         self.addCleanup(os.chdir, os.getcwd())

@@ -117,7 +117,7 @@ class Package(unittest.TestCase):
     def test_it_has_the_licences_of_what_is_inside(self):
         with zipfile.ZipFile(self.wheel) as packed:
             names = {os.path.basename(name) for name in packed.namelist() if ".dist-info/" in name}
-        wanted = {"LICENSE", "LICENSES.md"}
+        wanted = {"LICENSE", "LICENSES.md", "LICENSE-TEXTS.txt"}
         if os.path.isfile(make_wheel.PROXY) and os.path.isfile(make_wheel.LGPL):
             wanted.add("LICENSE.LGPL-2.1")
         self.assertLessEqual(wanted, names)
@@ -154,7 +154,7 @@ class Package(unittest.TestCase):
                 self.assertIn("These transactions can't have run one at a time", file.read())
         ended = subprocess.run([f"{TOP}/try.sh", self.folder], env=its, capture_output=True, text=True)
         self.assertEqual(ended.returncode, 1)
-        self.assertIn(f"{self.folder} is there, and no earlier try's", ended.stderr)
+        self.assertIn(f"{self.folder} exists, and isn't from an earlier try", ended.stderr)
 
     def test_python_dash_m_is_the_same(self):
         ended = self.run_it(f"{self.folder}/venv/bin/python", "-m", "zanteyard", "--version")

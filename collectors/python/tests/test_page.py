@@ -12,8 +12,12 @@ from zanteyard import Logged
 from zanteyard.explain._shrinking import name
 from zanteyard.explain._charts import RoundSeen
 from zanteyard.explain._html import page_of
+from zanteyard.explain._reasons import explain_history
 from zanteyard.explain._report import Story, story_of
-from zanteyard.promises._kinds import SNAPSHOT
+from zanteyard.promises._kinds import SERIALIZABLE, SNAPSHOT
+
+from .killing import PLAIN
+from .test_explanations import VIOLATED
 
 BROWSER = shutil.which("chromium") or shutil.which("chromium-browser")
 STATEMENT = "SELECT value FROM t WHERE key = '<x>' & 1"
@@ -26,8 +30,16 @@ def history():
     return [[first, second], [second]]
 
 
+def story(its=None, script="", **more):
+    """Of a history, by the refutation of a plain auditor."""
+    its = its or history()
+    promise = more.get("promise", SERIALIZABLE)
+    explanation = explain_history(its, name, PLAIN, promise)
+    return story_of(its, name, explanation, script, **more)
+
+
 def page(**more):
-    return page_of(story_of(history(), name, '["open",2,3]\n'), "a bank", "proved", **more)
+    return page_of(story(script='["open",2,3]\n'), "a bank", "proved", **more)
 
 
 class Tags(html.parser.HTMLParser):
@@ -70,7 +82,7 @@ class Page(unittest.TestCase):
 
     def test_a_transaction_reaches_from_its_begin_to_its_commit(self):
         """Under snapshot isolation, where arrows lead between these."""
-        text = page_of(story_of(history(), name, "", promise=SNAPSHOT), "a bank", "proved")
+        text = page_of(story(promise=SNAPSHOT), "a bank", "proved")
         tags = Tags(text)
         self.assertEqual((tags.open, tags.wrong, tags.asked), ([], [], []))
         self.assertEqual(text.count('class="edge"'), 6)  # of three transactions
@@ -80,11 +92,29 @@ class Page(unittest.TestCase):
             ">commit</text>",
             "0.1 begins before 1.0 commits</strong>",
             "A box reaches from the transaction’s begin to its commit.",
-            " begin → ",
+            " begins → ",
         ):
             with self.subTest(wanted=wanted):
                 self.assertIn(wanted, text)
         self.assertNotIn("class=\"edge\"", page())
+
+    def test_two_cases_fold(self):
+        """Each has its circle, its picture and its reasons; and each number is in both."""
+        text = page_of(story(VIOLATED["a split"][0]), "a bank", "proved")
+        tags = Tags(text)
+        self.assertEqual((tags.open, tags.wrong, tags.asked), ([], [], []))
+        self.assertNotIn("script", tags.seen)
+        for each in ('<details class="case" open>', '<svg class="timeline', '<p class="around">'):
+            self.assertEqual(text.count(each), 2)
+        self.assertIn("<summary>If 1.0 comes before 0.0</summary>", text)
+        self.assertIn("<summary>If 4.0 comes before 1.0</summary>", text)
+        self.assertEqual(text.count("Neither is possible."), 2)  # where it begins, and its reasons
+        told = re.findall(r'<span class="mark">(\d+)</span>', text)
+        drawn = re.findall(r'<text class="number"[^>]*>(\d+)</text>', text)
+        self.assertEqual(sorted(told), sorted(drawn))
+        self.assertEqual(len(told), len({*told}))
+        ids = re.findall(r' id="([^"]*)"', text)
+        self.assertEqual(len(ids), len({*ids}))
 
     def test_what_is_on_it(self):
         text = page()
@@ -109,7 +139,7 @@ class Page(unittest.TestCase):
             ((2, 1), "a bank: 3 transactions of 2 sessions</p>"),
             ((4, 1), "a bank: 5 transactions of 2 sessions; 3 of the transactions are shown here</p>"),
         ):
-            text = page_of(story_of(history(), name, counts=counts), "a bank", "proved")
+            text = page_of(story(counts=counts), "a bank", "proved")
             self.assertIn(wanted, text)
 
     def test_other_verdicts(self):
@@ -224,7 +254,7 @@ class InABrowser(unittest.TestCase):
         self.assertGreater(boxes, 1000)  # of the second column
         write, first = Logged((), ("y",)), history()
         first[1].append(Logged((("x", (1, 0)), ("y", (2, 0))), ("x",)))
-        three = page_of(story_of([*first, [write]], name, ""), "a bank", "proved")
+        three = page_of(story([*first, [write]]), "a bank", "proved")
         self.assertIn("columns-3", three)
         shades = [row[-1] for row in seen(three)]
         self.assertGreater(sum(max(it) < 240 for it in shades), 50)

@@ -4,11 +4,13 @@ import threading
 import unittest
 from contextlib import suppress
 from dataclasses import fields
+from unittest import mock
 
 from zanteyard import AbortedError, Auditor, LiveAuditor
 from zanteyard.program._auditor import PROGRAM
 from zanteyard.live._backlog import Backlog
 from zanteyard.live._audit_start import coverage_from_now
+from zanteyard.live._quiesce_coordinator import Met
 from zanteyard.stores.memory import MemoryStore
 from zanteyard.live._session_pool import SessionPool
 from zanteyard.remote._remote_sessions import RemoteGroup
@@ -32,6 +34,43 @@ class Told(unittest.TestCase):
         """Who changes that gives its form another number, too: a process of before wouldn't understand it."""
         names = "number begun is_due has_flag is_audited is_ended is_lent unknown must_join client"
         self.assertEqual((FORM, [field.name for field in fields(Place)]), (5, names.split()))
+
+
+@unittest.skipUnless(os.path.isfile(PROGRAM), f"{PROGRAM} is not built")
+class Meetings(unittest.TestCase):
+    def test_a_meeting_after_which_nothing_could_be_forgotten_says_so(self):
+        """Unless it has failed itself: then the next one comes sooner for that reason."""
+        with Auditor(2) as auditor:
+            live = LiveAuditor(auditor, seconds=3600.0)
+            live.stop()  # its thread meets no more
+            for failure, is_cut, why in (
+                *((None, False, "no fence was settled"), (None, True, None)),
+                *(("a client hung", False, "a client hung"), ("a client hung", True, "a client hung")),
+            ):
+                def run_round(goes_on):
+                    live._figures.cuts += is_cut
+
+                with mock.patch.object(live._coordinator, "meet", return_value=Met(failure, 0)):
+                    with mock.patch.object(live._audit, "run_round", run_round):
+                        live._meet()
+                self.assertEqual(live._audit.why_no_cut, why)
+                self.assertEqual(live._in_vain == 0, is_cut)
+
+
+@unittest.skipUnless(os.path.isfile(PROGRAM), f"{PROGRAM} is not built")
+class Added(unittest.TestCase):
+    def test_a_session_that_comes_as_its_process_leaves_hands_nothing_in(self):
+        class Leaving(LiveAuditor):
+            _leaves = property(lambda self: True)
+
+        with Auditor(2) as auditor:
+            live = Leaving(auditor, seconds=3600.0)
+            session = live.session(MemoryStore().connect())
+            self.assertEqual((session.is_open, session.renew), (False, None))
+            with self.assertRaisesRegex(ValueError, "has ended"):
+                session.run(add_one("x"))
+            outcome = live.stop()
+            self.assertEqual((outcome.handed_in, [*map(list, auditor.history)]), (0, [[], []]))
 
 
 class LentPlaces(unittest.TestCase):

@@ -272,7 +272,7 @@ class Postgres(unittest.TestCase):
                 go_on(with_it)
             outcome = auditor.outcome()
             self.assertEqual((outcome.kind, outcome.audited, outcome.handed_in), ("incomplete", 0, 1))
-            self.assertIn("can't be found out in time", str(outcome))
+            self.assertIn("can't find out in time", str(outcome))
             auditor.start_anew()  # as a LiveAuditor does
             session.claim_at = 0.0
             session.place.begun = 0

@@ -93,7 +93,7 @@ class Elsewhere(TwoProcesses, test_live.Meetings):
         self.cut_off(other)
         self.wait_for(lambda: live.is_over and self.client.is_over and other.is_over)
         self.assertIsInstance(live.failure, ProgramEndedError)
-        self.assertIn(f"the process of the sessions {b.number} is lost", str(live.failure))
+        self.assertIn(f"the client process with sessions {b.number} was lost", str(live.failure))
         self.assertEqual((live.report.kind, live.taken_in), ("serial", 2))
         a.run(add_one("x"))  # the client goes on
 
@@ -108,7 +108,7 @@ class Elsewhere(TwoProcesses, test_live.Meetings):
         self.wait_for(lambda: other._is_gone)
         b.run(add_one("x"))
         self.wait_for(lambda: live.is_over)
-        self.assertIn("is lost", str(live.failure))
+        self.assertIn("was lost", str(live.failure))
 
     def test_no_more_idle_sessions_are_closed_than_others_are_left(self):
         live, store = self.live(4, every=1, idle=600.0), MemoryStore()
@@ -148,7 +148,7 @@ class Elsewhere(TwoProcesses, test_live.Meetings):
 
         def is_late():  # one that fails otherwise, since all is slow, is followed by another one
             a.run(add_one("x"))
-            return any("hasn't answered" in line for line in self.told)
+            return any("didn't answer" in line for line in self.told)
 
         self.wait_for(is_late)
         RemoteGroup.patience = live._pace.patience = 60.0
@@ -207,7 +207,7 @@ class Elsewhere(TwoProcesses, test_live.Meetings):
 
         def is_missed():  # a's process may be late, too
             a.run(add_one("x"))
-            return any(f"sessions {b.number} hasn't answered" in line for line in self.told)
+            return any(f"sessions {b.number} didn't answer" in line for line in self.told)
 
         self.wait_for(is_missed)
         RemoteGroup.patience, live._pace.patience, stuck.tell = 60.0, 60.0, plain  # where other programs have the processors
@@ -235,7 +235,7 @@ class Elsewhere(TwoProcesses, test_live.Meetings):
         return live.cuts > 0
 
     def test_a_key_that_can_not_be_handed_over_ends_the_audit_and_no_client(self):
-        told = "transaction 0 of session 0 can't be handed over"
+        told = "can't hand over transaction 0 of session 0"
         self.assertIn(told, str(self.failure_by_a_key()))
 
     def test_another_program_is_let_in(self):

@@ -137,7 +137,7 @@ class Killed(OfSnapshots):
         self.assertEqual(rewriting.asked(["offer", 0, 3, [[[], []]]]), [["offer", 0, 6, [[[], []], [[], []]]]])
 
     def test_what_isnt_split(self):
-        with self.assertRaisesRegex(JournalError, "isn't what it was given"):
+        with self.assertRaisesRegex(JournalError, "differs from what it was given"):
             KeptRewriting(SNAPSHOT).told(["save", "remain", 0, 0], [["offer", 0, 0, [[[], []], [[], [5]]]]])
 
 
@@ -147,7 +147,7 @@ class Promises(OfSnapshots):
             self.path = os.path.join(self.folder, ours)
             with self.auditor(promise=ours) as auditor:
                 auditor.offer(0, 0, Logged((), ["x"]))
-            with self.assertRaisesRegex(JournalError, "asks for .*, and can't go on with "):
+            with self.assertRaisesRegex(JournalError, "asks for .*, so it can't continue with "):
                 self.resumed(promise=others)
             with self.resumed() as auditor:  # whatever was asked for
                 self.assertEqual(auditor.promise.name, ours)

@@ -12,6 +12,7 @@ import unittest
 
 from zanteyard import AbortedError, Auditor, AuditorApart, LiveAuditor, Logged
 from zanteyard.cli._main import main
+from zanteyard.explain._explanation import Explanation
 from zanteyard.explain._reasons import explain_history
 from zanteyard.explain._report import story_lines, story_of
 from zanteyard.explain._shrinking import smaller
@@ -22,6 +23,8 @@ from zanteyard.promises._kinds import ALL, GENERALIZED, PREFIX, SERIALIZABLE, SE
 from zanteyard.promises._kinds import STRICT, STRONG_SNAPSHOT
 from zanteyard.stores.memory import MemoryStore
 from zanteyard.trial import postgres_server
+
+from .killing import PLAIN
 
 TOP = os.path.normpath(os.path.join(os.path.dirname(os.path.abspath(__file__)), "../../.."))
 WORKED = os.path.join(TOP, "examples/promises")
@@ -56,19 +59,20 @@ def timed(logged, began, ended):
 
 
 class Reasons(unittest.TestCase):
-    """No program is needed."""
+    """No built program is needed."""
 
     def test_a_small_part_among_thousands_has_its_name(self):
         """It stands where it stood, with all the others in front of it as if they had done nothing."""
         idle, lost = [txn()] * 10000, txn(("x", "init"), writes="x")
         for promise in (SERIALIZABLE, SNAPSHOT):
-            story = story_of([[*idle, lost], [*idle, lost]], plain_name, promise=promise)
+            history = [[*idle, lost], [*idle, lost]]
+            story = story_of(history, plain_name, Explanation("so"), promise=promise)
             self.assertEqual((story.anomaly.name, story.unnamed), ("lost update", 0))
 
     def test_what_is_too_much_is_said(self):
         """No name is looked for among many, and it isn't asked which promises they break."""
         many = [[txn(("x", "init"), writes="x")] for _ in range(65)]
-        told = "\n".join(story_lines(story_of(many, plain_name)))
+        told = "\n".join(story_lines(story_of(many, plain_name, Explanation("so"))))
         self.assertIn("it wasn't made smaller than 65 transactions, and a name is looked for among at", told)
         told = "\n".join(standing(many, PROGRAM).lines())
         self.assertIn("which promises it breaks wasn't asked: it has 65 transactions", told)
@@ -77,7 +81,7 @@ class Reasons(unittest.TestCase):
 
     def test_a_circle_of_begins_and_commits(self):
         lost = [[txn(("x", "init"), writes="x")]] * 2
-        told = explain_history(lost, promise=SNAPSHOT).lines
+        told = explain_history(lost, program=PLAIN, promise=SNAPSHOT).lines
         self.assertEqual(
             told,
             (
@@ -90,8 +94,8 @@ class Reasons(unittest.TestCase):
 
     def test_a_write_skew_has_none(self):
         skew = [[txn(("x", "init"), writes="y")], [txn(("y", "init"), writes="x")]]
-        told = explain_history(skew, promise=SNAPSHOT)
-        self.assertEqual((told.arcs, told.lines), ((), ("each order fails in its own way",)))
+        told = explain_history(skew, program=PLAIN, promise=SNAPSHOT)
+        self.assertEqual(told.arcs, ())
 
     def test_a_circle_by_time(self):
         stale = [
@@ -103,8 +107,9 @@ class Reasons(unittest.TestCase):
             (STRONG_SNAPSHOT, "0.0 commits before 1.0 begins: 1.0 began 3 ms after 0.0 had ended"),
         ):
             with self.subTest(promise=promise.name):
-                self.assertIn(first, explain_history(stale, promise=promise).lines)
-        self.assertEqual(explain_history(stale).arcs, ())
+                told = explain_history(stale, program=PLAIN, promise=promise)
+                self.assertIn(first, told.lines)
+        self.assertEqual(explain_history(stale, program=PLAIN).arcs, ())
 
 
 @unittest.skipUnless(os.path.isfile(PROGRAM), f"{PROGRAM} is not built")
@@ -221,7 +226,7 @@ class Told(unittest.TestCase):
         self.assertEqual((status, err), (1, ""))
         self.assertIn("lost update", told)
         self.assertIn("0.2 and 1.1 both read key 5 ", told)
-        self.assertNotIn("nothing was settled", told)
+        self.assertNotIn("no fence was settled", told)
 
 
 @unittest.skipUnless(os.path.isfile(PROGRAM), f"{PROGRAM} is not built")
@@ -286,7 +291,7 @@ class OfPostgres(unittest.TestCase):
         example = os.path.join(TOP, "examples/store_faults.py")
         asked = [sys.executable, example, "postgres", "--promises"]
         ran = subprocess.run(asked, capture_output=True, text=True, timeout=600)
-        if "psycopg2 is wanted" in ran.stderr:
+        if "psycopg2 is missing" in ran.stderr:
             self.skipTest("psycopg2 isn't installed")
         self.assertEqual((ran.returncode, ran.stderr), (0, ""))
         with open(os.path.join(TOP, "docs/STORES.md"), encoding="utf-8") as file:

@@ -11,6 +11,7 @@ from zanteyard.core._circumstances import values_of
 from zanteyard.core._records import Logged, as_bytes, unpacked
 from zanteyard.core._redacting import redacted, redacted_bytes, without_constants
 from zanteyard.explain._html import page_of
+from zanteyard.explain._reasons import explain_history
 from zanteyard.explain._report import story_of
 from zanteyard.explain._shrinking import from_start
 from zanteyard.explain._violation_text import tell_violation
@@ -74,7 +75,9 @@ class Audits(unittest.TestCase):
         history, names = from_start(auditor)
         path = os.path.join(self.folder, "violation")
         tell_violation(history, path, names, lines.append)
-        page = page_of(story_of(history, names), "a store", "an auditor")
+        page = page_of(
+            story_of(history, names, explain_history(history, names)), "a store", "an auditor"
+        )
         for name in glob.glob(path + "*"):
             with open(name, encoding="utf-8") as file:
                 lines.append(file.read())

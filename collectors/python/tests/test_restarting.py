@@ -304,7 +304,7 @@ class Resumed(WithJournal):
         self.overwrite(whole[:-1])
         with self.resumed() as auditor:
             self.assertEqual(auditor.received, [2, 0, 0])
-            self.assertIn("a half-written record", "\n".join(self.told))
+            self.assertIn("an incomplete record", "\n".join(self.told))
             auditor.offer(0, 2, Logged((), ("key 2",)))
         with self.resumed() as auditor:
             self.assertEqual(auditor.received, [3, 0, 0])
@@ -321,7 +321,7 @@ class Resumed(WithJournal):
                 self.resumed()
             self.assertEqual(self.bytes(), found)
         os.unlink(self.path)
-        with self.assertRaisesRegex(JournalError, "there is no journal"):
+        with self.assertRaisesRegex(JournalError, "no such journal"):
             self.resumed()
 
     def test_damaged_while_it_runs(self):
@@ -357,10 +357,10 @@ class Resumed(WithJournal):
             with self.assertRaises(JournalInUseError):
                 self.resumed()
             auditor.offer(0, 0, ONE)
-        with self.assertRaisesRegex(JournalError, "there already"):
+        with self.assertRaisesRegex(JournalError, "exists: continue it"):
             self.auditor()
         self.path = os.path.join(self.path, "journal")
-        with self.assertRaisesRegex(JournalError, "is no folder"):
+        with self.assertRaisesRegex(JournalError, "isn't a folder"):
             self.auditor()
         self.path = os.path.join(self.folder, "nowhere", "journal")
         with self.assertRaisesRegex(JournalError, "can't be locked: No such file"):
@@ -368,7 +368,7 @@ class Resumed(WithJournal):
         self.path = os.path.join(self.folder, "another")
         with self.assertRaises(ProgramEndedError):
             Auditor(1, 1, "/nowhere", journal=self.path)
-        with self.assertRaisesRegex(JournalError, "can't give out what it keeps"):
+        with self.assertRaisesRegex(JournalError, "can't save its state"):
             Auditor(1, 1, self.old_program(), journal=self.path)
         self.assertFalse(os.path.exists(self.path))
         self.auditor()

@@ -119,8 +119,8 @@ class Apart(WithJournal):
             self.assertEqual(outcome.audited, outcome.handed_in)
             self.assertGreaterEqual(outcome.audited, 90)
             told = "\n".join(self.told)
-            self.assertIn("cobra_audit ended with status -9; another one is started", told)
-            self.assertIn("can't be reached", told)
+            self.assertIn("cobra_audit ended with status -9; starting another one", told)
+            self.assertIn("can't reach", told)
 
     def test_another_audit(self):
         """Its journal takes the place of the last one's."""

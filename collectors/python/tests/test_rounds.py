@@ -549,7 +549,7 @@ class BelowALiveAudit(WithMadeUp):
         last = rounds[-1]
         self.assertEqual((last.report.kind, last.transactions, last.remaining), ("serial", 3, 3))
         self.assertEqual((last.cut, clients[0]), (None, (1, 0, 0, False)))
-        self.assertEqual(str(clients[0]), "client 1 begins session 0 with 0.0")
+        self.assertEqual(str(clients[0]), "client 1 begins session 0, first with 0.0")
 
     def test_what_a_callback_raises_harms_nothing(self):
         calls = {name: lambda told: 1 // 0 for name in ("tell", "on_round", "on_client")}

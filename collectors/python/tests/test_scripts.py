@@ -37,7 +37,7 @@ HANDED = [  # the same, handed over
     '["offer",1,0,[[[[0,0,1]],[0]]]]',
     '["resumed"]',
 ]
-OF_PARTS = "(the script resumes another: a verdict is of every history that the parts stand for)"
+OF_PARTS = "(the script continues another one: a verdict holds for every history that the parts can stand for)"
 
 
 ENDS = b'["round"', b'["finish"', b'["answer"', b'["collect"'  # lines that are answered by a report
@@ -242,7 +242,7 @@ class Scripts(unittest.TestCase):
             with self.subTest(refusal=refusal):
                 status, out, err = run("check", self.path([*CUT, line]))
                 self.assertEqual(status, 2, out)
-                self.assertIn(f"mistake: line 6 was answered {refusal}: ", err)
+                self.assertIn(f"mistake: line 6 was refused: {refusal}: ", err)
                 self.assertIn(advice, err)
 
     def test_a_script_that_resumes_another(self):
@@ -278,7 +278,7 @@ class Scripts(unittest.TestCase):
             status, _, err = run("check", self.path(HANDED[:end]))
             self.assertEqual((status, 'up to ["resumed"]' in err), (2, True), err)
         status, _, err = run("check", self.path([*HANDED[:2], '["last",[[5,0,2]]]', HANDED[-1]]))
-        self.assertEqual((status, "answered BadParts" in err), (2, True), err)
+        self.assertEqual((status, "refused: BadParts" in err), (2, True), err)
 
 
 def _read(read):

@@ -56,7 +56,7 @@ class Serving(unittest.TestCase):
 
     def begun(self, *more):
         daemon = self.serve(*more)
-        self.wait_for(lambda: "it keeps" in self.said() or daemon.poll() is not None)
+        self.wait_for(lambda: "its folder is" in self.said() or daemon.poll() is not None)
         self.assertIsNone(daemon.poll(), self.said())
         return daemon
 
@@ -82,7 +82,7 @@ class Serving(unittest.TestCase):
 
     def test_a_daemon_of_one_machine_and_its_figures(self):
         daemon = self.begun("--metrics", "127.0.0.1:0", "--rather-wait")
-        port = re.search(r"metrics are at port (\d+)", self.said()).group(1)
+        port = re.search(r"serving metrics on port (\d+)", self.said()).group(1)
         store = MemoryStore()
         with AuditClient(self.socket) as client:
             session = client.session(store.connect())
@@ -129,7 +129,7 @@ class Serving(unittest.TestCase):
     def test_a_client_of_another_version_is_told(self):
         daemon = self.begun()
         with mock.patch("zanteyard.remote._connecting.FORM", 0), mock.patch("zanteyard.remote._connecting.VERSION", "9"):
-            with self.assertRaisesRegex(OtherVersionError, f"of zanteyard {VERSION}, and this one of 9"):
+            with self.assertRaisesRegex(OtherVersionError, f"from zanteyard {VERSION}, and this one from 9"):
                 AuditClient(self.socket)
         self.ended(daemon, 4)
 

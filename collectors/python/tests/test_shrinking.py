@@ -96,7 +96,7 @@ class Shrinking(unittest.TestCase):
         self.assertLessEqual(len(explanation.lines), 20)
         self.assertTrue(explanation.lines[-1].endswith(" can come first"))
         self.check_least(small)
-        picture = dot_text(small, arcs=explanation.arcs)
+        picture = dot_text(small, explanation=explanation)
         self.assertEqual(picture.count("color=red"), len(explanation.arcs))
 
     def check_least(self, small):
@@ -165,7 +165,7 @@ class Shrinking(unittest.TestCase):
                 "so neither 0.0 nor 0.6 can come first",
             ),
         )
-        self.assertEqual(dot_text([txns], arcs=explanation.arcs).count("->"), 2)
+        self.assertEqual(dot_text([txns], explanation=explanation).count("->"), 2)
 
     def test_what_cant_be_written_is_told_behind_the_violation(self):
         lost = Logged((("x", "init"),), ("x",))

@@ -214,7 +214,7 @@ class Each:
         self.assertEqual(status, 1, told)
         self.assertIn(f"{workload} at ", told)
         self.assertIn(" can come first", told)
-        self.assertIn("(to look at: page.html)", told)
+        self.assertIn("(page: page.html)", told)
         status, told = self.audit("--workload", workload, "--seconds", "3", "--processes", "--rather-wait")
         self.assertEqual(status, 0, told)
 
@@ -256,7 +256,7 @@ class Each:
         example = os.path.join(PLACE, "../../examples/store_faults.py")
         status, told = self.command(example, *self.command_words, "--level", level, "--fault", "lost update")
         self.assertEqual(status, 0, told)
-        self.assertIn("Two clients count up from the same number.\n", told)
+        self.assertIn("Two clients increment the same number.\n", told)
         self.assertIn("0.1 and 1.0 both read x from 0.0 and both overwrote it", told)
 
     def test_a_store_that_is_there(self):
@@ -430,7 +430,7 @@ class MariaDB(Each, unittest.TestCase):
         a.store.connection.cursor().execute(make)
         b.run(lambda t: t.put("x", "2"))
         transaction.put("x", "3")
-        with self.assertRaisesRegex(AbortedError, "make tables"):
+        with self.assertRaisesRegex(AbortedError, "CREATE TABLE"):
             transaction.commit()
         self.assertEqual(self.value("x"), "2")
         transaction = a.begin()
@@ -956,7 +956,7 @@ class SQLite(Each, unittest.TestCase):
     def test_a_file_that_isnt_there_isnt_made(self):
         status, told = self.audit("--dsn", f"{self.folder}/typo.db", "--seconds", "1")
         self.assertEqual(status, 2, told)
-        self.assertIn("typo.db isn't there", told)
+        self.assertIn("typo.db doesn't exist", told)
         self.assertNotIn("typo.db", os.listdir(self.folder))
 
     def test_the_journal_is_as_was_asked_for(self):

@@ -80,7 +80,7 @@ class Behind(WithRedis, TwoProcesses, test_live.Meetings):
         return client
 
     def test_a_key_that_can_not_be_handed_over_ends_the_audit_and_no_client(self):
-        self.assertIn("transaction 0 of session 0 can't be handed over", str(self.failure_by_a_key()))
+        self.assertIn("can't hand over transaction 0 of session 0", str(self.failure_by_a_key()))
 
     def test_two_processes_meet(self):
         """And the Redis, and they themselves, keep little of it."""
@@ -112,7 +112,7 @@ class Behind(WithRedis, TwoProcesses, test_live.Meetings):
         self.server._held_at = time.monotonic() + SOON  # else it might say meanwhile that it has it for half a second
         with Auditor(1) as auditor, mock.patch("zanteyard.remote.streams.HELD", 0.5):
             live = LiveAuditor(auditor)
-            with self.assertRaisesRegex(AuditTakenError, "another auditor has it"):
+            with self.assertRaisesRegex(AuditTakenError, "another auditor has the audit"):
                 StreamServer(live, self.redis.dsn, "bank")
             live.stop()
 
@@ -186,7 +186,7 @@ class Behind(WithRedis, TwoProcesses, test_live.Meetings):
     def nobody_answers(self, client):
         """Who asks for a session is told that soon."""
         with mock.patch("zanteyard.remote._client.ANSWERING", 0.3), mock.patch.object(client, "policy", Policy(0.0)):
-            with self.assertRaisesRegex(ProgramLateError, "hasn't answered"):
+            with self.assertRaisesRegex(ProgramLateError, "didn't answer"):
                 yield
 
     def test_a_place_that_is_told_too_late_to_who_leaves_keeps_no_cut_away(self):
@@ -284,7 +284,7 @@ class Behind(WithRedis, TwoProcesses, test_live.Meetings):
         names, given_up = self.server.names, other._messages.client
         self.assertEqual(self.tells.hkeys(names.clients), [])  # what is read ten times a second
         self.assertGreater(self.tells.ttl(names.buried(given_up)), 0)
-        self.assertIn(f"the sessions {b.number} from its transaction 1 on isn't known", str(outcome.failure))
+        self.assertIn(f"sessions {b.number} (from transaction 1 on) did is unknown", str(outcome.failure))
         self.assertEqual([one.source for one in outcome.pending], [(b.number, 1)])
 
 
@@ -424,10 +424,10 @@ class GoneOnWith(WithRedis, unittest.TestCase):
                 self.wait_for(lambda: again.taken_in == 2)
             server.close()
             self.assertEqual(again.stop().kind, "serial")
-            with self.assertRaisesRegex(JournalError, "is older than what its audit came to"):
+            with self.assertRaisesRegex(JournalError, "is older than the state of its audit"):
                 self.begun(Auditor.resumed(f"{older}/journal"))
             self.tells.delete(names.written)
-            with mock.patch("zanteyard.remote.streams.FORM", 0), self.assertRaisesRegex(JournalError, "has clients of version"):
+            with mock.patch("zanteyard.remote.streams.FORM", 0), self.assertRaisesRegex(JournalError, "has clients of zanteyard"):
                 self.begun(Auditor.resumed(f"{self.copied(folder, 'newest')}/journal"))
             self.assertIsNone(self.tells.get(names.auditor))
 

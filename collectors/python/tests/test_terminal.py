@@ -61,14 +61,14 @@ class OnATerminal(unittest.TestCase):
             return text
 
     def test_verdicts_have_their_colours(self):
-        self.assertIn(f"at the end: {RED}violated{PLAIN}: no order", self.of(LOST))
+        self.assertIn(f"at the end: {RED}violated{PLAIN}: no serial order", self.of(LOST))
         self.assertIn(f"at the end: {GREEN}serial{PLAIN}: ", self.of(SERIAL))
 
     def test_none_where_they_arent_wanted(self):
         for more in ({"NO_COLOR": "1"}, {"TERM": "dumb"}):
             with self.subTest(more=more):
                 text = self.of(LOST, **more)
-                self.assertIn("at the end: violated: no order", text)
+                self.assertIn("at the end: violated: no serial order", text)
                 self.assertNotIn("\x1b[1", text)
 
     def test_none_on_a_pipe(self):

@@ -2,7 +2,7 @@
 import os
 import unittest
 
-from zanteyard import Auditor, Session
+from zanteyard import AbortedError, Auditor, OutcomeUnknownError, Session
 from zanteyard.program._auditor import PROGRAM
 from zanteyard.stores.memory import MemoryStore
 
@@ -19,6 +19,17 @@ class Interrupted:
     def commit(self):
         self.connection.commit()
         raise KeyboardInterrupt
+
+
+class Unanswered(Interrupted):
+    """One that is lost behind its commit, and of which the store knows nothing."""
+
+    def commit(self):
+        self.connection.commit()
+        raise OutcomeUnknownError("the connection was lost")
+
+    def outcome(self):
+        return "unknown"
 
 
 @unittest.skipUnless(os.path.isfile(PROGRAM), f"{PROGRAM} is not built")
@@ -53,6 +64,27 @@ class Transactions(unittest.TestCase):
         with session.transaction() as transaction:
             self.assertEqual(transaction.get("x"), "1")
         self.assertEqual(self.auditor.round().kind, "serial")
+
+    def test_how_often_an_attempt_is_made(self):
+        session, numbers = self.session(self.store.connect()), []
+
+        def refused(transaction):
+            numbers.append(transaction.number)
+            raise AbortedError("a serialization failure")
+
+        with self.assertRaises(AbortedError):
+            session.run(refused)
+        with self.assertRaises(AbortedError):
+            session.run(refused, attempts=3)
+        self.assertEqual(numbers, [*range(13)])
+
+    def test_of_what_may_not_be_there_the_writes_alone_are_told(self):
+        session = self.session(Unanswered(self.store.connect()))
+        with self.assertRaises(OutcomeUnknownError):
+            session.run(lambda transaction: (transaction.get("y"), transaction.put("x", "1")))
+        (did,) = self.auditor.history[0]
+        self.assertEqual((did.outcome, [*did.reads], [*did.writes]), ("unknown", [], ["x"]))
+        self.assertEqual([*map(tuple, did.values)], [("wrote", "x", "'1'")])
 
     def test_an_interrupt_behind_the_commit_makes_nothing_up(self):
         session = self.session(Interrupted(self.store.connect()))

@@ -284,8 +284,8 @@ class Postgres(Pairs, Quiet):
                 with self.assertLogs("zanteyard", logging.WARNING) as told:
                     Session(auditor, 0, weak).run(count)
                 self.assertIn("permission denied for function pg_control_system", told.output[0])
-                self.assertIn("doesn't tell which one it is", told.output[1])
-                with self.assertRaisesRegex(StoreUnfitError, "a store that doesn't tell which one it is"):
+                self.assertIn("doesn't identify itself", told.output[1])
+                with self.assertRaisesRegex(StoreUnfitError, "a store that doesn't identify itself"):
                     Session(auditor, 1, self.opened(("postgres", self.server.dsn))).run(count)
             finally:
                 cursor.execute("GRANT EXECUTE ON FUNCTION pg_control_system() TO PUBLIC")
@@ -505,7 +505,7 @@ class InMemory(Quiet):
                 first, second = self.stores()
                 auditor = self.auditor(kind=kind)
                 Session(auditor, 0, first).run(count)
-                with self.assertRaisesRegex(StoreUnfitError, "the store in memory .*, and this is the store in memory"):
+                with self.assertRaisesRegex(StoreUnfitError, "the in-memory store .*, but this client uses the in-memory store"):
                     Session(auditor, 1, second).run(count)
                 self.assertEqual(auditor.outcome().kind, "serial")
 
@@ -565,7 +565,7 @@ class InMemory(Quiet):
         session.run(count)
         session.store = second
         met = live._coordinator.meet(SOON, 600.0)
-        self.assertIn("two stores behind one auditor", str(met.failure))
+        self.assertIn("one auditor would take two stores", str(met.failure))
         self.assertEqual([*second.shared.versions], [])
         session.store = first
         session.run(count)
@@ -578,21 +578,21 @@ class InMemory(Quiet):
         for stores in ((NoWord(first), second), (first, NoWord(second)), (Told(first, None), second)):
             auditor = self.auditor()
             Session(auditor, 0, stores[0]).run(count)
-            with self.assertRaisesRegex(StoreUnfitError, "a store of your own tells which one it is by its `identity`"):
+            with self.assertRaisesRegex(StoreUnfitError, "a store class of your own identifies its store by `identity`"):
                 Session(auditor, 1, stores[1]).run(count)
         auditor = self.auditor()
         with self.assertLogs("zanteyard", logging.WARNING) as told:
             for number in range(2):
                 Session(auditor, number, NoWord(first.shared.connect())).run(count)
         self.assertEqual(len(told.output), 1)
-        self.assertIn("nobody sees that", told.output[0])
+        self.assertIn("nobody notices", told.output[0])
 
     def test_one_of_the_users_own_tells_a_text(self):
         first, second = self.stores()
         auditor = self.auditor(3)
         Session(auditor, 0, Told(first, "bank at rack 3")).run(count)
         Session(auditor, 1, Told(first.shared.connect(), "bank at rack 3")).run(count)
-        with self.assertRaisesRegex(StoreUnfitError, "about bank at rack 3, and this is bank at rack 4"):
+        with self.assertRaisesRegex(StoreUnfitError, "of bank at rack 3, but this client uses bank at rack 4"):
             Session(auditor, 2, Told(second, "bank at rack 4")).run(count)
         self.assertEqual(auditor.outcome().kind, "serial")
 
@@ -657,7 +657,7 @@ class InMemory(Quiet):
         self.assertEqual((asked, session.met, session.unmet), (["bank"], StoreIdentity("bank", "bank"), None))
         outcome = auditor.outcome()
         self.assertEqual(outcome.kind, "incomplete")
-        self.assertIn("it can't tell now which one it is", str(outcome.failure))
+        self.assertIn("it can't identify itself now", str(outcome.failure))
 
     def test_what_was_aborted_before_it_could_tell_is_no_loss(self):
         first, _ = self.stores()
@@ -716,7 +716,7 @@ class InMemory(Quiet):
         outcome = self.late(second)
         self.assertEqual(second.shared.versions["x"][-1][0], "3")  # the application's
         self.assertEqual(outcome.kind, "incomplete", outcome)
-        self.assertIn("two stores behind one auditor", str(outcome))
+        self.assertIn("one auditor would take two stores", str(outcome))
         self.assertEqual(outcome.audited, 1, outcome)
 
 
@@ -793,7 +793,7 @@ class OverJournals(Quiet):
                     again = self.live(Auditor.resumed(path, PLAIN), elsewhere=True)
                     self.addCleanup(again.auditor.end)
                     with StreamServer(again, server.dsn, silence=SOON), AuditClient(server.dsn) as other:
-                        with self.assertRaisesRegex(StoreUnfitError, "the store in memory"):
+                        with self.assertRaisesRegex(StoreUnfitError, "the in-memory store"):
                             other.session(MemoryStore().connect()).run(count)
                         session.run(count)
                         self.assertTrue(wait_until(lambda: again.taken_in == session.begun))

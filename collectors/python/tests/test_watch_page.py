@@ -10,9 +10,11 @@ import unittest
 from dataclasses import replace
 
 from tests import watch_feed as feed
+from tests.killing import PLAIN
 from tests.test_page import BROWSER, Tags, pixels
 from zanteyard.core._records import Logged
 from zanteyard.explain._charts import RoundSeen
+from zanteyard.explain._reasons import explain_history
 from zanteyard.explain._report import story_of
 from zanteyard.watch import _ending as ending
 from zanteyard.watch import _live_page as live_page
@@ -36,7 +38,9 @@ def violation(evil=""):
     read = ("stock(7)", (0, 0))
     both = Logged((read,), ("stock(7)",))
     names = {(0, 0): "T1", (0, 1): "T2", (1, 0): "T3"}
-    story = story_of([[first, both], [both]], names.__getitem__, '["open",2,3]\n', (2, 1))
+    history = [[first, both], [both]]
+    explanation = explain_history(history, names.__getitem__, PLAIN)
+    story = story_of(history, names.__getitem__, explanation, '["open",2,3]\n', (2, 1))
     statements = (
         Statement(f"SELECT qty FROM stock WHERE id = $1 {evil}", ("7" + evil,), feed.AT, (evil,)),
         Statement(f"UPDATE stock SET qty = 4 {evil} /*file='shop.py{evil}',line='3'*/"),
@@ -107,14 +111,21 @@ class Live(unittest.TestCase):
     def test_what_it_says(self):
         for one, wanted in (
             (status(), ["No violation so far", "72.7 % of 11", "an aggregate", "checked up to "]),
+            (
+                status(),
+                [
+                    "<p>4 of the row reads were of versions from before the audit.</p>",
+                    "<p>2 of the row reads were of versions that unchecked transactions wrote.</p>",
+                ],
+            ),
             (status(kind="running", rounds_count=0), ["Nothing has been checked yet"]),
             (
                 status(violations=(violation(),), violations_count=22),
-                ["22 violations found", "/violation/1", "21 violations more, whose"],
+                ["22 violations found", "/violation/1", "21 more violations, whose"],
             ),
             (
                 status(kind="pending", pending=("1.0 read key 5",), pending_count=1),
-                ["some reads still wait", "1 read of the last round", "1.0 read key 5"],
+                ["some reads are still waiting", "In the last round 1 read named", "1.0 read key 5"],
             ),
             (
                 status(is_over=True, ended=(Ended(1, "serial", 2, "the slot was lost", 950.0),)),
@@ -125,9 +136,9 @@ class Live(unittest.TestCase):
                     violations_count=1, is_over=True,
                     ended=(Ended(1, "violated", 2, "a violation was found", 950.0, False),),
                 ),
-                ["An explanation is being made", "Another audit begins soon"],
+                ["An explanation is being prepared", "Another audit begins soon"],
             ),
-            (status(subtransactions="returning"), ["pg_walinspect isn’t there"]),
+            (status(subtransactions="returning"), ["pg_walinspect is missing"]),
             (status(notes=("take care",)), ["take care"]),
         ):
             text = live_page.whole_page(one).replace("&#x27;", "'")
@@ -154,7 +165,7 @@ class Live(unittest.TestCase):
             self.assertGreaterEqual(text.count("\\u202egnp"), 5)
 
     def test_what_was_aborted_doesnt_count_as_left_out(self):
-        its = {"offered": 6, "left_out": {"it aborted": 500, "its version isn't known": 2}}
+        its = {"offered": 6, "left_out": {"it aborted": 500, "its version is unknown": 2}}
         seen = seen_of(feed.coverage(reads=its))
         self.assertEqual((seen.left_out_count, seen.whole_reads), (2, 8))
 
@@ -217,7 +228,7 @@ class Endings(unittest.TestCase):
         its = status(seen=seen_of({}))
         self.assertEqual(
             [*ending.lines_of(its)],
-            ["nothing was checked: no application has read or written a table through the proxy"],
+            ["nothing was checked: no application read or wrote a table through the proxy"],
         )
 
     def test_earlier_audits_count(self):

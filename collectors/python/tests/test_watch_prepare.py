@@ -143,7 +143,7 @@ class Reports(unittest.TestCase):
                 "the tables: 1 of 2 tables can be audited",
                 "  b: no primary key",
                 "    add one",
-                "  what is read and written of these is left out, and counted",
+                "  their reads and writes are left out and counted",
                 "1 thing is missing: an audit can't begin",
             ],
         )
@@ -152,7 +152,7 @@ class Reports(unittest.TestCase):
     def test_a_plugin_that_may_not_be_used(self):
         """It is told along with what keeps a slot from being made, and not only afterwards. A server
         before 15.19 has no such list."""
-        told = f"wal2json isn't in the server's {facts.TRUSTED}: else test_decoding is used; with it "
+        told = f"wal2json isn't in the server's {facts.TRUSTED}: otherwise test_decoding is used; "
         for names, wanted in (
             (None, None),
             ("pgoutput", "pgoutput, wal2json"),
@@ -192,9 +192,9 @@ class OverAServer(unittest.TestCase):
         self.assertEqual(status, 2)
         whole = "\n".join(lines)
         for wanted in (
-            "MISSING wal_level is replica, and has to be logical",
-            f"MISSING the table {facts.FENCE} isn't there",
-            "ok      the role postgres may replicate",
+            "MISSING wal_level is replica, but must be logical",
+            f"MISSING the table {facts.FENCE} doesn't exist",
+            "ok      the role postgres has the right to replicate",
             "note    max_slot_wal_keep_size has no limit",
             "2 things are missing",
         ):
@@ -234,7 +234,7 @@ class OverAServer(unittest.TestCase):
             ("no_key", "no primary key"),
             ("unlogged", "unlogged"),
             ("deferred", "deferrable"),
-            ("by_json", "b of its primary key has the type jsonb"),
+            ("by_json", "primary key column b has type jsonb"),
             ("nothing", "replica identity"),
             ("by_other", "replica identity"),
             ("seen", "a view"),
@@ -252,9 +252,9 @@ class OverAServer(unittest.TestCase):
     def test_3_b_those_that_are_asked_for(self):
         """A partition is asked for by its topmost table's name as well as by its own."""
         for words, wanted in (
-            ("public.p*,by_enum,shop.*", ["  no table is meant by shop.* of --tables"]),
+            ("public.p*,by_enum,shop.*", ["  no table matches shop.* of --tables"]),
             ("parts", []),
-            ("*.no_key", ["  public.no_key: no primary key: its rows can't be told apart"]),
+            ("*.no_key", ["  public.no_key: no primary key: its rows can't be identified"]),
         ):
             lines = self.prepare("--tables", words)[1]
             at = next(at for at, line in enumerate(lines) if line.startswith("the tables: "))
@@ -269,7 +269,7 @@ class OverAServer(unittest.TestCase):
         url = self.url.replace("postgres@", "bob@")
         status, lines = self.prepare(url=url)
         self.assertEqual(status, 2)
-        at = lines.index("  MISSING the role bob may not replicate")
+        at = lines.index("  MISSING the role bob lacks the right to replicate")
         self.assertIn("ALTER ROLE bob REPLICATION", lines[at + 1])
         with Database(self.url) as database:
             database.run("ALTER ROLE bob REPLICATION")

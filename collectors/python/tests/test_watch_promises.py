@@ -86,7 +86,7 @@ class ByAFeed(test_watch_audit.Audits):
         self.assertEqual(status.whole_kind, "serial")
         page = whole_page(status)
         self.assertIn("asks for snapshot isolation", page)
-        self.assertIn("order of begins and commits keeps snapshot isolation", page)
+        self.assertIn("order of begins and commits satisfies snapshot isolation", page)
 
     def test_a_violation_says_what_it_breaks(self):
         self.begin([feed.started(), OPEN, *feed.LOST_UPDATE, *feed.ROUND, ("await", "restart")])
@@ -96,13 +96,13 @@ class ByAFeed(test_watch_audit.Audits):
         self.assertEqual(found.title, "lost update")
         breaks = "breaks serializability, snapshot isolation and prefix consistency, also without session order"
         text = "\n".join(found.lines())
-        self.assertIn("violated: no order of begins and commits keeps snapshot isolation", text)
+        self.assertIn("violated: no order of begins and commits that keeps each session's order", text)
         self.assertIn("T3 begins before T2 commits", text)
         broken = "breaks serializability and snapshot isolation, also without session order"
         self.assertTrue(broken in text or breaks in text, text)
         self.assertIn("--promise snapshot", violation_page(found, "shop", "proved"))
         self.assertIn("It breaks serializability", violation_page(found, "shop", "proved"))
-        self.assertIn("that snapshot isolation doesn’t allow", whole_page(status))
+        self.assertIn("The transactions violate snapshot isolation", whole_page(status))
         figures = {name: samples for name, _, _, samples in families(status)}
         self.assertIn(("promise", "snapshot"), figures["zanteyard_info"][0][0])
         self.assertIn(((("promise", "snapshot"),), 1.0), figures["zanteyard_promise_broken"])
@@ -213,7 +213,7 @@ class OverAServer(test_watch_whole.Whole):
         self.until(lose_one, lambda status: status.violations)
         told = self.finish()
         self.assertEqual(self.status, 1, told)
-        self.assertIn("no order of begins and commits keeps snapshot isolation", told)
+        self.assertIn("no order of begins and commits that keeps each session's order", told)
         self.assertIn("lost update", told)
         self.assertIn("breaks serializability", told)
 

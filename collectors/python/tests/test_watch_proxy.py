@@ -139,7 +139,7 @@ class Supervised(InAFolder):
         found = self.supervisor([feed.started(), feed.OPEN, ("exit", 3)])
         found.begin()
         self.assertTrue(found.has_started.wait(60))
-        with self.assertRaisesRegex(ProgramEndedError, "10 have ended one soon after another"):
+        with self.assertRaisesRegex(ProgramEndedError, "10 proxies ended in quick succession"):
             self.look(found, lambda: False)
         self.assertEqual(len(self.gone), supervising.MOST)
         self.assertEqual(found.ended, supervising.MOST)

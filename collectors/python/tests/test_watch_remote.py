@@ -56,10 +56,10 @@ class Words(unittest.TestCase):
         shared = ["--redis", "redis://127.0.0.1:1", "--audit", "shop"]
         for command, words, wanted in (
             ("proxy", ["postgresql://x/y"], "--redis is missing"),
-            ("proxy", [*shared, "--key", "k"], "no server is named"),
+            ("proxy", [*shared, "--key", "k"], "no server was given"),
             ("proxy", ["postgresql://x/y", *shared], "--key is missing"),
             ("watch", ["postgresql://x/y", *shared], "--key is missing"),
-            ("watch", ["postgresql://x/y", *shared, "--key", "/nowhere/k"], "can't be read"),
+            ("watch", ["postgresql://x/y", *shared, "--key", "/nowhere/k"], "can't read the key"),
             ("watch", ["postgresql://x/y", *shared, "--key", self.key(0o640)], "chmod 600"),
             ("proxy", ["postgresql://x/y", *shared, "--key", self.key(0o600, "x")], "fewer than 16"),
         ):
@@ -75,7 +75,7 @@ class Words(unittest.TestCase):
         self.assertEqual((seen.others.refused, seen.others.down), (3, "connection refused"))
         self.assertIsNone(seen_of(feed.coverage()).others)
         page = live_page.whole_page(status(seen=seen))
-        for wanted in ("Other proxies", "web-2", "not heard for 9.0 s", "3 messages refused", "refused."):
+        for wanted in ("Other proxies", "web-2", "silent for 9.0 s", "3 messages refused", "refused."):
             self.assertIn(wanted, page)
         told = figures.text_of(figures.families(status(seen=seen)))
         for wanted in ("other_proxies 0", "messages_refused_total 3", "redis_up 0"):

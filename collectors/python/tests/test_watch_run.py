@@ -88,16 +88,17 @@ class Runs(InAFolder):
             told,
             [
                 "serial: 8 of 11 transactions were checked, in 2 rounds",
-                "  15 of 19 rows read were checked, 6 of 9 rows written",
-                "  4 of the rows read were from before the audit",
-                "  besides, 1 transaction read and wrote no row that was seen",
+                "  15 of 19 row reads and 6 of 9 row writes were checked",
+                "  4 of the row reads were of versions from before the audit",
+                "  2 of the row reads were of versions that unchecked transactions wrote",
+                "  1 more transaction read and wrote no row that the audit sees",
                 "  not checked",
-                "             3 transactions  committed by others than the proxy",
-                "             4 rows read     its version isn't known",
-                "             3 rows written  committed by others than the proxy",
-                "  statements that weren't seen in full",
-                "         times first    what wasn't seen, and the statement",
-                f"             7 {told[10].split()[1]} an aggregate",
+                "             3 transactions  committed without the proxy",
+                "             4 row reads     its version is unknown",
+                "             3 row writes    committed without the proxy",
+                "  statements only partly seen",
+                "         times first    what wasn't seen, then the statement",
+                f"             7 {told[11].split()[1]} an aggregate",
                 "                          SELECT count(*) FROM orders WHERE customer = $1",
             ],
         )
@@ -109,7 +110,7 @@ class Runs(InAFolder):
         self.assertEqual(status, 0)
         wanted = "kept: 8 of 11 transactions were checked for snapshot isolation, in 2 rounds"
         self.assertEqual(told[0], wanted)
-        self.assertTrue(any("round 1: kept, of " in line for line in logged.output))
+        self.assertTrue(any("round 1: kept; " in line for line in logged.output))
         self.assertFalse(any("serial" in line for line in [*logged.output, *told]))
 
     def test_a_violated_one_is_kept(self):
@@ -197,7 +198,8 @@ class Runs(InAFolder):
             "zanteyard_transactions_taken_total 8",
             'zanteyard_rounds_total{kind="serial"} 1',
             "zanteyard_reads_from_before_total 4",
-            'zanteyard_reads_left_out_total{reason="its version isn\'t known"} 4',
+            "zanteyard_reads_of_unchecked_total 2",
+            'zanteyard_reads_left_out_total{reason="its version is unknown"} 4',
             "zanteyard_violated 0",
             "zanteyard_auditing 1",
         ):
@@ -231,7 +233,7 @@ class Programs(InAFolder):
         for wrong in (path, "/not/there"):
             with self.assertRaises(ProgramMissingError):
                 find_proxy({"ZANTEYARD_PROXY": wrong})
-        self.assertIn("not there", build_of({"ZANTEYARD_PROXY": "/not/there"}))
+        self.assertIn("missing", build_of({"ZANTEYARD_PROXY": "/not/there"}))
 
 
 @unittest.skipUnless(psycopg2 and program("initdb"), "PostgreSQL or psycopg2 is not installed")
@@ -261,11 +263,11 @@ class Command(InAFolder):
         self.assertEqual((ended.returncode, out), (2, ""))
         first, second, *_ = errors.splitlines()  # a line for each thing that it lacks
         self.assertEqual(
-            first, "mistake: the server lacks something; `zanteyard prepare URL` shows all of it"
+            first, "mistake: the server isn't ready; `zanteyard prepare URL` shows everything that is missing"
         )
         self.assertEqual(
             second,
-            "  wal_level is replica, and has to be logical: ALTER SYSTEM SET wal_level = 'logical'; "
+            "  wal_level is replica, but must be logical: ALTER SYSTEM SET wal_level = 'logical'; "
             "then restart the server",
         )
         self.assertNotIn("secret", errors)
@@ -302,7 +304,7 @@ class Command(InAFolder):
         ended = self.begin("postgresql://nobody@127.0.0.1:1/nothing")
         out, errors = ended.communicate(timeout=120)
         self.assertEqual((ended.returncode, out), (2, ""))
-        self.assertIn("the server can't be asked", errors)
+        self.assertIn("can't query the server", errors)
 
     def test_4_wrong_words(self):
         for words in (["--listen", "x"], ["--sample", "2"], ["--page", "1:2:3"], ["--tables", "a,"], []):

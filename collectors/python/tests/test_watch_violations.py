@@ -252,7 +252,7 @@ class Explained(unittest.TestCase):
 
     def test_it_is_told_without_a_proxy(self):
         found = self.of(*feed.LOST_UPDATE)
-        self.assertIn("T1 (0.0): nothing more is known of it", "\n".join(found.lines()))
+        self.assertIn("T1 (0.0): no details are known", "\n".join(found.lines()))
 
 
 class Described_(unittest.TestCase):
@@ -273,9 +273,9 @@ class Described_(unittest.TestCase):
                 "        not seen: an aggregate",
             ],
         )
-        self.assertEqual([*lines_of("T2", None)], ["T2: nothing more is known of it"])
+        self.assertEqual([*lines_of("T2", None)], ["T2: no details are known"])
         fence = Described((0, 1), is_fence=True)
-        self.assertEqual([*lines_of("T3", fence)], ["T3: the proxy's own, a fence"])
+        self.assertEqual([*lines_of("T3", fence)], ["T3: a fence of the proxy's own"])
 
 
 class Redacted(unittest.TestCase):

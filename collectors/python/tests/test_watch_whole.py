@@ -292,7 +292,7 @@ class WithoutDriver(unittest.TestCase):
         status, out, errors = self.watch("postgresql://nobody@127.0.0.1:1/nothing", *words)
         self.assertEqual((status, out), (2, ""), errors)
         self.assertRegex(errors[-1], "^mistake: the audit can't begin: .*connect")
-        self.assertIn("a driver for PostgreSQL is missing", errors[0])
+        self.assertIn("no driver for PostgreSQL", errors[0])
 
     def test_a_server_that_lacks_something_and_one_that_doesnt(self):
         with PostgresServer() as cluster:
@@ -310,7 +310,7 @@ class WithoutDriver(unittest.TestCase):
             status, out, errors = self.watch(url, *words)
             self.assertEqual(status, 4, errors)
             self.assertTrue(out.startswith("nothing was checked"), out)
-            self.assertTrue(any("applications connect to" in line for line in errors), errors)
+            self.assertTrue(any("applications can connect to" in line for line in errors), errors)
 
     def test_an_address_that_is_taken(self):
         with open(f"{self.folder}/socket", "w", encoding="utf-8"):
@@ -318,7 +318,7 @@ class WithoutDriver(unittest.TestCase):
         url = "postgresql://nobody@127.0.0.1:1/nothing"
         status, out, errors = self.watch(url, "--listen", f"{self.folder}/socket")
         self.assertEqual((status, out), (2, ""), errors)
-        self.assertFalse(any("applications connect to" in line for line in errors), errors)
+        self.assertFalse(any("applications can connect to" in line for line in errors), errors)
         wanted = f"mistake: the proxy ended with status 1: --listen: listen unix {self.folder}/socket: "
         self.assertTrue(errors[-1].startswith(wanted), errors)
         self.assertTrue(errors[-1].endswith("address already in use"), errors)

@@ -150,7 +150,7 @@ class CommandWords(unittest.TestCase):
             words = ["env", f"COBRA_AUDIT={gone}", sys.executable, "-m", "zanteyard"]
             status, told, error = run([*words, "check", SCRIPT])
             self.assertEqual((status, told), (2, b""))
-            self.assertTrue(error.startswith(f"mistake: {gone} isn't there".encode()), error)
+            self.assertTrue(error.startswith(f"mistake: {gone} is missing".encode()), error)
 
 
 if __name__ == "__main__":

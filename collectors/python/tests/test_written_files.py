@@ -13,6 +13,7 @@ from zanteyard.core._private_files import check_folder, private
 from zanteyard.core._prometheus import text_of
 from zanteyard.core._records import Logged
 from zanteyard.core.errors import FolderUnfitError, JournalError
+from zanteyard.explain._explanation import Explanation
 from zanteyard.explain._graphviz import draw
 from zanteyard.journal._file import Journal
 from zanteyard.remote._connecting import SocketDoor
@@ -58,7 +59,7 @@ class Pictures(unittest.TestCase):
         before = os.umask(0)
         self.addCleanup(os.umask, before)
         with tempfile.TemporaryDirectory() as folder:
-            names = draw([[Logged([], ["k"])]], f"{folder}/violation", arcs=())
+            names = draw([[Logged([], ["k"])]], f"{folder}/violation", explanation=Explanation("so"))
             self.assertEqual(len(names), 2 if shutil.which("dot") else 1)
             for name in names:
                 self.assertEqual(os.stat(name).st_mode & 0o777, 0o600, name)
@@ -85,24 +86,24 @@ class Folders(unittest.TestCase):
                 if deed is None:
                     check_folder(self.folder)
                     continue
-                with self.assertRaisesRegex(FolderUnfitError, f"others may {deed} .*chmod go-rw"):
+                with self.assertRaisesRegex(FolderUnfitError, f"other users may {deed} .*chmod go-rw"):
                     check_folder(self.folder)
                 subprocess.run(["chmod", "go-rw", self.folder], check=True)  # as it says
                 check_folder(self.folder)
 
     def test_who_else_has_it(self):
         with mock.patch("os.geteuid", return_value=os.geteuid() + 1):
-            with self.assertRaisesRegex(FolderUnfitError, "is of user .*mkdir -m 700"):
+            with self.assertRaisesRegex(FolderUnfitError, "belongs to user .*mkdir -m 700"):
                 check_folder(self.folder)
         link = f"{self.folder}.link"
         os.symlink(self.folder, link)
-        with self.assertRaisesRegex(FolderUnfitError, "is no folder"):
+        with self.assertRaisesRegex(FolderUnfitError, "isn't a folder"):
             check_folder(link)
 
     def test_a_journal(self):
         os.chmod(self.folder, 0o750)
         path = os.path.join(self.folder, "journal")
-        with self.assertRaisesRegex(JournalError, "others may read .*chmod go-rw"):
+        with self.assertRaisesRegex(JournalError, "other users may read .*chmod go-rw"):
             Journal(path)
         self.assertEqual(os.listdir(self.folder), [])
         link = f"{self.folder}.link"
@@ -118,7 +119,7 @@ class Folders(unittest.TestCase):
         with contextlib.redirect_stderr(told), mock.patch("signal.signal"):
             with mock.patch("logging.basicConfig"):
                 self.assertEqual(main(["serve", "--journal", self.folder]), 2)
-        self.assertRegex(told.getvalue(), "^mistake: .*others may read .*chmod go-rw")
+        self.assertRegex(told.getvalue(), "^mistake: .*other users may read .*chmod go-rw")
         self.assertEqual(os.listdir(self.folder), [])
 
     def server(self):
@@ -131,7 +132,7 @@ class Folders(unittest.TestCase):
         os.mkdir(notes, 0o777)
         os.chmod(notes, 0o777)
         with mock.patch("shutil.rmtree"):  # as it fails on what is another user's
-            with self.assertRaisesRegex(FolderUnfitError, "others may write"):
+            with self.assertRaisesRegex(FolderUnfitError, "other users may write"):
                 self.server()
         os.chmod(notes, 0o700)
         server = self.server()
@@ -149,7 +150,7 @@ class Folders(unittest.TestCase):
 
     def test_notes_of_a_server_that_is_anothers(self):
         os.chmod(self.folder, 0o777)
-        with self.assertRaisesRegex(FolderUnfitError, "others may write"):
+        with self.assertRaisesRegex(FolderUnfitError, "other users may write"):
             self.door(f"{self.folder}/3")
         os.chmod(self.folder, 0o700)
         self.assertEqual(self.door(f"{self.folder}/3"), ["its words"])

@@ -40,9 +40,10 @@ def coverage(**more):
         "fences": 2,
         "aborted": 1,
         "empty": 1,
-        "folded": {"committed by others than the proxy": 3},
-        "reads": {"seen": 20, "offered": 15, "own": 1, "before": 4, "left_out": {"its version isn't known": 4}},
-        "writes": {"seen": 9, "offered": 6, "left_out": {"committed by others than the proxy": 3}},
+        "folded": {"committed without the proxy": 3},
+        "reads": {"seen": 20, "offered": 15, "own": 1, "before": 4, "folded": 2,
+                  "left_out": {"its version is unknown": 4}},
+        "writes": {"seen": 9, "offered": 6, "left_out": {"committed without the proxy": 3}},
         "unseen": [
             {
                 "shape": "SELECT count(*) FROM orders WHERE customer = $1" + MORE,

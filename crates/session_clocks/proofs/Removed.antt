@@ -12,7 +12,7 @@ use Rattle.session_clocks.specs.Reach.{IsThere, Reaches}
 use Rattle.session_clocks.specs.Removals.{IsLast, IsUntouched, HasRowLess}
 use Rattle.session_clocks.specs.Rows.{line_at, number_at, clock_of}
 use Rattle.session_clocks.proofs.Closures.{Reaches-there}
-use Rattle.session_clocks.proofs.Next.{IsNew, there_more, there_cases, not_new, Reaches-more, Before, Reaches-more_cases}
+use Rattle.session_clocks.proofs.Next.{there_more, there_cases, not_new, Reaches-more, Before, Reaches-more_cases}
 use Rattle.session_clocks.proofs.Orders.{same_txn, there_within}
 use Rattle.session_clocks.proofs.Places.{row_before}
 

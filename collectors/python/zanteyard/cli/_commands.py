@@ -41,7 +41,7 @@ def _levels(command: argparse.ArgumentParser) -> None:
     from ._scripts import add_levels
 
     add_levels(command)
-    command.epilog = "The exit status is 0 if they could be found, 2 at a mistake in the script."
+    command.epilog = "Exit status: 0 if they could be determined, 2 if the script is wrong."
 
 
 def _demo(command: argparse.ArgumentParser) -> None:
@@ -62,7 +62,7 @@ def _import(command: argparse.ArgumentParser) -> None:
 
     _command.add_arguments(command)
     command.set_defaults(run=_command.run)
-    command.epilog = "The exit status is 0 if a script was made, else 2."
+    command.epilog = "Exit status: 0 if the script was written, 2 if not."
 
 
 def _watch(command: argparse.ArgumentParser) -> None:
@@ -101,9 +101,11 @@ def _key(command: argparse.ArgumentParser) -> None:
         make_key(asked.file)
         return 0
 
-    command.add_argument("file", metavar="FILE", help="a new file, for its owner alone")
+    command.add_argument(
+        "file", metavar="FILE", help="the file to create; only its owner may read it"
+    )
     command.set_defaults(run=run)
-    command.epilog = "The exit status is 0 if it was made, else 2."
+    command.epilog = "Exit status: 0 if the key was written, 2 if not."
 
 
 def _journal(command: argparse.ArgumentParser) -> None:
@@ -119,7 +121,7 @@ def _audit(command: argparse.ArgumentParser) -> None:
 
     stores = command.add_subparsers(metavar="STORE", required=True)
     for kind in KINDS:
-        about = f"audits clients of {kind.name} while they run"
+        about = f"runs clients against {kind.name} and audits them live"
         store = _add(stores, kind.command, about)
         store.set_defaults(run=run_audit)
         add_arguments(store, kind)
@@ -132,80 +134,82 @@ def _help(command: argparse.ArgumentParser) -> None:
         parser(command_of(words)).parse_args(words)
         return 0
 
-    about = "the command, as `audit redis`"
+    about = "the command, for example `audit redis`"
     command.add_argument("words", nargs="*", metavar="COMMAND", help=about)
     command.set_defaults(run=run)
-    command.epilog = "The exit status is 0, or 2 if there is no such command."
+    command.epilog = "Exit status: 0, or 2 if there is no such command."
 
 
 COMMANDS: Mapping[str, Command] = {
     "check": Command(
-        "tells each verdict of a script in words", "zanteyard check history.jsonl", _check
+        "prints the verdicts on a script in words", "zanteyard check history.jsonl", _check
     ),
     "explain": Command(
-        "tells why a script is violated, also on a page",
+        "explains why a script is violated, in words or on an HTML page",
         "zanteyard explain history.jsonl --html page.html",
         _explain,
     ),
     "levels": Command(
-        "tells which promises a script's history keeps",
+        "lists which isolation levels a script's history meets",
         "zanteyard levels history.jsonl",
         _levels,
         False,
     ),
     "demo": Command(
-        "audits a store in memory that has a fault", "zanteyard demo write-skew", _demo
+        "audits an in-memory store that has a fault", "zanteyard demo write-skew", _demo
     ),
     "check-report": Command(
-        "checks stored replies without believing the auditor",
+        "checks stored replies without trusting the auditor",
         "zanteyard check-report history.jsonl replies.jsonl",
         _check_report,
         False,
     ),
     "import": Command(
-        "makes a script of a history of another tool's",
+        "converts another tool's history into a script",
         "zanteyard import jepsen-lists history.edn -o history.jsonl",
         _import,
         False,
     ),
     "watch": Command(
-        "audits any application over PostgreSQL",
+        "audits any application that uses PostgreSQL",
         "zanteyard watch postgresql://admin@db.example/shop --listen 127.0.0.1:6432",
         _watch,
     ),
     "proxy": Command(
-        "a proxy on another machine, for one audit",
+        "runs a proxy on another machine, for the audit of `watch`",
         "zanteyard proxy postgresql://admin@db.example/shop --redis rediss://redis.example "
         "--audit shop --key audit.key",
         _proxy,
         False,
     ),
     "prepare": Command(
-        "shows what a server lacks for `watch`",
+        "shows what a server still needs for `watch`",
         "zanteyard prepare postgresql://admin@db.example/shop",
         _prepare,
         False,
     ),
     "serve": Command(
-        "audits as a daemon, for clients that come and go",
+        "runs the auditor as a daemon",
         "zanteyard serve --journal /var/lib/zanteyard --metrics 127.0.0.1:9187",
         _serve,
     ),
     "key": Command(
-        "makes a key that processes of several machines share",
+        "makes a key for processes on several machines to share",
         "zanteyard key audit.key",
         _key,
         False,
     ),
     "journal": Command(
-        "tells what a journal says that a killed process left",
+        "gives the verdict on a journal that a killed process left",
         "zanteyard journal /var/lib/zanteyard/audit.journal",
         _journal,
     ),
     "audit": Command(
-        "audits clients of a store while they run", "zanteyard audit sqlite --seconds 5", _audit
+        "runs clients against a store and audits them live",
+        "zanteyard audit sqlite --seconds 5",
+        _audit,
     ),
-    "help": Command("shows what a command takes", "zanteyard help watch", _help, False),
+    "help": Command("shows the options of a command", "zanteyard help watch", _help, False),
 }
 
 
@@ -236,12 +240,12 @@ def parser(named: Optional[str] = None) -> argparse.ArgumentParser:
     """The command line. Only the command of this name has its arguments; all have if None."""
     whole = _Parser(
         prog="zanteyard",
-        description="Checks whether a store's transactions were serializable, each session's "
-        "order kept.",
+        description="Checks whether a store's transactions were serializable and kept each "
+        "session's order.",
         formatter_class=argparse.RawDescriptionHelpFormatter,
     )
     whole.add_argument(
-        "--version", action=_Version, nargs=0, help="the version, and which programs it runs"
+        "--version", action=_Version, nargs=0, help="print the version and the programs it uses"
     )
     commands = whole.add_subparsers(metavar="COMMAND", required=True)
     for name, its in COMMANDS.items():
@@ -251,8 +255,7 @@ def parser(named: Optional[str] = None) -> argparse.ArgumentParser:
             its.fill(command)
         _end(command, its.example)
     texts = [
-        "`zanteyard help COMMAND` shows what a command takes. `zanteyard demo` is the one to begin "
-        "with.",
+        "Start with `zanteyard demo`. `zanteyard help COMMAND` shows a command's options.",
         STATUS_WORDS,
     ]
     folder = documents()
@@ -272,7 +275,7 @@ def _add(commands: Any, name: str, about: str) -> argparse.ArgumentParser:
     added: argparse.ArgumentParser = commands.add_parser(
         name,
         help=about,
-        description=about,
+        description=f"{about[:1].upper()}{about[1:]}.",
         epilog=STATUS_WORDS,
         formatter_class=argparse.RawDescriptionHelpFormatter,
     )

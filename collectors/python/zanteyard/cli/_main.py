@@ -39,12 +39,12 @@ def main(words: Optional[Sequence[str]] = None) -> int:
         known = getattr(asked, "status", None)  # of a verdict that nothing can change
         if known is not None:
             return int(known)
-        return complain(UNDECIDED, "undecided: nobody reads what it tells")
+        return complain(UNDECIDED, "undecided: standard output was closed")
     except OSError as error:
         why = f"{error.filename}: {error.strerror}" if error.filename else str(error)
         return complain(MISTAKE, f"mistake: {why}")
     except KeyboardInterrupt:
-        word = "undecided: it was " if getattr(asked, "has_verdict", False) else ""
+        word = "undecided: " if getattr(asked, "has_verdict", False) else ""
         return complain(UNDECIDED, f"{word}interrupted")
     except Exception:  # Python's own status would be 1, which says violated
         import traceback

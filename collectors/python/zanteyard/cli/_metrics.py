@@ -26,52 +26,63 @@ def families(
         return f"zanteyard_{name}", kind, about, [((), value)]
 
     labelled = (("version", VERSION), ("audit", live.name))
-    yield "zanteyard_info", "gauge", "Which audit it is, and of which version.", [(labelled, 1)]
+    about = "The audit's name and the version of this program."
+    yield "zanteyard_info", "gauge", about, [(labelled, 1)]
     taken = whole + live.taken_in
-    yield one("transactions_taken_total", "counter", "Transactions taken in.", taken)
+    yield one(
+        "transactions_taken_total", "counter", "Transactions that the auditor has accepted.", taken
+    )
     handed_in = live.counted
-    yield one("transactions_handed_in_total", "counter", "Transactions handed in.", handed_in)
+    yield one(
+        "transactions_handed_in_total", "counter", "Transactions handed in by clients.", handed_in
+    )
     waiting = live.waiting
-    yield one("transactions_waiting", "gauge", "Transactions that wait to be taken in.", waiting)
+    yield one("transactions_waiting", "gauge", "Transactions that wait for the auditor.", waiting)
     remaining = auditor.remaining
-    yield one("transactions_remaining", "gauge", "Taken in, and not forgotten.", remaining)
+    yield one(
+        "transactions_remaining", "gauge", "Transactions accepted and not yet forgotten.", remaining
+    )
     limit = auditor.limit
-    yield one("transactions_remaining_limit", "gauge", "As many may remain.", limit)
+    yield one("transactions_remaining_limit", "gauge", "How many transactions may remain.", limit)
     awaited = [
         ((("session", session),), count)
         for session, count in sorted((figures.awaited or {}).items())
     ]
-    about = "Reads that waited, at the last round, for a transaction of this session."
+    about = "Reads that, in the last round, waited for a transaction of this session."
     yield "zanteyard_pending_reads", "gauge", about, awaited
-    about = "Reads of versions from before the audit, which count as the keys' first state."
+    about = "Reads of versions from before the audit; they count as reads of the initial state."
     yield one("reads_from_before_total", "counter", about, outcome.from_before)
     rounds = [((("kind", kind),), figures.kinds.get(kind, 0)) for kind in KINDS]
-    yield "zanteyard_rounds_total", "counter", "Rounds, by what they told.", rounds
-    yield one("cuts_total", "counter", "Times that something was forgotten.", live.cuts)
+    yield "zanteyard_rounds_total", "counter", "Rounds, by verdict.", rounds
+    yield one("cuts_total", "counter", "How often transactions were forgotten.", live.cuts)
     now = time.monotonic()
-    about = "Seconds since something was forgotten, or since the beginning."
+    about = "Seconds since transactions were last forgotten, or since the start."
     yield one("seconds_since_cut", "gauge", about, now - figures.cut_at)
-    about = "Seconds since the last round, or since the beginning."
+    about = "Seconds since the last round, or since the start."
     yield one("seconds_since_round", "gauge", about, now - figures.told_at)
-    about = "Seconds that what the last round told of had waited, at most."
+    about = "The longest time in seconds that a transaction had waited for the last round."
     yield one("seconds_behind", "gauge", about, live.told_behind)
-    about = "Keys of which the last writer is forgotten, and kept as such."
+    about = "Keys whose last writer is forgotten; only its name is kept."
     yield one("last_writers", "gauge", about, len(auditor.base))
-    yield one("audits_total", "counter", "Audits that have begun.", len(live.earlier) + 1)
-    yield one("meetings_total", "counter", "Meetings that were called.", live.meetings)
-    about = "Clients more that may have a session by now."
+    yield one("audits_total", "counter", "Audits started.", len(live.earlier) + 1)
+    yield one("meetings_total", "counter", "Meetings called.", live.meetings)
+    about = "Further clients that can have a session now."
     yield one("sessions_left", "gauge", about, live.sessions_left)
-    yield one("clients", "gauge", "Processes of clients that are heard.", clients)
-    yield one("violated", "gauge", "1 where the audit is violated.", live.is_violated)
+    yield one("clients", "gauge", "Client processes that are connected.", clients)
+    yield one("violated", "gauge", "1 if the audit found a violation.", live.is_violated)
     is_missing = live.missing is not None
-    yield one("missing", "gauge", "1 where something may have been done unheard.", is_missing)
+    yield one(
+        "missing", "gauge", "1 if a client may have done something that never arrived.", is_missing
+    )
     is_lost = outcome.whole.kind == "incomplete" or bool(live.earlier)
-    yield one("incomplete", "gauge", "1 where something wasn't audited.", is_lost)
-    restarts, about = getattr(getattr(auditor, "program", None), "restarts", 0), "Programs gone."
+    yield one("incomplete", "gauge", "1 if something wasn't audited.", is_lost)
+    restarts, about = getattr(getattr(auditor, "program", None), "restarts", 0), (
+        "Auditor programs that were replaced."
+    )
     yield one("program_restarts_total", "counter", about, restarts)
     if redis_up is not None:
-        yield one("redis_up", "gauge", "1 where the Redis can be reached.", bool(redis_up))
-        about = "Messages and clients in the Redis that weren't signed with the key."
+        yield one("redis_up", "gauge", "1 if Redis can be reached.", bool(redis_up))
+        about = "Messages and clients in Redis that weren't signed with the key."
         yield one("redis_refused_total", "counter", about, refused)
 
 

@@ -20,12 +20,12 @@ def add_demo(command: argparse.ArgumentParser) -> None:
         default="lost-update",
         choices=demo.NAMES,
         metavar="NAME",
-        help="one of " + ", ".join(demo.NAMES) + " (lost-update)",
+        help="the fault: one of " + ", ".join(demo.NAMES) + " (lost-update)",
     )
     command.add_argument(
-        "--html", metavar="FILE", help="where the page is written (zanteyard-NAME.html)"
+        "--html", metavar="FILE", help="where to write the page (zanteyard-NAME.html)"
     )
-    command.add_argument("--no-html", action="store_true", help="writes no page")
+    command.add_argument("--no-html", action="store_true", help="write no page")
     command.set_defaults(run=run_demo)
 
 
@@ -43,7 +43,7 @@ def run_demo(asked: Any) -> int:
             story = Story(report.kind, tuple(report.counts), order=order)
     asked.status = STATUSES[report.kind]
     page = None if asked.no_html else asked.html or f"zanteyard-{asked.name}.html"
-    tell_with_page(story, f"a store in memory, {asked.name}", page)
+    tell_with_page(story, f"in-memory store, {asked.name}", page)
     return STATUSES[report.kind]
 
 
@@ -57,18 +57,18 @@ def run_audit(asked: Any) -> int:
         try:
             write(ran.page(origin()), asked.html)
         except OSError as error:  # what came of the run is printed, and won't come again
-            why_not = f"{asked.html} can't be written: {error.strerror}"
+            why_not = f"can't write {asked.html}: {error.strerror}"
     for line in ran.lines():
         say(line)
     if why_not:
         complain(status, why_not)
     elif asked.html:
-        say(f"(to look at: {asked.html})")
+        say(f"(page: {asked.html})")
     return status
 
 
 def add_journal(command: argparse.ArgumentParser) -> None:
-    command.add_argument("journal", metavar="JOURNAL", help="its file (docs/JOURNAL.md)")
+    command.add_argument("journal", metavar="JOURNAL", help="the journal's file (docs/JOURNAL.md)")
     command.set_defaults(run=run_journal)
 
 
@@ -76,7 +76,7 @@ def run_journal(asked: Any) -> int:
     program = find_program()
     with Auditor.resumed(asked.journal, program) as auditor:
         count, sessions = sum(auditor.received), auditor.sessions
-        say(f"{auditor.run_name}: {count} transactions of {sessions} sessions were taken in")
+        say(f"{auditor.run_name}: {count} transactions from {sessions} sessions were accepted")
         report = auditor.last_round()
         if report.kind == "violated":
             asked.status = STATUSES["violated"]
@@ -85,5 +85,5 @@ def run_journal(asked: Any) -> int:
             return STATUSES["violated"]
         outcome = auditor.outcome()
         asked.status = STATUSES.get(outcome.kind, UNDECIDED)
-        say(f"over these the last round is {report.kind}; {outcome}")
+        say(f"the last round over them is {report.kind}; {outcome}")
         return STATUSES.get(outcome.kind, UNDECIDED)

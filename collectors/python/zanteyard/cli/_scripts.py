@@ -29,7 +29,7 @@ def add_check(command: argparse.ArgumentParser) -> None:
 def add_explain(command: argparse.ArgumentParser) -> None:
     _add_script(command)
     _add_promise(command)
-    command.add_argument("--html", metavar="FILE", help="writes a page to look at")
+    command.add_argument("--html", metavar="FILE", help="write an HTML page")
     command.set_defaults(run=explain)
 
 
@@ -40,22 +40,22 @@ def add_levels(command: argparse.ArgumentParser) -> None:
 
 def _add_script(command: argparse.ArgumentParser) -> None:
     command.add_argument(
-        "script", metavar="SCRIPT", help="a file of lines as docs/FORMATS.md has them; - for input"
+        "script", metavar="SCRIPT", help="a script, as in docs/FORMATS.md; - reads standard input"
     )
     command.add_argument(
         "--nodes",
         type=_nodes,
         default=MORE[1][0],
         metavar="N",
-        help="the greatest budget that a round is given again with, in nodes of the search "
-        f"({MORE[1][0]}; at most {MORE[-1][0]})",
+        help=f"the largest budget for repeating an undecided round, in search nodes ({MORE[1][0]}; "
+        f"at most {MORE[-1][0]})",
     )
     command.add_argument(
         "--seconds",
         type=float,
         default=EXPLAINED,
         metavar="S",
-        help=f"how long making a violated history small may take ({EXPLAINED:.0f})",
+        help=f"how many seconds shrinking a violation may take ({EXPLAINED:.0f})",
     )
 
 
@@ -63,20 +63,20 @@ def _add_promise(command: argparse.ArgumentParser) -> None:
     command.add_argument(
         "--promise",
         choices=tuple(ASKED),
-        help="what the store promises (serializable; strict for a script that was imported "
-        "with --strict); strict takes the times in SCRIPT.times (docs/PROMISES.md)",
+        help="what the store promises (serializable, or strict if the script was imported with "
+        "--strict); strict needs the times in SCRIPT.times (docs/PROMISES.md)",
     )
     command.add_argument(
         "--all",
         action="store_true",
-        help="tells each violation that lies apart from the first whole",
+        help="explain every independent violation in full, not only the first",
     )
 
 
 def _nodes(text: str) -> int:
     nodes = int(text) if text.isdecimal() else 0
     if not 1 <= nodes <= MORE[-1][0]:
-        raise argparse.ArgumentTypeError(f"{text!r} is no whole number from 1 to {MORE[-1][0]:,}")
+        raise argparse.ArgumentTypeError(f"{text!r} isn't a whole number from 1 to {MORE[-1][0]:,}")
     return nodes
 
 
@@ -110,8 +110,8 @@ def _run_of(asked: Any) -> ScriptRun:
     promise = ASKED[asked.promise or ("strict" if is_timed else "serializable")]
     if is_timed and not promise.is_timed and names is not None and names.has_pauses:
         raise CantBeAskedError(
-            f"the script asks for the order of time itself, by its fences, which {promise.title} "
-            "doesn't: import it again without --strict"
+            f"the script's fences enforce real-time order, which {promise.title} doesn't ask for: "
+            "import it again without --strict"
         )
     times = _times(asked.script)
     return ScriptRun(find_program(), asked.nodes, names, promise, times)
@@ -124,7 +124,7 @@ def check(asked: Any) -> int:
             if verdict.kind == "violated":
                 asked.status = STATUSES[verdict.kind]  # which nothing can change
             if verdict.kind == "violated" and is_told:
-                say(f"{_where(verdict)} violated, still")
+                say(f"{_where(verdict)} still violated")
                 continue
             tell(_story(verdict, run, asked.seconds), asked.all, _where(verdict))
             is_told = verdict.kind == "violated"
@@ -166,7 +166,7 @@ def _story(verdict: Verdict, run: ScriptRun, seconds: float) -> Story:
 def _where(verdict: Verdict) -> str:
     """Which round it is that says so."""
     line = f"line {verdict.line_number}" if verdict.line_number else "at the end"
-    again = f", given {verdict.rounds} times, the last with {verdict.nodes:,} nodes"
+    again = f", after {verdict.rounds} tries, the last with {verdict.nodes:,} nodes"
     return f"{line}{again if verdict.rounds > 1 else ''}:"
 
 
@@ -174,13 +174,13 @@ def _tell_no_cuts(run: ScriptRun) -> None:
     if run.no_cut_lines:
         lines: List[str] = [str(number) for number in run.no_cut_lines[:8]]
         more = " and more" if len(run.no_cut_lines) > 8 else ""
-        say(f"(nothing was settled, so nothing forgotten, at line {', '.join(lines)}{more})")
+        say(f"(no fence was settled at line {', '.join(lines)}{more}: nothing was forgotten there)")
 
 
 def _tell_resumed(run: ScriptRun) -> None:
     if run.is_resumed:  # what had gone before isn't in the script
-        what = "a verdict is of every history that the parts stand for"
-        say(f"(the script resumes another: {what})")
+        what = "a verdict holds for every history that the parts can stand for"
+        say(f"(the script continues another one: {what})")
 
 
 def _status(run: ScriptRun) -> int:

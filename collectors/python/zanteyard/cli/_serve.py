@@ -48,9 +48,9 @@ from ._metrics import MetricsServer, families, text_of
 JOURNAL, SOCKET, VIOLATION = "audit.journal", "audit.socket", "violation"
 STATUSES = {SERIAL: 0, VIOLATED: 1, COLLECTOR: 4, PENDING: 3, UNDECIDED: 4, INCOMPLETE: 4}
 STATUS_WORDS = (
-    "The exit status says what ended it: 0 it was stopped, serial by then; 1 violated; 2 it can't "
-    "begin, or another one has it; 3 it was stopped, pending; 4 something wasn't audited, or "
-    "not decided, or the collector's own transactions have no order."
+    "Exit status: 0 stopped, and serial; 1 violated; 2 it can't start, or another daemon has the "
+    "audit; 3 stopped, and pending; 4 something wasn't audited or decided, or the collector's own "
+    "transactions have no order."
 )
 LOOKS = 0.2  # seconds between two looks at whether it is over
 TELLING = 30.0  # seconds that making a violation small may take
@@ -60,22 +60,23 @@ logger = logging.getLogger("zanteyard")
 
 def add_arguments(command: argparse.ArgumentParser) -> None:
     command.add_argument(
-        "--journal", metavar="DIR", required=True, help="the folder of the audit; made if need be"
+        "--journal", metavar="DIR", required=True, help="the audit's folder, created if missing"
     )
     command.add_argument(
         "--redis",
         metavar="URL",
         default=os.environ.get("ZANTEYARD_REDIS"),
-        help="redis:// or rediss://: clients of many machines come in by streams there (what the "
-        f"environment's ZANTEYARD_REDIS says); else those of this machine do by DIR/{SOCKET}",
+        help="a redis:// or rediss:// URL (or the environment's ZANTEYARD_REDIS): clients on any "
+        "machine connect by streams in this Redis; without it, clients on this machine connect by "
+        f"the socket DIR/{SOCKET}",
     )
     command.add_argument(
-        "--audit", metavar="NAME", default="audit", help="whose streams these are (audit)"
+        "--audit", metavar="NAME", default="audit", help="the audit's name in Redis (audit)"
     )
     command.add_argument(
         "--key",
         metavar="FILE",
-        help=f"with --redis: the key that clients have, too (what the environment's {KEY} names); "
+        help=f"with --redis: the key file that the clients have too (or the environment's {KEY}); "
         "`zanteyard key FILE` makes one",
     )
     command.add_argument(
@@ -83,14 +84,14 @@ def add_arguments(command: argparse.ArgumentParser) -> None:
         metavar="DSN",
         action="append",
         default=[],
-        help="with --redis: a PostgreSQL of clients, which is asked what became of the commits of "
-        "one that is gone; as often as there are",
+        help="with --redis: the clients' PostgreSQL, to look up the last commit of a lost client; "
+        "may be repeated",
     )
     command.add_argument(
         "--store-table",
         metavar="TABLE",
         default="zanteyard",
-        help="the collector's table there (zanteyard)",
+        help="the collector's table in that database (zanteyard)",
     )
     command.add_argument(
         "--sessions",
@@ -98,7 +99,7 @@ def add_arguments(command: argparse.ArgumentParser) -> None:
         default=16,
         choices=range(1, 65),
         metavar="N",
-        help="1 to 64 sessions at first (16); more join, for 64 clients at a time",
+        help="sessions at the start, 1 to 64 (16); more are added, up to 64 clients at a time",
     )
     command.add_argument(
         "--promise", choices=[*PROMISES], default=SERIALIZABLE.name,
@@ -108,7 +109,7 @@ def add_arguments(command: argparse.ArgumentParser) -> None:
         "--metrics",
         type=_address,
         metavar="HOST:PORT",
-        help="gives Prometheus's text format at /metrics there",
+        help="serve Prometheus metrics at http://HOST:PORT/metrics",
     )
     command.add_argument(
         "--every", type=int, default=LiveAuditor.EVERY, metavar="N",
@@ -116,39 +117,39 @@ def add_arguments(command: argparse.ArgumentParser) -> None:
     )
     command.add_argument(
         "--silence", type=float, default=10.0, metavar="S",
-        help="seconds after which a process that isn't heard of is given up (10)",
+        help="seconds without a message after which a client process counts as lost (10)",
     )
     command.add_argument(
         "--round-seconds", type=float, default=60.0, metavar="S",
-        help="seconds that the search of a round may take, before it is skipped (60)",
+        help="seconds that the search of a round may take before the round is skipped (60)",
     )
     command.add_argument(
-        "--rather-wait", action="store_true", help="clients wait longer before the audit gives way"
+        "--rather-wait", action="store_true", help="let clients wait longer for the auditor"
     )
     command.add_argument(
         "--redact", action="store_true",
-        help="shows no values and no constants of statements; keys stay",
+        help="hide values and the constants of statements; keys are still shown",
     )
     command.add_argument(
         "--script", metavar="FILE",
-        help="keeps each line that it is given; under another name where FILE is there",
+        help="write each line sent to the auditor to FILE; if FILE exists, to another name",
     )
     command.add_argument(
-        "--log", type=_level, metavar="LEVEL", default="INFO", help="the log's level (INFO)"
+        "--log", type=_level, metavar="LEVEL", default="INFO", help="the log level (INFO)"
     )
 
 
 def _address(text: str) -> str:
     host, colon, port = text.rpartition(":")
     if not (colon and port.isdecimal() and int(port) < 1 << 16):
-        raise argparse.ArgumentTypeError("HOST:PORT, as 127.0.0.1:9464")
+        raise argparse.ArgumentTypeError("give HOST:PORT, such as 127.0.0.1:9464")
     return text
 
 
 def _level(text: str) -> int:
     level = logging.getLevelName(text.upper())
     if not isinstance(level, int):
-        raise argparse.ArgumentTypeError("DEBUG, INFO, WARNING or ERROR")
+        raise argparse.ArgumentTypeError("give DEBUG, INFO, WARNING or ERROR")
     return level
 
 
@@ -176,10 +177,10 @@ def _audit(asked: Any, stack: contextlib.ExitStack, stopped: threading.Event) ->
     if asked.metrics is not None:
         metrics = MetricsServer(asked.metrics, lambda: _figures(live, server))
         stack.callback(metrics.close)
-        logger.info("metrics are at port %d", metrics.port)
-    how = "goes on" if auditor.is_resumed else "begins"
+        logger.info("serving metrics on port %d", metrics.port)
+    how = "continues" if auditor.is_resumed else "begins"
     about = auditor.promise.title
-    logger.info("the audit %s for %s %s; it keeps %s", live.name, about, how, asked.journal)
+    logger.info("audit %s for %s %s; its folder is %s", live.name, about, how, asked.journal)
     faults: List[str] = []
     _end_at_faults(faults)
     while not (live.is_over or _failure(server) or faults or stopped.wait(LOOKS)):
@@ -187,12 +188,12 @@ def _audit(asked: Any, stack: contextlib.ExitStack, stopped: threading.Event) ->
     outcome = _end(server, live)
     logger.info("%s", outcome)
     if outcome.handed_in == 0:
-        logger.warning("nothing was handed in: no client has done anything here")
+        logger.warning("nothing was handed in: no client ran a transaction")
     if outcome.is_violated:
         _tell(asked, auditor, outcome)
         return STATUSES[VIOLATED]
     if _failure(server) or faults:
-        logger.error("it ends: %s", faults[0] if faults else _failure(server))
+        logger.error("ending: %s", faults[0] if faults else _failure(server))
         return 2 if isinstance(_failure(server), (AuditTakenError, StrangeRedisError)) else 4
     return STATUSES.get(outcome.whole.kind, 4)
 
@@ -208,9 +209,9 @@ def _end_at_faults(faults: List[str]) -> None:
 
     def note(raised: Any) -> None:
         words = "".join(traceback.format_exception(*raised[:3]))
-        logger.error("a thread ended by an exception: %s", words)
+        logger.error("a thread died of an exception: %s", words)
         name = raised.exc_type.__name__
-        faults.append(f"a thread ended by {name}: {raised.exc_value}")
+        faults.append(f"a thread died of {name}: {raised.exc_value}")
 
     threading.excepthook = note
 
@@ -250,7 +251,7 @@ def _server(asked: Any, live: LiveAuditor) -> Any:
         more: Any = {"key": asked.key, "stores": stores}
         return StreamServer(live, asked.redis, asked.audit, asked.silence, **more)
     except BaseException:
-        live.lose(ZanteyardError("nobody can be let in"))
+        live.lose(ZanteyardError("clients can't connect"))
         live.stop(1.0)
         raise
 
@@ -286,9 +287,9 @@ def _tell(asked: Any, auditor: Auditor, outcome: Outcome) -> None:
         more = (TELLING, auditor.path, known, auditor.promise)
         tell_violation(history, path, called, tell, *more)
     except Exception as error:
-        tell(f"violated, and why can't be told: {error!r}")
+        tell(f"violated, but it can't be explained: {error!r}")
     try:
         with open(f"{path}.txt", "w", encoding="utf-8", opener=private) as file:
             file.write("\n".join(lines) + "\n")
     except OSError as error:
-        logger.error("%s.txt can't be written, and has been told here: %s", path, error)
+        logger.error("can't write %s.txt; its text is in this log: %s", path, error)

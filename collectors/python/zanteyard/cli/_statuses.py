@@ -11,8 +11,8 @@ from ..core._visible import say
 MISTAKE, UNDECIDED = 2, 4
 STATUSES: Mapping[str, int] = {"serial": 0, "violated": 1, "pending": 3, "spent": UNDECIDED}
 STATUS_WORDS = (
-    "The exit status is that of the last verdict: 0 serial, 1 violated, "
-    "2 a mistake in the script or the call, 3 pending, 4 undecided."
+    "Exit status: that of the last verdict, 0 serial, 1 violated, 3 pending, 4 undecided; 2 if the "
+    "script or the call is wrong."
 )
 
 

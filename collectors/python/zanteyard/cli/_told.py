@@ -41,7 +41,7 @@ def tell_with_page(
     if why_not is not None:
         raise why_not
     if path is not None:
-        say(f"(to look at: {path})")
+        say(f"(page: {path})")
 
 
 def write(page: str, path: str) -> None:

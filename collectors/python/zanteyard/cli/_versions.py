@@ -14,5 +14,5 @@ def version_lines() -> Iterator[str]:
     yield f"zanteyard {VERSION}"
     for name, path in (("auditor", program_path()), ("checker", checker_path())):
         is_there = os.path.isfile(path)
-        yield f"{name} {origin_of(path).sentence() if is_there else f'{path}: not there'}"
+        yield f"{name} {origin_of(path).sentence() if is_there else f'{path}: missing'}"
     yield f"proxy {build_of()}"

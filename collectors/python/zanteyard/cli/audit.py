@@ -11,16 +11,16 @@ import os
 import signal
 import threading
 import time
-from dataclasses import dataclass
+from dataclasses import dataclass, replace
 from typing import Any, Iterator, List, Optional, Tuple
 
 from ..core._outcome import RATHER_LOSE_THE_AUDIT, RATHER_WAIT, Outcome, words_of_before
 from ..core._visible import say
 from ..explain._charts import RoundSeen
 from ..explain._html import page_of
-from ..explain._report import Story, story_of
+from ..explain._report import Story
 from ..explain._shrinking import from_start, refuted
-from ..explain._violation_text import tell_violation
+from ..explain._violation_text import tell_story
 from ..live._live_auditor import LiveAuditor
 from ..live._told import RoundTold
 from ..program._subprocess import AuditorApart
@@ -33,7 +33,6 @@ from ..trial.store_kinds import POSTGRES, MakesStore, StoreKind
 from ..trial.store_kinds import CantAuditError as CantAuditError
 from ..trial.workloads import EVERY_WORKLOAD, ChurningClients, ClientProcesses, Clients, Nothing
 
-PAGE_SECONDS = 5.0  # that finding the reasons for the page may take
 STAYING, CHURNING = 8, 16  # clients at a time, where nothing else is asked for
 
 
@@ -56,14 +55,14 @@ class LiveRun:
         came = getattr(self.clients, "came", None)
         by = f"{self.asked.clients} clients"
         if came is not None:
-            by += f" at a time, {came} in all, in {self.live.auditor.sessions} sessions"
-        compared = f", {self.alone.rate():.0f} without the auditor" if self.alone else ""
+            by += f" at a time ({came} in all, in {self.live.auditor.sessions} sessions)"
+        compared = f" ({self.alone.rate():.0f} without the auditor)" if self.alone else ""
         return [
             f"{at}: {self.outcome}; {self.live.cuts} cuts in {self.live.rounds} rounds",
-            f"{self.clients.rate():.0f} transactions a second were committed by "
-            f"{by}{compared}; {self.clients.aborted} aborted",
-            f"clients waited {100 * self.clients.waited:.1f}% of their time for meetings, and "
-            f"{self.clients.longest:.2f} s at most for a transaction; the auditor was at most "
+            f"{by} committed {self.clients.rate():.0f} transactions a second{compared}; "
+            f"{self.clients.aborted} aborted",
+            f"clients spent {100 * self.clients.waited:.1f}% of their time in meetings; the "
+            f"longest transaction took {self.clients.longest:.2f} s; the auditor was at most "
             f"{self.live.lag:.2f} s behind",
         ]
 
@@ -82,7 +81,7 @@ class LiveRun:
         kind = whole.kind if whole.kind in ("serial", "pending") else "spent"
         waiting = tuple(
             f"{read.reader[0]}.{read.reader[1]} read {read.key} from "
-            f"{read.source[0]}.{read.source[1]}, which never came"
+            f"{read.source[0]}.{read.source[1]}, which never arrived"
             for read in whole.pending
         )
         return Story(kind, tuple(whole.counts or ()), waiting=waiting)
@@ -106,7 +105,7 @@ def stopped_by_signals() -> Iterator[threading.Event]:
         restore()
         stop.set()
         with contextlib.suppress(OSError):
-            os.write(2, b"ending, with a last round; the same again ends at once\n")
+            os.write(2, b"ending after a last round; interrupt again to end at once\n")
 
     for each in before:
         signal.signal(each, end)
@@ -181,10 +180,8 @@ def audited_run(
             history, called = from_start(auditor)
             known = refuted(auditor, live.report.certificate if live.report else ())
             path = _unused("violation")
-            small = tell_violation(history, path, called, known=known, promise=auditor.promise)
-            if asked.html:
-                about = (_script(path), outcome.counts or (), PAGE_SECONDS, auditor.promise)
-                story = story_of(small, called, *about)
+            _, story = tell_story(history, path, called, known=known, promise=auditor.promise)
+            story = replace(story, counts=tuple(outcome.counts or ()))
         return live, outcome, clients, story, tuple(rounds.seen)
 
 
@@ -201,20 +198,11 @@ def _unused(name: str) -> str:
     return path
 
 
-def _script(path: str) -> str:
-    """What was written of the violation."""
-    try:
-        with open(f"{path}.jsonl", encoding="utf-8") as file:
-            return file.read()
-    except OSError:
-        return ""
-
-
 def count_of_clients(text: str) -> int:
     """2 to 64."""
     count = int(text) if text.isdecimal() else 0
     if not 2 <= count <= 64:
-        raise argparse.ArgumentTypeError(f"{text!r} is no whole number from 2 to 64")
+        raise argparse.ArgumentTypeError(f"{text!r} isn't a whole number from 2 to 64")
     return count
 
 
@@ -230,27 +218,33 @@ def add_arguments(asked: argparse.ArgumentParser, kind: StoreKind = POSTGRES) ->
     asked.add_argument("--level", choices=kind.levels, default=kind.default_level)
     asked.add_argument("--workload", choices=EVERY_WORKLOAD, default="mixed")
     asked.add_argument("--seconds", type=float, default=10.0)
-    about = "seconds without the auditor, to compare with; 0 for none"
+    about = "seconds to run without the auditor first, for comparison; 0 for none (3)"
     asked.add_argument("--unaudited", type=float, default=3.0, help=about)
-    asked.add_argument("--clients", type=count_of_clients, help="2 to 64 at a time (8, or 16)")
-    about = "clients live for two seconds, and others come; tells what each did first"
+    asked.add_argument(
+        "--clients", type=count_of_clients, help="clients at a time, 2 to 64 (8, or 16 with "
+        "--churn)"
+    )
+    about = "replace each client by another after two seconds; print the first transaction of each"
     asked.add_argument("--churn", action="store_true", help=about)
     about = (
-        "transactions a second that all clients together begin at most; else as many as they can"
+        "at most this many transactions a second from all clients together (no limit)"
     )
     asked.add_argument("--rate", type=float, help=about)
-    about = "transactions from one meeting to the next"
+    about = "transactions between two meetings"
     asked.add_argument("--every", type=int, default=LiveAuditor.EVERY, help=about)
-    about = "each client in a process of its own, in place of a thread"
+    about = "run each client in its own process instead of a thread"
     asked.add_argument("--processes", action="store_true", help=about)
-    about = "clients wait where the auditor can't keep up; else that audit ends, and another begins"
+    about = (
+        "let clients wait if the auditor can't keep up; without this, the audit ends and another "
+        "begins"
+    )
     asked.add_argument("--rather-wait", action="store_true", help=about)
     kind.add_arguments(asked)
-    about = "goes on by this file where the auditor is killed; one that isn't there yet"
+    about = "a new file from which the audit continues if the auditor is killed"
     asked.add_argument("--audit-journal", metavar="FILE", help=about)
     about = "what the store promises at that level (serializable; docs/PROMISES.md)"
     asked.add_argument("--promise", choices=PROMISES, default=PROMISES[0], help=about)
-    asked.add_argument("--html", metavar="FILE", help="writes a page to look at")
+    asked.add_argument("--html", metavar="FILE", help="write an HTML page")
 
 
 def run(asked: Any) -> LiveRun:
@@ -259,7 +253,7 @@ def run(asked: Any) -> LiveRun:
     kind = kind_of(asked)
     asked.clients = asked.clients or (CHURNING if asked.churn else STAYING)
     if asked.churn and asked.processes:
-        raise CantAuditError("--churn has each client in a thread, and not in a process")
+        raise CantAuditError("--churn runs clients in threads: leave out --processes")
     with ended_by_signals(), kind.server(asked) as used:
         make_store = kind.maker(asked, used)
         with stopped_by_signals() as stop:

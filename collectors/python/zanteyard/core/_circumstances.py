@@ -74,7 +74,7 @@ def circumstances(history: History, names: Naming) -> Iterator[str]:
             if not any(logged.did):
                 continue
             began = [f"began at {clock_of(logged)}"] if logged.began else []
-            came = [f"from {caller_of(logged)}"] if logged.caller else []
+            came = [f"called from {caller_of(logged)}"] if logged.caller else []
             values = values_of(logged)
             did = [
                 f"{'read' if kind == 'read' else 'wrote'} {key}: {text}"

@@ -48,7 +48,7 @@ def find_out(asks: Any, ticket: Any, seconds: float, is_dead: bool = True) -> Co
         status: CommitStatus = module.asked(*how, ticket=ticket, seconds=seconds, **more)
         return status
     except Exception as error:
-        logger.warning("what became of a commit can't be found out: %s", error)
+        logger.warning("can't find out whether a transaction was committed: %s", error)
         return UNKNOWN
 
 

@@ -95,7 +95,7 @@ class CrashNotes:
     def turned(self) -> Half:
         """The other file, if all is handed over of which it tells."""
         if self.half.at > MOST:
-            raise OSError("nothing is handed over any more")
+            raise OSError("the notes file is no longer written")
         other = self.halves[1 if self.half is self.halves[0] else 0]
         if all(number < self.sent.get(session, 0) for session, number in other.last.items()):
             other.last = {}
@@ -106,7 +106,7 @@ class CrashNotes:
     def fail(self, error: Exception) -> None:
         self.has_failed = True
         self.remove()
-        logger.error("if this process is killed, the audit ends with it: %s", error)
+        logger.error("the audit will end if this process is killed: %s", error)
         self.tell_failure()
 
     def remove(self) -> None:

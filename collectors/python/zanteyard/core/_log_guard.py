@@ -54,7 +54,7 @@ def make_visible(record: logging.LogRecord) -> None:
 def tell(record: logging.LogRecord, error: Exception) -> None:
     """On standard error, if there is one."""
     with contextlib.suppress(Exception):
-        told = f"{record.getMessage()} (the log can't be written: {error!r})"
+        told = f"{record.getMessage()} (can't write the log: {error!r})"
         sys.stderr.write(f"{shown(told)}\n")
         sys.stderr.flush()
 

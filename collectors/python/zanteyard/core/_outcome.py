@@ -106,7 +106,7 @@ class Outcome:
             parts.append(words_of_before(self.from_before))
         for read in self.pending[:3]:
             reader, source = (".".join(map(str, id)) for id in (read.reader, read.source))
-            parts.append(f"{reader} read {read.key} from {source}, which never came")
+            parts.append(f"{reader} read {read.key} from {source}, which never arrived")
         if len(self.pending) > 3:
             parts.append(f"and {len(self.pending) - 3} more such reads")
         if self.failure:

@@ -26,15 +26,15 @@ def check_folder(path: str) -> None:
     FolderUnfitError, which says how that is mended, and OSError where it can't be looked at."""
     seen = os.lstat(path)
     if not stat.S_ISDIR(seen.st_mode):
-        raise FolderUnfitError(f"{path} is no folder")
+        raise FolderUnfitError(f"{path} isn't a folder")
     if seen.st_uid != os.geteuid():
         raise FolderUnfitError(
-            f"the folder {path} is of user {seen.st_uid}, and this process of {os.geteuid()}: take "
-            "one of its own, as `mkdir -m 700` makes it"
+            f"the folder {path} belongs to user {seen.st_uid}, but this process runs as user "
+            f"{os.geteuid()}: use a folder of that user, made by `mkdir -m 700`"
         )
     if seen.st_mode & 0o066:
         deed = "write" if seen.st_mode & 0o022 else "read"
         raise FolderUnfitError(
-            f"others may {deed} the folder {path}, and in it is what an application read and "
-            f"wrote: `chmod go-rw {path}`, or take one that `mkdir -m 700` makes"
+            f"other users may {deed} the folder {path}, which holds the application's data: run "
+            f"`chmod go-rw {path}`, or use a folder made by `mkdir -m 700`"
         )

@@ -29,7 +29,7 @@ def make_key(path: str) -> None:
             file.flush()
             os.fsync(file.fileno())
     except OSError as error:
-        raise KeyFileError(f"the key {path} can't be made: {error.strerror}") from error
+        raise KeyFileError(f"can't create the key {path}: {error.strerror}") from error
 
 
 def read_key(path: str) -> bytes:
@@ -40,11 +40,11 @@ def read_key(path: str) -> bytes:
             mode = os.fstat(file.fileno()).st_mode
             key = file.read(MOST + 1) if stat.S_ISREG(mode) else b""
     except OSError as error:
-        raise KeyFileError(f"the key {path} can't be read: {error.strerror}") from error
+        raise KeyFileError(f"can't read the key {path}: {error.strerror}") from error
     if mode & 0o077:
-        raise KeyFileError(f"others than its owner may use the key {path}: chmod 600 it")
+        raise KeyFileError(f"other users can access the key {path}: run chmod 600 on it")
     if not LEAST <= len(key) <= MOST:
-        raise KeyFileError(f"the key {path} must be a file of {LEAST} to {MOST} bytes")
+        raise KeyFileError(f"the key {path} must have {LEAST} to {MOST} bytes")
     return key
 
 
@@ -53,8 +53,8 @@ def shared_key(path: Optional[str]) -> bytes:
     path = path or os.environ.get(ENVIRONMENT)
     if not path:
         raise KeyFileError(
-            f"clients and the auditor need a key to know each other by: {ENVIRONMENT} names its "
-            "file, which `zanteyard key FILE` makes"
+            "clients and the auditor need a shared key: `zanteyard key FILE` makes one, and "
+            f"{ENVIRONMENT} names the file"
         )
     return read_key(path)
 

@@ -30,8 +30,8 @@ class StoreIdentity(NamedTuple):
 
 # Of a store that doesn't tell which one it is; and of one that couldn't tell it this time, as where
 # its memory is full.
-UNTOLD = StoreIdentity("", "a store that doesn't tell which one it is")
-UNSURE = StoreIdentity("?", "a store that can't tell now which one it is")
+UNTOLD = StoreIdentity("", "a store that doesn't identify itself")
+UNSURE = StoreIdentity("?", "a store that can't identify itself now")
 
 
 def identity_of(told: Any) -> StoreIdentity:
@@ -55,7 +55,7 @@ def checked(known: Any, shown: Any) -> StoreIdentity:
     """Raises ValueError where these are no such texts."""
     for text in (known, shown):
         if not isinstance(text, str) or len(text) > LONGEST:
-            raise ValueError("the identity of a store is two texts, of 1,000 characters at most")
+            raise ValueError("a store's identity must be two strings of at most 1,000 characters")
     return StoreIdentity(known, shown)
 
 
@@ -87,21 +87,21 @@ class AuditedStore:
         first = self.first(identity)
         if first.known == identity.known:
             return
-        message = f"this audit is about {first.shown}, and this is {identity.shown}: "
-        message += "two stores behind one auditor would be taken for one that has faults"
+        message = f"this audit is of {first.shown}, but this client uses {identity.shown}: "
+        message += "one auditor would take two stores for one faulty store"
         if UNTOLD.known in (first.known, identity.known):
-            message += "; a store of your own tells which one it is by its `identity`"
+            message += "; a store class of your own identifies its store by `identity`"
         raise StoreUnfitError(message)
 
     @staticmethod
     def _tell(identity: StoreIdentity) -> None:
         if identity.known == UNTOLD.known:
             logger.warning(
-                "this store doesn't tell which one it is: where clients of two such stores have "
-                "one auditor, nobody sees that, and what is told may be of neither"
+                "this store doesn't identify itself: if clients of two such stores share an "
+                "auditor, nobody notices, and its verdict may be true of neither"
             )
         else:
-            logger.info("the audit is about %s", visible(identity.shown))
+            logger.info("the audit is of %s", visible(identity.shown))
 
 
 def this_machine() -> str:

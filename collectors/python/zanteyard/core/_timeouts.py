@@ -34,7 +34,7 @@ def within(seconds: float, call: Callable[[], Any], drop: Callable[[Any], object
         return future.result(seconds)
     except FutureTimeoutError:
         if future.cancel():
-            raise LateError(f"the server hasn't answered for {seconds:.3g} s") from None
+            raise LateError(f"the server didn't answer for {seconds:.3g} s") from None
         return future.result()
     except BaseException:
         future.cancel()

@@ -152,11 +152,11 @@ class ScriptMistakeError(ZanteyardError):
         self.line_number = line_number
         self.refusal = refusal
         self.advice = advice
-        what = f"line {line_number} was answered {refusal}"
+        what = f"line {line_number} was refused: {refusal}"
         if refusal == "nothing":
-            what = "no audit is open where the script ends"
+            what = "the script opens no audit"
         elif not refusal:
-            what = f"line {line_number} can't be asked about this promise"
+            what = f"line {line_number} can't be used with this promise"
         super().__init__(f"{what}: {advice}" if advice else what)
 
 

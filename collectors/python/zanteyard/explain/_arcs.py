@@ -1,8 +1,7 @@
-"""What comes before what, as arcs, and the circles in which they lead."""
+"""What comes before what, as arcs, and from which other arcs each of them follows."""
 
 from __future__ import annotations
 
-import time
 from typing import Any, Dict, Iterable, Iterator, List, NamedTuple, Optional, Tuple
 
 from ..core._records import History, Logged, Naming, ShownId, Transactions
@@ -16,26 +15,45 @@ class Event(NamedTuple):
     what: str  # "begin" or "commit"
 
 
+Node = Any  # a ShownId, or an Event
+Ends = Tuple[Node, Node]
 # Kinds of arcs, by which circles have their names.
 IN_SESSION, READ, IN_TIME = "session", "read", "time"
 READ_BEFORE = "read before"  # from who read a version to who overwrote it: an anti-dependency
 WRITTEN = "written"  # from a writer of a key to a later one
+SESSION = "they are in one session"
+
+
+class Choice(NamedTuple):
+    """A reader read the key from the writer, and another transaction wrote the key too. In any
+    order the other one comes before the writer, or the reader comes before the other one."""
+
+    reader: Node
+    key: str
+    writer: Node
+    other: Node
+
+    def sides(self) -> Tuple[Ends, Ends]:
+        return (self.other, self.writer), (self.reader, self.other)
 
 
 class Arc(NamedTuple):
-    """That one transaction comes before another, or one's begin or commit before another's; `needs`
-    are the arcs from which this follows."""
+    """That one transaction comes before another, or one's begin or commit before another's. What
+    was forced has the choice of which this is a side, and `needs`: the arcs of a path that rules
+    the other side out. What is assumed in a case of a split has the choice alone."""
 
-    start: Any  # a ShownId, or an Event
-    end: Any
+    start: Node
+    end: Node
     why: str
     needs: Tuple[Any, ...]  # of Arc, which this Python's types can't name here
     kind: str = IN_SESSION
+    key: str = ""  # which was read, if that is the reason
+    choice: Optional[Choice] = None
+    told: str = ""  # what comes before what, in words
 
-
-ArcsFrom = Dict[Any, List[Arc]]
-MANY = 512  # transactions; of more there would be too many arcs by time
-SESSION = "they are in one session"
+    @property
+    def ends(self) -> Ends:
+        return self.start, self.end
 
 
 def table(history: History) -> Transactions:
@@ -57,95 +75,70 @@ def told_later(first: Logged, second: Logged, names: Tuple[str, str]) -> str:
     return f"{names[1]} began {time_text + ' ' if time_text else ''}after {names[0]} had ended"
 
 
-def time_arcs(txns: Transactions, name: Naming, ends: float) -> Iterator[Arc]:
-    """From each transaction to those that began when it had ended. Raises TooLong for many."""
-    if len(txns) > MANY:
-        raise TooLong
-    for first, first_logged in txns.items():
-        check(ends)
-        for second, second_logged in txns.items():
-            why = told_later(first_logged, second_logged, (name(first), name(second)))
-            if why:
-                yield Arc(first, second, why, (), IN_TIME)
-
-
-def merged(way: Iterable[Arc]) -> List[Arc]:
+def merged(way: Iterable[Arc], name: Naming) -> List[Arc]:
     """The same way, where a run of transactions of one session is one arc."""
     kept: List[Arc] = []
     for arc in way:
         if kept and kept[-1].why == arc.why == SESSION:
-            arc = Arc(kept.pop().start, arc.end, SESSION, ())
+            start = kept.pop().start
+            arc = arc._replace(start=start, told=told_arc(start, arc.end, name))
         kept.append(arc)
     return kept
 
 
-def path(arcs_from: ArcsFrom, start: Any, end: Any) -> Optional[List[Arc]]:
-    """The fewest arcs that lead from the one to the other, at least one; or None."""
-    arcs_to: Dict[Any, Arc] = {}
-    queue = [start]
-    for at in queue:
-        for arc in arcs_from.get(at, ()):
-            if arc.end not in arcs_to:
-                arcs_to[arc.end] = arc
-                queue.append(arc.end)
-        if end in arcs_to:
-            way = [arcs_to[end]]
-            while way[0].start != start:
-                way.insert(0, arcs_to[way[0].start])
-            return way
-    return None
-
-
-class TooLong(Exception):
-    """The time is up."""
-
-
-def check(ends: float) -> None:
-    if time.monotonic() > ends:
-        raise TooLong
-
-
-def by_start(arcs: Iterable[Arc]) -> ArcsFrom:
-    arcs_from: ArcsFrom = {}
-    for arc in arcs:
-        arcs_from.setdefault(arc.start, []).append(arc)
-    return arcs_from
-
-
-def circles_of(nodes: Iterable[Any], arcs: Iterable[Arc], ends: float) -> Iterator[List[Arc]]:
-    arcs_from = by_start(arcs)
-    for id in nodes:
-        check(ends)
-        way = path(arcs_from, id, id)
-        if way:
-            if len(way) > 1 and way[0].why == way[-1].why == SESSION:
-                way = [way[-1], *way[:-1]]  # so that a run of one session isn't cut in two
-            yield merged(way)
-
-
 def below(arcs: Iterable[Arc]) -> List[Arc]:
-    """The arcs, each behind those from which it follows."""
-    needed: List[Arc] = []
+    """The arcs, each after those from which it follows; of several between the same two the first
+    one alone."""
+    found: Dict[Ends, Arc] = {}
+    waiting: List[Tuple[Optional[Arc], Iterator[Arc]]] = [(None, iter([*arcs]))]
+    while waiting:
+        arc, needs = waiting[-1]
+        need = next((need for need in needs if need.ends not in found), None)
+        if need is not None:
+            waiting.append((need, iter(need.needs)))
+            continue
+        waiting.pop()
+        if arc is not None:
+            found.setdefault(arc.ends, arc)
+    return [*found.values()]
+
+
+def shortest_circle(arcs: Iterable[Arc]) -> List[Arc]:
+    """The fewest of these arcs that lead round, if they do."""
+    after: Dict[Node, List[Arc]] = {}
     for arc in arcs:
-        for below_it in (*below(arc.needs), arc):
-            if below_it not in needed:
-                needed.append(below_it)
-    return needed
+        after.setdefault(arc.start, []).append(arc)
+    return min((way for way in (_around(after, node) for node in after) if way), key=len)
 
 
-def told_arc(arc: Arc, name: Naming) -> str:
+def _around(after: Dict[Node, List[Arc]], node: Node) -> List[Arc]:
+    """The fewest that lead from the node back to it; none if it can't be reached."""
+    reached: Dict[Node, Arc] = {}
+    waiting = [node]
+    for at in waiting:
+        for arc in after.get(at, ()):
+            if arc.end not in reached:
+                reached[arc.end] = arc
+                waiting.append(arc.end)
+    way: List[Arc] = [reached[node]] if node in reached else []
+    while way and way[0].start != node:
+        way.insert(0, reached[way[0].start])
+    return way
+
+
+def told_arc(start: Node, end: Node, name: Naming) -> str:
     """What comes before what."""
-    if not isinstance(arc.start, Event):
-        return f"{name(arc.start)} comes before {name(arc.end)}"
-    starts, ends = (f"{name(it.id)} {it.what}s" for it in (arc.start, arc.end))
-    return f"{starts} before {ends if arc.start.id != arc.end.id else f'it {arc.end.what}s'}"
+    if not isinstance(start, Event):
+        return f"{name(start)} comes before {name(end)}"
+    starts, ends = (f"{name(it.id)} {it.what}s" for it in (start, end))
+    return f"{starts} before {ends if start.id != end.id else f'it {end.what}s'}"
 
 
-def told_node(node: Any, name: Naming) -> str:
+def told_node(node: Node, name: Naming) -> str:
     """A transaction, or the begin or commit of one."""
     return f"the {node.what} of {name(node.id)}" if isinstance(node, Event) else name(node)
 
 
-def transaction_of(node: Any) -> ShownId:
+def transaction_of(node: Node) -> ShownId:
     """Whose begin or commit it is, or which transaction."""
     return node.id if isinstance(node, Event) else ShownId(node)

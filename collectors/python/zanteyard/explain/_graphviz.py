@@ -4,16 +4,18 @@ from __future__ import annotations
 
 import shutil
 import subprocess
-from typing import Iterator, List, Optional, Sequence, Tuple
+from typing import Iterator, List, Optional, Tuple
 
 from ..core._private_files import private
 from ..core._records import ABORTED, History, Naming, ShownId
 from ..core._visible import shown
-from ._arcs import Arc, below, table, told_arc, transaction_of
+from ._arcs import Arc, table, transaction_of
+from ._explanation import Explanation
 from ._reasons import explain_history
 from ._words import deeds, name, statements_of
 
 DRAWING = 20.0  # seconds for `dot`
+COLOURS = ("red", "blue", "darkgreen", "purple", "orange")  # of the circles of cases
 
 
 def quoted(*lines: str) -> str:
@@ -24,13 +26,13 @@ def quoted(*lines: str) -> str:
 
 
 def dot_text(
-    history: History, name: Naming = name, arcs: Optional[Sequence[Arc]] = None
+    history: History, name: Naming = name, explanation: Optional[Explanation] = None
 ) -> str:
-    """Each transaction with what it did, a column for each session. The arcs are an explanation's,
-    which is made where none are given. They are bold and red, those from which they follow are
-    grey; an arc goes from what comes before to what comes after. What was aborted is dashed, and so
-    is a read of it."""
-    around = explain_history(history, name).arcs if arcs is None else arcs
+    """Each transaction with what it did, a column for each session. An auditor is asked for the
+    explanation where none is given. The arcs of its circle are bold and red, those from which they
+    follow are grey; an arc goes from what comes before to what comes after. With several cases the
+    circle of each has a colour of its own. What was aborted is dashed, and so is a read of it."""
+    its = explain_history(history, name) if explanation is None else explanation
     lines = [
         "digraph violation {",
         "  node [shape=box, fontname=Helvetica]; edge [fontname=Helvetica, fontsize=10];",
@@ -47,15 +49,33 @@ def dot_text(
     for reader, key, source in _reads_of_aborted(history):
         ends = f"{quoted(name(source))} -> {quoted(name(reader))}"
         lines.append(f"  {ends} [label={quoted(f'read {key}')}, style=dashed];")
-    for arc in below(around):
-        style = "color=red, penwidth=2" if arc in around else "color=grey, fontcolor=grey40"
-        start, end = transaction_of(arc.start), transaction_of(arc.end)
-        if start == end:  # a begin, and its own commit
-            continue
-        ends = f"{quoted(name(start))} -> {quoted(name(end))}"
-        label = arc.why if start is arc.start else f"{told_arc(arc, name)}: {arc.why}"
-        lines.append(f"  {ends} [label={quoted(label)}, {style}];")
+    lines += _arc_lines(its, name)
     return "\n".join([*lines, "}", ""])
+
+
+def _arc_lines(explanation: Explanation, name: Naming) -> Iterator[str]:
+    """Of all cases, each arc once but for the circles'."""
+    ends = [*explanation.ends()]
+    around = {arc.ends for leaf in ends for arc in leaf.arcs}
+    plain = [arc for arc in explanation.all_arcs() if arc.ends not in around]
+    for number, leaf in enumerate(ends):
+        case = f"case {number + 1}: " if len(ends) > 1 else ""
+        style = f"color={COLOURS[number % len(COLOURS)]}, penwidth=2"
+        yield from (_arc_line(arc, name, case, style) for arc in leaf.arcs if not _is_own(arc))
+    style = "color=grey, fontcolor=grey40"
+    yield from (_arc_line(arc, name, "", style) for arc in plain if not _is_own(arc))
+
+
+def _is_own(arc: Arc) -> bool:
+    """Whether it leads from a begin to its own commit."""
+    return transaction_of(arc.start) == transaction_of(arc.end)
+
+
+def _arc_line(arc: Arc, name: Naming, case: str, style: str) -> str:
+    start, end = transaction_of(arc.start), transaction_of(arc.end)
+    label = arc.why if start is arc.start else f"{arc.told}: {arc.why}"
+    ends = f"{quoted(name(start))} -> {quoted(name(end))}"
+    return f"  {ends} [label={quoted(case + label)}, {style}];"
 
 
 def _reads_of_aborted(
@@ -70,12 +90,12 @@ def _reads_of_aborted(
 
 
 def draw(
-    history: History, path: str, name: Naming = name, arcs: Optional[Sequence[Arc]] = None
+    history: History, path: str, name: Naming = name, explanation: Optional[Explanation] = None
 ) -> List[str]:
     """Writes path.dot, and path.svg where `dot` is installed and makes one; gives the names of the
     files. Raises OSError where they can't be written."""
     with open(f"{path}.dot", "w", encoding="utf-8", opener=private) as file:
-        file.write(dot_text(history, name, arcs))
+        file.write(dot_text(history, name, explanation))
     if not shutil.which("dot"):
         return [f"{path}.dot"]
     try:

@@ -3,6 +3,7 @@ scripting and on paper."""
 
 from __future__ import annotations
 
+from dataclasses import replace
 from typing import Iterable, List, Sequence
 
 from ..core._records import ABORTED
@@ -10,6 +11,7 @@ from ..core._version import VERSION
 from ..core._visible import html_lines, html_text
 from ._anomalies import meaning_of
 from ._charts import RoundSeen, draw_rounds
+from ._explanation import Link, Reasons, ShownCase
 from ._report import SHOWN, Step, Story, line_of
 from ._timeline_svg import draw_story
 
@@ -50,8 +52,8 @@ svg .transaction.aborted rect { stroke-dasharray: 7 5; }
 svg .arc path { fill: none; stroke-width: 2.2; }
 svg .arc.aborted path { stroke-dasharray: 7 5; }
 svg .arc.circle path { stroke: var(--red); } svg .arc.other path { stroke: #8491a1; }
-svg .arc circle { stroke: #fff; stroke-width: 1.5; }
-svg .arc.circle circle { fill: var(--red); } svg .arc.other circle { fill: #5d6a7a; }
+svg .mark circle { stroke: #fff; stroke-width: 1.5; }
+svg .mark.circle circle { fill: var(--red); } svg .mark.other circle { fill: #5d6a7a; }
 svg .arc:hover path { stroke-width: 4.5; }
 svg .number { fill: #fff; font-size: 12px; font-weight: 700; text-anchor: middle; }
 svg marker path.circle-head { fill: var(--red); } svg marker path.other-head { fill: #8491a1; }
@@ -59,10 +61,14 @@ svg .axis { stroke: var(--line); } svg polyline { fill: none; stroke: #51749e; s
 svg.chart circle { fill: var(--green); } svg.chart circle.violated { fill: var(--red); }
 svg.chart circle.pending, svg.chart circle.spent { fill: var(--amber); }
 ol.reasons { list-style: none; padding-left: 0; counter-reset: none; }
-ol.reasons .mark { display: inline-block; min-width: 1.55rem; text-align: center; color: #fff;
-  border-radius: 1rem; font-size: .8rem; font-weight: 700; margin-right: .5rem;
-  background: #5d6a7a; }
+ol.reasons li { position: relative; padding-left: 2.1rem; }
+ol.reasons .mark { position: absolute; left: 0; top: .12rem; min-width: 1.6rem; text-align: center;
+  color: #fff; border-radius: 1rem; font-size: .8rem; font-weight: 700; background: #5d6a7a; }
 ol.reasons .circle .mark { background: var(--red); }
+.case { margin: .8rem 0 .8rem .2rem; padding: .1rem 0 .1rem 1rem;
+  border-left: 3px solid var(--line); }
+.case > summary { font-weight: 700; font-size: 1.05rem; cursor: pointer; }
+.choice { font-weight: 600; }
 .around { font-size: 1.05rem; font-weight: 600; color: var(--red); }
 table { border-collapse: collapse; width: 100%; font-size: .93rem; }
 th, td { text-align: left; vertical-align: top; padding: .35rem .7rem .35rem 0;
@@ -87,6 +93,11 @@ HEADINGS = {
     "spent": "This wasn't decided",
 }
 
+ARROWS = (
+    "An arrow leads from what has to come before to what has to come after; its number is that of "
+    "the reason below, which also shows where the pointer rests. Red arrows go round in the "
+    "circle, grey ones say what follows from what."
+)
 BEFORE_YOU_ACCUSE = (
     "Are the reads named here what the clients saw? The verdict is about the log.",
     "Where a step says “in one session”: does the store promise to keep that session’s order? "
@@ -141,6 +152,8 @@ def _head(story: Story, about: str) -> str:
             f'<div class="anomaly"><strong>{html_text(_capital(story.anomaly.name))}</strong>{more}'
             f"<br>{html_text(_capital(story.anomaly.sentence))}.</div>"
         )
+    elif story.reasons.cases:
+        lines.append(f'<div class="anomaly">{html_text(_neither(story.reasons))}</div>')
     lines += [f"<p>It {html_text(line)}.</p>" for line in story.standing.lines()]
     return "\n".join(lines)
 
@@ -163,48 +176,84 @@ def _capital(text: str) -> str:
 
 
 def picture_part(story: Story) -> Iterable[str]:
-    drawn = draw_story(story)
-    if not drawn:
-        return
-    yield "<h2>What happened</h2>"
-    yield f'<figure><div class="wide">{drawn}</div>'
+    """What happened, with the circle if there is one. Cases have a picture each instead."""
+    drawn = "" if story.reasons.cases else draw_story(story, story.reasons.drawn)
+    if drawn:
+        yield "<h2>What happened</h2>"
+        yield f'<figure><div class="wide">{drawn}</div>'
+        yield f"<figcaption>{_caption(story)}</figcaption></figure>"
+
+
+def _caption(story: Story) -> str:
+    """What a picture shows."""
     caption = "A row for each session, its transactions from left to right. "
-    if story.links:
-        caption += (
-            "An arrow leads from what has to come before to what has to come after; its number is "
-            "that of the reason below, which also shows where the pointer rests. Red arrows go "
-            "round in the circle, grey ones say what follows from what."
-        )
+    if story.reasons.drawn or story.reasons.cases:
+        caption += ARROWS
     else:
         caption += "A grey arrow leads from a writer to who read from it."
     if story.promise.is_split:
         caption += " A box reaches from the transaction’s begin to its commit."
     if any(step.outcome == ABORTED for step in story.steps):
         caption += " What was aborted is dashed."
-    yield f"<figcaption>{caption}</figcaption></figure>"
+    return caption
 
 
 def reasons_part(story: Story) -> Iterable[str]:
+    """Why no order is left; two cases are two parts that fold."""
     yield "<h2>Why no order is left</h2>"
-    if not story.links:
-        yield "<ul>" + "".join(f"<li>{html_text(line)}</li>" for line in story.because) + "</ul>"
-        if not story.anomaly:
-            yield (
-                "<p>No one circle is in all orders: whichever way the writers of one key are put, "
-                "another circle closes. The auditor’s refutation goes through these ways.</p>"
-            )
-        return
-    yield '<ol class="reasons">'
-    for number, link in enumerate(story.links, 1):
-        kind = ' class="circle"' if link.is_of_circle else ""
-        yield (
-            f'<li{kind}><span class="mark">{number}</span><strong>{html_text(link.told)}</strong>: '
-            f"{html_text(link.why)}.</li>"
-        )
-    yield "</ol>"
-    around = " → ".join(html_text(called) for called in story.circle)
-    yield '<p>That goes round in a circle, so none of them can come first:</p><p class="around">'
-    yield f"{around}</p>"
+    if story.reasons.cases and story.reasons.links:
+        yield "<p>In any order:</p>"
+    yield from _reasons(story.reasons, story)
+    if story.reasons.cases:
+        yield f'<p class="soft">The pictures: {_caption(story)}</p>'
+
+
+def _reasons(reasons: Reasons, story: Story, picture: str = "") -> Iterable[str]:
+    """The end first, and then what it rests on; but what two cases share comes before them."""
+    if reasons.circle:
+        around = " → ".join(html_text(called) for called in reasons.circle)
+        yield "<p>These go round in a circle, so that none of them can come first:</p>"
+        yield f'<p class="around">{around}</p>'
+    yield picture
+    red = {link.number for link in reasons.drawn if link.is_of_circle}
+    if reasons.links:
+        yield '<ol class="reasons">'
+        yield from (_reason(link, link.number in red) for link in reasons.links)
+        yield "</ol>"
+    if reasons.cases:
+        yield f'<p class="choice">{html_text(_neither(reasons))}</p>'
+        yield from (part for case in reasons.cases for part in _case(case, story))
+    elif not reasons.circle:
+        yield f"<ul><li>{html_text(reasons.end)}</li></ul>"
+
+
+def _neither(reasons: Reasons) -> str:
+    """Of two cases."""
+    return f"{_capital(reasons.end)}. Neither is possible."
+
+
+def _reason(link: Link, is_of_circle: bool) -> str:
+    kind = ' class="circle"' if is_of_circle else ""
+    *first, last = map(str, link.follows or ("",))
+    numbers = " and ".join([", ".join(first), last] if first else [last])
+    follows = f" (by {numbers})" if numbers else ""
+    return (
+        f'<li{kind}><span class="mark">{link.number}</span>'
+        f"<strong>{html_text(link.told)}</strong>: {html_text(link.why)}{follows}.</li>"
+    )
+
+
+def _case(case: ShownCase, story: Story) -> Iterable[str]:
+    """What is impossible in it, with a picture of its circle."""
+    yield '<details class="case" open>'
+    yield f"<summary>If {html_text(case.link.told)}</summary>"
+    inner = case.reasons
+    named = {id for link in inner.drawn for id in (link.start, link.end)}
+    involved = replace(story, steps=tuple(step for step in story.steps if step.id in named))
+    drawn = draw_story(involved, inner.drawn, case.link.number) if inner.drawn else ""
+    picture = f'<figure><div class="wide">{drawn}</div></figure>' if drawn else ""
+    yield from _reasons(replace(inner, links=(case.link, *inner.links)), story, picture)
+    yield "</details>"
 
 
 def _table(steps: Sequence[Step]) -> Iterable[str]:

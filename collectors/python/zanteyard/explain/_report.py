@@ -13,17 +13,17 @@ from ..core._circumstances import caller_of, clock_of, values_of
 from ..core._records import AuditId, History, Logged, Naming, Pending, ShownId
 from ..promises._kinds import SERIALIZABLE, Promise
 from ._anomalies import Anomaly, find_anomaly, meaning_of, name_circle
-from ._arcs import SESSION, Event, below, told_arc, transaction_of
-from ._reasons import Explanation, explain_history
+from ._arcs import transaction_of
+from ._explanation import Explanation, Reasons, laid_out
+from ._reasons import explanation_of
 from ._script_names import PART, REST
 from ._scripts import ScriptHistory, Verdict
-from ._shrinking import NAMED, SECONDS, audited, from_start, refuted, smaller
+from ._shrinking import NAMED, SECONDS, audited_apart, from_start, refuted, smaller
 from ._standing import Apart, Standing, standing
 from ._words import version as version_text
 from ._words import words
 
-EXPLAINED = SECONDS  # that making the history small may take, and as many for the reasons
-IN_ONE_SESSION = SESSION
+EXPLAINED = SECONDS  # that making the history small may take
 SHOWN = 12  # transactions of an order, and reads that wait, which are told of a long one
 
 
@@ -52,25 +52,6 @@ class Step:
 
 
 @dataclass(frozen=True)
-class Link:
-    """That one transaction has to come before another, or one's begin or commit before another's,
-    and why."""
-
-    start: ShownId
-    end: ShownId
-    why: str
-    is_of_circle: bool
-    is_of_aborted: bool = False  # the first was aborted, and has been read all the same
-    told: str = ""  # what comes before what
-    events: Tuple[str, str] = ("", "")  # "begin" or "commit", where these are told apart
-
-    @property
-    def ends(self) -> Tuple[Tuple[ShownId, str], Tuple[ShownId, str]]:
-        """Between what it leads."""
-        return (self.start, self.events[0]), (self.end, self.events[1])
-
-
-@dataclass(frozen=True)
 class Story:
     """What is told of one verdict."""
 
@@ -78,13 +59,12 @@ class Story:
     counts: Tuple[int, ...] = ()  # of each session, how many transactions the verdict is about
     anomaly: Optional[Anomaly] = None
     steps: Tuple[Step, ...] = ()
-    links: Tuple[Link, ...] = ()  # each behind those from which it follows
+    reasons: Reasons = Reasons()  # why no order is left
     lines: Tuple[str, ...] = ()  # the transactions, as text
     because: Tuple[str, ...] = ()  # the reasons, as text
     script: str = ""  # what shows the same again by the auditor alone
     order: Tuple[str, ...] = ()  # of a serial or pending verdict
     waiting: Tuple[str, ...] = ()  # the reads that wait for a transaction
-    names: Tuple[Tuple[ShownId, str], ...] = ()  # of each transaction that a link names
     promise: Promise = SERIALIZABLE  # which the verdict is about
     standing: Standing = Standing()  # what a violation breaks besides, and what it doesn't
     others: Tuple["Story", ...] = ()  # violations that lie apart from this one
@@ -95,14 +75,6 @@ class Story:
     def sentence(self) -> str:
         """The verdict in words."""
         return self.promise.sentence(self.kind)
-
-    @property
-    def circle(self) -> Tuple[str, ...]:
-        """The names of the transactions around, the first one last again; empty where none is."""
-        names = dict(self.names)
-        around = [link for link in self.links if link.is_of_circle]
-        told = [" ".join([names[link.start], link.events[0]]).rstrip() for link in around]
-        return (*told, told[0]) if told else ()
 
 
 def verdict_story(
@@ -158,36 +130,35 @@ def _story_in(
     seconds: float,
     promise: Promise,
 ) -> Story:
-    script = audited(small, program, promise)[1]
-    story = story_of(small, names, script, counts, seconds, promise)
+    refuted = audited_apart(small, program, promise)
+    explanation = explanation_of(refuted, small, names)
+    story = story_of(small, names, explanation, refuted.script, counts, promise)
     return replace(story, standing=standing(small, program, promise, seconds))
 
 
 def story_of(
     history: History,
     names: Naming,
+    explanation: Explanation,
     script: str = "",
     counts: Sequence[int] = (),
-    seconds: float = EXPLAINED,
     promise: Promise = SERIALIZABLE,
 ) -> Story:
     """Of a violated history that is small already. One that couldn't be made small in time has no
     name but that of the circle: to look for an anomaly among many takes minutes."""
-    explanation = explain_history(history, names, seconds, promise)
     count = sum(any(logged.did) for txns in history for logged in txns)
     anomaly = find_anomaly(history, names, promise) if count <= NAMED else None
-    links = tuple(_links(explanation, names))
-    ends = {end for link in links for end in (link.start, link.end)}
+    arcs = explanation.all_arcs()
+    ends = {transaction_of(end) for arc in arcs for end in arc.ends}
     return Story(
         "violated",
         tuple(counts),
         anomaly or name_circle(explanation.arcs, names),
         tuple(_steps(history, names, ends)),
-        links,
+        laid_out(explanation),
         tuple(words(history, names)),
         explanation.lines,
         script,
-        names=tuple((id, names(id)) for id in sorted(ends)),
         promise=promise,
         unnamed=count if count > NAMED else 0,
     )
@@ -223,28 +194,6 @@ def _deeds(logged: Logged, names: Naming) -> Iterator[ShownAccess]:
         yield ShownAccess(
             f"wrote {key}", statements.get((key,), ""), values.get(("wrote", key), "")
         )
-
-
-def _links(explanation: Explanation, names: Naming) -> Iterator[Link]:
-    """The arcs of its circle, each behind those from which it follows."""
-    around = [(arc.start, arc.end) for arc in explanation.arcs]
-    shown: List[Tuple[Any, Any]] = []
-    for arc in below(explanation.arcs):
-        ends = (arc.start, arc.end)
-        if ends not in shown:
-            shown.append(ends)
-            yield Link(
-                transaction_of(arc.start),
-                transaction_of(arc.end),
-                arc.why,
-                ends in around,
-                told=told_arc(arc, names),
-                events=(_event(arc.start), _event(arc.end)),
-            )
-
-
-def _event(node: Any) -> str:
-    return node.what if isinstance(node, Event) else ""
 
 
 def story_lines(story: Story, tells_all: bool = False) -> Iterator[str]:

@@ -8,8 +8,8 @@ import os
 import time
 from concurrent.futures import ThreadPoolExecutor
 from itertools import islice
-from typing import Any, Callable, Container, Dict, Iterable, Iterator, List, Mapping, cast
-from typing import Optional, Set, Tuple
+from typing import Any, Callable, Container, Dict, Iterable, Iterator, List, Mapping, NamedTuple
+from typing import Optional, Sequence, Set, Tuple, cast
 
 from ..core._outcome import VIOLATED
 from ..core._own_keys import FENCE, FORM, LONGEST, PLAIN_FENCE, is_own
@@ -48,16 +48,21 @@ def _keys_of(logged: Logged) -> Set[str]:
     return {*logged.writes, *(key for key, _ in logged.reads)}
 
 
-def each_apart(history: History) -> History:
-    """The same transactions, each in a session of its own; those that did nothing are left out.
-    Raises CantBeAskedError where they are more than there can be sessions."""
+def apart_ids(history: History) -> List[ShownId]:
+    """The transactions that did something, or from which one is said to have read."""
     did = [
         ShownId((session, number))
         for session, txns in enumerate(history)
         for number, logged in enumerate(txns)
         if logged.reads or logged.writes or logged.is_undone
     ]
-    did += [id for id in wrong_sources(history) if id not in did]
+    return did + [id for id in wrong_sources(history) if id not in did]
+
+
+def each_apart(history: History) -> History:
+    """The same transactions, each in a session of its own; those that did nothing are left out.
+    Raises CantBeAskedError where they are more than there can be sessions."""
+    did = apart_ids(history)
     if len(did) > SESSIONS:
         raise CantBeAskedError(
             f"without session order each transaction has a session of its own, and these {len(did)}"
@@ -81,6 +86,21 @@ def each_apart(history: History) -> History:
     return [[apart(history[session][number])] for session, number in did] or [[]]
 
 
+class Audited(NamedTuple):
+    """What an auditor of its own said of a history, and the script that gives it. `keys` are the
+    names of keys by the numbers that the report has, and `ids` its transactions, if it has them
+    renumbered, each in a session of its own."""
+
+    report: Report
+    script: str
+    keys: Sequence[str]
+    ids: Optional[Sequence[ShownId]] = None
+
+    def moved(self, id: ShownId) -> ShownId:
+        """Which transaction of the history the report means."""
+        return id if self.ids is None else self.ids[id[0]]
+
+
 def audited(
     history: History, program: str = PROGRAM, promise: Promise = SERIALIZABLE
 ) -> Tuple[Report, str]:
@@ -88,9 +108,18 @@ def audited(
     what that adds is in the script, so that the auditor gives the report by itself; under one about
     snapshots `zanteyard check` has to be asked for the promise. Raises CantBeAskedError where the
     history can't be asked about it."""
+    its = audited_apart(history, program, promise)
+    return its.report, its.script
+
+
+def audited_apart(
+    history: History, program: str = PROGRAM, promise: Promise = SERIALIZABLE
+) -> Audited:
+    """The same, with what it takes to read the report."""
     count = max(1, sum(map(len, history)))
     limit = min(count, LIMIT)
     timeline = timeline_of(history) if promise.is_timed else None
+    ids = None if promise.keeps_sessions else apart_ids(history)
     if not promise.keeps_sessions:
         history = each_apart(history)
     with Auditor.asked(len(history), limit, program, Rewriting(promise, timeline)) as auditor:
@@ -108,7 +137,8 @@ def audited(
             auditor.offer(at, number, *offered)
         report = auditor.last_round()
         script.append(["round", *auditor.effort, GUIDED])
-        return report, "".join(written(line) + "\n" for line in script)
+        text = "".join(written(line) + "\n" for line in script)
+        return Audited(report, text, tuple(auditor.names), ids)
 
 
 def is_violated(

@@ -6,17 +6,22 @@ right edge of its box. Nothing in it is from outside."""
 from __future__ import annotations
 
 from dataclasses import dataclass
+from math import hypot
 from typing import Dict, List, Mapping, Sequence, Tuple
 
 from ..core._records import ABORTED, ShownId
 from ..core._visible import html_text
-from ._report import IN_ONE_SESSION, Link, Step, Story
+from ._arcs import SESSION
+from ._explanation import Link
+from ._report import Step, Story
 
 WIDTH, GAP, LANE_GAP = 316.0, 110.0, 76.0  # of a box, and between boxes, in the picture's units
 LINE, PADDING, LEFT = 18.0, 8.0, 100.0
 APART = 9.0  # half of what lies between arcs that leave an edge and those that come to it
 MOST_LETTERS = 40  # of a line in a box: they fit in DejaVu Sans, which is wide
+ALONG = (0.5, 0.42, 0.58, 0.34, 0.66, 0.26, 0.74, 0.18, 0.82)  # parts of a way
 Point = Tuple[float, float]
+Curve = Tuple[Point, ...]  # of Bezier's: its ends, with one or two points between that bend it
 
 
 @dataclass(frozen=True)
@@ -30,6 +35,10 @@ class Box:
     @property
     def middle(self) -> Point:
         return self.left + WIDTH / 2, self.top + self.height / 2
+
+    def holds(self, point: Point) -> bool:
+        x, y = point
+        return self.left < x < self.left + WIDTH and self.top < y < self.top + self.height
 
     def edge_of(self, event: str) -> Point:
         """Where it begins, or commits."""
@@ -96,18 +105,24 @@ def _told(step: Step) -> List[str]:
     return lines or ["did nothing that matters here"]
 
 
-def draw_story(story: Story) -> str:
-    """The picture, as an `svg` element; an empty text where there is nothing to draw."""
+def draw_story(story: Story, links: Sequence[Link] = (), place: int = 0) -> str:
+    """The picture with these links, as an `svg` element; an empty text where there is nothing to
+    draw. Without links it shows who read from whom. The place is another for each picture of a
+    page: what one of them defines isn't there for the others while it is folded away."""
     if not story.steps:
         return ""
     boxes = boxes_of(story)
-    arcs: List[Tuple[bool, str]] = []
-    points: List[Point] = []
-    for number, link in enumerate(story.links or _reads(story.steps), 1):
-        if link.start in boxes and link.end in boxes:
-            text, around = _arc(link, boxes, number if story.links else 0)
-            arcs.append((link.is_of_circle, text))
-            points += around
+    shown = links or _reads(story.steps)
+    curves = [
+        (link, _curve(link, boxes))
+        for link in shown
+        if link.start in boxes and link.end in boxes
+    ]
+    marks = _places_of_numbers([curve for _, curve in curves], [*boxes.values()])
+    arcs = [(link.is_of_circle, _arc(link, curve, place)) for link, curve in curves]
+    points = [point for _, curve in curves for point in (curve[0], curve[-1])]
+    for x, y in marks:
+        points += [(x - 12, y - 12), (x + 12, y + 12)]
     for box in boxes.values():
         points += [(box.left, box.top), (box.left + WIDTH, box.top + box.height)]
     left, right = min(x for x, _ in points + [(4.0, 0.0)]) - 8, max(x for x, _ in points) + 24
@@ -123,11 +138,12 @@ def draw_story(story: Story) -> str:
             f'<svg class="timeline columns-{columns}" role="img" '
             f'viewBox="{left:.0f} {top:.0f} {width} {height}" width="{width}" height="{height}">',
             f"<title>{html_text(about)}</title>",
-            _ends_of_arcs(),
+            _ends_of_arcs(place),
             *_lanes(story, boxes, right),
             *(text for is_red, text in arcs if not is_red),
             *(_box(step, boxes[step.id], story.promise.is_split) for step in story.steps),
             *(text for is_red, text in arcs if is_red),
+            *(_number(link, at) for (link, _), at in zip(curves, marks) if link.number),
             "</svg>",
         ]
     )
@@ -149,13 +165,13 @@ def _reads(steps: Sequence[Step]) -> List[Link]:
     ]
 
 
-def _ends_of_arcs() -> str:
+def _ends_of_arcs(place: int) -> str:
     heads = [("red", "circle-head"), ("grey", "other-head")]
     return (
         "<defs>"
         + "".join(
-            f'<marker id="{colour}-head" viewBox="0 0 10 10" refX="9" refY="5" markerWidth="7" '
-            f'markerHeight="7" orient="auto-start-reverse"><path class="{name}" '
+            f'<marker id="{colour}-head-{place}" viewBox="0 0 10 10" refX="9" refY="5" '
+            f'markerWidth="7" markerHeight="7" orient="auto-start-reverse"><path class="{name}" '
             'd="M0 0L10 5L0 10z"/></marker>'
             for colour, name in heads
         )
@@ -211,65 +227,88 @@ def _short(text: str) -> str:
     return text if len(text) <= MOST_LETTERS else text[: MOST_LETTERS - 1] + "…"
 
 
-def _arc(link: Link, boxes: Mapping[ShownId, Box], number: int) -> Tuple[str, List[Point]]:
-    """The arc, with a number unless that is 0, and what it reaches. One that leads to the right in
-    another lane swings over; any other bends to its right, so that opposite ones stand apart."""
+def _arc(link: Link, curve: Curve, place: int) -> str:
+    """The arc without its number."""
+    colour = "red" if link.is_of_circle else "grey"
+    first, *turns, last = (f"{x:.1f} {y:.1f}" for x, y in curve)
+    way = f"M{first}{'Q' if len(turns) == 1 else 'C'}{' '.join(turns)} {last}"
+    return (
+        f'<g class="arc {_kind(link)}"><title>{_title(link)}</title>'
+        f'<path d="{way}" marker-end="url(#{colour}-head-{place})"/></g>'
+    )
+
+
+def _kind(link: Link) -> str:
+    kind = "circle" if link.is_of_circle else "other"
+    return f"{kind} aborted" if link.is_of_aborted else kind
+
+
+def _title(link: Link) -> str:
+    return (f"{link.number}. " if link.number else "") + html_text(link.why)
+
+
+def _number(link: Link, at: Point) -> str:
+    x, y = at
+    return (
+        f'<g class="mark {_kind(link)}"><title>{_title(link)}</title>'
+        f'<circle cx="{x:.1f}" cy="{y:.1f}" r="11"/>'
+        f'<text class="number" x="{x:.1f}" y="{y + 4.5:.1f}">{link.number}</text></g>'
+    )
+
+
+def _curve(link: Link, boxes: Mapping[ShownId, Box]) -> Curve:
+    """What it leads along. One that leads to the right in another lane swings over; any other bends
+    to its right, so that opposite ones stand apart."""
     start, end = boxes[link.start], boxes[link.end]
     (x, y), (to_x, to_y) = start.middle, end.middle
     if all(link.events):
-        first, last, way, middle = _between_edges(link, start, end, number)
-    elif to_x > x + WIDTH and abs(to_y - y) > 1:
+        return _between_edges(link, start, end)
+    if to_x > x + WIDTH and abs(to_y - y) > 1:
         first, last = (start.left + WIDTH, y), (end.left, to_y)
         swing = max(70.0, (last[0] - first[0]) * 0.5)
-        way = f"C{first[0] + swing:.1f} {y:.1f} {last[0] - swing:.1f} {to_y:.1f}"
-        middle = (first[0] + last[0]) / 2, (y + to_y) / 2
-    else:
-        bent = _bent(start.middle, end.middle, link.why == IN_ONE_SESSION)
-        first, last = start.edge_towards(bent), end.edge_towards(bent)
-        way = f"Q{bent[0]:.1f} {bent[1]:.1f}"
-        middle = (
-            first[0] / 4 + bent[0] / 2 + last[0] / 4,
-            first[1] / 4 + bent[1] / 2 + last[1] / 4,
-        )
-    kind, colour = ("circle", "red") if link.is_of_circle else ("other", "grey")
-    kind += " aborted" if link.is_of_aborted else ""
-    badge = (
-        f'<circle cx="{middle[0]:.1f}" cy="{middle[1]:.1f}" r="11"/>'
-        f'<text class="number" x="{middle[0]:.1f}" y="{middle[1] + 4.5:.1f}">{number}</text>'
-    )
-    its = f"{number}. " if number else ""
-    text = (
-        f'<g class="arc {kind}"><title>{its}{html_text(link.why)}</title>'
-        f'<path d="M{first[0]:.1f} {first[1]:.1f}{way} {last[0]:.1f} {last[1]:.1f}" '
-        f'marker-end="url(#{colour}-head)"/>{badge if number else ""}</g>'
-    )
-    return text, [first, last, (middle[0] - 12, middle[1] - 12), (middle[0] + 12, middle[1] + 12)]
+        return first, (first[0] + swing, y), (last[0] - swing, to_y), last
+    bent = _bent(start.middle, end.middle, link.why == SESSION)
+    return start.edge_towards(bent), bent, end.edge_towards(bent)
 
 
-def _between_edges(
-    link: Link, start: Box, end: Box, number: int
-) -> Tuple[Point, Point, str, Point]:
-    """From one begin or commit to another: its ends, the way between these, and where its number
-    stands. It leaves a box on the side of that edge, and comes to one so, above where others leave.
-    """
+def _between_edges(link: Link, start: Box, end: Box) -> Curve:
+    """From one begin or commit to another. It leaves a box on the side of that edge, and comes to
+    one so, above where others leave."""
     first, last = start.edge_of(link.events[0]), end.edge_of(link.events[1])
     first, last = (first[0], first[1] + APART), (last[0], last[1] - APART)
     if link.start == link.end:  # along the box's upper edge
         top = start.top - 14
-        way = f"C{first[0]:.1f} {top:.1f} {last[0]:.1f} {top:.1f}"
-        return first, last, way, (start.middle[0], start.top - 6)
+        return first, (first[0], top), (last[0], top), last
     swing = 60 + 0.15 * (abs(last[0] - first[0]) + abs(last[1] - first[1]))
     out, back = (swing if event == "commit" else -swing for event in link.events)
-    turns = first[0] + out, last[0] + back
-    way = f"C{turns[0]:.1f} {first[1]:.1f} {turns[1]:.1f} {last[1]:.1f}"
-    at = (0.5, 0.36, 0.64)[number % 3]  # so that numbers of arcs that cross stand apart
-    before = 1 - at
-    shares = before**3, 3 * before**2 * at, 3 * before * at**2, at**3
-    middle = (
-        sum(share * x for share, x in zip(shares, (first[0], *turns, last[0]))),
-        (shares[0] + shares[1]) * first[1] + (shares[2] + shares[3]) * last[1],
-    )
-    return first, last, way, middle
+    return first, (first[0] + out, first[1]), (last[0] + back, last[1]), last
+
+
+def _places_of_numbers(curves: Sequence[Curve], boxes: Sequence[Box]) -> List[Point]:
+    """Of each curve where its number stands: at its middle, or as near to that as it is apart from
+    those before it, and from what stands in the boxes."""
+    taken: List[Point] = []
+    for curve in curves:
+        places = [_on_curve(curve, at) for at in ALONG]
+        clear = [
+            at
+            for at in places
+            if all(hypot(at[0] - x, at[1] - y) > 24 for x, y in taken)
+            and not any(box.holds(at) for box in boxes)
+        ]
+        taken.append((clear or places)[0])
+    return taken
+
+
+def _on_curve(curve: Curve, at: float) -> Point:
+    """The point of a curve of Bezier's after this part of the way."""
+    points = [*curve]
+    while len(points) > 1:
+        points = [
+            (x + at * (to_x - x), y + at * (to_y - y))
+            for (x, y), (to_x, to_y) in zip(points, points[1:])
+        ]
+    return points[0]
 
 
 def _bent(start: Point, end: Point, is_in_one_session: bool) -> Point:

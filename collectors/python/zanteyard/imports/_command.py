@@ -32,16 +32,16 @@ class Form:
 
 FORMS: Mapping[str, Form] = {
     "jepsen-registers": Form(
-        "Jepsen's transactions of reads and writes, as EDN or JSON",
+        "a Jepsen history of reads and writes, as EDN or JSON",
         lambda text: read_jepsen(text, "jepsen-registers", False),
     ),
     "jepsen-lists": Form(
-        "Jepsen's transactions of reads and appends to lists, as EDN or JSON",
+        "a Jepsen history of reads and list appends, as EDN or JSON",
         lambda text: read_jepsen(text, "jepsen-lists", True),
     ),
-    "dbcop": Form("dbcop's sessions, as JSON", read_dbcop, True),
-    "polysi": Form("PolySI's reads and writes, a line each", read_polysi, True),
-    "csv": Form("lines of session,number,operation,key,value", read_csv, True),
+    "dbcop": Form("a dbcop history, as JSON", read_dbcop, True),
+    "polysi": Form("a PolySI history, one operation a line", read_polysi, True),
+    "csv": Form("CSV lines of session,number,operation,key,value", read_csv, True),
 }
 
 
@@ -51,19 +51,20 @@ def add_arguments(command: argparse.ArgumentParser) -> None:
     command.add_argument("form", choices=tuple(FORMS), metavar="FORM", help=forms)
     command.add_argument("file", metavar="FILE", help="the history, in UTF-8")
     command.add_argument(
-        "-o", dest="script", metavar="SCRIPT", required=True, help="where the script is written"
+        "-o", dest="script", metavar="SCRIPT", required=True, help="the script to write"
     )
     command.add_argument(
         "--initial",
         metavar="VALUE",
-        help="the value that keys are read as before they are written: dbcop and polysi 0, csv "
-        "nothing; the others have nil",
+        help="the value of a key before its first write (dbcop and polysi: 0; csv: empty; Jepsen "
+        "always has nil)",
     )
     command.add_argument(
         "--first",
         type=_count,
         metavar="N",
-        help="takes the first N attempts of the file alone; what isn't violated is then pending",
+        help="take only the first N attempts of the file; a history without a violation is then "
+        "pending",
     )
     _add_strict(command)
 
@@ -74,16 +75,15 @@ def _add_strict(command: argparse.ArgumentParser) -> None:
         "--realtime",
         dest="strict",
         action="store_true",
-        help="makes a script that is asked about strict serializability: with room for more than "
-        "4,096 transactions, if there are moments at which nothing was in flight, and with "
-        "sessions that clients share by the order of time",
+        help="ask about strict serializability: clients may share sessions by real-time order, and "
+        "the file may have more than 4,096 transactions if there are moments with none in flight",
     )
 
 
 def _count(text: str) -> int:
     count = int(text) if text.isdecimal() else 0
     if count < 1:
-        raise argparse.ArgumentTypeError(f"{text!r} is no whole number from 1 on")
+        raise argparse.ArgumentTypeError(f"{text!r} isn't a whole number above 0")
     return count
 
 
@@ -100,7 +100,7 @@ def run(asked: Any) -> int:
         say(f"  {line}")
     if imported.times is not None:
         write_times(imported.times, asked.script)
-        say(f"  when they began and ended: {asked.script}{TIMES}")
+        say(f"  begin and end times: {asked.script}{TIMES}")
     else:
         with contextlib.suppress(FileNotFoundError):  # of another file's script
             os.remove(asked.script + TIMES)
@@ -117,7 +117,7 @@ def import_text(
     """The script of a file's text. Raises ImportRefusedError."""
     chosen = FORMS[form]
     if initial is not None and not chosen.has_initial:
-        raise ImportRefusedError(0, f"in {form} the initial state is nil, and nothing else")
+        raise ImportRefusedError(0, f"in {form} the initial value is always nil")
     recording = chosen.read(text) if initial is None else chosen.read(text, initial)
     return script_of(recording, first, asks_time, EVERY)
 
@@ -129,4 +129,4 @@ def _text_of(path: str) -> str:
         return whole.decode("utf-8-sig")
     except UnicodeDecodeError as error:
         line = whole.count(b"\n", 0, error.start) + 1
-        raise ImportRefusedError(line, f"{os.path.basename(path)} is no UTF-8") from error
+        raise ImportRefusedError(line, f"{os.path.basename(path)} isn't UTF-8") from error

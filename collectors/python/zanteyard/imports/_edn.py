@@ -86,7 +86,7 @@ class EdnReader:
     def _form(self, depth: int) -> List[Any]:
         """The next form, in a list; an empty list where it was discarded by `#_`."""
         if depth > DEEPEST:
-            raise self._refused(f"forms stand more than {DEEPEST} deep in one another")
+            raise self._refused(f"forms are nested more than {DEEPEST} deep")
         if self._is_over():
             raise self._refused("the file ends within a form")
         start = self._text[self._at]
@@ -99,7 +99,7 @@ class EdnReader:
         if start == "#":
             return self._dispatched(depth)
         if start in ")]}":
-            raise self._refused(f"{start} closes nothing")
+            raise self._refused(f"{start} has no opening bracket")
         return [scalar_of(self._taken(TOKEN, "a word"))]
 
     def _taken(self, pattern: "re.Pattern[str]", what: str) -> str:
@@ -112,10 +112,10 @@ class EdnReader:
     def _string(self) -> str:
         match = TEXT.match(self._text, self._at)
         if not match:
-            raise self._refused("a string has no end")
+            raise self._refused("the string isn't closed")
         for escape in ESCAPE.finditer(match[1]):
             if escape[2] and escape[2] not in ESCAPED:
-                raise self._refused(f"\\{escape[2]} stands for nothing in a string")
+                raise self._refused(f"\\{escape[2]} isn't an escape in a string")
         self._at = match.end()
         return ESCAPE.sub(
             lambda escape: chr(int(escape[1], 16)) if escape[1] else ESCAPED[escape[2]], match[1]
@@ -136,7 +136,7 @@ class EdnReader:
             return []
         tag = self._taken(TOKEN, "a tag")
         if not tag[0].isalpha():
-            raise self._refused(f"#{tag} is no tag")
+            raise self._refused(f"#{tag} isn't a tag")
         forms: List[Any] = []
         while not forms:
             forms = self._form(depth + 1)
@@ -148,7 +148,7 @@ class EdnReader:
         forms: List[Any] = []
         while True:
             if self._is_over():
-                raise ImportRefusedError(line, f"what {opening} opens here has no end")
+                raise ImportRefusedError(line, f"the {opening} here isn't closed")
             if self._text[self._at] == CLOSING[opening]:
                 self._at += 1
                 return forms

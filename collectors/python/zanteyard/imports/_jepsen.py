@@ -63,13 +63,13 @@ def _maps(text: str) -> Iterator[Tuple[int, Any]]:
     if _is_json(text):
         for line, value in JsonReader(text).elements():
             if not isinstance(value, dict):
-                raise ImportRefusedError(line, "an operation is an object")
+                raise ImportRefusedError(line, "an operation must be an object")
             yield line, value
         return
     for line, form in EdnReader(text).forms():
         for part in form if isinstance(form, tuple) else (form,):
             if not isinstance(part, EdnMap):
-                raise ImportRefusedError(line, "an operation is a map")
+                raise ImportRefusedError(line, "an operation must be a map")
             yield part.line, part
 
 
@@ -80,13 +80,14 @@ def _operations(text: str, is_of_lists: bool) -> Iterator[Operation]:
         if _word(process) == "nemesis":
             continue
         if not isinstance(process, int) or isinstance(process, bool):
-            raise ImportRefusedError(line, "a process is a whole number, or the nemesis")
+            raise ImportRefusedError(line, "a process must be a whole number or the nemesis")
         type = _word(operation_map.get("type"))
         if type not in ("invoke", *OUTCOMES):
-            raise ImportRefusedError(line, "a type is invoke, ok, fail or info")
+            raise ImportRefusedError(line, "the type must be invoke, ok, fail or info")
         if _word(operation_map.get("f")) != "txn":
-            raise ImportRefusedError(line, "a client's operation has another function than txn, "
-                                     "and what it did isn't known")
+            raise ImportRefusedError(
+                line, "a client's operation has a function other than txn: its effect is unknown"
+            )
         index, time = (_whole(operation_map.get(name), name, line) for name in ("index", "time"))
         value = operation_map.get("value")
         has_none = value is None and type in ("fail", "info")
@@ -97,34 +98,36 @@ def _operations(text: str, is_of_lists: bool) -> Iterator[Operation]:
 def _whole(value: Any, name: str, line: int) -> Optional[int]:
     if value is None or (isinstance(value, int) and not isinstance(value, bool)):
         return value
-    raise ImportRefusedError(line, f"the {name} is a whole number")
+    raise ImportRefusedError(line, f"the {name} must be a whole number")
 
 
 def _micros(value: Any, line: int, is_of_lists: bool) -> Iterator[Micro]:
     if not isinstance(value, (tuple, list)):
-        raise ImportRefusedError(line, "the value of a txn is a list of micro-operations")
+        raise ImportRefusedError(line, "the value of a txn must be a list of micro-operations")
     for micro in value:
         if not isinstance(micro, (tuple, list)) or len(micro) != 3:
-            raise ImportRefusedError(line, "a micro-operation is a function, a key and a value")
+            raise ImportRefusedError(
+                line, "a micro-operation must be a function, a key and a value"
+            )
         function = _word(micro[0])
         if function not in ("r", "append" if is_of_lists else "w"):
             known = "r and append" if is_of_lists else "r and w"
-            raise ImportRefusedError(line, f"a micro-operation of this form is one of {known}")
+            raise ImportRefusedError(line, f"a micro-operation of this form must be {known}")
         key = token(micro[1], line, "a key")
         if function == "r" and is_of_lists:
             yield function, key, _elements(micro[2], line)
         elif function == "r":
             yield function, key, optional_token(micro[2], line, "a value")
         else:
-            yield function, key, token(micro[2], line, "what is written")
+            yield function, key, token(micro[2], line, "a written value")
 
 
 def _elements(value: Any, line: int) -> Optional[Tuple[str, ...]]:
     if value is None:
         return None
     if not isinstance(value, (tuple, list)):
-        raise ImportRefusedError(line, "a read of a list gives a list, or nil")
-    return tuple(token(element, line, "an element") for element in value)
+        raise ImportRefusedError(line, "a read must return a list or nil")
+    return tuple(token(element, line, "a list element") for element in value)
 
 
 class _Pairs:
@@ -154,7 +157,7 @@ class _Pairs:
             _, invoked, _ = self._open[process]
             self._complete(replace(invoked, type="info"), NEVER)
         if not self._attempts:
-            raise ImportRefusedError(max(1, last_line), "the file has no operation of a client")
+            raise ImportRefusedError(max(1, last_line), "the file has no client operation")
         return Recording(form, tuple(self._named()), True, self._unused, goes_back)
 
     def _named(self) -> Iterator[Attempt]:
@@ -171,8 +174,7 @@ class _Pairs:
             line = self._open[operation.process][1].line
             raise ImportRefusedError(
                 operation.line,
-                f"process {operation.process} has an operation in flight, "
-                f"that of line {line}: a process has one at a time",
+                f"process {operation.process} already has an operation in flight, from line {line}",
             )
         self._open[operation.process] = (len(self._attempts), operation, place)
         self._attempts.append(
@@ -182,7 +184,8 @@ class _Pairs:
     def _complete(self, operation: Operation, place: int) -> None:
         if operation.process not in self._open:
             raise ImportRefusedError(
-                operation.line, f"process {operation.process} completes what it hasn't " "invoked"
+                operation.line, f"process {operation.process} completes an operation that it "
+                "didn't invoke"
             )
         at, invoked, began = self._open.pop(operation.process)
         outcome = OUTCOMES[operation.type]
@@ -225,8 +228,8 @@ class _Pairs:
         if asked != done:
             raise ImportRefusedError(
                 completed.line,
-                "this completes another operation than process "
-                f"{completed.process} has invoked on line {invoked.line}",
+                f"this isn't the operation that process {completed.process} invoked on line "
+                f"{invoked.line}",
             )
 
     def _access(self, micro: Micro) -> Access:

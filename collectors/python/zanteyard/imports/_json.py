@@ -14,12 +14,12 @@ SPACE = re.compile(r"[ \t\r\n]*")
 def _object(pairs: List[Tuple[str, Any]]) -> Dict[str, Any]:
     whole = dict(pairs)
     if len(whole) != len(pairs):
-        raise ValueError("an object has a name twice")
+        raise ValueError("an object has the same name twice")
     return whole
 
 
 def _refuse(text: str) -> NoReturn:
-    raise ValueError(f"{text} is no JSON")
+    raise ValueError(f"{text} isn't JSON")
 
 
 DECODER = json.JSONDecoder(object_pairs_hook=_object, parse_constant=_refuse)
@@ -52,7 +52,7 @@ class JsonReader:
             yield self.value()
         self._take("]")
         if self._at < len(self._text):
-            raise self._refused("something stands behind the array")
+            raise self._refused("text after the array")
 
     def is_over(self) -> bool:
         """Whether nothing stands behind what was read."""

@@ -72,7 +72,7 @@ def token(value: Any, line: int, what: str) -> str:
         return json.dumps(value, ensure_ascii=False)
     if isinstance(value, int) and not isinstance(value, bool):
         return str(value)
-    raise ImportRefusedError(line, f"{what} is a whole number, a string or a keyword")
+    raise ImportRefusedError(line, f"{what} must be a whole number, a string or a keyword")
 
 
 def optional_token(value: Any, line: int, what: str) -> Optional[str]:

@@ -140,8 +140,8 @@ class _ScriptMaker:
             line = self._line_at(self._pauses[pause - 1]) if pause else 1
             raise ImportRefusedError(
                 line,
-                f"from here on {count:,} transactions come without a moment at which nothing is in "
-                f"flight, and at most {LIMIT:,} remain at a time",
+                f"from here on, {count:,} transactions ran without a moment at which none was in "
+                f"flight; at most {LIMIT:,} can be held at a time",
             )
 
     def _line_at(self, place: int) -> int:
@@ -186,7 +186,7 @@ class _ScriptMaker:
         behind all of another one goes on in its session."""
         clients = [items for items in self._items_of_clients().values() if items]
         if not clients:
-            raise ImportRefusedError(0, "nothing was committed, so that nothing can be judged")
+            raise ImportRefusedError(0, "no transaction was committed: nothing can be checked")
         if len(clients) <= SESSIONS:
             return Plan(clients)
         before = self._known_before()
@@ -197,10 +197,9 @@ class _ScriptMaker:
         if len(plan.sessions) > SESSIONS:
             raise ImportRefusedError(
                 0,
-                f"{len(clients)} clients did something, and at most {SESSIONS} sessions can be "
-                f"judged; {plan.shared} of them certainly come behind another one, and can share "
-                f"its session, so that {len(plan.sessions)} are left: fewer of the file's "
-                "transactions can be judged (--first)",
+                f"{len(clients)} clients need {len(plan.sessions)} sessions, of which there are at "
+                f"most {SESSIONS} ({plan.shared} clients certainly follow another one, and share "
+                "its session): take fewer transactions (--first)",
             )
         return plan
 
@@ -243,8 +242,9 @@ class _ScriptMaker:
                 before = self._attempts[unknown[attempt.client]]
                 raise ImportRefusedError(
                     attempt.line,
-                    f"this client goes on behind its attempt of line {before.line}, whose outcome "
-                    "it didn't know, and which took effect: nothing tells whether before this one",
+                    f"this client continues after its attempt on line {before.line}, which took "
+                    "effect although its outcome was unknown: whether that was before this attempt "
+                    "is unknown",
                 )
             if attempt.outcome == UNKNOWN:
                 unknown[attempt.client] = at
@@ -286,7 +286,7 @@ class _ScriptMaker:
         attempt, sourced = self._attempts[item], self._of[item]
         if len(sourced.reads) > LONGEST or len(sourced.writes) > LONGEST:
             raise ImportRefusedError(
-                attempt.line, f"a transaction has at most {LONGEST} reads and {LONGEST} writes"
+                attempt.line, f"a transaction can have at most {LONGEST} reads and {LONGEST} writes"
             )
         reads = {
             (self._key(key), *self._source(origin, item)): text
@@ -330,7 +330,7 @@ class _ScriptMaker:
             name = f"a writer of {origin.value} that isn't in the file"
         else:
             owner = origin.owner if isinstance(origin, Stub) else origin
-            name = f"{self._attempts[owner].name}, which isn't in this part of the file"
+            name = f"{self._attempts[owner].name}, which is outside this part of the file"
         return self._never_offered(origin, name)
 
     def _never_offered(self, what: object, name: str) -> AuditId:
@@ -345,7 +345,7 @@ class _ScriptMaker:
 
     def _rest(self) -> Tuple[List[Any], NamedTransaction]:
         """Has the verdict wait for what wasn't imported."""
-        source = self._never_offered(REST, "what isn't in this part of the file")
+        source = self._never_offered(REST, "the rest of the file")
         read = [self._key(REST), *source]
         return [[read], []], NamedTransaction(PART, COMMITTED)
 
@@ -356,39 +356,38 @@ class _ScriptMaker:
         yield f"{counted(count, 'transaction')} in {counted(len(self._plan.sessions), 'session')}"
         if self._is_part:
             yield (
-                f"of {len(self._attempts)} attempts the first {len(kept)} alone: what is violated "
-                "stays so, and all else is pending"
+                f"only the first {len(kept)} of {len(self._attempts)} attempts: a violation is "
+                "final, any other verdict is pending"
             )
-        for outcome, about in ((ABORTED, "failed"), (UNKNOWN, "of unknown outcome")):
+        for outcome, about in ((ABORTED, "failed"), (UNKNOWN, "with unknown outcome")):
             places = [at for at in self._kept if self._attempts[at].outcome == outcome]
             taken = {at for at in places if at in self._of or Stub(at, ABORTED) in self._places}
             if places:
                 left = len(places) - len(taken)
                 yield (
-                    f"{counted(len(places), 'attempt')} {about}: {left} left out, from which "
-                    "nobody has read"
+                    f"{counted(len(places), 'attempt')} {about}: {left} left out, because nobody "
+                    "read from them"
                 )
         if self._recording.unused:
             yield (
-                f"{counted(self._recording.unused, 'read')} of attempts that failed, or whose "
-                "outcome isn't known: not used"
+                f"{counted(self._recording.unused, 'read')} not used, of attempts that failed or "
+                "have an unknown outcome"
             )
         if self._plan.shared:
             yield (
-                f"{counted(self._plan.shared, 'client')} in the session of another one, behind "
-                f"which they come in {'time' if self._plan.by_time else 'every order'}"
+                f"{counted(self._plan.shared, 'client')} put into the session of a client that "
+                f"certainly came before{', by time' if self._plan.by_time else ''}"
             )
         if self._times is not None:
-            yield "made for strict serializability, which is more than serializability"
+            yield "the script asks about strict serializability"
         if self._pauses:
             pauses = counted(sum(map(bool, self._plan.fences)), "pause")
-            yield f"fences at {pauses}, at which what is settled is forgotten"
+            yield f"fences at {pauses}, where settled transactions are forgotten"
 
 
 def too_many(count: int) -> str:
     """Why so many transactions can't be judged at once."""
     return (
-        f"these are {count:,} transactions, and at most {LIMIT:,} can be judged at a time: more "
-        "takes fences, at which what is settled is forgotten, and nobody ran them; the first so "
-        "many can be judged (--first N)"
+        f"the file has {count:,} transactions, and at most {LIMIT:,} can be checked at once "
+        "without fences, which this history lacks: take the first of them (--first N)"
     )

@@ -96,4 +96,4 @@ def named_stub(stub: Stub, attempts: Tuple[Attempt, ...]) -> NamedTransaction:
         return NamedTransaction(owner.name, ABORTED, (), owner.where)
     if stub.kind == DRAFT:
         return NamedTransaction(f"a part of {owner.name}", "unfinished", (), owner.where)
-    return NamedTransaction("a state that can't be", "impossible")
+    return NamedTransaction("an impossible state", "impossible")

@@ -29,7 +29,7 @@ OUTCOMES = {"commit": COMMITTED, "abort": ABORTED, "unknown": UNKNOWN}
 NUMBER = r"-?[0-9]{1,100}"
 POLYSI_LINE = re.compile(rf"([rw])\(({NUMBER}),({NUMBER}),({NUMBER}),({NUMBER})\)")
 WHOLE = re.compile(r"0|[1-9][0-9]{0,99}")
-NO_INITIAL = "what is written here is the value that keys have at first (--initial says which)"
+NO_INITIAL = "this write writes the initial value of keys (--initial names another one)"
 
 
 def access_of(
@@ -68,7 +68,7 @@ class _RecordedTransactions:
             self._last[session] = last
             self._all.append(last)
         elif last.has_ended:
-            raise ImportRefusedError(line, "this transaction has ended before")
+            raise ImportRefusedError(line, "this transaction ended earlier in the file")
         return last
 
     def last_number(self, session: str) -> Optional[str]:
@@ -106,11 +106,11 @@ def read_csv(text: str, initial: str = "") -> Recording:
         for row in rows:
             first, line = line, rows.line_num
             if first == 0 and row != HEADER:
-                raise ImportRefusedError(line, f"the first line is {','.join(HEADER)}")
+                raise ImportRefusedError(line, f"the first line must be {','.join(HEADER)}")
             if first and row:
                 _csv_row(row, first + 1, transactions, initial)
     except csv.Error as error:
-        raise ImportRefusedError(rows.line_num, f"this is no CSV: {error}") from error
+        raise ImportRefusedError(rows.line_num, f"this isn't CSV: {error}") from error
     return transactions.recording("csv", line)
 
 
@@ -118,23 +118,27 @@ def _csv_row(
     row: Sequence[str], line: int, transactions: _RecordedTransactions, initial: str
 ) -> None:
     if len(row) != len(HEADER):
-        raise ImportRefusedError(line, f"a line has {len(HEADER)} fields, and this has {len(row)}")
+        raise ImportRefusedError(
+            line, f"a line must have {len(HEADER)} fields, but this one has {len(row)}"
+        )
     session, number, operation, key, value = row
     if not session or not WHOLE.fullmatch(number):
-        raise ImportRefusedError(line, "a session has a name, and its transactions whole numbers")
+        raise ImportRefusedError(line, "a session needs a name, and a transaction a whole number")
     before = transactions.last_number(session)
     if before is not None and int(number) < int(before):
-        raise ImportRefusedError(line, f"a session's numbers ascend, and {before} came before")
+        raise ImportRefusedError(
+            line, f"the numbers of a session must ascend, but {before} came before"
+        )
     recorded = transactions.at(session, number, line)
     if operation in OUTCOMES:
         if key or value:
-            raise ImportRefusedError(line, f"{operation} has neither key nor value")
+            raise ImportRefusedError(line, f"{operation} must have neither key nor value")
         recorded.outcome, recorded.has_ended = OUTCOMES[operation], True
     elif operation not in (READ, WRITE):
         known = ", ".join((READ, WRITE, *OUTCOMES))
-        raise ImportRefusedError(line, f"an operation is one of {known}")
+        raise ImportRefusedError(line, f"an operation must be one of {known}")
     elif not key:
-        raise ImportRefusedError(line, f"a {operation} has a key")
+        raise ImportRefusedError(line, f"a {operation} needs a key")
     elif not value and (initial or operation == WRITE):
         raise ImportRefusedError(line, f"this {operation} has no value")
     else:
@@ -153,15 +157,17 @@ def read_polysi(text: str, initial: str = "0") -> Recording:
             continue
         fields = POLYSI_LINE.fullmatch(line.strip())
         if not fields:
-            raise ImportRefusedError(number, "a line is r(key,value,session,transaction) or w(..)")
+            raise ImportRefusedError(
+                number, "a line must be r(key,value,session,transaction) or w(..)"
+            )
         letter, key, value, session, transaction = fields.groups()
         key, value, session, transaction = (
             str(int(word)) for word in (key, value, session, transaction)
         )
         if transaction != transactions.last_number(session) and transaction in sessions:
             raise ImportRefusedError(
-                number, f"transaction {transaction} is in session {sessions[transaction]}, and has "
-                "ended there"
+                number, f"transaction {transaction} is in session {sessions[transaction]}, where "
+                "it ended earlier"
             )
         sessions.setdefault(transaction, session)
         if sessions[transaction] != session:
@@ -181,7 +187,7 @@ def read_dbcop(text: str, initial: str = "0") -> Recording:
     for session, (line, transactions) in enumerate(_dbcop_sessions(text)):
         last_line = line
         if not isinstance(transactions, list):
-            raise ImportRefusedError(line, "a session is a list of transactions")
+            raise ImportRefusedError(line, "a session must be a list of transactions")
         for number, transaction in enumerate(transactions):
             where = f"session {session}, transaction {number}"
             _dbcop_transaction(
@@ -198,9 +204,11 @@ def _dbcop_sessions(text: str) -> Iterator[Tuple[int, Any]]:
         return
     line, whole = reader.value()
     if not isinstance(whole, dict) or not isinstance(whole.get("data"), list):
-        raise ImportRefusedError(line, "a history is an object whose data is a list of sessions")
+        raise ImportRefusedError(
+            line, "a history must be an object whose data is a list of sessions"
+        )
     if not reader.is_over():
-        raise ImportRefusedError(line, "something stands behind the history")
+        raise ImportRefusedError(line, "text after the history")
     yield from ((line, session) for session in whole["data"])
 
 
@@ -208,23 +216,25 @@ def _dbcop_transaction(
     transaction: Any, recorded: _RecordedTransaction, where: str, initial: str
 ) -> None:
     if not isinstance(transaction, dict) or set(transaction) != {"events", "success"}:
-        raise ImportRefusedError(recorded.line, f"{where}: it has events and success")
+        raise ImportRefusedError(recorded.line, f"{where}: it must have events and success")
     if not isinstance(transaction["events"], list) or not isinstance(transaction["success"], bool):
         raise ImportRefusedError(
-            recorded.line, f"{where}: events are a list, success true or false"
+            recorded.line, f"{where}: events must be a list, and success true or false"
         )
     recorded.outcome = COMMITTED if transaction["success"] else ABORTED
     for event in transaction["events"]:
         if not isinstance(event, dict) or set(event) != {"write", "variable", "value", "success"}:
             raise ImportRefusedError(
-                recorded.line, f"{where}: an event has write, variable, value and success"
+                recorded.line, f"{where}: an event must have write, variable, value and success"
             )
         if not isinstance(event["write"], bool) or not isinstance(event["success"], bool):
-            raise ImportRefusedError(recorded.line, f"{where}: write and success are true or false")
+            raise ImportRefusedError(
+                recorded.line, f"{where}: write and success must be true or false"
+            )
         if not event["success"]:
             if transaction["success"]:
                 raise ImportRefusedError(
-                    recorded.line, f"{where}: it succeeded, and one of its events did not"
+                    recorded.line, f"{where}: it succeeded, but one of its events didn't"
                 )
             if not event["write"]:
                 continue

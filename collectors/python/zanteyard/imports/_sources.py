@@ -129,8 +129,8 @@ class Sources:
             )
             raise ImportRefusedError(
                 self._attempts[at].line,
-                f"{value} of {access.key} was written more than once (lines {lines}), and is read "
-                "here: nothing tells which of them was read",
+                f"the value {value} of {access.key}, read here, was written more than once (lines "
+                f"{lines}): which write was read is unknown",
             )
         if not writers:
             return Absent(access.key, value)
@@ -157,7 +157,7 @@ class Sources:
                 self._read(at, access, origin)
                 return
             if isinstance(origin, int):
-                sentence = f"appended {elements} behind that, as {self._attempts[at].name} has read"
+                sentence = f"appended {elements} after that, as {self._attempts[at].name} read"
                 self._took_effect(origin).reads.setdefault((access.key, before), sentence)
                 if isinstance(before, int):
                     self._took_effect(before)

@@ -18,11 +18,11 @@ EVERY = 512  # transactions between two pauses that are used, at least
 def check_times(recording: Recording) -> None:
     """Raises ImportRefusedError where the recording doesn't tell what ended before what began."""
     if not recording.has_times:
-        raise ImportRefusedError(0, f"{recording.form} tells nothing of time (--strict)")
+        raise ImportRefusedError(0, f"{recording.form} records no times, which --strict needs")
     if recording.time_goes_back:
         raise ImportRefusedError(
             recording.time_goes_back,
-            "the time goes back here, so that the order of lines isn't that of time (--strict)",
+            "the time goes backwards here: --strict needs lines in the order of time",
         )
 
 

@@ -84,7 +84,7 @@ class Kept:
     def take(self, kind: bytes, text: bytes) -> None:
         """A record behind the head."""
         if (kind == SAVED) == self.is_whole and kind in (SAVED, LINE):
-            raise ValueError("a line stands where none may be")
+            raise ValueError("a line is in the wrong place")
         if kind == SAVED or kind == LINE:
             self.lines.append(_of_this_version(text))
         elif kind == UNDONE:
@@ -92,7 +92,7 @@ class Kept:
         elif kind == KEYS:
             first, names = json.loads(text)
             if first != len(self.names):
-                raise ValueError("names of keys are missing")
+                raise ValueError("key names are missing")
             self.names += names
         elif kind == WHOLE:
             self.saved, self.is_whole = json.loads(text), True
@@ -103,7 +103,7 @@ class Kept:
         elif kind == VIOLATED:
             self.violations.append(Violation(*json.loads(text)))
         else:
-            raise ValueError(f"there are no records of the kind {kind!r}")
+            raise ValueError(f"unknown kind of record: {kind!r}")
 
 
 def kept_in(journal: Journal, has_names: bool = True) -> Kept:
@@ -116,17 +116,17 @@ def kept_in(journal: Journal, has_names: bool = True) -> Kept:
         names = [text for text in _each(texts[:last]) if text[:1] == KEYS]
         head, *behind = [*_each(texts[last:])] or [b""]
         if head[:1] != HEAD:
-            raise ValueError("there is no head")
+            raise ValueError("the head is missing")
         kept = Kept(Head(**json.loads(head[1:])))
         if kept.head.promise not in ASKED:
-            raise ValueError(f"it asks for the promise {kept.head.promise}")
+            raise ValueError(f"unknown promise: {kept.head.promise}")
         for text in [*names, *behind]:
             if has_names or text[:1] != KEYS:
                 kept.take(text[:1], text[1:])
         if not kept.is_whole:
-            raise ValueError("the checkpoint has no end")
+            raise ValueError("the checkpoint is cut off")
     except (ValueError, TypeError) as error:
-        message = f"{journal.path}: its records don't fit, and none is believed: {error}"
+        message = f"{journal.path}: its records contradict one another, so none is used: {error}"
         raise JournalDamagedError(message) from error
     return kept
 

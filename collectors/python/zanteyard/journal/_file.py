@@ -49,11 +49,11 @@ class Journal:
             self._lock = os.open(f"{self.path}.lock", os.O_RDWR | os.O_CREAT | os.O_CLOEXEC, 0o600)
             fcntl.flock(self._lock, fcntl.LOCK_EX | fcntl.LOCK_NB)
         except FolderUnfitError as error:
-            raise JournalError(f"{path} can't be there: {error}") from error
+            raise JournalError(f"can't open {path}: {error}") from error
         except OSError as error:
             self.close()
             if isinstance(error, BlockingIOError):
-                raise JournalInUseError(f"{path}: another auditor has this journal") from error
+                raise JournalInUseError(f"{path}: another auditor uses this journal") from error
             self._fail("can't be locked", error)
 
     @property
@@ -78,11 +78,13 @@ class Journal:
             for text, self.size in records(content, self.size):
                 texts.append(text)
         except JournalDamagedError as error:
-            raise JournalDamagedError(f"{self.path}: {error}; nothing in it is believed") from error
+            raise JournalDamagedError(f"{self.path}: {error}; none of it is used") from error
         self._is_torn = self.size < len(content)
         if self._is_torn:
             lost = len(content) - self.size
-            logger.warning("%s: a half-written record, %d bytes, is dropped", self.path, lost)
+            logger.warning(
+                "%s: dropped an incomplete record of %d bytes at the end", self.path, lost
+            )
         return texts
 
     def append(self, texts: Iterable[bytes]) -> None:
@@ -116,7 +118,7 @@ class Journal:
             if file is not None and file != self._file:
                 os.close(file)
                 _remove(new)
-            self._fail("can't be written anew", error)
+            self._fail("can't be rewritten", error)
 
     def set_aside(self) -> str:
         """What is there stays under another name, which this gives."""
@@ -126,7 +128,7 @@ class Journal:
         try:
             os.rename(self.path, aside)
         except OSError as error:
-            self._fail("can't be set aside", error)
+            self._fail("can't be renamed", error)
         return aside
 
     def close(self) -> None:
@@ -143,7 +145,7 @@ class Journal:
             os.ftruncate(self._file, self.size)
             self._is_torn = False
         except OSError as error:
-            logger.error("%s may end with a half-written record: %s", self.path, error)
+            logger.error("%s may end with an incomplete record: %s", self.path, error)
 
     def _let_go(self) -> None:
         if self._file is not None:
@@ -179,8 +181,10 @@ def _remove(path: str) -> None:
 def _other_version(text: bytes) -> str:
     version = text[len(NAME) :].partition(b"\n")[0]
     if text.startswith(NAME) and version.isdigit():
-        return f"is a journal of version {version.decode()}, and here is version {VERSION}"
-    return "is no journal"
+        return (
+            f"is a journal of version {version.decode()}, and this program reads version {VERSION}"
+        )
+    return "isn't a journal"
 
 
 def _leave_all() -> None:

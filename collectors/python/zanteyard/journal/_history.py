@@ -39,7 +39,7 @@ class State:
         elif word == "close":
             self.closed[parts[0]] = True
         elif word != "resumed":
-            raise ValueError(f"there is no line {word}")
+            raise ValueError(f"unknown line {word}")
 
     def join(self, session: int, txns: List[Any]) -> None:
         """A new one, or one that was closed."""
@@ -80,7 +80,7 @@ def state_of(lines: Sequence[bytes], has_last: bool = True) -> State:
             if has_last or not line.startswith(LAST):
                 state.take(*json.loads(line))
     except (ValueError, TypeError, LookupError) as error:
-        raise JournalDamagedError(f"a line of the journal is none: {error!r}") from error
+        raise JournalDamagedError(f"a line of the journal is malformed: {error!r}") from error
     return state
 
 

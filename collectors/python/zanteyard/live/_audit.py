@@ -211,9 +211,11 @@ class Audit:
         try:
             self._take(held[:LONGEST], (session,))
         except NotAnchoredError as error:
-            message = f"session {session} can't join: the fence of its client has read "
-            message += f"from {source[0]}.{source[1]}" if source else "from no fence of this audit"
-            raise AuditLostError(f"{message}, and not the last one") from error
+            message = f"session {session} can't join: its client's fence read "
+            message += f"from {source[0]}.{source[1]}" if source else (
+                "from none of this audit's fences"
+            )
+            raise AuditLostError(f"{message}, not from the last one") from error
         for start in range(LONGEST, len(held), LONGEST):
             self._take(held[start : start + LONGEST])
 
@@ -231,7 +233,7 @@ class Audit:
             source = self._fence_of(session)
             if source is not None and not self._backlog.is_taken(*source):
                 fence = f"{source[0]}.{source[1]}"
-                return f"session {session} is to join behind the fence {fence}, which never came"
+                return f"session {session} was to join after the fence {fence}, which never arrived"
         return f"session {min(self._held)} never joined" if self._held else None
 
     def vacant(self) -> Dict[int, int]:
@@ -276,9 +278,9 @@ class Audit:
         try:
             (self._auditor.join if joins else self._auditor.offer)(session, number, logged)
         except FullError as error:
-            why = f", since {self.why_no_cut}" if self.why_no_cut else ""
+            why = f": {self.why_no_cut}" if self.why_no_cut else ""
             limit = self._auditor.limit
-            raise FullError(f"{limit} transactions remain, and no more are held{why}") from error
+            raise FullError(f"{limit} transactions remain, which is the limit{why}") from error
         self.taken_in += 1
 
     # rounds
@@ -341,7 +343,7 @@ class Audit:
         try:
             cut = self._auditor.truncate()
         except NoCutError:
-            return None, "no fence is settled"
+            return None, "no fence was settled"
         self._figures.cuts += 1
         self._figures.cut_at = time.monotonic()
         self._forget_clients()
@@ -370,4 +372,6 @@ class Audit:
         if self.is_violated:
             self._is_collectors_own = is_collectors_own(self._auditor)
         if self._is_collectors_own:
-            logger.error("fences and marks alone are violated, and no client's transaction is")
+            logger.error(
+                "only the collector's own fences and marks are violated, no client's transaction"
+            )

@@ -35,7 +35,7 @@ class ForProcesses(LiveFigures):
         log."""
         if self._lost is None:
             self._lost = error
-            logger.error("the audit %s ends: %s", self.name, error)
+            logger.error("audit %s ends: %s", self.name, error)
 
     def note_missing(self, error: MissingError) -> None:
         """The audit goes on, and can't be serial any more."""
@@ -179,15 +179,15 @@ class ForProcesses(LiveFigures):
     def _lose_for_a_client(self) -> None:
         """One goes on unaudited, since there are more than sessions."""
         if not self.is_over:
-            self.lose(AuditLostError(f"no session is left for a client: {self._no_place()}"))
+            self.lose(AuditLostError(f"no session is free for a client: {self._no_place()}"))
 
     def _no_place(self) -> str:
         """Why no client more can have one."""
         count, why = self._pool.taken, self._audit.why_no_cut
         if self._pool.are_all_taken:
-            return f"{count} clients have one each, and no more can at a time"
-        message = f"{count} clients have one each, and a meeting has to make room for another"
-        return f"{message}; the last made none, since {why}" if why else message
+            return f"{count} clients have one each, which is the limit"
+        message = f"{count} clients have one each, and the next meeting must free one"
+        return f"{message}; the last meeting freed none: {why}" if why else message
 
     # where another process of the auditor goes on
 

@@ -48,7 +48,7 @@ SOON, SOON_AGAIN = 0.05, 0.5
 LONGEST_PAUSE = 30.0  # seconds between two attempts to start an auditor that can't be started
 STOPPING = 120.0  # seconds for what was handed in to be audited, as it is stopped
 GIVING_UP = 1.0  # the same, where an exception ends it
-EARLIER = "an audit of this run had ended before, in a process that is gone"
+EARLIER = "an earlier audit of this run ended in a process that no longer exists"
 
 
 class LiveAuditor(ForProcesses):
@@ -99,7 +99,7 @@ class LiveAuditor(ForProcesses):
         on_client: Optional[Callable[[ClientTold], object]] = None,
     ) -> None:
         if auditor.is_resumed and not elsewhere:
-            raise ValueError("a live audit doesn't go on by a journal: begin another run")
+            raise ValueError("a live audit can't continue from a journal: begin another run")
         if journal is not None:
             auditor.keep_journal(journal, round_seconds)
         if not elsewhere:
@@ -142,7 +142,7 @@ class LiveAuditor(ForProcesses):
         try:
             place = self._pool.take(self.policy.wait, owed) or self._without_place()
             if place is None:
-                raise ValueError(f"no session is left: {self._no_place()}")
+                raise ValueError(f"no session is free: {self._no_place()}")
             return self._add_session(place, store, patience, owed)
         except BaseException:
             self._pool.put_back(owed)
@@ -154,7 +154,7 @@ class LiveAuditor(ForProcesses):
         self._is_stopping = True
         self._thread.join(seconds)
         if self._thread.is_alive():
-            self.lose(AuditLostError(f"it hasn't audited what was handed in after {seconds:g} s"))
+            self.lose(AuditLostError(f"not everything handed in was audited within {seconds:g} s"))
             self._failure, self._has_ended = self._lost, True
         return self.outcome
 
@@ -164,7 +164,7 @@ class LiveAuditor(ForProcesses):
     def __exit__(self, kind: Optional[type], *_: object) -> None:
         """As `stop` does; at once, where an exception ends it."""
         if kind is not None:
-            self.lose(AuditLostError(f"it was given up ({kind.__name__})"))
+            self.lose(AuditLostError(f"it was abandoned ({kind.__name__})"))
         self.stop(STOPPING if kind is None else GIVING_UP)
 
     # what sessions call
@@ -196,10 +196,10 @@ class LiveAuditor(ForProcesses):
 
     def _no_room(self) -> str:
         """Why clients would have to wait."""
-        waits, room = f"{len(self._backlog)} transactions wait for it", self._backlog.room
+        waits, room = f"{len(self._backlog)} transactions are waiting", self._backlog.room
         if room < self._backlog.most:  # it may be quick, and hold as many as it can
-            why = self._audit.why_no_cut or "the next cut hasn't come"
-            return f"the auditor has room for {room} transactions more, {waits}, and {why}"
+            why = self._audit.why_no_cut or "the next cut hasn't been made"
+            return f"the auditor has room for {room} more transactions, but {waits}: {why}"
         slow = slowness_of(getattr(self.auditor, "path", ""))
         return f"the auditor can't keep up: {waits}{slow}"
 
@@ -213,7 +213,9 @@ class LiveAuditor(ForProcesses):
         return place or session.place or self._pool.take_unaudited()
 
     def _cant_join(self, session: Session, why: Exception) -> Optional[Place]:
-        self.lose(AuditLostError(f"a client can't join: {str(why).strip() or type(why).__name__}"))
+        self.lose(AuditLostError(
+            f"a client couldn't join: {str(why).strip() or type(why).__name__}"
+        ))
         self._give_back(session.place)
         return self._pool.take_unaudited()
 
@@ -260,7 +262,7 @@ class LiveAuditor(ForProcesses):
         if self._is_meeting_due():
             self._meet()
         elif audit.is_round_due(self._pace.seconds):
-            audit.run_round("no meeting yet", goes_on=True)
+            audit.run_round("there was no meeting yet", goes_on=True)
         if self.cuts > self._cuts_seen:
             self._cuts_seen = self.cuts
             self._pool.come_back(audit.vacant())
@@ -349,7 +351,7 @@ class LiveAuditor(ForProcesses):
                 self._start_anew()
                 return True
             except Exception as error:
-                logger.error("another audit can't begin: %s", error)
+                logger.error("can't begin another audit: %s", error)
             self._wait_until(time.monotonic() + pause)
             pause = min(2 * pause, LONGEST_PAUSE)
         return False
@@ -384,9 +386,9 @@ class LiveAuditor(ForProcesses):
         self._audit = self._next_audit(coverage, ended)
         coordinator.start_anew()
         earlier = self._audit.earlier
-        told = f"audit {len(earlier)} has ended: {earlier[-1]}; now audited: {self.name}"
+        told = f"audit {len(earlier)} ended: {earlier[-1]}; the next audit is {self.name}"
         self._teller.line(told)
-        logger.warning("another audit begins, %s, after: %s", self.name, why)
+        logger.warning("another audit begins, %s; the last one ended: %s", self.name, why)
 
     def _next_audit(self, coverage: Coverage, before: Optional[Outcome] = None) -> Audit:
         """Behind this outcome of the last one, if there was any."""

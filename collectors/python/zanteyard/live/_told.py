@@ -49,9 +49,9 @@ class ClientTold(NamedTuple):
     joins: bool
 
     def __str__(self) -> str:
-        how = "joins as" if self.joins else "goes on in" if self.number else "begins"
+        how = "joins as" if self.joins else "continues in" if self.number else "begins"
         return (
-            f"client {self.client} {how} session {self.session} with "
+            f"client {self.client} {how} session {self.session}, first with "
             f"{self.session}.{self.number}"
         )
 
@@ -88,4 +88,4 @@ class Teller:
         except BaseException as error:  # in this thread nothing but the audit would be ended by it
             if not self._has_failed:
                 self._has_failed = True
-                logger.error("rounds can't be told: %r", error)
+                logger.error("can't report a round: %r", error)

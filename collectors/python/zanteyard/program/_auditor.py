@@ -35,7 +35,7 @@ from ._rounds import Rounds
 from ._supervised import SupervisedProgram
 
 
-UNKNOWN = "the process that audited has ended, and what its sessions did last isn't known"
+UNKNOWN = "the auditing process ended, and the last transactions of its sessions are unknown"
 logger = logging.getLogger("zanteyard")
 
 
@@ -222,7 +222,7 @@ class Auditor(Rounds):
         (answer,) = self.program.answers(1, seconds)
         _, refusal = self._settled(text, json.loads(answer), seconds)
         if isinstance(refusal, FullError):
-            message = f"there is no room for transaction {fragment[1]} of session {fragment[0]}"
+            message = f"no room for transaction {fragment[1]} of session {fragment[0]}"
             return FullError(message)
         if kind == "offer" and refusal is None:
             self._keep_history(fragment)

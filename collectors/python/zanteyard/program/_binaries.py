@@ -43,11 +43,11 @@ class ProgramOrigin:
     def sentence(self) -> str:
         """In words, for `--version`."""
         if self.is_proved is None:
-            return f"{self.path}: whether it was proved isn't noted here"
+            return f"{self.path}: not known whether it was proved"
         if not self.is_as_noted:
-            return f"{self.path}: NOT THE FILE THAT WAS PACKED (its sha256 is another one)"
+            return f"{self.path}: NOT THE FILE THAT WAS PACKED (its sha256 differs)"
         if not self.is_proved:
-            return f"{self.path}: NOT PROVED, built for a first try; {SLOW}"
+            return f"{self.path}: NOT PROVED, built for a trial; {SLOW}"
         return f"{self.path}: proved by {self.kit}, commit {self.commit}"
 
 
@@ -84,11 +84,11 @@ def _started(path: str, name: str) -> str:
     """The path, where a program is there that can be started."""
     if not os.path.isfile(path):
         raise ProgramMissingError(
-            f"{path} isn't there: install the wheel, build the program (README.md says how), "
-            f"or name it by {name}"
+            f"{path} is missing: install the wheel, build the program (see README.md), or set "
+            f"{name} to its path"
         )
     if not os.access(path, os.X_OK):
-        raise ProgramMissingError(f"{path} can't be executed")
+        raise ProgramMissingError(f"{path} isn't executable")
     return path
 
 
@@ -110,7 +110,7 @@ def slowness_of(path: str) -> str:
         is_proved = origin_of(path).is_proved
     except (OSError, ValueError, KeyError):
         return ""
-    return f" (it was built without proofs, and is {SLOW})" if is_proved is False else ""
+    return f" (it was built without proofs and is {SLOW})" if is_proved is False else ""
 
 
 def sha256_of(path: str) -> str:

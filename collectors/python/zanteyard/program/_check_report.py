@@ -13,14 +13,14 @@ from ._binaries import find_checker
 
 WRONG = 1
 STATUS_WORDS = (
-    "The exit status is 0 where no reply is wrong, 1 where one is, 2 a mistake in the call."
+    "Exit status: 0 if no reply is wrong, 1 if one is, 2 if the call is wrong."
 )
 
 
 def add_arguments(command: argparse.ArgumentParser) -> None:
     command.epilog = STATUS_WORDS
-    command.add_argument("script", metavar="SCRIPT", help="a file of the auditor's lines")
-    command.add_argument("replies", metavar="REPLIES", help="a file of its replies to them")
+    command.add_argument("script", metavar="SCRIPT", help="the lines that the auditor was given")
+    command.add_argument("replies", metavar="REPLIES", help="its replies to them")
 
 
 def run(asked: argparse.Namespace) -> int:
@@ -35,7 +35,7 @@ def by_turns(script: IO[bytes], replies: IO[bytes]) -> Iterator[Tuple[bytes, byt
     for line in script:
         yield line, replies.readline()
     if replies.readline():
-        raise ZanteyardError("there are more replies than lines")
+        raise ZanteyardError("more replies than lines")
 
 
 def check(script: IO[bytes], replies: IO[bytes]) -> int:

@@ -78,14 +78,16 @@ def _answers(lines: List[bytes]) -> Answers:
         if not refused[0].startswith(NO_MEMORY):
             break
     words = refused[0].decode(errors="replace")
-    raise JournalError(f"this cobra_audit can't give out what it keeps: it answers {words}")
+    raise JournalError(f"this cobra_audit can't save its state; it answered {words}")
 
 
 def why_not_resumed(answer: bytes, path: str) -> ZanteyardError:
     """By what a line was answered in place of ok."""
     if answer.startswith(NO_MEMORY):
-        return ProgramEndedError("cobra_audit has no memory for what it is to begin with")
+        return ProgramEndedError("cobra_audit has no memory for the state that it was to load")
     message = answer.decode(errors="replace")
     if answer == BAD_LINE:
-        message += ", as one of an earlier version than this package does"
-    return JournalError(f"{path}: cobra_audit doesn't begin with what it has: it answers {message}")
+        message += ": it is older than this package"
+    return JournalError(
+        f"{path}: cobra_audit doesn't accept the state in it; it answered {message}"
+    )

@@ -71,7 +71,9 @@ class Intake:
     ) -> None:
         self.promise = ASKED[promise]
         if self.promise.is_timed:
-            raise ValueError(f"{promise}: only finished histories are asked about time")
+            raise ValueError(
+                f"{promise}: only finished histories can be checked for real-time order"
+            )
         if self.promise.is_split:
             limit = min(limit, LIMIT // 2)  # each takes the room of two
         self.sessions, self.limit, self.path, self.script_path = sessions, limit, program, script
@@ -144,7 +146,7 @@ class Intake:
         if not self._is_in_step:
             self._give_up()
             raise ProgramEndedError(
-                self._why_out or "what was asked and what was answered are out of step"
+                self._why_out or "questions and answers are out of step"
             )
 
     def _be_in_step(self) -> None:
@@ -204,7 +206,7 @@ class Intake:
         with self.lock:
             self._check_end()
             if self.journal is not None or self.is_in_use:
-                raise ValueError("a journal begins where an audit does, and once")
+                raise ValueError("a journal can be set only once, before the audit begins")
             self._end_program()
             self.journal = path
             self.round_seconds = self.round_seconds if round_seconds is None else round_seconds
@@ -237,7 +239,7 @@ class Intake:
         """Transactions that follow one another, the first of this number. Raises FullError where
         there is no room."""
         if self.offer_all([(session, number, logged)]):
-            raise FullError(f"there is no room for transaction {number} of session {session}")
+            raise FullError(f"no room for transaction {number} of session {session}")
 
     def join(self, session: int, number: int, *logged: Any) -> None:
         """Lets a session join with its first transactions: a new one, whose number is that of the
@@ -246,7 +248,7 @@ class Intake:
         last that is forgotten; else it raises NotAnchoredError. Raises FullError where there is no
         room."""
         if self.offer_all([(session, number, logged)], (session,)):
-            raise FullError(f"there is no room for transaction {number} of session {session}")
+            raise FullError(f"no room for transaction {number} of session {session}")
 
     @property
     def vacant(self) -> List[int]:
@@ -366,7 +368,7 @@ class Intake:
 
     def _check_end(self) -> None:
         if self.is_ended:
-            raise ProgramEndedError("the auditor has been ended")
+            raise ProgramEndedError("the auditor was closed")
 
     def _end_late(self, seconds: float) -> None:
         """The answer to what was asked for a session; raises ProgramLateError, and may then be
@@ -392,7 +394,7 @@ class Intake:
     def _fail(self, error: Exception) -> None:
         if self.failure is None:
             self.failure = error
-            logger.error("nothing more is audited: %s", error)
+            logger.error("auditing has stopped: %s", error)
 
     def outcome(self) -> Outcome:
         """After a round over all that was handed in. Raises nothing."""

@@ -26,12 +26,12 @@ from ._pipes import Pipes
 from ._supervised import SupervisedProgram
 
 TOO_OLD = (
-    f"is an auditor of an earlier version than this package: it doesn't know scripts of version "
-    f"{FORM}, which tell what was aborted. Build it anew, or name another one"
+    f"is older than this package: it doesn't read scripts of version {FORM}, which name aborted "
+    "writers. Rebuild it, or name another program"
 )
 SHOWN = 160  # characters of a line that is refused
 WAITS = (0.1, 0.5)  # seconds after which a line that was answered NoMemory is given again
-ENDED = "cobra_audit has been ended"
+ENDED = "cobra_audit was closed"
 logger = logging.getLogger("zanteyard")
 KINDS: Mapping[str, Type[RefusedError]] = {
     "Backlog": FullError,
@@ -52,7 +52,7 @@ def refusal_of(text: str, reply: Sequence[Any]) -> Optional[RefusedError]:
     if reply[0] != "no":
         return None
     short = text if len(text) <= SHOWN else f"{text[:SHOWN]} .."
-    return KINDS.get(reply[2], RefusedError)(f"{short} was answered {reply[2]}")
+    return KINDS.get(reply[2], RefusedError)(f"{short} was refused: {reply[2]}")
 
 
 class Lines(Intake):

@@ -26,7 +26,7 @@ class Pipes:
         try:
             self.process = subprocess.Popen([path], stdin=pipe, stdout=pipe, stderr=pipe, bufsize=0)
         except OSError as error:
-            message = f"{path} can't be started ({error}); README.md says how it is built"
+            message = f"can't start {path} ({error}); see README.md for how to build it"
             raise ProgramEndedError(message) from error
         assert self.process.stdin and self.process.stdout and self.process.stderr
         self.input, self.output = self.process.stdin, self.process.stdout
@@ -77,7 +77,7 @@ class Pipes:
         except BrokenPipeError:
             self.tell_end()
         except (OSError, ValueError) as error:
-            raise ProgramEndedError(f"{self.program} can't be reached: {error}") from error
+            raise ProgramEndedError(f"can't reach {self.program}: {error}") from error
 
     def write(self, until: float) -> None:
         """What the program takes, unless answers have to be read first."""
@@ -88,13 +88,13 @@ class Pipes:
         except BlockingIOError:
             self.is_in_step = True
             if not self.waits.poll(0) and not self.takes.poll(self.left(until)):
-                raise ProgramLateError(f"{self.program} hasn't answered in time") from None
+                raise ProgramLateError(f"{self.program} didn't answer in time") from None
 
     def read(self, until: float, is_blocking: bool) -> None:
         left = self.left(until) if is_blocking else 0
         if not self.waits.poll(left):
             if is_blocking:
-                raise ProgramLateError(f"{self.program} hasn't answered in time")
+                raise ProgramLateError(f"{self.program} didn't answer in time")
             return
         self.is_in_step = False
         got = os.read(self.output.fileno(), 1 << 20)

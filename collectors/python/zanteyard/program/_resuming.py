@@ -41,12 +41,12 @@ def reopened(path: str, promise: Optional[str] = None) -> Reopened:
     journal = Journal(path)
     try:
         if not journal.is_there:
-            raise JournalError(f"{path}: there is no journal")
+            raise JournalError(f"{path}: no such journal")
         kept = kept_in(journal)
         if promise is not None and promise != kept.head.promise:
             raise JournalError(
-                f"{path} is of an audit that asks for {ASKED[kept.head.promise].title}, and can't "
-                f"go on with {ASKED[promise].title}"
+                f"the audit in {path} asks for {ASKED[kept.head.promise].title}, so it can't "
+                f"continue with {ASKED[promise].title}"
             )
         return Reopened(journal, kept, _state_of(kept, path))
     except BaseException:
@@ -59,7 +59,7 @@ def _state_of(kept: Kept, path: str) -> State:
     try:
         state.put_undone(kept.undone)
     except (ValueError, TypeError, IndexError) as error:
-        message = f"{path}: what was aborted in it isn't what remains: {error!r}"
+        message = f"{path}: its aborted transactions don't match the remaining ones: {error!r}"
         raise JournalDamagedError(message) from error
     return state
 
@@ -79,7 +79,7 @@ def journaled(
     try:
         first_head = head()
         if begun.is_there and first_head.audit == 1:
-            raise JournalError(f"{journal} is there already: Auditor.resumed goes on with it")
+            raise JournalError(f"{journal} exists: continue it by Auditor.resumed")
         keeping = JournalWriter(begun, head, names)
         keeping.violations += _earlier(begun, first_head.run_name)
         return SupervisedProgram(program, keeping)
@@ -99,5 +99,5 @@ def _earlier(journal: Journal, run_name: str) -> List[Violation]:
         logger.error("%s; it is now %s", error, aside)
         return []
     if kept.head.run_name != run_name:
-        raise JournalError(f"{journal.path} is of another run, {kept.head.run_name}")
+        raise JournalError(f"{journal.path} belongs to another run, {kept.head.run_name}")
     return kept.violations

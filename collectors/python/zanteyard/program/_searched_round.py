@@ -14,8 +14,8 @@ BEGIN, COLLECT, SKIP = ["begin"], ["collect"], ["skip"]
 REPORT = "report"
 WAITS = (0.1, 0.5)  # seconds after which a search that was refused memory is given again
 TOO_OLD = (
-    "this cobra_audit is of an earlier version than the package, and can't search beside a script: "
-    "build it anew, or name another one"
+    "this cobra_audit is older than the package and can't search while it reads lines: rebuild it, "
+    "or name another program"
 )
 
 

@@ -39,7 +39,7 @@ START = (
     "import sys; sys.path.insert(0, sys.argv[1]); "
     "from zanteyard.program._subprocess_server import serve; serve(int(sys.argv[2]))"
 )
-UNREACHABLE = "the process between this one and cobra_audit can't be reached"
+UNREACHABLE = "can't reach the process between this one and cobra_audit"
 TRIES = 3  # processes that are started for one call
 MORE = 30.0  # seconds for an answer, beside what the program may take for its own
 logger = logging.getLogger("zanteyard")
@@ -100,7 +100,8 @@ class AuditorApart(Intake):
     def _start_again(self, error: ProgramEndedError) -> None:
         """Another process goes on by the journal."""
         self._end_program()
-        logger.warning("%s; another one goes on by %s", error, self.journal)
+        why = str(error).rstrip(": ")  # a pipe's end has no words
+        logger.warning("%s; another one continues from %s", why, self.journal)
         self._be_in_step()
         files = (self.script_path, self.journal, self.round_seconds)
         self._begin_process("resume", self.path, *files)
@@ -158,7 +159,7 @@ class AuditorApart(Intake):
             self._connection.send_bytes(packed)
         except BlockingIOError as error:
             self._give_up()
-            self._why_out = f"{UNREACHABLE}: it has taken nothing for {seconds:.3g} s"
+            self._why_out = f"{UNREACHABLE}: it accepted nothing for {seconds:.3g} s"
             raise ProgramEndedError(self._why_out) from error
         except (OSError, ValueError) as error:
             self._why_out = f"{UNREACHABLE}: {error}"
@@ -176,7 +177,7 @@ class AuditorApart(Intake):
         an interrupt."""
         try:
             if not self._connection.poll(seconds):
-                raise ProgramLateError(f"{UNREACHABLE}: it hasn't answered for {seconds:.3g} s")
+                raise ProgramLateError(f"{UNREACHABLE}: it didn't answer for {seconds:.3g} s")
         except (OSError, EOFError) as error:
             raise ProgramUnreachableError(f"{UNREACHABLE}: {error}") from error
 
@@ -214,7 +215,7 @@ class AuditorApart(Intake):
             refused, self._figures = result
             if refused:
                 return FullError(
-                    f"there is no room for transaction {asked[2]} of session {asked[1]}"
+                    f"no room for transaction {asked[2]} of session {asked[1]}"
                 )
         return None
 

@@ -118,7 +118,7 @@ class SupervisedProgram:
     def _still_in_step(self) -> None:
         if is_forked(self):
             raise ProgramEndedError(
-                "a process that was forked from the auditor's has no part in the audit"
+                "a process forked from the auditor's can't take part in the audit"
             )
         if not self._is_in_step:
             self.kill()
@@ -148,7 +148,7 @@ class SupervisedProgram:
         except ProgramLateError:
             if until <= self._silent_at:
                 raise
-            self._die(ProgramEndedError(f"cobra_audit has answered nothing for {SILENT:g} s"))
+            self._die(ProgramEndedError(f"cobra_audit didn't answer for {SILENT:g} s"))
         except ProgramEndedError as error:
             self._die(error)
         except JournalError as error:
@@ -178,7 +178,7 @@ class SupervisedProgram:
             self._go_on_talking(answers)
             return
         if len(answers) > self._sent:
-            raise ProgramEndedError("cobra_audit answered what it wasn't asked")
+            raise ProgramEndedError("cobra_audit sent an answer that wasn't asked for")
         changes = [
             given
             for given, answer in zip(self._given, answers)
@@ -242,7 +242,7 @@ class SupervisedProgram:
         try:
             self.keeping.note_report(violation)
         except JournalError as error:
-            logger.error("a round isn't noted: %s", error)
+            logger.error("can't note a round in the journal: %s", error)
             self._why_over = str(error)
 
     # its own lines
@@ -310,9 +310,9 @@ class SupervisedProgram:
             lines = [*lines[:begun], *self._open, *lines[begun:]]
         answers = yield from self._begun_with(lines, *standing_lines(len(state.gone)))
         if not is_standing(answers, state.gone, state.closed, state.received):
-            raise JournalError(f"{self.keeping.journal.path}: what it has leads elsewhere")
+            raise JournalError(f"{self.keeping.journal.path}: replaying it gives another state")
         took = time.monotonic() - began
-        logger.info("cobra_audit goes on by %s, after %.3f s", self.keeping.journal.path, took)
+        logger.info("cobra_audit was restored from %s in %.3f s", self.keeping.journal.path, took)
 
     # programs that die
 
@@ -326,7 +326,7 @@ class SupervisedProgram:
         if max(self._deaths, self._round_deaths) >= MOST:
             self._be_over(error)
             raise error
-        logger.warning("%s; another one is started", str(error).rstrip(": "))
+        logger.warning("%s; starting another one", str(error).rstrip(": "))
         self._sent, self._talk, self._silent_at = 0, None, float("inf")
         self._lacks_cut = self._last_round is not None
         pause = min(LONGEST_PAUSE, PAUSE * 2 ** (self._deaths - 2)) if self._deaths > 1 else 0.0
@@ -338,7 +338,7 @@ class SupervisedProgram:
         if now < self._starts_at:
             time.sleep(max(0.0, min(until, self._starts_at) - now))
             if until < self._starts_at:
-                raise ProgramLateError("cobra_audit is being started again")
+                raise ProgramLateError("cobra_audit is being restarted")
         self._is_in_step = False
         kept = self.keeping.kept()
         self._pipes = self._program()

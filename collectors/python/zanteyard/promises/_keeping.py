@@ -103,7 +103,7 @@ def _whole(pair: Tuple[Halves, Halves]) -> List[Any]:
     """The transaction that was split so. Raises JournalError if these are no two halves."""
     (reads, stars), (own, keys) = pair
     if [*map(star, keys)] != stars or [read[0] for read in own] != stars:
-        raise JournalError("what the auditor gives out isn't what it was given")
+        raise JournalError("the auditor's saved state differs from what it was given")
     return [[_plain(read) for read in reads], keys]
 
 

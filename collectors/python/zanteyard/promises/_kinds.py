@@ -77,33 +77,30 @@ def stronger(promise: Promise) -> Tuple[Promise, ...]:
     return tuple(each for each in ALL if promise in weaker(each))
 
 
-_SPENT = "undecided: the search ran out of its budget, and nothing is said of the store"
+_SPENT = "undecided: the search ran out of its budget; this says nothing about the store"
 SENTENCES: Mapping[str, Mapping[str, str]] = {
     "serializable": {
-        "serial": "some order of these transactions explains every read, each session's own order "
-        "kept",
-        "pending": "what has come is serial so far, but a read names a transaction that hasn't "
-        "come",
-        "violated": "no order of these transactions explains what they read, each session's own "
-        "order kept",
+        "serial": "a serial order that keeps each session's order explains every read",
+        "pending": "serial so far, but a read names a transaction that hasn't arrived",
+        "violated": "no serial order that keeps each session's order explains these reads",
         "spent": _SPENT,
     },
     "strict": {
-        "serial": "some order explains every read, each session's own order and the order of time "
-        "kept",
-        "pending": "what has come is strictly serial so far, but a read names a transaction that "
-        "hasn't come",
-        "violated": "no order explains what these read, each session's own order and the order of "
-        "time kept",
+        "serial": "a serial order that keeps each session's order and real-time order explains "
+        "every read",
+        "pending": "strictly serializable so far, but a read names a transaction that hasn't "
+        "arrived",
+        "violated": "no serial order that keeps each session's order and real-time order explains "
+        "these reads",
         "spent": _SPENT,
     },
     "snapshot": {
-        "serial": "some order of begins and commits keeps snapshot isolation, each session's own "
-        "order kept",
-        "pending": "what has come keeps snapshot isolation so far, but a read names a transaction "
-        "that hasn't come",
-        "violated": "no order of begins and commits keeps snapshot isolation, each session's own "
-        "order kept",
+        "serial": "an order of begins and commits that keeps each session's order satisfies "
+        "snapshot isolation",
+        "pending": "snapshot isolation holds so far, but a read names a transaction that hasn't "
+        "arrived",
+        "violated": "no order of begins and commits that keeps each session's order satisfies "
+        "snapshot isolation",
         "spent": _SPENT,
     },
 }

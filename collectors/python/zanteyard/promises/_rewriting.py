@@ -16,12 +16,13 @@ from ._split import KEYS, LONGEST, NUMBERS, begin_half, split_transactions
 from ._times import TIME_KEYS, Timeline
 
 LIMIT, SESSIONS = 4096, 64  # the most of the auditor
-PARTS = "the parts of a run don't say which promise they are about"
+PARTS = "a script of several parts doesn't say which promise it is about"
 REFUSED = {
-    "resume": f"a script that resumes another one is asked about serializability alone: {PARTS}",
-    "save": f"what it would give out are transactions split in two: {PARTS}",
-    "answer": "an answer from elsewhere is about serializability: leave the line out, and the "
-    "round is searched",
+    "resume": "a script that continues another one can be asked only about serializability: "
+    f"{PARTS}",
+    "save": f"its saved state would contain transactions split in two: {PARTS}",
+    "answer": "an answer from elsewhere is about serializability: remove the line, and the round "
+    "is searched",
 }
 
 
@@ -91,18 +92,20 @@ class Rewriting:
             for key in [*keys, *(read[0] for read in reads)]:
                 if key >= most_keys:
                     raise CantBeAskedError(
-                        f"{called} has key {key}; keys have to be below {most_keys} under this "
-                        "promise, since those above stand for what is added"
+                        f"{called} has key {key}; under this promise keys must be below "
+                        f"{most_keys}, because higher ones are used for what is added"
                     )
                 if key == 0 and self.promise.is_split and not self.promise.has_stars:
-                    raise CantBeAskedError(f"{called} is a fence, which this promise doesn't have")
+                    raise CantBeAskedError(
+                        f"{called} is a fence, which can't be used with this promise"
+                    )
             for read in reads:
                 if read[1:] == [session, number]:
                     raise CantBeAskedError(f"{called} reads from itself (BadTxn)")
                 if len(read) == 3 and read[2] >= NUMBERS and self.promise.is_split:
                     raise CantBeAskedError(
-                        f"{called} reads from transaction {read[2]} of session {read[1]}; numbers "
-                        f"have to be below {NUMBERS} under this promise"
+                        f"{called} reads from transaction {read[2]} of session {read[1]}; under "
+                        f"this promise numbers must be below {NUMBERS}"
                     )
 
     def has_room(self, lines: Sequence[Sequence[Any]]) -> bool:

@@ -63,7 +63,7 @@ def mistake_in(spans: Mapping[Id, Span]) -> Optional[str]:
             return f"{id[0]}.{id[1]} ended before it began"
         before = spans.get((id[0], id[1] - 1))
         if end is not None and before is not None and end < before[0]:
-            return f"{id[0]}.{id[1]} ended before the one before it in its session began"
+            return f"{id[0]}.{id[1]} ended before the transaction before it in its session began"
     return None
 
 

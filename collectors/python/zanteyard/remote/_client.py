@@ -105,8 +105,8 @@ class AuditClient(LocalSessions):
                     self._give_back(place)
             raise
         if self._is_over:
-            raise ProgramEndedError("nothing more is audited")
-        raise ValueError("no session is left: all have clients")
+            raise ProgramEndedError("auditing has stopped")
+        raise ValueError("no session is free: all have clients")
 
     def leave(self, seconds: float = LEAVING) -> None:
         """Hands over what is left, and gives its sessions back; waits for a meeting that holds
@@ -129,7 +129,7 @@ class AuditClient(LocalSessions):
             ]
             self._messages.tell("leave", [astuple(place) for place in places])
         else:
-            self._messages.tell("lose", "a session was in a transaction as it left")
+            self._messages.tell("lose", "a session was in a transaction when it left")
         for session in self.sessions:
             session.is_open, session.renew = False, None
         nobodys = {session.notes for session in taken}
@@ -163,7 +163,7 @@ class AuditClient(LocalSessions):
         try:
             self._messages.hand_on("assumed", *identity)
         except OSError as error:
-            self._lose(f"whether the store is the audit's isn't known: {error}")
+            self._lose(f"unknown whether this is the audit's store: {error}")
 
     def take(self, session: int, number: int, logged: Logged) -> None:
         """Hands over what a transaction did; waits for room as long as the policy says."""
@@ -180,7 +180,7 @@ class AuditClient(LocalSessions):
             self._outbox.put(session, number, logged, packed)
         except ValueError as error:
             self._outbox.dropped += 1
-            self._lose(f"transaction {number} of session {session} can't be handed over: {error}")
+            self._lose(f"can't hand over transaction {number} of session {session}: {error}")
             return
         self._wait_for_room()
 
@@ -202,7 +202,7 @@ class AuditClient(LocalSessions):
             if time.monotonic() > ends:
                 count = self._outbox.on_their_way
                 waited = f"for {self.policy.wait:g} s"
-                self._lose(f"there was no room {waited}: {count} transactions are on their way")
+                self._lose(f"no room {waited}: {count} transactions are on their way")
             time.sleep(PAUSE / 8)
 
     def _goes_on(self) -> bool:
@@ -212,7 +212,7 @@ class AuditClient(LocalSessions):
     def _lose(self, why: str) -> None:
         """Nothing more of this process is audited, until another audit begins."""
         self._outbox.lose(why)
-        logger.error("nothing more is audited: %s", why)
+        logger.error("auditing has stopped: %s", why)
 
     @property
     def _leaves(self) -> bool:
@@ -229,7 +229,7 @@ class AuditClient(LocalSessions):
         if answer is None:
             self._renewed = time.monotonic()
             if self._outbox.lost is None and not self._is_over:
-                self._lose("no session is left for a client")
+                self._lose("no session is free for a client")
             return session.place or self._requests.ask("overflow", seconds=wait)
         if session.place is not None and session.place.is_audited:  # which has ended
             self._give_back(session.place)
@@ -237,7 +237,7 @@ class AuditClient(LocalSessions):
 
     def _cant_join(self, session: Session, why: Exception) -> Optional[Place]:
         if self._outbox.lost is None:
-            self._lose(f"a client can't join: {why}")
+            self._lose(f"a client couldn't join: {why}")
         answer = self._requests.ask("overflow", seconds=self.policy.wait / 2)
         if answer is not None:
             self._give_back(session.place)
@@ -251,7 +251,7 @@ class AuditClient(LocalSessions):
         try:
             notes = self._door.notes(which, self._outbox)
         except OSError as error:
-            logger.error("if this process is killed, the audit ends with it: %s", error)
+            logger.error("the audit will end if this process is killed: %s", error)
             self._messages.tell("unnoted", seconds=ANSWERING)
             return None
         self._notes[notes] = which

@@ -18,7 +18,7 @@ from ._crash_recovery import CrashedProcess, LostError, Noted, handed_in
 from ._remote_sessions import RemoteGroup
 
 NEW = 4.0  # seconds in which a new client waits for a meeting that has all that are left
-HANDED_IN = "what it did is handed in from its notes"
+HANDED_IN = "its last transactions were taken from its notes"
 logger = logging.getLogger("zanteyard")
 
 
@@ -94,8 +94,8 @@ class ClientProcess:
     def lose(self, why: str) -> None:
         """It is gone without a word, which ends the audit if it may have done anything."""
         if self.group.had_sessions:
-            message = f"the process of the sessions {self.group.told()} is lost"
-            message = f"{message}, and what was done in them last isn't known"
+            message = f"the client process with sessions {self.group.told()} was lost"
+            message = f"{message}, and their last transactions are unknown"
             self._live.lose(ProgramEndedError(f"{message}: {why}"))
 
     def _listen(self) -> None:
@@ -135,7 +135,7 @@ class ClientProcess:
         try:
             noted = self._noted()
             if not self._has_all_noted:
-                raise LostError("not all that it did could be noted")
+                raise LostError("some of its transactions couldn't be noted")
             killed = CrashedProcess(
                 noted, self._live.run_name, self._live.next_number, self.is_dead
             )
@@ -146,7 +146,9 @@ class ClientProcess:
                         self._live.take_close(place.number)
             if places:
                 numbers = ", ".join(str(place.number) for place in places)
-                logger.warning("the process of the sessions %s was killed: %s", numbers, HANDED_IN)
+                logger.warning(
+                    "the client process with sessions %s was killed: %s", numbers, HANDED_IN
+                )
         except Exception as error:
             self.lose(f"{why}: {error}" if str(error) != why else why)
             self._live.drop_places(place.number for place in places)

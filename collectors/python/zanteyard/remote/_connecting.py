@@ -50,16 +50,14 @@ def door_to(address: str, audit: str, key: Optional[str]) -> Door:
 
 def welcomed(messages: Any) -> Any:
     if not messages.comes(ANSWERING):
-        message = f"the auditor's process hasn't answered for {ANSWERING:g} s"
+        message = f"the auditor's process didn't answer for {ANSWERING:g} s"
         raise ProgramEndedError(message)
     _, form, version, *welcome = messages.receive()
     if form != FORM:
-        message = f"of zanteyard {version}" if isinstance(version, str) else "of an earlier version"
-        message = (
-            f"the auditor's process is {message}, and this one of {VERSION}: they don't understand"
-        )
+        its = f"zanteyard {version}" if isinstance(version, str) else "an earlier version"
         raise OtherVersionError(
-            f"{message} one another, and nothing is audited (docs/OPERATION.md)"
+            f"the auditor's process is from {its}, and this one from {VERSION}: they don't "
+            "understand one another, and nothing is audited (docs/OPERATION.md)"
         )
     return welcome
 

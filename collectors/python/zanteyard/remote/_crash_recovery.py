@@ -89,7 +89,9 @@ class CrashedProcess:
                 place.leave_open(number)
                 place.is_ended = True
                 if number < last:
-                    raise LostError("its notes have more behind what can't be found out")
+                    raise LostError(
+                        "its notes go on after a transaction whose outcome can't be found out"
+                    )
                 return transactions if self.is_dead else without_end(transactions)
         if not self.is_dead:
             place.leave_open(last + 1)
@@ -130,14 +132,14 @@ class CrashedProcess:
         if answered.outcome == "committed":
             packed = answered.packed or (before and before[0].packed)
             if not packed:
-                raise LostError("its notes lack what it did")
+                raise LostError("its notes lack what a transaction did")
             return unpacked(packed)
         if answered.outcome == "aborted" and answered.packed:
             return unpacked(answered.packed)
         if answered.outcome == "aborted" or not answered.is_last:
             return NOTHING
         if before is None or not before[0].packed:
-            raise LostError("its notes lack what it wrote")
+            raise LostError("its notes lack what a transaction wrote")
         return writes_alone(unpacked(before[0].packed))
 
     def asked(self, note: CrashNote, how: Any) -> Optional[Logged]:
@@ -147,8 +149,8 @@ class CrashedProcess:
         if not logged.writes:
             return NOTHING  # whether what it has read is to be checked isn't known
         outcome, overwritten = find_out(how, note.ticket, SECONDS, self.is_dead)
-        called = f"{note.session}.{note.number} of a killed process"
-        logger.info("%s is %s by the store's word", called, outcome)
+        called = f"transaction {note.session}.{note.number} of a killed process"
+        logger.info("%s was %s, says the store", called, outcome)
         if outcome == "aborted":
             return undone_alone(StoreId((note.session, note.number)), logged)
         if note.unclear is not None:
@@ -161,7 +163,7 @@ class CrashedProcess:
             return logged  # without what it has read
         if FENCE in logged.writes:
             if outcome == "committed":
-                raise LostError("what its fence has read isn't known")
+                raise LostError("what its fence read is unknown")
             return None
         return writes_alone(logged)
 
@@ -178,7 +180,7 @@ def in_files(asks: Dict[str, Any]) -> Noted:
     for path, how in asks.items():
         notes = notes_of(path)
         if notes is None:
-            raise LostError("its notes aren't there")
+            raise LostError("its notes are missing")
         for note in notes:
             noted.setdefault(note.session, []).append((note, how))
     return noted

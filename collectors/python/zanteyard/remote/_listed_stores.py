@@ -25,7 +25,7 @@ class ListedStores:
         try:
             from psycopg2 import Error, extensions
         except ImportError:
-            raise ZanteyardError("psycopg2, which a store needs, isn't installed") from None
+            raise ZanteyardError("--store needs psycopg2, which isn't installed") from None
         from ..stores.postgres import quoted
 
         self._tables = [quoted(table) for table in tables]
@@ -33,7 +33,7 @@ class ListedStores:
             try:
                 self._words.append(dict(extensions.parse_dsn(dsn)))
             except Error:
-                told = f"store {at} is no connection string of PostgreSQL's"
+                told = f"store {at} isn't a PostgreSQL connection string"
                 raise ZanteyardError(told) from None
 
     def asks(self, told: Any) -> Any:

@@ -64,7 +64,7 @@ class StateFile:
             os.rename(new, self.path)
             flush_folder(os.path.dirname(self.path))  # else an older one may come back
         except OSError as error:
-            raise JournalError(f"{self.path} can't be written: {error}") from error
+            raise JournalError(f"can't write {self.path}: {error}") from error
 
     def read(self) -> LiveState:
         """Raises JournalError where it isn't there, or can't be believed."""
@@ -74,11 +74,11 @@ class StateFile:
             (text,) = texts
             version, fields = marshal.loads(text)
             if version != VERSION:
-                raise ValueError(f"it is of version {version}")
+                raise ValueError(f"it has version {version}")
             earlier: Dict[str, Any] = {"form": 0, "version": "unknown"}  # than these were noted
             return LiveState(**{**earlier, **fields})
         except (OSError, ValueError, TypeError, EOFError, JournalDamagedError) as error:
-            raise JournalError(f"{self.path} can't be gone on with: {error}") from error
+            raise JournalError(f"can't continue from {self.path}: {error}") from error
 
     def bring_to_disk(self) -> None:
         """All that the journal has by now. Raises JournalError."""
@@ -89,7 +89,7 @@ class StateFile:
             finally:
                 os.close(file)
         except OSError as error:
-            raise JournalError(f"{self.journal} can't be brought to the disk: {error}") from error
+            raise JournalError(f"can't flush {self.journal} to disk: {error}") from error
 
 
 def identity(journal: str) -> str:
@@ -98,5 +98,5 @@ def identity(journal: str) -> str:
     try:
         status = os.stat(f"{journal}.lock")
     except OSError as error:
-        raise JournalError(f"{journal} isn't locked any more: {error}") from error
+        raise JournalError(f"the lock on {journal} was lost: {error}") from error
     return f"{status.st_dev}:{status.st_ino}"

@@ -29,33 +29,33 @@ def text_of(message: Any) -> bytes:
     """Raises TypeError or ValueError if it has other than plain values."""
     text = _ENCODER.encode(message).encode("ascii")
     if len(text) > LONGEST:
-        raise ValueError(f"it takes {len(text)} bytes, which is more than {LONGEST}")
+        raise ValueError(f"it has {len(text)} bytes; the limit is {LONGEST}")
     return text
 
 
 def message_of(text: bytes) -> Any:
     """A tuple, of tuples, that isn't empty and begins with a word. Raises NoMessageError."""
     if len(text) > LONGEST:
-        raise NoMessageError(f"it takes {len(text)} bytes")
+        raise NoMessageError(f"it has {len(text)} bytes")
     try:
         message = _frozen([_DECODER.decode(text.decode("ascii"))], DEEPEST + 1)[0]
     except (ValueError, TypeError, RecursionError) as error:
         raise NoMessageError(str(error)) from None
     if not isinstance(message, tuple) or not message or not isinstance(message[0], str):
-        raise NoMessageError("it is no list that begins with a word")
+        raise NoMessageError("it isn't a list that begins with a word")
     return message
 
 
 def _written_out(value: Any) -> Dict[str, Any]:
     """Bytes are what this process has logged."""
     if not isinstance(value, bytes):
-        raise TypeError(f"{type(value).__name__} is no plain value")
+        raise TypeError(f"{type(value).__name__} isn't a plain value")
     return {LOGGED: marshal.loads(value) if value else None}
 
 
 def _logged(value: Dict[str, Any]) -> Any:
     if [*value] != [LOGGED]:
-        raise NoMessageError("it has an object that isn't known")
+        raise NoMessageError("it has an unknown object")
     fields = value[LOGGED]
     if fields is None:
         return b""
@@ -63,7 +63,7 @@ def _logged(value: Dict[str, Any]) -> Any:
         raise NoMessageError("what was logged has other fields")
     lists = [fields[at] for at in LISTS]
     if not all(type(each) is list for each in lists):
-        raise NoMessageError("what was logged has something else for a list")
+        raise NoMessageError("what was logged has a value that should be a list")
     _freeze(fields, DEEPEST)
     for at in LISTS:
         fields[at] = [*fields[at]]
@@ -73,7 +73,7 @@ def _logged(value: Dict[str, Any]) -> Any:
 def _frozen(value: List[Any], deep: int) -> Tuple[Any, ...]:
     """Lists as tuples, no more than so many in one another, with no number past the bounds."""
     if not deep:
-        raise NoMessageError("it has too many lists in one another")
+        raise NoMessageError("its lists are nested too deeply")
     _freeze(value, deep)
     return tuple(value)
 
@@ -85,11 +85,11 @@ def _freeze(value: List[Any], deep: int) -> None:
         if kind is list:
             value[at] = _frozen(each, deep - 1)
         elif (kind is int or kind is float) and not -GREATEST < each < GREATEST:
-            raise NoMessageError("it has a number that is too great")
+            raise NoMessageError("it has a number that is too large")
 
 
 def _no_number(word: str) -> float:
-    raise NoMessageError(f"{word} is no number")
+    raise NoMessageError(f"{word} isn't a number")
 
 
 _ENCODER = json.JSONEncoder(separators=(",", ":"), allow_nan=False, default=_written_out)

@@ -32,7 +32,7 @@ class Messages:
         text, taken = marshal.dumps(message), []  # type: bytes, List[bool]
         try:
             if not take(self._lock, seconds, taken):
-                raise OSError("something else is still on its way")
+                raise OSError("another message is still being sent")
             if not self._is_whole:
                 raise OSError("a message was cut off")
             self._is_whole = False

@@ -24,4 +24,4 @@ class Refused:
             if now < self._told_at + SELDOM:
                 return
             self._told_at = now
-        logger.warning("%d messages or clients were refused: not signed with the key", total)
+        logger.warning("refused %d messages or clients: not signed with the key", total)

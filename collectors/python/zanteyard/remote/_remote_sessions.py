@@ -265,8 +265,8 @@ class RemoteGroup:
             call.is_late = call.answer is None
             self._unread = [other for other in self._unread if other is not call]
         if call.answer is None:
-            what = "has left" if self._has_left else f"hasn't answered for {seconds:.3g} s"
-            raise QuiesceMissed(f"the process of the sessions {self.told()} {what}")
+            what = "has left" if self._has_left else f"didn't answer for {seconds:.3g} s"
+            raise QuiesceMissed(f"the client process with sessions {self.told()} {what}")
         result, failure, is_missed = call.answer
         if failure is not None:
             raise (QuiesceMissed if is_missed else ElsewhereError)(failure)

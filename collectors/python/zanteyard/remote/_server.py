@@ -54,7 +54,7 @@ class AuditServer:
             os.mkdir(self.notes, 0o700)
         except OSError as error:
             self._refuse_others_notes()
-            logger.error("what clients do can't be noted: %s", error)
+            logger.error("can't make files for clients' notes: %s", error)
         live.call_at_end(self._tell_end)
         self._thread = threading.Thread(target=self._let_in, daemon=True)
         self._thread.start()
@@ -87,7 +87,7 @@ class AuditServer:
         for process in self._processes:
             process.thread.join(max(0.0, until - time.monotonic()))
             if process.thread.is_alive():
-                process.lose(f"it hadn't left after {patience:g} s")
+                process.lose(f"it didn't leave within {patience:g} s")
         shutil.rmtree(self.notes, ignore_errors=True)
 
     def __enter__(self) -> AuditServer:

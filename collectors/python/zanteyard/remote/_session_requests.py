@@ -35,7 +35,7 @@ class SessionRequests:
 
     def asked(self, kind: str, *more: Any, seconds: float) -> Optional[Place]:
         """The same. Raises ProgramLateError where nobody answers within so many seconds."""
-        late = ProgramLateError(f"the auditor's process hasn't answered for {seconds:g} s")
+        late = ProgramLateError(f"the auditor's process didn't answer for {seconds:g} s")
         taken: List[bool] = []
         try:
             if not take(self._asking, seconds, taken):  # others wait for theirs

@@ -69,11 +69,11 @@ class SocketProcess(ClientProcess):
         if not self._is_dead():
             raise LostError("it ended without leaving")
         if os.path.exists(f"{self.notes_path}{FORKED}"):
-            raise LostError("it has forked, and its child may go on in its sessions")
+            raise LostError("it forked, and its child may still use its sessions")
         there = {path[:-2] for path in glob.glob(f"{glob.escape(self.notes_path)}-*.0")}
         # Of a session that it had begun to make, and in which nothing was done, it hasn't told.
         if any(notes_of(path) for path in there - {*self._asks}):
-            raise LostError("not all that it did could be noted")
+            raise LostError("some of its transactions couldn't be noted")
         return in_files(self._asks)
 
     def _is_dead(self) -> bool:

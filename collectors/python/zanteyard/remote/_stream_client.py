@@ -61,7 +61,7 @@ class StreamDoor:
 
     def note_fork(self) -> None:
         if not self.messages.tell("forked", seconds=self._wait):
-            raise OSError("the Redis with the audit's streams can't be reached")
+            raise OSError("can't reach the Redis with the audit's streams")
 
 
 class StreamNotes:
@@ -90,7 +90,7 @@ class StreamNotes:
 
     def remove(self) -> None:
         """Nothing of this process can be believed any more, where it is killed."""
-        self._messages.put("unnoted", "something was done that isn't audited")
+        self._messages.put("unnoted", "some transactions weren't audited")
 
     def end(self) -> None:
         pass

@@ -66,7 +66,7 @@ class RedisLink:
                     return None  # redis-py fails in several ways where another thread has closed it
                 raise
             if not self.is_up:
-                logger.info("the Redis with the audit's streams can be reached again")
+                logger.info("the Redis with the audit's streams is reachable again")
             self.is_up = True  # one that hangs takes connections, and answers nothing
             if self._has_ended:
                 self.close()
@@ -90,14 +90,14 @@ class RedisLink:
             self.fail(error)
             return False
         except (ValueError, TypeError):  # whose words may have a part of the password
-            self.fail("redis-py doesn't understand its URL")
+            self.fail("redis-py can't read its URL")
             return False
         return True
 
     def fail(self, error: object) -> None:
         self.close()
         if self.is_up and not self._has_ended:
-            logger.warning("the Redis with the audit's streams can't be reached: %s", error)
+            logger.warning("can't reach the Redis with the audit's streams: %s", error)
         self.is_up, self._tried = False, time.monotonic()
 
     def end(self) -> None:
@@ -249,7 +249,7 @@ class Appender:
 
     def _give_up(self, error: object) -> bool:
         """Something else has the stream's name, and stays there."""
-        logger.error("%r can't be a stream of the audit's: %s", self.key, error)
+        logger.error("%r can't be used as a stream of the audit: %s", self.key, error)
         self.is_gone = self.is_barred = True
         return False
 
@@ -311,7 +311,7 @@ class Reader:
             time.sleep(min(seconds, AGAIN))
             return
         if is_of_another_type(replies[0]):
-            raise Gap(f"from {self.last + 1} on: {self.key!r} is no stream")
+            raise Gap(f"from {self.last + 1} on: {self.key!r} isn't a stream")
         if isinstance(replies[0], redis.ResponseError):
             self._link.fail(replies[0])
             return
@@ -334,10 +334,10 @@ def opened(id: bytes, fields: Any, opens: Callable[[int, bytes, bytes], Any]) ->
     """An entry's number, and its message. Raises NoMessageError."""
     numbered = NUMBERED.fullmatch(id)
     if numbered is None or not fields or len(fields) != 4 or [*fields[::2]] != [FIELD, SIGNATURE]:
-        raise NoMessageError("it isn't as an entry of the audit's")
+        raise NoMessageError("it isn't an entry of the audit")
     number, text = int(numbered[1]), fields[1]
     if len(text) > LONGEST:
-        raise NoMessageError(f"it takes {len(text)} bytes")
+        raise NoMessageError(f"it has {len(text)} bytes")
     return number, opens(number, text, fields[3])
 
 
@@ -371,5 +371,5 @@ def asked(
             name = command[1] if len(command) > 1 else command[0]
             raise StrangeRedisError(f"the Redis has another type of value at {name!r}")
         if isinstance(each, redis.ResponseError):
-            raise OSError(f"the Redis with the audit's streams refuses it: {each}")
+            raise OSError(f"the Redis with the audit's streams refused a command: {each}")
     return replies

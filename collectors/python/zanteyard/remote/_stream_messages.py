@@ -127,7 +127,7 @@ class ClientsEnd(StreamMessages):
         try:
             numbered = self.reader.receive(PAUSE)
         except Gap as gap:
-            raise EOFError(f"the auditor's messages are missing {gap}") from gap
+            raise EOFError(f"the auditor's messages {gap} are missing") from gap
         if numbered is None:
             return
         message: Any = numbered[1]
@@ -238,7 +238,7 @@ def hello_opener(key: bytes, audit: str, client: str) -> Callable[[int, bytes, b
     def opens(number: int, text: bytes, signature: bytes) -> Any:
         message = opens_any(number, text, signature)
         if message[0] not in BEFORE:
-            raise NoMessageError("it isn't let in")
+            raise NoMessageError("it wasn't admitted")
         return message
 
     return opens

@@ -84,18 +84,18 @@ class StreamProcess(ClientProcess):
                 time.sleep(PAUSE)
                 return
         if self.ends.appender.is_barred and not self._is_buried:
-            raise self._cut_off("nothing can be told to it")
+            raise self._cut_off("it can't be reached")
         try:
             numbered = self.ends.next()
         except Gap as gap:
-            message = f"the Redis has lost what it told in the messages {gap}"
+            message = f"Redis lost its messages {gap}"
             raise self._cut_off(message) from gap
         now = time.monotonic()
         can_be_heard = self.ends.reader.is_up and self.takes_writes()
         if numbered is not None or not can_be_heard or self._quiet_since is None:
             self._quiet_since = now
         elif self._is_buried:  # and all is heard again that it told
-            raise EOFError(f"nothing was heard of it for {self._silence:g} s")
+            raise EOFError(f"it sent nothing for {self._silence:g} s")
         elif now > self._quiet_since + self._silence:
             self._quiet_since = now
             self._is_buried = self._hears_rest = self._bury(self.ends, False)
@@ -138,7 +138,7 @@ class StreamProcess(ClientProcess):
             if not is_again and not self.others_again():
                 break
             if time.monotonic() > ends:
-                raise self._cut_off("what came before what it told is in no stream")
+                raise self._cut_off("transactions before those that it sent are in no stream")
             time.sleep(PAUSE)
 
     def _reached(self, session: int) -> int:
@@ -235,15 +235,15 @@ class StreamProcess(ClientProcess):
         self._had = self._has()  # another process finds the same out, as long as it isn't taken in
         super()._find_out(places, why)
         if self._has_left and self._live.lost is None:  # it was heard again, and not to its end
-            message = f"what a process did that had left is lost: {why}"
+            message = f"the last transactions of a process that had left were lost: {why}"
             self._live.note_missing(MissingError(message))
         numbers = sorted(place.number for place in places if place.is_audited)
         if numbers and self._live.lost is None:
             message = ", ".join(
-                f"{number} from its transaction {self._live.next_number(number)} on"
+                f"{number} (from transaction {self._live.next_number(number)} on)"
                 for number in numbers
             )
-            missing = f"what was done in the sessions {message} isn't known, if anything was: {why}"
+            missing = f"anything that sessions {message} did is unknown: {why}"
             self._live.note_missing(MissingError(missing))
 
     def _end(self) -> None:

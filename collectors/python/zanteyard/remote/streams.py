@@ -119,7 +119,7 @@ class StreamServer:
             time.sleep(TICK)
         for process in processes:
             if process.thread.is_alive():
-                process.lose(f"it hadn't left after {patience:g} s")
+                process.lose(f"it didn't leave within {patience:g} s")
         self._trim_last()
         self._end()
 
@@ -145,7 +145,7 @@ class StreamServer:
             with self._lock:
                 self._trim()
         except (OSError, JournalError) as error:
-            logger.warning("what was taken in stays in its streams: %s", error)
+            logger.warning("what was accepted stays in its streams: %s", error)
 
     def _end(self) -> None:
         try:
@@ -189,7 +189,9 @@ class StreamServer:
                 return
             if time.monotonic() > until:
                 other = (holder or b"")[:200].decode(errors="replace")
-                raise AuditTakenError(f"{self.names.audit}: another auditor has it ({other!r})")
+                raise AuditTakenError(
+                    f"another auditor has the audit {self.names.audit} ({other!r})"
+                )
             time.sleep(TICK)
 
     def _holds(self) -> bool:
@@ -202,7 +204,7 @@ class StreamServer:
         (holder,) = asked(self._link, [("GET", self.names.auditor)], WAITS)
         if holder not in (None, self._holder):  # None: the Redis was away for too long, or lost it
             other = holder[:200].decode(errors="replace")
-            raise AuditTakenError(f"another auditor has taken the audit: {other!r}")
+            raise AuditTakenError(f"another auditor took over the audit: {other!r}")
         mine = ("SET", self.names.auditor, self._holder, "PX", int(1000 * HELD))
         newest = f"{self._live.token} {self._written}"
         written = ("SET", self.names.written, newest, "EX", KEPT_AT_LEAST)
@@ -235,7 +237,7 @@ class StreamServer:
 
     def _fail(self, error: Exception) -> None:
         """Nothing more is heard, and nothing more of it audited."""
-        logger.error("the audit's streams are served no more: %s", str(error) or repr(error))
+        logger.error("the audit's streams are no longer served: %s", str(error) or repr(error))
         self.failure, self._is_left = error, True
         for process in [*self._processes.values()]:
             process.is_left_to_others = True
@@ -420,10 +422,10 @@ class StreamServer:
         live, state = self._live, self._file.read()
         identity_of_state = (state.run_name, state.audits, state.audit)
         if identity_of_state != (live.run_name, live.auditor.audits, self.names.audit):
-            raise JournalError(f"{self._file.path} is of another audit than the journal")
+            raise JournalError(f"{self._file.path} and the journal belong to different audits")
         if state.form != FORM:
-            why = f"has clients of version {state.version}, which version {VERSION} doesn't know"
-            raise JournalError(f"{self._file.path} {why}: go on with that, or in another folder")
+            why = f"has clients of zanteyard {state.version}, which {VERSION} doesn't support"
+            raise JournalError(f"{self._file.path} {why}: run that version, or use another folder")
         self._written = state.written
         if state.store is not None:
             live.audited_store.first(checked(*state.store))
@@ -462,7 +464,7 @@ class StreamServer:
             raise StrangeRedisError(f"the Redis has something else at {self.names.written!r}")
         if token_of_newest == token.encode() and int(written) > self._written:
             assert self._file is not None
-            why = "is older than what its audit came to: begin another one, in another folder"
+            why = "is older than the state of its audit: begin another audit in another folder"
             raise JournalError(f"{self._file.path} {why}")
 
     def _close_what_nobody_has(self, numbers: Any) -> None:

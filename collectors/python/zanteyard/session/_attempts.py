@@ -51,4 +51,4 @@ def attempted(
         except AbortedError:
             if not left or time.monotonic() >= ends:
                 raise
-    raise ValueError("it is to be attempted once at least")
+    raise ValueError("there must be at least one attempt")

@@ -73,7 +73,7 @@ class SessionGroup:
         long."""
         self.ends = time.monotonic() + seconds
         if not self.gate.acquire(timeout=seconds):
-            raise QuiesceMissed("the meeting before this one still goes on")
+            raise QuiesceMissed("the previous meeting isn't over")
         with self.lock:
             self.meeting, self.held = meeting, {}
             self.timer = threading.Timer(seconds, self.release, (meeting,))

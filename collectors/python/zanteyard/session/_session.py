@@ -68,8 +68,8 @@ class Session(OwnTransactions):
     ) -> None:
         if getattr(auditor, "is_resumed", False) is True:
             raise ValueError(
-                "what was on its way to the store as the run's process ended isn't known, "
-                "so that no session goes on by a journal: begin another run"
+                "what the ended process had sent to the store is unknown, so no session can "
+                "continue from a journal: begin another run"
             )
         if hasattr(auditor, "note_sessions"):
             auditor.note_sessions()
@@ -132,7 +132,7 @@ class Session(OwnTransactions):
     def begin(self) -> Transaction:
         """Raises what the store does where it can't be reached; then nothing has begun."""
         if self.current is not None:
-            raise ValueError(f"session {self.number} is in a transaction: it runs one at a time")
+            raise ValueError(f"session {self.number} is in a transaction already")
         came = time.monotonic()
         try:
             try:
@@ -176,7 +176,7 @@ class Session(OwnTransactions):
         self.has_turn = []
         if take(self.turn, self.wait, self.has_turn):
             return
-        logger.warning("session %s: the store doesn't answer the audit", self.number)
+        logger.warning("session %s: the store doesn't answer the audit's statements", self.number)
         self.hang_up()
         if not take(self.turn, self.wait, self.has_turn):
             raise StoreLateError(f"session {self.number} waits for the store")
@@ -223,7 +223,7 @@ class Session(OwnTransactions):
         except Exception as error:
             if not self.is_of_store(error) or isinstance(error, StoreUnfitError):
                 raise
-            logger.info("a client joins later, since %s", str(error).strip() or repr(error))
+            logger.info("a client will join later: %s", str(error).strip() or repr(error))
         finally:
             self.is_changing = False
         return not (place.must_join or place.is_ended)
@@ -311,8 +311,9 @@ class Session(OwnTransactions):
         """Whether it is the audit's is known behind this: `met`, or `unmet`."""
         self.met, self.is_unsure = None, identity == UNSURE
         if self.is_unsure:
-            self.unmet = AuditLostError("whether the store is the audit's isn't known: it can't "
-                                        "tell now which one it is")
+            self.unmet = AuditLostError(
+                "whether this is the audit's store is unknown: it can't identify itself now"
+            )
             return
         try:
             self.auditor.meet_store(identity)
@@ -359,7 +360,7 @@ class Session(OwnTransactions):
                 raise
             self.unclaimed, self.claim_at = error, math.inf
         except (AbortedError, OutcomeUnknownError) as error:
-            message = f"whether the name {self.run_name} is this run's can't be found out in time"
+            message = f"can't find out in time whether the name {self.run_name} belongs to this run"
             self.unclaimed = AuditLostError(f"{message}: {error}")
             self.claim_at = time.monotonic() + AGAIN
 
@@ -439,11 +440,11 @@ class Session(OwnTransactions):
     def fail(self, error: Exception) -> None:
         if self.failure is None:
             self.failure = error
-            logger.error("nothing more of session %s is audited: %s", self.number, error)
+            logger.error("auditing of session %s has stopped: %s", self.number, error)
 
     def miss(self, number: int, error: Optional[Exception] = None) -> None:
         """Whether what was done under this number was handed in isn't known."""
-        self.fail(error or AuditLostError("it isn't known what was done"))
+        self.fail(error or AuditLostError("what it did is unknown"))
         miss = getattr(self.auditor, "miss", None)
         if miss is not None:
             self.tell(miss, self.number, number, error or self.failure)

@@ -82,7 +82,7 @@ class StoreCalls(BoundedStore, BulkStore, TracedStore, ObservedStore, Identified
         try:
             return asks() if asks is not None else None
         except Exception as error:
-            logger.warning("how this store is asked can't be told: %s", error)
+            logger.warning("can't describe how to ask this store: %s", error)
             return None
 
     def ticket(self, written: Sequence[Any]) -> Any:

@@ -80,7 +80,7 @@ class Transaction:
         if name is None or name[0] != self.session.run_name:
             return "init"  # it was there before this run
         if name[1] >= UNAUDITED > (self.session.number or 0) and self.unclear is None:
-            self.unclear = AuditLostError("it has read what a forked child wrote, unaudited")
+            self.unclear = AuditLostError("it read what a forked child wrote without being audited")
         return (name[1], name[2])
 
     def put(self, key: str, value: Any, statement: Optional[str] = None) -> None:
@@ -212,7 +212,7 @@ class Transaction:
             try:
                 self.store.rollback()
             except Exception as error:  # it says nothing of the commit
-                logger.info("a rollback behind a commit failed: %r", error)
+                logger.info("a rollback after a commit failed: %r", error)
             self.find_out()
 
     def find_out_alone(self, error: BaseException) -> None:
@@ -239,7 +239,7 @@ class Transaction:
                     self.is_in_doubt = False
                     self.give_up()
                     raise AbortedError(
-                        "the commit was not answered, and the store says that it aborted"
+                        "the commit wasn't answered, and the store says that it was aborted"
                     )
                 if time.monotonic() >= until:
                     break
@@ -279,7 +279,7 @@ class Transaction:
                 session.is_open, session.place.must_join = True, False
         except BaseException as error:
             message = (
-                f"transaction {session.number}.{self.number} was interrupted as it was handed in"
+                f"transaction {session.number}.{self.number} was interrupted while it was handed in"
             )
             session.miss(self.number, AuditLostError(f"{message} ({type(error).__name__})"))
             raise

@@ -143,7 +143,7 @@ def wait(connection: Any, ends: float) -> None:
         is_reading = state == extensions.POLL_READ
         waits.register(connection.fileno(), select.POLLIN if is_reading else select.POLLOUT)
         if not waits.poll(max(0.0, 1000 * (ends - time.monotonic()))):
-            raise psycopg2.OperationalError("the server hasn't answered in time")
+            raise psycopg2.OperationalError("the server didn't answer in time")
 
 
 def within(seconds: float, call: Callable[[], Any], drop: Callable[[Any], object] = bool) -> Any:

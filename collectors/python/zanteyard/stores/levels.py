@@ -47,5 +47,5 @@ def checked_level(store: str, level: str) -> str:
     """The level's name in full, where this store has it; raises ValueError where it doesn't."""
     levels = LEVELS[store].values()
     if level not in levels:
-        raise ValueError(f"{level} is none of {', '.join(levels)}")
+        raise ValueError(f"{level} isn't one of {', '.join(levels)}")
     return level

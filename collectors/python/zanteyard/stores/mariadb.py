@@ -198,7 +198,7 @@ class MariaDBStore:
         except pymysql.MySQLError as error:
             if self.is_broken_at(connection, error) or code_of(error) == NO_TABLE:
                 raise
-            logger.warning("which store this MariaDB is can't be found out: %s", error)
+            logger.warning("can't identify this MariaDB: %s", error)
             return None if code_of(error) in BARRED else UNSURE
         called = f"{schema or current}.{name}"
         host = self.dsn.get("unix_socket") or f"{connection.host}:{connection.port}"
@@ -281,7 +281,9 @@ class MariaDBStore:
             raise AbortedError("the transaction had failed before")
         if self.is_connected and not self.is_in_transaction:
             self.has_failed = True
-            message = "something else has ended the transaction, as statements that make tables do"
+            message = (
+                "the transaction was ended by something else, such as a CREATE TABLE statement"
+            )
             if self.has_written:
                 self.is_torn = True
                 raise OutcomeUnknownError(message)
@@ -440,7 +442,7 @@ class MariaDBStore:
         row = (RUN + run_name, token, run_name, -1, 0)
         (owner,) = self.ask(CLAIM, row).fetchone()
         if owner != token:
-            raise NameTakenError(f"{self.table} knows the name {run_name}: an earlier run had it")
+            raise NameTakenError(f"{self.table} has the name {run_name} from an earlier run")
 
 
 ITS_ROW = """SELECT before_run, before_session, before_number FROM {table} WHERE `key` = %s

@@ -30,7 +30,7 @@ class MemoryStore:
         self.versions: Dict[str, List[Tuple[Any, Name, int]]] = {}
         self.runs: Dict[str, str] = {}  # of each run's name, its token
         token = secrets.token_hex(8)
-        self.identity = StoreIdentity(f"memory {token}", f"the store in memory {token}")
+        self.identity = StoreIdentity(f"memory {token}", f"the in-memory store {token}")
 
     def connect(self) -> Connection:
         return Connection(self)
@@ -116,7 +116,7 @@ class Connection:
     def claim(self, run_name: str, token: str, seconds: float) -> None:
         with self.shared.lock:
             if self.shared.runs.setdefault(run_name, token) != token:
-                raise NameTakenError(f"the store knows the name {run_name}: an earlier run had it")
+                raise NameTakenError(f"the store has the name {run_name} from an earlier run")
 
     def outcome(self) -> str:
         return self.last_outcome if self.known else "unknown"

@@ -174,7 +174,7 @@ class PostgresStore:
             if connection.closed or isinstance(error, errors.UndefinedTable):
                 raise
             message = str(error).strip()
-            logger.warning("which store this PostgreSQL is can't be found out: %s", message)
+            logger.warning("can't identify this PostgreSQL: %s", message)
             unknown = None if isinstance(error, BARRED) else UNSURE
             return (connection.info.backend_pid, None, None), unknown  # then less is found out
         *life, known, database = cursor.fetchone()
@@ -264,7 +264,7 @@ class PostgresStore:
             if row is not None:
                 (self.transaction_id,) = row
                 return None
-        raise AbortedError(f"{key} came and went {ATTEMPTS} times")
+        raise AbortedError(f"{key} appeared and disappeared {ATTEMPTS} times")
 
     def commit(self) -> None:
         try:
@@ -349,11 +349,11 @@ class PostgresStore:
             ends.cancel()
             ends.join()  # so that it is known by now whether this connection can be used
         if owner != token:
-            raise NameTakenError(f"{self.table} knows the name {run_name}: an earlier run had it")
+            raise NameTakenError(f"{self.table} has the name {run_name} from an earlier run")
 
     def owner(self, key: str, token: str, run_name: str) -> str:
         for _ in range(ATTEMPTS):
             row = self.ask(CLAIM, (key, token, run_name, -1, 0, key)).fetchone()
             if row is not None:
                 return str(row[0])
-        raise AbortedError(f"{key} came and went {ATTEMPTS} times")
+        raise AbortedError(f"{key} appeared and disappeared {ATTEMPTS} times")

@@ -130,7 +130,7 @@ class RedisStore:
         if isinstance(told, str):
             self.token, number = told, getattr(connection, "db", 0)
             where = f"database {number} of the Redis {_place(connection)}"
-            shown = f"{where}, behind {self.prefix!r} (store {told})"
+            shown = f"{where}, prefix {self.prefix!r} (store {told})"
             self._identity = StoreIdentity(f"redis {told} {number} {self.prefix}", shown)
 
     def identity(self) -> Optional[StoreIdentity]:
@@ -144,14 +144,14 @@ class RedisStore:
 
     def see_that_nothing_is_dropped(self, text: Any) -> None:
         if not isinstance(text, str):
-            logger.warning("whether this Redis drops keys can't be seen: %s", text)
+            logger.warning("can't see whether this Redis evicts keys: %s", text)
             return
         figures = dict(line.split(":", 1) for line in text.splitlines() if ":" in line)
         policy = figures.get("maxmemory_policy", "noeviction")
         if figures.get("maxmemory", "0") != "0" and policy.startswith("allkeys"):
             raise StoreUnfitError(
-                f"this Redis drops any key where memory is short ({policy}), and its writer's name "
-                "with it: what it drops would be told as a lost write"
+                f"this Redis evicts keys if memory is short ({policy}), along with their writers' "
+                "names: an evicted key would be reported as a lost write"
             )
 
     def send(self, *commands: Command) -> List[Any]:
@@ -159,7 +159,7 @@ class RedisStore:
         connection is never opened here: what the other one has watched would be forgotten."""
         connection = self.connection
         if connection is None:
-            raise redis.ConnectionError("the connection is lost")
+            raise redis.ConnectionError("the connection was lost")
         try:
             return replies(connection, commands)
         except redis.ResponseError:
@@ -327,7 +327,7 @@ class RedisStore:
             full_keys = [self.prefix + key for key in keys]
             texts = self.send(("WATCH", *full_keys), ("MGET", *full_keys))[-1]
             if texts != [self.seen[key] for key in keys]:
-                raise AbortedError("what was read and is to be written has changed")
+                raise AbortedError("a key that was read and is to be written has changed")
 
     def executed(self, commands: Sequence[Command]) -> List[Any]:
         """What each command is answered. Raises AbortedError where a key that was watched has
@@ -419,7 +419,7 @@ class RedisStore:
         full_key = f"{self.prefix}{RUN}{run_name}"
         *_, owner = self.asked([("SET", full_key, token, "NX"), ("GET", full_key)])
         if owner != token:
-            raise NameTakenError(f"{self.prefix} knows the name {run_name}: an earlier run had it")
+            raise NameTakenError(f"{self.prefix} has the name {run_name} from an earlier run")
 
 
 def asked(url: str, prefix: str, own: str, *, ticket: Any, seconds: float) -> CommitStatus:

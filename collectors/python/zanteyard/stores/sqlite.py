@@ -50,7 +50,7 @@ def prepare(path: str, journal: str = "wal", table: str = "zanteyard") -> None:
     """Makes the file and the table, where they aren't there, and sets the file's journal mode, one
     of JOURNALS."""
     if journal not in JOURNALS:
-        raise ValueError(f"{journal} is none of {', '.join(JOURNALS)}")
+        raise ValueError(f"{journal} isn't one of {', '.join(JOURNALS)}")
     connection = sqlite3.connect(path, isolation_level=None)
     try:
         connection.execute(f"PRAGMA journal_mode = {journal}")
@@ -149,7 +149,7 @@ class SQLiteStore:
             raise AbortedError("the transaction had failed before")
         if not (self.is_alone or self.level == AUTOCOMMIT or self.connection.in_transaction):
             self.has_failed = True
-            raise AbortedError("SQLite, or something else, has ended the transaction")
+            raise AbortedError("SQLite or something else ended the transaction")
         return self.send(text.format(table=self.table, **more), values)
 
     # what sessions call
@@ -240,7 +240,7 @@ class SQLiteStore:
         if self.has_failed:
             raise AbortedError("the transaction had failed before its commit")
         if not self.connection.in_transaction:
-            raise AbortedError("SQLite, or something else, has ended the transaction")
+            raise AbortedError("SQLite or something else ended the transaction")
         self.end()
 
     def end(self) -> None:
@@ -342,7 +342,7 @@ class SQLiteStore:
             self.rollback()
             raise
         if rows[0][0] != token:
-            raise NameTakenError(f"{self.table} knows the name {run_name}: an earlier run had it")
+            raise NameTakenError(f"{self.table} has the name {run_name} from an earlier run")
 
 
 ITS_ROW = "SELECT value FROM {table} WHERE key = ? AND run = ? AND session = ? AND number = ?"

@@ -55,7 +55,7 @@ def _counters(sessions: Sequence[Session]) -> None:
 
 
 def _on_call(sessions: Sequence[Session]) -> None:
-    """Two doctors go off call, each where the other one is still on call."""
+    """Two doctors go off call, each because the other one is still on call."""
 
     def leave(own: str) -> Body:
         def body(transaction: Any) -> None:
@@ -69,7 +69,7 @@ def _on_call(sessions: Sequence[Session]) -> None:
 
 
 def _one_after_another(sessions: Sequence[Session]) -> None:
-    """A client counts up, another one after it, and then both look."""
+    """A client increments a counter, then another one does, and then both read it."""
     sessions[0].run(_put(x=0))
     sessions[1].run(_add_one)
     sessions[0].run(_read("x"))
@@ -87,7 +87,7 @@ def _half_seen(sessions: Sequence[Session]) -> None:
 
 
 def _aborted_write(sessions: Sequence[Session]) -> None:
-    """A client's attempt is aborted, and another client looks."""
+    """A client's transaction is aborted, and another client reads what it wrote."""
     sessions[0].run(_put(x=1))
     late = sessions[1].begin()
     _add_one(late)
@@ -103,7 +103,7 @@ def _written_and_read(sessions: Sequence[Session]) -> None:
 
 
 def _deleted_and_read(sessions: Sequence[Session]) -> None:
-    """A client deletes what it wrote, and looks again."""
+    """A client deletes what it wrote, and reads it again."""
     sessions[0].run(_put(x=1))
     sessions[0].run(lambda transaction: transaction.delete("x"))
     sessions[0].run(_read("x"))
@@ -136,6 +136,6 @@ def run_demo(name: str, auditor: Auditor) -> None:
 
 
 def _every_story(sessions: Sequence[Session]) -> None:
-    """All of it, over a store without a fault."""
+    """All of the above, on a store without a fault."""
     for story in STORIES.values():
         story(sessions)

@@ -46,14 +46,14 @@ class GuestSchema:
 
     def __enter__(self) -> GuestSchema:
         """Raises psycopg2's errors where the server can't be reached, or allows no table either."""
-        makes = f"makes the schema {self.name} and a table in it, and drops both"
-        self.tell(f"in the {self.where()}: {makes}")
+        makes = f"creates the schema {self.name} with a table, and drops both at the end"
+        self.tell(f"in {self.where()}: {makes}")
         try:
             self.run(f"CREATE SCHEMA {self.name}")
         except errors.InsufficientPrivilege:
             self.table, self.drop = self.name, f"DROP TABLE IF EXISTS {quoted(self.name)}"
-            makes = f"makes the table {self.name} instead, and drops it"
-            self.tell(f"no schema may be made there: {makes}")
+            makes = f"creates the table {self.name} instead, and drops it at the end"
+            self.tell(f"can't create a schema there: {makes}")
         try:
             prepare(self.dsn, self.table)
         except BaseException:
@@ -65,5 +65,5 @@ class GuestSchema:
         try:
             self.run(self.drop)
         except psycopg2.Error as error:
-            message = f"what it made is left, and is to be dropped by hand ({self.drop})"
+            message = f"couldn't clean up; run: {self.drop}"
             self.tell(f"{message}: {error}".strip())

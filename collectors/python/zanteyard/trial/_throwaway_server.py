@@ -76,7 +76,7 @@ class ThrowawayServer:
         ends = time.monotonic() + STARTING
         while not self.answers():
             if process.poll() is not None or time.monotonic() > ends:
-                raise CantStartError(f"{self.program} can't be started: {self.last_words()}")
+                raise CantStartError(f"can't start {self.program}: {self.last_words()}")
             time.sleep(0.02)
 
     def last_words(self) -> str:

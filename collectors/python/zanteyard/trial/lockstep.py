@@ -14,6 +14,7 @@ from typing import Any, Callable, Dict, Iterator, List, Mapping, Optional, Seque
 from ..core._outcome import RATHER_WAIT, Outcome
 from ..core.errors import AbortedError, OutcomeUnknownError
 from ..explain._anomalies import find_anomaly
+from ..explain._reasons import explain_history
 from ..explain._report import story_lines, story_of
 from ..explain._standing import standing
 from ..explain._words import name as plain_name
@@ -85,7 +86,7 @@ class Client:
 
 
 def _dirty_read(clients: Sequence[Client]) -> None:
-    """A client reads what another one has written and then takes back."""
+    """A client reads what another one wrote and then rolls back."""
     writer, reader, _ = clients
     writer.run(x="1")
     writer.begin()
@@ -95,7 +96,7 @@ def _dirty_read(clients: Sequence[Client]) -> None:
 
 
 def _half_written(clients: Sequence[Client]) -> None:
-    """A client reads two keys while another one has written one of the two."""
+    """A client reads two keys when another one has written one of the two."""
     writer, reader, _ = clients
     writer.run(x="1", y="1")
     writer.begin()
@@ -129,7 +130,7 @@ def _newer_write(clients: Sequence[Client]) -> None:
 
 
 def _lost_update(clients: Sequence[Client]) -> None:
-    """Two clients count up from the same number."""
+    """Two clients increment the same number."""
     first, other, _ = clients
     first.run(x="1")
     for client in (first, other):
@@ -148,7 +149,7 @@ def _write_skew(clients: Sequence[Client]) -> None:
 
 
 def _absent_keys(clients: Sequence[Client]) -> None:
-    """Two clients each see that neither of two keys is there, and each makes one."""
+    """Two clients each see that neither of two keys exists, and each creates one."""
     _take_each_one(*clients[:2])
 
 
@@ -227,7 +228,8 @@ def _told(auditor: Auditor, outcome: Outcome) -> Iterator[str]:
         for number, logged in enumerate(transactions):
             yield f"  {session}.{number} {logged.outcome}"
     if outcome.kind == "violated":
-        yield from story_lines(story_of(auditor.history, plain_name))
+        explanation = explain_history(auditor.history, plain_name)
+        yield from story_lines(story_of(auditor.history, plain_name, explanation))
     else:
         yield str(outcome)
 

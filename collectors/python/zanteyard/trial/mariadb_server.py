@@ -76,7 +76,9 @@ class MariaDBGuest:
         self.table = f"zanteyard_{secrets.token_hex(6)}"
 
     def __enter__(self) -> MariaDBGuest:
-        self.tell(f"makes the table {self.table} in {self.dsn.get('database')}, and drops it")
+        self.tell(
+            f"creates the table {self.table} in {self.dsn.get('database')}, and drops it at the end"
+        )
         return self
 
     def __exit__(self, *_: object) -> None:
@@ -88,5 +90,5 @@ class MariaDBGuest:
             connection.cursor().execute(drop)
             connection.close()
         except pymysql.MySQLError as error:
-            message = f"what it made is left, and is to be dropped by hand ({drop})"
+            message = f"couldn't clean up; run: {drop}"
             self.tell(f"{message}: {error}".strip())

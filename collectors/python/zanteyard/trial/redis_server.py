@@ -55,7 +55,7 @@ class RedisGuest:
         self.prefix = f"zanteyard_{secrets.token_hex(6)}:"
 
     def __enter__(self) -> RedisGuest:
-        self.tell(f"writes keys that begin with {self.prefix}, and deletes them")
+        self.tell(f"writes keys that begin with {self.prefix}, and deletes them at the end")
         return self
 
     def __exit__(self, *_: object) -> None:
@@ -67,5 +67,5 @@ class RedisGuest:
                 client.delete(key)
             client.close()
         except redis.RedisError as error:
-            message = f"what it made is left, and is to be deleted by hand ({self.prefix}*)"
+            message = f"couldn't clean up; delete the keys {self.prefix}*"
             self.tell(f"{message}: {error}".strip())

@@ -107,8 +107,8 @@ class StoreKind:
 
 def _wanted(module: str, package: str) -> str:
     return (
-        f"{module} is wanted: apt-get install {package}, and run this by the Python that it is for "
-        f"(/usr/bin/python3), or pip install {module}"
+        f"{module} is missing: apt-get install {package} (for /usr/bin/python3), or pip install "
+        f"{module}"
     )
 
 
@@ -123,8 +123,8 @@ def _is_there(module: str) -> bool:
 class _Postgres(StoreKind):
     command, name = "postgres", "PostgreSQL"
     server_help = (
-        "a server that is there, in a schema of this program's own; without a value, the one that "
-        "PGHOST, PGDATABASE and the like name"
+        "use a running server, in a schema of its own; without a value, the one named by PGHOST, "
+        "PGDATABASE and so on"
     )
 
     def add_arguments(self, asked: argparse.ArgumentParser) -> None:
@@ -138,7 +138,7 @@ class _Postgres(StoreKind):
 
             return GuestSchema(asked.dsn)
         if not program("initdb"):
-            raise CantAuditError("PostgreSQL is wanted: apt-get install postgresql")
+            raise CantAuditError("PostgreSQL is missing: apt-get install postgresql")
         return PostgresServer()
 
     def maker(self, asked: Any, server: Any, **more: Any) -> MakesStore:
@@ -166,8 +166,8 @@ class _Postgres(StoreKind):
 class _MariaDB(StoreKind):
     command, name = "mariadb", "MariaDB"
     server_help = (
-        "a server that is there, in a table of this program's own, as words for pymysql: "
-        "'host=.. user=.. password=.. database=..', or 'read_default_file=~/.my.cnf database=..'"
+        "use a running server, in a table of its own, given as pymysql's arguments: 'host=.. "
+        "user=.. password=.. database=..' or 'read_default_file=~/.my.cnf database=..'"
     )
     no_waiting = {"lock_wait": 0}
 
@@ -178,7 +178,7 @@ class _MariaDB(StoreKind):
         if asked.dsn is not None:
             return MariaDBGuest(words_of(asked.dsn))
         if not mariadbd():
-            raise CantAuditError("MariaDB is wanted: apt-get install mariadb-server")
+            raise CantAuditError("MariaDB is missing: apt-get install mariadb-server")
         return MariaDBServer()
 
     def maker(self, asked: Any, server: Any, **more: Any) -> MakesStore:
@@ -204,10 +204,10 @@ def words_of(text: str) -> Dict[str, Any]:
     for word in text.split():
         name, equals, value = word.partition("=")
         if not equals:
-            raise CantAuditError(f"{word} has no = in it")
+            raise CantAuditError(f"{word} has no =")
         words[name] = int(value) if name == "port" else value
     if "database" not in words:
-        raise CantAuditError("which database= is wanted")
+        raise CantAuditError("database= is missing")
     if "read_default_file" in words:
         words["read_default_file"] = os.path.expanduser(words["read_default_file"])
     return words
@@ -216,8 +216,8 @@ def words_of(text: str) -> Dict[str, Any]:
 class _Redis(StoreKind):
     command, name = "redis", "Redis"
     server_help = (
-        "a server that is there, under a prefix of this program's own, as a URL: "
-        "redis://host:6379/0, or unix:///run/redis.sock?db=0"
+        "use a running server, under a key prefix of its own, given as redis://host:6379/0 or "
+        "unix:///run/redis.sock?db=0"
     )
 
     def lacking(self) -> str:
@@ -227,7 +227,7 @@ class _Redis(StoreKind):
         if asked.dsn is not None:
             return RedisGuest(asked.dsn)
         if not redis_server():
-            raise CantAuditError("Redis is wanted: apt-get install redis-server")
+            raise CantAuditError("Redis is missing: apt-get install redis-server")
         return RedisServer()
 
     def maker(self, asked: Any, server: Any, **more: Any) -> MakesStore:
@@ -243,11 +243,11 @@ class _Redis(StoreKind):
 
 class _SQLite(StoreKind):
     command, name = "sqlite", "SQLite"
-    server_help = "a file that is there, in a table of this program's own; in its own journal mode"
+    server_help = "use an existing file, in a table of its own; its journal mode stays"
     no_waiting = {"patience": 0.0}
 
     def lacking(self) -> str:
-        return "" if _is_there("sqlite3") else "this Python was built without sqlite3"
+        return "" if _is_there("sqlite3") else "this Python has no sqlite3 module"
 
     def add_arguments(self, asked: argparse.ArgumentParser) -> None:
         super().add_arguments(asked)
@@ -258,7 +258,7 @@ class _SQLite(StoreKind):
 
     def maker(self, asked: Any, server: Any, **more: Any) -> MakesStore:
         if asked.level == "uncommitted" and getattr(asked, "processes", False):
-            raise CantAuditError("only connections of one process share a cache")
+            raise CantAuditError("a shared cache works only within one process")
         server.prepare()
         return MakeStore(self.command, server.dsn, self.levels[asked.level], server.table, **more)
 
@@ -297,19 +297,19 @@ class SQLiteGuest(SQLiteFile):
         import sqlite3
 
         if not os.path.isfile(path):  # else it would be made
-            raise CantAuditError(f"{path} isn't there")
+            raise CantAuditError(f"{path} doesn't exist")
         connection = sqlite3.connect(path)
         try:
             (journal,) = connection.execute("PRAGMA journal_mode").fetchone()
         except sqlite3.Error as error:
-            raise CantAuditError(f"{path} is no file of SQLite's ({error})") from error
+            raise CantAuditError(f"{path} isn't an SQLite file ({error})") from error
         finally:
             connection.close()
         super().__init__(journal)
         self.dsn, self.table = path, f"zanteyard_{os.urandom(6).hex()}"
 
     def __enter__(self) -> SQLiteGuest:
-        say(f"makes the table {self.table} in {self.dsn}, and drops it")
+        say(f"creates the table {self.table} in {self.dsn}, and drops it at the end")
         return self
 
     def __exit__(self, *_: object) -> None:
@@ -319,7 +319,7 @@ class SQLiteGuest(SQLiteFile):
         try:
             connection.execute(f"DROP TABLE IF EXISTS {self.table}")
         except sqlite3.Error as error:
-            say(f"what it made is left (DROP TABLE {self.table}): {error}")
+            say(f"couldn't clean up ({error}); run: DROP TABLE {self.table}")
         finally:
             connection.close()
 

@@ -242,7 +242,7 @@ class ClientProcesses(Clients):
                     process.terminate()
         for _ in processes:
             if results.empty():
-                self.failures.append(RuntimeError("a client's process ended without a word"))
+                self.failures.append(RuntimeError("a client process ended without a message"))
                 break
             failure, *counts = results.get()
             if failure is not None:

@@ -160,7 +160,7 @@ class Auditing:
             try:
                 program.end()
             except OSError as error:
-                logger.warning("the auditor didn't end in good order: %s", error)
+                logger.warning("the auditor didn't end cleanly: %s", error)
 
 
 def _set_aside(path: str) -> None:

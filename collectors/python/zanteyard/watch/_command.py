@@ -43,47 +43,50 @@ def add_arguments(command: argparse.ArgumentParser) -> None:
         metavar="URL",
         nargs="?",
         default=os.environ.get(URL),
-        help=f"the server, as postgresql://user@server/database (or the environment's {URL})",
+        help=f"the server, given as postgresql://user@server/database (or the environment's {URL})",
     )
     command.add_argument(
         "--listen", type=place, metavar="HOST:PORT", default=LISTEN,
-        help=f"where applications connect ({LISTEN}); a socket's path if there is a / in it",
+        help=f"the address for applications to connect to ({LISTEN}); with a / it is a Unix "
+        "socket's path",
     )
     command.add_argument(
-        "--page", type=address, metavar="HOST:PORT", help="shows how the audit stands there"
+        "--page", type=address, metavar="HOST:PORT", help="serve a page with the audit's state"
     )
     command.add_argument(
-        "--metrics", type=address, metavar="HOST:PORT", help="Prometheus's figures, at /metrics"
+        "--metrics", type=address, metavar="HOST:PORT", help="serve Prometheus metrics at /metrics"
     )
     command.add_argument(
-        "--save", metavar="DIR", help="keeps each violation there, as a page, a text and a script"
+        "--save", metavar="DIR",
+        help="save each violation in this folder, as a page, a text and a script",
     )
     command.add_argument(
         "--journal", metavar="FILE",
-        help="the audit goes on by this file if the auditor's program is killed",
+        help="a file from which the audit continues if the auditor is killed",
     )
     command.add_argument(
         "--sample", type=share, metavar="SHARE",
-        help="audits this share of the connections, as 0.1",
+        help="audit only this share of the connections, such as 0.1",
     )
     add_sharing(command)
-    add_tables_option(command, "audits only these tables, as public.*,shop.orders")
+    add_tables_option(command, "audit only these tables, such as public.*,shop.orders")
     command.add_argument(
         "--promise", choices=[*LIVE], default=SERIALIZABLE.name,
-        help="what the application relies on (serializable; docs/PROMISES.md)",
+        help="the isolation level that the application relies on (serializable; docs/PROMISES.md)",
     )
     command.add_argument(
-        "--redact", action="store_true", help="shows no parameters and no constants of statements"
+        "--redact", action="store_true", help="hide the parameters and constants of statements"
     )
     command.add_argument(
-        "--seconds", type=float, metavar="S", help="ends after so many seconds; else by a signal"
+        "--seconds", type=float, metavar="S",
+        help="end after this many seconds (without it: at a signal)",
     )
     command.add_argument(
         "--round-seconds", type=float, default=60.0, metavar="S",
-        help="seconds that the search of a round may take, before it is skipped (60)",
+        help="seconds that the search of a round may take before the round is skipped (60)",
     )
     command.add_argument(
-        "--log", type=level, metavar="LEVEL", default="INFO", help="the log's level (INFO)"
+        "--log", type=level, metavar="LEVEL", default="INFO", help="the log level (INFO)"
     )
 
 
@@ -102,14 +105,14 @@ def place(text: str) -> str:
 def share(text: str) -> float:
     found = float(text)
     if not 0 < found <= 1:
-        raise argparse.ArgumentTypeError("above 0, at most 1")
+        raise argparse.ArgumentTypeError("give a number above 0 and at most 1")
     return found
 
 
 def level(text: str) -> int:
     found = logging.getLevelName(text.upper())
     if not isinstance(found, int):
-        raise argparse.ArgumentTypeError("DEBUG, INFO, WARNING or ERROR")
+        raise argparse.ArgumentTypeError("give DEBUG, INFO, WARNING or ERROR")
     return found
 
 
@@ -117,7 +120,7 @@ def run(asked: Any) -> int:
     """Gives the exit status."""
     logging.basicConfig(level=asked.log, format=FORM, stream=sys.stderr)
     if not asked.url:
-        return _mistake(f"no server is named: give its URL, or set {URL}")
+        return _mistake(f"no server was given: give its URL or set {URL}")
     told = mistake_of(asked)
     if told is not None:
         return _mistake(told)
@@ -162,14 +165,14 @@ def prepared(url: str) -> List[str]:
                 create(database)
                 found = findings(database, server)
     except DriverMissingError as error:
-        logger.info("the server isn't looked at first: %s", error)
+        logger.info("the server wasn't checked first: %s", error)
         return []
     except DatabaseError as error:
-        return [f"the server can't be asked: {visible(str(error))}"]
+        return [f"can't query the server: {visible(str(error))}"]
     lacks = [one for one in found if one.is_needed and not one.is_right]
     if not lacks:
         return []
-    told = "the server lacks something; `zanteyard prepare URL` shows all of it"
+    told = "the server isn't ready; `zanteyard prepare URL` shows everything that is missing"
     each = (": ".join(filter(None, (one.sentence, one.remedy))) for one in lacks)
     return [told, *(f"  {visible(line)}" for line in each)]
 

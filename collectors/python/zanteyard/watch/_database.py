@@ -31,7 +31,7 @@ class Database:
     def __init__(self, url: str, **more: Any) -> None:
         self._driver = _driver()
         if self._hosts(url) > 1:
-            raise DatabaseError("an audit has one server, and the URL names several")
+            raise DatabaseError("the URL names several servers: an audit has exactly one")
         limits: Dict[str, Any] = {"connect_timeout": CONNECTING, "application_name": "zanteyard"}
         try:
             self._connection = self._driver.connect(url, **{**limits, **more})
@@ -90,8 +90,7 @@ def _driver() -> Any:
         return psycopg
     except ImportError:
         raise DriverMissingError(
-            "a driver for PostgreSQL is missing: install psycopg2 (Debian: python3-psycopg2) "
-            "or psycopg 3"
+            "no driver for PostgreSQL: install psycopg2 (Debian: python3-psycopg2) or psycopg 3"
         ) from None
 
 

@@ -69,7 +69,7 @@ class Described:
     def client(self) -> str:
         """Whose it is, in a few words."""
         if self.is_fence:
-            return "the proxy's own, a fence"
+            return "a fence of the proxy's own"
         its = [visible(self.application, 80)] if self.application else []
         its += [f"from {visible(self.address, 80)}"] if self.address else []
         its += [f"as {visible(self.user, 80)}"] if self.user else []
@@ -89,7 +89,7 @@ def clock(at: float, has_parts: bool = True) -> str:
 def lines_of(label: str, its: Optional[Described]) -> Iterator[str]:
     """What it is and what it ran, as lines of text."""
     if its is None:
-        yield f"{label}: nothing more is known of it"
+        yield f"{label}: no details are known"
         return
     began = f"began at {clock(its.began)}" if its.began else ""
     facts = [its.client, visible(its.level, 80), began]

@@ -14,9 +14,8 @@ STATUSES: Mapping[str, int] = {"serial": 0, "violated": 1, "pending": 3}
 UNDECIDED = 4
 SHOWN = 15  # shapes of statements
 STATUS_WORDS = (
-    "The exit status says what was found by the end: 0 serial, or the promise asked for is kept, "
-    "1 violated, 2 it can't begin, "
-    "3 pending, 4 something was lost or not decided, or nothing was checked."
+    "Exit status: 0 serial, or the promise asked for was kept; 1 violated; 2 it can't start; 3 "
+    "pending; 4 something was lost or not decided, or nothing was checked."
 )
 
 
@@ -42,7 +41,7 @@ def lines_of(status: Status) -> Iterator[str]:
     """The outcome at the end of a run."""
     kind, seen = kind_of(status), status.whole_seen
     if kind == "nothing":
-        yield "nothing was checked: no application has read or written a table through the proxy"
+        yield "nothing was checked: no application read or wrote a table through the proxy"
         return
     rounds = counted(status.rounds_count, "round")
     audits = f" and {counted(status.audit, 'audit')}" if status.audit > 1 else ""
@@ -60,13 +59,13 @@ def lines_of(status: Status) -> Iterator[str]:
     if status.pending_count:
         yield f"  {counted(status.pending_count, 'read')} named transactions that never arrived"
     yield (
-        f"  {seen.reads:,} of {seen.whole_reads:,} rows read were checked, "
-        f"{seen.writes:,} of {seen.whole_writes:,} rows written"
+        f"  {seen.reads:,} of {seen.whole_reads:,} row reads and {seen.writes:,} of "
+        f"{seen.whole_writes:,} row writes were checked"
     )
-    if seen.reads_before:
-        yield f"  {seen.reads_before:,} of the rows read were from before the audit"
+    yield from (f"  {line}" for line in seen.lines_of_reads())
     if seen.empty:
-        yield f"  besides, {counted(seen.empty, 'transaction')} read and wrote no row that was seen"
+        its = counted(seen.empty, "more transaction")
+        yield f"  {its} read and wrote no row that the audit sees"
     yield from _left_out(seen)
     yield from _shapes(seen)
 
@@ -75,8 +74,8 @@ def _left_out(seen: Seen) -> Iterator[str]:
     rows: List[str] = []
     for what, its in (
         ("transactions", seen.folded),
-        ("rows read", seen.reads_left_out),
-        ("rows written", seen.writes_left_out),
+        ("row reads", seen.reads_left_out),
+        ("row writes", seen.writes_left_out),
     ):
         by_count = sorted(its.items(), key=lambda it: -it[1])
         rows += [f"{count:>12,} {what:<13} {visible(why, 200)}" for why, count in by_count if count]
@@ -89,8 +88,8 @@ def _shapes(seen: Seen) -> Iterator[str]:
     if not seen.shapes:
         return
     shapes = sorted(seen.shapes, key=lambda one: -one.count)
-    yield "  statements that weren't seen in full"
-    yield f"  {'times':>12} first    what wasn't seen, and the statement"
+    yield "  statements only partly seen"
+    yield f"  {'times':>12} first    what wasn't seen, then the statement"
     for one in shapes[:SHOWN]:
         what = visible(one.reason, 100) + ("" if one.is_reads else " (a write)")
         yield f"  {one.count:>12,} {clock(one.first, False):<8} {what}"
@@ -98,4 +97,4 @@ def _shapes(seen: Seen) -> Iterator[str]:
     if len(shapes) > SHOWN:
         more = shapes[SHOWN:]
         count = sum(one.count for one in more)
-        yield f"  {count:>12,} {'':<8} of {counted(len(more), 'shape')} more"
+        yield f"  {count:>12,} {'':<8} for {counted(len(more), 'more shape')}"

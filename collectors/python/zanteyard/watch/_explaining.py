@@ -74,7 +74,7 @@ class Explaining:
                 found = explained(number, report, held, answered, *its)
             self._told(found)
         except Exception:  # the verdict stands, whatever fails here
-            logger.exception("violation %d can't be explained", number)
+            logger.exception("can't explain violation %d", number)
         finally:
             with self._turn:
                 self._awaited.pop(number, None)
@@ -100,5 +100,5 @@ class _Answer:
     def take(self, seconds: float) -> Answered:
         """What was put; an empty one if nothing was in so many seconds."""
         if not self._is_there.wait(seconds):
-            logger.warning("the proxy hasn't described the transactions of a violation in time")
+            logger.warning("the proxy didn't describe a violation's transactions in time")
         return self._found or NOTHING

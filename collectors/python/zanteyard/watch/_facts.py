@@ -21,7 +21,7 @@ CREATES = (
     f"GRANT SELECT, UPDATE ON {FENCE} TO PUBLIC",
 )
 PROBE = "zanteyard_probe"
-BEHIND_SAVEPOINTS = "rows that were written behind a savepoint may be unknown to their readers"
+BEHIND_SAVEPOINTS = "the writer of a row may be unknown if it wrote after a savepoint"
 NO_PLUGIN = ("58P01", "42704")  # undefined file, undefined object
 REFUSED = "42501"  # insufficient privilege
 
@@ -74,7 +74,9 @@ def findings(database: Database, server: Server) -> List[Finding]:
 def _version(server: Server) -> Finding:
     is_right = server.number >= OLDEST
     told = f"PostgreSQL {server.version}"
-    return Finding(is_right, True, told if is_right else f"{told}: version 13 or later is needed")
+    return Finding(
+        is_right, True, told if is_right else f"{told}: the audit needs version 13 or later"
+    )
 
 
 def _wal_level(database: Database, server: Server) -> Finding:
@@ -82,7 +84,7 @@ def _wal_level(database: Database, server: Server) -> Finding:
     if level == "logical":
         return Finding(True, True, "wal_level is logical")
     remedy = server.host.remedy(WAL_LEVEL, server.user)
-    return Finding(False, True, f"wal_level is {level}, and has to be logical", remedy)
+    return Finding(False, True, f"wal_level is {level}, but must be logical", remedy)
 
 
 def _slots(database: Database, server: Server) -> Finding:
@@ -103,11 +105,11 @@ def _room(
     ((most, used),) = database.run(
         f"SELECT current_setting('{setting}')::int, (SELECT count(*) {table})"
     )
-    told = f"{setting} is {most}, and {used} of these {name} are in use"
+    told = f"{setting} is {most}; {used} {name} are in use"
     if used < most:
         return Finding(True, True, told)
     remedy = server.host.remedy(what, server.user)
-    return Finding(False, True, f"{told}: one more is needed", remedy)
+    return Finding(False, True, f"{told}, and the audit needs one more", remedy)
 
 
 def _replication(database: Database, server: Server) -> Finding:
@@ -117,9 +119,9 @@ def _replication(database: Database, server: Server) -> Finding:
     if not may and database.one("SELECT 1 FROM pg_roles WHERE rolname = 'rds_replication'"):
         may = database.one("SELECT pg_has_role(current_user, 'rds_replication', 'member')")
     if may:
-        return Finding(True, True, f"the role {server.user} may replicate")
+        return Finding(True, True, f"the role {server.user} has the right to replicate")
     remedy = server.host.remedy(REPLICATION, server.user)
-    return Finding(False, True, f"the role {server.user} may not replicate", remedy)
+    return Finding(False, True, f"the role {server.user} lacks the right to replicate", remedy)
 
 
 def _plugin(database: Database, server: Server) -> Finding:
@@ -127,7 +129,7 @@ def _plugin(database: Database, server: Server) -> Finding:
     try:
         database.run("SET statement_timeout = '10s'")
         _probe(database, PLUGIN)
-        return Finding(True, True, f"{PLUGIN} is installed, and a slot with it can be made")
+        return Finding(True, True, f"{PLUGIN} is installed, and a slot for it can be created")
     except DatabaseError as error:
         if error.code in NO_PLUGIN:
             told = f"{PLUGIN} isn't installed"
@@ -136,12 +138,14 @@ def _plugin(database: Database, server: Server) -> Finding:
             told = f"{PLUGIN} isn't in the server's {TRUSTED}"
             remedy = _trust_remedy(server, trusted)
         else:
-            return Finding(False, True, f"no slot can be made: {error}")
+            return Finding(False, True, f"can't create a replication slot: {error}")
         try:
             _probe(database, SHIPPED)
         except DatabaseError as other:
-            return Finding(False, True, f"{told}, and {SHIPPED} can't be used: {other}", remedy)
-        without = f"{SHIPPED} is used; with it {BEHIND_SAVEPOINTS}"
+            return Finding(
+                False, True, f"{told}, and {SHIPPED} can't be used either: {other}", remedy
+            )
+        without = f"{SHIPPED} is used instead; {BEHIND_SAVEPOINTS}"
         return Finding(False, False, f"{told}: {without}", remedy)
     finally:
         database.run("RESET statement_timeout")
@@ -154,7 +158,7 @@ def _plugin_untried(database: Database, server: Server) -> List[Finding]:
     if trusted is None or PLUGIN in (name.strip(" \"") for name in names.split(",")):
         return []
     told = f"{PLUGIN} isn't in the server's {TRUSTED}"
-    without = f"else {SHIPPED} is used; with it {BEHIND_SAVEPOINTS}"
+    without = f"otherwise {SHIPPED} is used; {BEHIND_SAVEPOINTS}"
     return [Finding(False, False, f"{told}: {without}", _trust_remedy(server, trusted))]
 
 
@@ -176,18 +180,18 @@ def _trusted(database: Database) -> Optional[str]:
 def _fence(database: Database, server: Server) -> Finding:
     remedy = "zanteyard prepare --create, as a role that may create tables in the schema public"
     if database.one("SELECT to_regclass(%s)", (FENCE,)) is None:
-        return Finding(False, True, f"the table {FENCE} isn't there", remedy)
+        return Finding(False, True, f"the table {FENCE} doesn't exist", remedy)
     if not database.one("SELECT has_table_privilege(%s, 'SELECT, UPDATE')", (FENCE,)):
         told = f"the role {server.user} may not update {FENCE}"
         return Finding(False, True, told, f"GRANT SELECT, UPDATE ON {FENCE} TO PUBLIC")
     if database.one(f"SELECT count(*) FROM {FENCE} WHERE id = 0") != 1:
-        return Finding(False, True, f"{FENCE} lacks its row", remedy)
-    return Finding(True, True, f"the table {FENCE} is there, and {server.user} may update it")
+        return Finding(False, True, f"{FENCE} has no row", remedy)
+    return Finding(True, True, f"the table {FENCE} exists, and {server.user} may update it")
 
 
 def _walinspect(database: Database, server: Server) -> Finding:
     told = "pg_walinspect"
-    without = f"without it {BEHIND_SAVEPOINTS}"
+    without = f"without it, {BEHIND_SAVEPOINTS}"
     remedy = server.host.remedy(WALINSPECT, server.user)
     if server.number < 150000:
         return Finding(False, False, f"{told} needs PostgreSQL 15; {without}")
@@ -196,13 +200,13 @@ def _walinspect(database: Database, server: Server) -> Finding:
         "LEFT JOIN pg_extension e ON e.extname = a.name WHERE a.name = 'pg_walinspect'"
     )
     if not rows:
-        return Finding(False, False, f"{told} isn't offered by this server; {without}")
+        return Finding(False, False, f"this server doesn't offer {told}; {without}")
     if not rows[0][0]:
-        return Finding(False, False, f"{told} isn't created; {without}", remedy)
+        return Finding(False, False, f"the extension {told} isn't created; {without}", remedy)
     if not _may_inspect(database):
         told = f"the role {server.user} may not call {told}"
         return Finding(False, False, f"{told}; {without}", remedy)
-    return Finding(True, False, f"{told} is there, and {server.user} may call it")
+    return Finding(True, False, f"{told} exists, and {server.user} may call it")
 
 
 def _may_inspect(database: Database) -> bool:
@@ -221,8 +225,8 @@ def _keep(database: Database, server: Server) -> Finding:
     if size not in (None, "-1"):
         return Finding(True, False, f"max_slot_wal_keep_size is {size}")
     told = (
-        "max_slot_wal_keep_size has no limit: while an audit can't keep up, the server keeps its "
-        "log for it. The audit's slot is temporary, and gone with its connection"
+        "max_slot_wal_keep_size has no limit: the server keeps WAL for an audit that can't keep "
+        "up. The audit's slot is temporary and disappears with its connection"
     )
     return Finding(False, False, told, server.host.remedy(KEEP, server.user))
 

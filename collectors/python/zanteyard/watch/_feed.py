@@ -93,6 +93,7 @@ def seen_of(event: Mapping[str, Any]) -> Seen:
         reads_seen=whole(reads.get("seen")),
         reads_own=whole(reads.get("own")),
         reads_before=whole(reads.get("before")),
+        reads_folded=whole(reads.get("folded")),
         reads_left_out=reasons(reads.get("left_out")),
         writes=whole(writes.get("offered")),
         writes_seen=whole(writes.get("seen")),

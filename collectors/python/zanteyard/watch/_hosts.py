@@ -36,15 +36,15 @@ OWN = Host(
         "GRANT pg_read_server_files TO {user}",
         KEEP: "ALTER SYSTEM SET max_slot_wal_keep_size = '4GB'; SELECT pg_reload_conf()",
         PLUGINS: "ALTER SYSTEM SET output_plugin_libraries = {trusted}; SELECT pg_reload_conf(). "
-        "Each role that may replicate may use it then. On a host's console: the parameter "
-        "output_plugin_libraries, if it is offered",
+        "Every role with the right to replicate may then use it. With a hosting provider: the "
+        "parameter output_plugin_libraries, if offered",
     },
 )
 _AMAZON = {
     SLOTS: "in the parameter group: max_replication_slots = 10; then reboot",
     SENDERS: "in the parameter group: max_wal_senders = 10; then reboot",
     REPLICATION: "as the master user: GRANT rds_replication TO {user}",
-    WALINSPECT: "as the master user: CREATE EXTENSION pg_walinspect, if the version offers it",
+    WALINSPECT: "as the master user: CREATE EXTENSION pg_walinspect, if this version offers it",
     KEEP: "in the parameter group: max_slot_wal_keep_size, in MB",
 }
 RDS = Host(
@@ -97,25 +97,25 @@ SUPABASE = Host(
     "Supabase",
     {
         WAL_LEVEL: "it is logical in every project by default: ask Supabase",
-        REPLICATION: "use the role postgres, which may replicate; and connect directly, or by the "
-        "pooler's session mode: its transaction mode has no replication",
+        REPLICATION: "use the role postgres, which may replicate; connect directly or through the "
+        "pooler in session mode: its transaction mode has no replication",
     },
 )
 NEON = Host(
     "Neon",
     {
         WAL_LEVEL: "in the project's Settings, Logical Replication: Enable (it can't be undone)",
-        REPLICATION: "use a role that was made in the console or by its API, and the endpoint "
+        REPLICATION: "use a role that was created in the console or by its API, and the endpoint "
         "without -pooler in its name",
-        KEEP: "it can't be set there: Neon removes slots that nobody reads",
+        KEEP: "it can't be set on Neon, which removes slots that nobody reads",
     },
 )
 HEROKU = Host(
     "Heroku Postgres",
     {
-        WAL_LEVEL: "as far as we know Heroku gives its users no logical replication: ask them, or "
-        "audit a copy of the application over a server of your own",
-        REPLICATION: "as far as we know Heroku gives its users no role that may replicate",
+        WAL_LEVEL: "as far as we know, Heroku offers no logical replication: ask them, or audit a "
+        "copy of the application on a server of your own",
+        REPLICATION: "as far as we know, no Heroku role may replicate",
     },
 )
 DOCKER_NOTE = (

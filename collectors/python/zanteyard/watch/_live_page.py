@@ -19,11 +19,11 @@ POLICY = policy_for(STYLE, SCRIPT)
 HEADINGS: Mapping[str, str] = {
     "running": "Nothing has been checked yet",
     "serial": "No violation so far",
-    "pending": "No violation so far, and some reads still wait",
-    "spent": "The last round wasn't decided",
-    "incomplete": "No violation so far, and something wasn't checked",
-    "violated": "Transactions ran that no serial order explains",
-    "broken": "Transactions ran that snapshot isolation doesn’t allow",
+    "pending": "No violation so far; some reads are still waiting",
+    "spent": "The last round was undecided",
+    "incomplete": "No violation so far; something wasn't checked",
+    "violated": "No serial order explains what the transactions read",
+    "broken": "The transactions violate snapshot isolation",
 }
 SHOWN = 40  # reads that wait
 
@@ -40,10 +40,10 @@ def whole_page(status: Status) -> str:
             f"<style>{STYLE}</style></head><body>",
             '<header class="top"><span><strong>zanteyard watch</strong> '
             f'{escaped(status.title)}</span><span id="lost" role="status">The audit can’t be '
-            "reached; this is how it last stood.</span></header>",
+            "reached; this is its last known state.</span></header>",
             f'<main id="now">{changing(status)}</main>',
-            f"<footer><p>zanteyard {VERSION}; the auditor is {escaped(status.origin)}. "
-            "A verdict is about what was checked: see what was left out.</p></footer>",
+            f"<footer><p>zanteyard {VERSION}; the auditor is {escaped(status.origin)}. A verdict "
+            "covers only what was checked; what was left out is listed above.</p></footer>",
             f"<script>{SCRIPT}</script>",
             "</body></html>",
             "",
@@ -89,24 +89,24 @@ def _sentences(status: Status) -> Iterator[str]:
         found = HEADINGS["broken" if status.promise.is_split else "violated"]
         yield f"{found}. {_where_explained(status)}"
     elif status.rounds_count:
-        order = "order of begins and commits keeps snapshot isolation in"
+        order = "An order of begins and commits satisfies snapshot isolation for"
         if not status.promise.is_split:
-            order = "serial order explains"
-        yield f"Some {order} all that was checked, with each connection’s own order kept."
+            order = "A serial order explains"
+        yield f"{order} everything that was checked, and keeps each connection’s order."
     elif not status.seen.connections:
         yield "No application has connected yet."
     if status.ended and status.is_over and not status.ended[-1].is_lost:
-        yield "Another audit begins soon, of what is done from then on."
+        yield "Another audit begins soon, for what happens from then on."
     elif status.ended and status.is_over:
         yield (
-            f"Nothing is being checked: {escaped(status.ended[-1].reason)}. Applications are "
-            "served as before, and another audit is tried."
+            f"Nothing is being checked: {escaped(status.ended[-1].reason)}. Applications run on as "
+            "before, and another audit will be tried."
         )
     lost = [one for one in status.ended if one.is_lost]
     if lost and not status.is_over:
         yield (
             f"An audit ended at {clock(lost[-1].at, False)}: {escaped(lost[-1].reason)}. Another "
-            "one began after it. Nothing is said about what happened between the two."
+            "one began after it. What happened between the two wasn’t checked."
         )
     told = f"The audit asks for {status.promise.title}. Watching for "
     told += lasting(status.now - status.began)
@@ -118,8 +118,8 @@ def _sentences(status: Status) -> Iterator[str]:
 
 def _where_explained(status: Status) -> str:
     if not status.violations:
-        return "An explanation is being made."
-    return "Each has a page of its own, below."
+        return "An explanation is being prepared."
+    return "Each has its own page, linked below."
 
 
 def lasting(seconds: float) -> str:
@@ -144,11 +144,12 @@ def _figures(status: Status) -> Iterator[str]:
             "Writes checked", f"{seen.writes:,}",
             f"{_share(seen.writes, seen.whole_writes)} of {seen.whole_writes:,}",
         ),
-        ("Rounds", f"{status.rounds_count:,}", f"{status.remaining:,} transactions remembered"),
-        ("Time to a verdict", f"{status.behind:.1f} s", f"{seen.waiting:,} transactions wait"),
+        ("Rounds", f"{status.rounds_count:,}", f"{status.remaining:,} transactions held in memory"),
+        ("Time to a verdict", f"{status.behind:.1f} s", f"{seen.waiting:,} transactions waiting"),
         (
             "Connections", f"{seen.connections:,}",
-            f"{seen.audited_connections:,} checked, {seen.waiting_connections:,} beyond these",
+            f"{seen.audited_connections:,} checked, {seen.waiting_connections:,} waiting for a "
+            "session",
         ),
     ]
     yield '<dl class="figures">'
@@ -178,8 +179,8 @@ def _violations(status: Status) -> Iterator[str]:
     yield "</ol>"
     more = status.violations_count - len(status.violations)
     if more > 0:
-        told = "whose explanation isn’t made yet, or isn’t kept"
-        yield f"<p>{counted(more, 'violation')} more, {told}.</p>"
+        told = "whose explanations aren’t ready or weren’t kept"
+        yield f"<p>{counted(more, 'more violation')}, {told}.</p>"
 
 
 def _standing(one: Violation) -> str:
@@ -197,25 +198,25 @@ def _shares(status: Status) -> Iterator[str]:
     yield "<h2>How much was checked</h2>"
     for name, part, whole, what in (
         ("Transactions", seen.offered, seen.whole, "transactions"),
-        ("Reads", seen.reads, seen.whole_reads, "rows that were returned"),
-        ("Writes", seen.writes, seen.whole_writes, "rows that were written"),
+        ("Reads", seen.reads, seen.whole_reads, "rows read"),
+        ("Writes", seen.writes, seen.whole_writes, "rows written"),
     ):
         yield from _bar(name, part, whole, f"{_share(part, whole)}: {part:,} of {whole:,} {what}")
+    yield from (f"<p>{line}.</p>" for line in seen.lines_of_reads())
     if seen.empty:
         its = counted(seen.empty, "transaction")
-        yield f"<p>Besides, {its} read and wrote no row that was seen.</p>"
+        yield f"<p>{its} read and wrote no row that the audit sees.</p>"
     if seen.shapes:
         shapes = counted(len(seen.shapes), "shape")
         yield (
-            f"<p>{counted(seen.unseen_count, 'statement')} of {shapes} read or wrote "
-            "something that wasn’t seen. They are listed below. What isn’t seen may hide a "
-            "violation, and makes none up.</p>"
+            f"<p>{counted(seen.unseen_count, 'statement')} of {shapes} read or wrote something "
+            "that the audit didn’t see; they are listed below. What it doesn’t see may hide a "
+            "violation, but never causes a false one.</p>"
         )
     if status.subtransactions == "returning":
         yield (
-            "<p>The server doesn’t tell which rows were written behind a savepoint, since "
-            "pg_walinspect isn’t there or may not be called: some reads of such rows are left "
-            "out.</p>"
+            "<p>Some reads of rows that were written after a savepoint are left out, because "
+            "pg_walinspect is missing or may not be called.</p>"
         )
 
 
@@ -235,13 +236,16 @@ def _others(status: Status) -> Iterator[str]:
         return
     yield "<h2>Other proxies</h2>"
     if others.down:
-        yield f"<p>Redis can’t be reached, so they aren’t heard: {escaped(others.down, 200)}.</p>"
+        yield (
+            "<p>Redis can’t be reached, so nothing arrives from them: "
+            f"{escaped(others.down, 200)}.</p>"
+        )
     if not others.proxies:
-        yield "<p>None has come yet.</p>"
+        yield "<p>None has connected yet.</p>"
     else:
         yield "<table><tbody>"
         for one in others.proxies:
-            heard = "" if one.feeds else f", not heard for {lasting(one.silent)}"
+            heard = "" if one.feeds else f", silent for {lasting(one.silent)}"
             yield (
                 f'<tr><td>{escaped(one.name, 80)}</td><td class="count">{one.transactions:,}</td>'
                 f"<td>transactions, {counted(one.connections, 'connection')}{heard}</td></tr>"
@@ -256,7 +260,7 @@ def _shapes(status: Status) -> Iterator[str]:
     shapes: Sequence[Shape] = sorted(status.whole_seen.shapes, key=lambda one: -one.count)
     if not shapes:
         return
-    yield '<h2>Statements that weren’t seen in full</h2><table class="stack"><thead><tr>'
+    yield '<h2>Statements only partly seen</h2><table class="stack"><thead><tr>'
     yield '<th class="count">Times</th><th>Statement</th><th>What wasn’t seen</th>'
     yield "<th>First</th></tr></thead><tbody>"
     for one in shapes[:MOST_SHAPES]:
@@ -277,8 +281,8 @@ def _left_out(status: Status) -> Iterator[str]:
     seen = status.whole_seen
     for title, its in (
         ("Transactions that weren’t checked", seen.folded),
-        ("Rows whose reads weren’t checked", seen.reads_left_out),
-        ("Rows whose writes weren’t checked", seen.writes_left_out),
+        ("Row reads that weren’t checked", seen.reads_left_out),
+        ("Row writes that weren’t checked", seen.writes_left_out),
     ):
         rows = [(count, reason) for reason, count in its.items() if count]
         if rows:
@@ -295,9 +299,9 @@ def _rounds(status: Status) -> Iterator[str]:
     yield f'<figure><div class="wide">{draw_rounds(status.rounds)}</div></figure>'
     if status.meetings:
         yield (
-            f"<p>{counted(status.meetings, 'meeting')} of all connections. The last one took "
+            f"<p>All connections met {counted(status.meetings, 'time')}. The last meeting took "
             f"{status.meeting_ms:.0f} ms, the longest {status.longest_meeting_ms:.0f} ms. "
-            f"{counted(status.forgotten, 'transaction')} could be forgotten by now, at "
+            f"{counted(status.forgotten, 'transaction')} could be forgotten so far, at "
             f"{counted(status.cuts, 'cut')}.</p>"
         )
 
@@ -305,10 +309,10 @@ def _rounds(status: Status) -> Iterator[str]:
 def _pending(status: Status) -> Iterator[str]:
     if not status.pending_count:
         return
-    yield "<h2>Reads that wait</h2>"
+    yield "<h2>Waiting reads</h2>"
     yield (
-        f"<p>{counted(status.pending_count, 'read')} of the last round named a transaction that "
-        "hadn’t arrived by then.</p><ul>"
+        f"<p>In the last round {counted(status.pending_count, 'read')} named a transaction that "
+        "hadn’t arrived.</p><ul>"
     )
     yield from (f"<li>{escaped(line)}</li>" for line in status.pending[:SHOWN])
     yield "</ul>"

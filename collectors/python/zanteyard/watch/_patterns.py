@@ -50,7 +50,7 @@ def _pattern(text: str) -> TablePattern:
         schema, table = "*", text
     if not schema or not table:
         raise argparse.ArgumentTypeError(
-            f"{text!r} is no table's name or pattern: give them as public.*, shop.orders"
+            f"{text!r} isn't a table name or pattern: use the form public.*, shop.orders"
         )
     return TablePattern(text, _regular(schema), _regular(table))
 

@@ -17,19 +17,21 @@ from ._text import counted
 
 READY, MISSING = 0, 2
 STATUS_WORDS = (
-    "The exit status is 0 if an audit can begin, 2 if something is missing or the server can't be "
-    "asked."
+    "Exit status: 0 if an audit can begin, 2 if something is missing or the server can't be "
+    "queried."
 )
-NOT_SHOWN = "not seen: reads and writes of it are left out, and counted"
+NOT_SHOWN = "not seen; its reads and writes are left out and counted"
 
 
 def add_arguments(command: argparse.ArgumentParser) -> None:
     command.epilog = STATUS_WORDS
-    command.add_argument("url", metavar="URL", help="as postgresql://user@server/database")
     command.add_argument(
-        "--create", action="store_true", help="creates the audit's own table, if it isn't there"
+        "url", metavar="URL", help="the server, given as postgresql://user@server/database"
     )
-    add_tables_option(command, "shows only these tables, as public.*,shop.orders")
+    command.add_argument(
+        "--create", action="store_true", help="create the audit's own table if it is missing"
+    )
+    add_tables_option(command, "show only these tables, such as public.*,shop.orders")
 
 
 def run(asked: Any) -> int:
@@ -90,7 +92,7 @@ def report(
                 yield f"  {'':<8}  {DOCKER_NOTE}"
     yield from _tables(tables)
     for pattern in idle:
-        yield f"  no table is meant by {visible(pattern)} of --tables"
+        yield f"  no table matches {visible(pattern)} of --tables"
     missing = [one for one in found if one.is_needed and not one.is_right]
     if missing:
         yield f"{counted(len(missing), 'thing is', 'things are')} missing: an audit can't begin"
@@ -106,7 +108,7 @@ def _tables(tables: Sequence[Table]) -> Iterator[str]:
         if table.remedy:
             yield f"    {visible(table.remedy)}"
     if others:
-        yield "  what is read and written of these is left out, and counted"
+        yield "  their reads and writes are left out and counted"
 
 
 def missing_of(url: str) -> List[Finding]:

@@ -47,7 +47,7 @@ class Proxy:
                 start_new_session=True,
             )
         except OSError as error:
-            raise ProgramMissingError(f"{call[0]} can't be started: {error.strerror}") from error
+            raise ProgramMissingError(f"can't start {call[0]}: {error.strerror}") from error
         self.last_words: List[str] = []  # on standard error
         self.is_listening = threading.Event()
         self._take = take
@@ -84,9 +84,9 @@ class Proxy:
                 if items:
                     self._take(items)
         except (OSError, ValueError) as error:
-            logger.error("the proxy can't be read: %s", error)
+            logger.error("can't read from the proxy: %s", error)
         if split.wrong:
-            logger.warning("the proxy wrote %d lines that weren't understood", split.wrong)
+            logger.warning("the proxy sent %d unreadable lines", split.wrong)
         self._take(())
 
     def _hear(self) -> None:
@@ -112,7 +112,7 @@ class Proxy:
         try:
             status = self.process.wait(seconds)
         except subprocess.TimeoutExpired:
-            logger.warning("the proxy didn't end in %g s, and was killed", seconds)
+            logger.warning("the proxy didn't end within %g s and was killed", seconds)
             self.process.kill()
             status = self.process.wait()
         for thread in self._threads:

@@ -16,16 +16,17 @@ from ._proxy_program import find_proxy
 from ._sharing import add_sharing, mistake_of
 
 EXAMPLE = """\
-One audit of two application servers, each with a proxy of its own:
+One audit of two application servers, each with its own proxy:
 
-  first$  zanteyard key audit.key     and copy it to the other one
+  first$  zanteyard key audit.key     then copy it to the other one
   first$  zanteyard watch postgresql://admin@db.example/shop \\
               --redis rediss://redis.example --audit shop --key audit.key
   second$ zanteyard proxy postgresql://admin@db.example/shop \\
               --redis rediss://redis.example --audit shop --key audit.key
 
-It passes everything on until SIGTERM or SIGINT, also while there is no audit. The exit status is 0
-after these, 1 if it can't listen, and 2 after a mistake in the call."""
+It passes traffic on until SIGTERM or SIGINT, with or without an audit.
+
+Exit status: 0 after such a signal, 1 if it can't listen, 2 if the call is wrong."""
 
 
 def add_arguments(command: argparse.ArgumentParser) -> None:
@@ -36,20 +37,21 @@ def add_arguments(command: argparse.ArgumentParser) -> None:
         metavar="URL",
         nargs="?",
         default=os.environ.get(URL),
-        help=f"the server, as postgresql://user@server/database (or the environment's {URL})",
+        help=f"the server, given as postgresql://user@server/database (or the environment's {URL})",
     )
     command.add_argument(
         "--listen", type=place, metavar="HOST:PORT", default=LISTEN,
-        help=f"where applications connect ({LISTEN}); a socket's path if there is a / in it",
+        help=f"the address for applications to connect to ({LISTEN}); with a / it is a Unix "
+        "socket's path",
     )
     add_sharing(command)
     command.add_argument(
-        "--name", metavar="NAME", help="what the audit calls this proxy (its machine's name)"
+        "--name", metavar="NAME", help="this proxy's name in the audit (the machine's name)"
     )
-    add_tables_option(command, "sees only these tables, as public.*,shop.orders")
+    add_tables_option(command, "look only at these tables, such as public.*,shop.orders")
     command.add_argument(
         "--redact", action="store_true",
-        help="sends no parameters and no constants of statements",
+        help="don't send the parameters and constants of statements",
     )
     command.set_defaults(sample=None, promise=SERIALIZABLE.name)  # both are the audit's to ask
 
@@ -57,7 +59,7 @@ def add_arguments(command: argparse.ArgumentParser) -> None:
 def run(asked: Any) -> int:
     """Becomes the proxy's program; gives an exit status only if it can't."""
     if not asked.url:
-        return _mistake(f"no server is named: give its URL, or set {URL}")
+        return _mistake(f"no server was given: give its URL or set {URL}")
     told = mistake_of(asked, True)
     if told is not None:
         return _mistake(told)

@@ -31,10 +31,11 @@ def find_proxy(environment: Mapping[str, str] = os.environ) -> str:
     path = proxy_path(environment)
     if not os.path.isfile(path):
         raise ProgramMissingError(
-            f"{path} isn't there: install the wheel, build the proxy, or name it by {ENVIRONMENT}"
+            f"{path} is missing: install the wheel, build the proxy, or set {ENVIRONMENT} to its "
+            "path"
         )
     if not os.access(path, os.X_OK):
-        raise ProgramMissingError(f"{path} can't be executed")
+        raise ProgramMissingError(f"{path} isn't executable")
     return path
 
 
@@ -42,12 +43,12 @@ def build_of(environment: Mapping[str, str] = os.environ) -> str:
     """Where the program is, and what it says of its build."""
     path = proxy_path(environment)
     if not os.path.isfile(path):
-        return f"{path}: not there"
+        return f"{path}: missing"
     try:
         its = subprocess.run(
             [path, "--version"], stdin=subprocess.DEVNULL, capture_output=True, timeout=ENDING
         )
     except (OSError, subprocess.SubprocessError) as error:
-        return f"{path}: it can't be started ({visible(str(error), 200)})"
+        return f"{path}: can't be started ({visible(str(error), 200)})"
     told = visible(its.stdout.decode("utf-8", "replace"), 200)
-    return f"{path}: {told or 'it says nothing of its build'}"
+    return f"{path}: {told or 'build unknown'}"

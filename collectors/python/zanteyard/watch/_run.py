@@ -128,15 +128,15 @@ class Run:
     def _tell_listening(self) -> None:
         plan = self.plan
         logger.info(
-            "applications connect to %s; they are watched for %s", plan.listen, plan.promise.title
+            "applications can connect to %s; auditing for %s", plan.listen, plan.promise.title
         )
 
     def _last_round(self) -> None:
-        logger.info("a last round, and then it ends")
+        logger.info("ending after a last round")
         self._watching.stop()
         if not self._watching.stopped.wait(LAST_ROUND + self.plan.round_seconds):
-            logger.warning("the last round hasn't come in time")
-            self.board.ended("its last round hasn't come in time")
+            logger.warning("the last round didn't finish in time")
+            self.board.ended("its last round didn't finish in time")
         self._explaining.wait(EXPLAINED)
 
     def _explained(self, one: Violation) -> None:
@@ -147,7 +147,7 @@ class Run:
                 self._tell(line)
             if self.plan.save is not None:
                 names = save(one, self.plan.save, self.plan.title, self.plan.origin)
-                self._tell(f"(saved: {', '.join(names)})" if names else "(it can't be saved)")
+                self._tell(f"(saved: {', '.join(names)})" if names else "(can't save it)")
 
 
 @contextlib.contextmanager

@@ -29,5 +29,5 @@ def save(one: Violation, folder: str, title: str, origin: str) -> Tuple[str, ...
                 file.write(text)
             found.append(base + end)
         except OSError as error:
-            logger.error("%s can't be written: %s", base + end, error.strerror)
+            logger.error("can't write %s: %s", base + end, error.strerror)
     return tuple(found)

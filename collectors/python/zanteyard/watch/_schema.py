@@ -83,22 +83,25 @@ def _table(row: Sequence[Any], key: Sequence[Sequence[Any]]) -> Table:
     _, schema, name, kind, persistence, identity, is_partition, _, _, *index = row
     full = f"{quoted(schema)}.{quoted(name)}"
     if kind in ("v", "m"):
-        return Table(full, "view", "a view: rows that are read through it aren't seen")
+        return Table(full, "view", "a view: rows read through it aren't seen")
     if kind == "f":
-        return Table(full, "foreign table", "a foreign table: its rows are another server's")
+        return Table(full, "foreign table", "a foreign table: its rows are on another server")
     what = "partition" if is_partition else "table"
     if persistence == "u":
-        told = "unlogged: the server's log doesn't have its writes"
+        told = "unlogged: its writes aren't in the server's log"
         return Table(full, what, told, f"ALTER TABLE {full} SET LOGGED")
     has_key, is_immediate, is_identity = index
     if not has_key:
-        told = "no primary key: its rows can't be told apart"
+        told = "no primary key: its rows can't be identified"
         return Table(full, what, told, f"ALTER TABLE {full} ADD PRIMARY KEY (..)")
     if not is_immediate:
-        told = "its primary key is deferrable: the log doesn't have the keys of deleted rows"
+        told = "its primary key is deferrable: the server's log lacks the keys of deleted rows"
         return Table(full, what, told)
     if identity == "n" or (identity == "i" and not is_identity):
-        told = "its replica identity isn't its primary key: the log lacks keys of deleted rows"
+        told = (
+            "its replica identity isn't its primary key: the server's log lacks the keys of "
+            "deleted rows"
+        )
         return Table(full, what, told, f"ALTER TABLE {full} REPLICA IDENTITY DEFAULT")
     wrong = [*_not_compared(key)]
     return Table(full, what, "; ".join(wrong))
@@ -107,9 +110,9 @@ def _table(row: Sequence[Any], key: Sequence[Sequence[Any]]) -> Table:
 def _not_compared(key: Iterable[Sequence[Any]]) -> Iterator[str]:
     for name, told, _, base, base_kind, is_deterministic in key:
         if base not in COMPARED and base_kind != ENUM:
-            yield f"{quoted(name)} of its primary key has the type {told}, which isn't compared"
+            yield f"primary key column {quoted(name)} has type {told}, which can't be compared"
         elif not is_deterministic:
-            yield f"{quoted(name)} of its primary key has a collation by which texts are equal"
+            yield f"primary key column {quoted(name)} has a nondeterministic collation"
 
 
 def quoted(name: str) -> str:

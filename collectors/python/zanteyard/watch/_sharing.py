@@ -16,12 +16,13 @@ MAKE = "(umask 077; head -c 32 /dev/urandom | base64 > FILE) makes one"
 def add_sharing(command: argparse.ArgumentParser) -> None:
     command.add_argument(
         "--redis", metavar="URL", default=os.environ.get(REDIS),
-        help=f"the Redis by which proxies feed one audit (or the environment's {REDIS}); "
-        "`zanteyard proxy --help` has an example",
+        help=f"the Redis by which several proxies feed one audit (or the environment's {REDIS}); "
+        "see the example in `zanteyard proxy --help`",
     )
     command.add_argument("--audit", metavar="NAME", help="the audit's name in that Redis")
     command.add_argument(
-        "--key", metavar="FILE", help="the key by which they know each other, for its owner alone"
+        "--key", metavar="FILE",
+        help="the key file that proxies and audit share; only its owner may read it",
     )
 
 
@@ -35,9 +36,9 @@ def mistake_of(asked: Any, is_needed: bool = False) -> Optional[str]:
     try:
         state = os.stat(asked.key)
     except OSError as error:
-        return f"the key {asked.key} can't be read: {error.strerror}. {MAKE}"
+        return f"can't read the key {asked.key}: {error.strerror}. {MAKE}"
     if stat.S_IMODE(state.st_mode) & 0o077:
-        return f"others than its owner may use the key {asked.key}: chmod 600 {asked.key}"
+        return f"other users can access the key {asked.key}: run chmod 600 {asked.key}"
     if state.st_size < LEAST:
         return f"the key {asked.key} has fewer than {LEAST} bytes. {MAKE}"
     return None

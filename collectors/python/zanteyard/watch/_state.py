@@ -4,7 +4,7 @@ the end are made of."""
 from __future__ import annotations
 
 from dataclasses import dataclass, field, replace
-from typing import ClassVar, Mapping, Optional, Sequence, Tuple
+from typing import ClassVar, Iterator, Mapping, Optional, Sequence, Tuple
 
 from ..explain._charts import RoundSeen
 from ..explain._standing import Standing
@@ -67,6 +67,7 @@ class Seen:
     reads_seen: int = 0
     reads_own: int = 0  # of what the reader itself had written
     reads_before: int = 0  # of `reads`: of versions from before the audit
+    reads_folded: int = 0  # of `reads`: of versions by transactions that weren't checked
     reads_left_out: Mapping[str, int] = field(default_factory=dict)
     writes: int = 0
     writes_seen: int = 0
@@ -87,7 +88,8 @@ class Seen:
 
     COUNTED: ClassVar[Tuple[str, ...]] = (
         "committed", "offered", "fences", "aborted", "empty", "reads", "reads_seen", "reads_own",
-        "reads_before", "writes", "writes_seen", "connections_ever", "statements_dropped",
+        "reads_before", "reads_folded", "writes", "writes_seen", "connections_ever",
+        "statements_dropped",
     )
     BY_REASON: ClassVar[Tuple[str, ...]] = ("folded", "reads_left_out", "writes_left_out")
 
@@ -113,6 +115,14 @@ class Seen:
     def left_out_count(self) -> int:
         """Rows whose reads count and weren't checked; what was aborted counts for nothing."""
         return sum(count for why, count in self.reads_left_out.items() if why != ABORTED_READS)
+
+    def lines_of_reads(self) -> Iterator[str]:
+        """Of the rows whose reads were checked, those whose version tells less than it could."""
+        if self.reads_before:
+            yield f"{self.reads_before:,} of the row reads were of versions from before the audit"
+        if self.reads_folded:
+            its = f"{self.reads_folded:,} of the row reads"
+            yield f"{its} were of versions that unchecked transactions wrote"
 
     @property
     def writes_left_out_count(self) -> int:

@@ -65,7 +65,7 @@ details.transaction pre { margin: .2rem 0; padding: .4rem .6rem; }
     --soft-red: #2b1a1c; }
   .verdict, ol.reasons .mark, svg .number { color: #14181e; fill: #14181e; }
   ol.reasons .mark { background: #8491a1; } ol.reasons .circle .mark { background: var(--red); }
-  svg .arc circle { stroke: var(--paper); } svg .arc.other circle { fill: #8491a1; }
+  svg .mark circle { stroke: var(--paper); } svg .mark.other circle { fill: #8491a1; }
   svg polyline { stroke: #86b4f0; }
 }
 """

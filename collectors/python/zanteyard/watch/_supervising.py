@@ -82,9 +82,9 @@ class Supervisor:
         self.ended += 1
         self._gone(why)
         if self._deaths >= MOST:
-            raise ProgramEndedError(f"{why}; {MOST} have ended one soon after another")
+            raise ProgramEndedError(f"{why}; {MOST} proxies ended in quick succession")
         self._start_at = now + PAUSES[min(self._deaths, len(PAUSES)) - 1]
-        logger.error("%s; another one is started", why)
+        logger.error("%s; starting another one", why)
 
     def end(self) -> None:
         """Ends the proxy, if one runs."""

@@ -17,8 +17,8 @@ from ._web import policy_for
 
 POLICY = policy_for(STYLE)
 MORE = (
-    "Statements of other transactions, and rows that weren’t seen, are left out here: what is "
-    "shown is violated by itself."
+    "Other transactions’ statements and unseen rows are left out: what is shown here is a "
+    "violation by itself."
 )
 
 
@@ -41,8 +41,8 @@ def violation_page(one: Violation, title: str, origin: str, is_file: bool = Fals
             *_ran(one.told),
             *reasons_part(one.story),
             *_again(one, is_file),
-            f"<footer><p>zanteyard {VERSION}. The verdict is that of the auditor "
-            f"({escaped(origin)}). What is said and drawn of it here is an aid.</p></footer>",
+            f"<footer><p>zanteyard {VERSION}. The verdict comes from the auditor "
+            f"({escaped(origin)}); the text and picture here only explain it.</p></footer>",
             "</body></html>",
             "",
         ]
@@ -73,7 +73,7 @@ def _ran(told: Sequence[Told]) -> Iterator[str]:
         yield f'<details class="transaction" id="{html_text(one.label)}" open>'
         yield f"<summary>{html_text(one.label)}: {_whose(one)}</summary>"
         if one.its is None:
-            yield "<p>Nothing more is known of it.</p></details>"
+            yield "<p>No details are known.</p></details>"
             continue
         yield f'<p class="soft">{_facts(one, one.its)}</p>'
         if one.its.statements:
@@ -82,8 +82,8 @@ def _ran(told: Sequence[Told]) -> Iterator[str]:
                 yield from _statement(statement)
             yield "</div>"
         if one.its.statements_dropped:
-            its = counted(one.its.statements_dropped, "statement")
-            yield f"<p>The text of {its} more wasn’t kept.</p>"
+            its = counted(one.its.statements_dropped, "more statement")
+            yield f"<p>The text of {its} wasn’t kept.</p>"
         yield "</details>"
     yield f'<p class="soft">{MORE}</p>'
 
@@ -129,7 +129,7 @@ def _again(one: Violation, is_file: bool) -> Iterator[str]:
     link = f'<a href="/violation/{one.number}.jsonl" download="{name}">{name}</a>'
     yield "<h2>See it again</h2>"
     yield (
-        f"<p>This is the same as a script: {name if is_file else link}. "
+        f"<p>The same violation as a script: {name if is_file else link}. "
         f"{AGAIN[one.story.promise.is_split]}</p>"
     )
     yield f"<pre>{html_lines(one.story.script)}</pre>"
@@ -145,18 +145,17 @@ AGAIN = {
     True: "<code>zanteyard check --promise snapshot</code> reports the same violation.",
 }
 QUESTIONS = (
-    "Is the isolation level what you meant? At read committed, PostgreSQL’s default, and at "
-    "repeatable read the server allows such violations: it keeps its promise, which is a weaker "
-    "one.",
-    "Does it matter here? An application may read something that it doesn’t rely on.",
-    "The usual remedies are: serializable for these transactions, with a retry; a lock "
-    "(<code>SELECT .. FOR UPDATE</code>); or one statement that reads and writes.",
+    "Did you intend this isolation level? At read committed, PostgreSQL’s default, and at "
+    "repeatable read the server allows such violations: these levels promise less.",
+    "Does it matter here? The application may not rely on what it read.",
+    "The usual remedies: serializable for these transactions, with retries; a lock (<code>SELECT "
+    ".. FOR UPDATE</code>); or a single statement that reads and writes.",
 )
 SNAPSHOT_QUESTIONS = (
-    "Is the isolation level what you meant? At read committed, PostgreSQL’s default, the server "
-    "allows such violations: it keeps its promise, which is a weaker one. At repeatable read and "
-    "at serializable it promises that there are none.",
+    "Did you intend this isolation level? At read committed, PostgreSQL’s default, the server "
+    "allows such violations: that level promises less. At repeatable read and serializable it "
+    "rules them out.",
     QUESTIONS[1],
-    "The usual remedies are: repeatable read or serializable for these transactions, with a retry; "
-    "a lock (<code>SELECT .. FOR UPDATE</code>); or one statement that reads and writes.",
+    "The usual remedies: repeatable read or serializable for these transactions, with retries; a "
+    "lock (<code>SELECT .. FOR UPDATE</code>); or a single statement that reads and writes.",
 )

@@ -11,8 +11,9 @@ from typing import Tuple
 from ..core._own_keys import FENCE
 from ..core._records import ABORTED, AuditId, History, Logged, Read, ShownId
 from ..core._visible import visible
-from ..explain._shrinking import audited, from_start, named, refuted, smaller
+from ..explain._reasons import explanation_of
 from ..explain._report import Story, story_lines, story_of
+from ..explain._shrinking import audited_apart, from_start, named, refuted, smaller
 from ..explain._standing import standing
 from ..promises._kinds import SERIALIZABLE, Promise
 from ..promises._rewriting import ids_of
@@ -21,7 +22,7 @@ from ._retained import Retained, Transaction
 from ._sql_anomalies import LostUpdate, both_replaced, lost_update
 from ._sql_anomalies import named as named_story
 
-EXPLAINING = 15.0  # seconds for making a violated history small, and as many for the reasons
+EXPLAINING = 15.0  # seconds for making a violated history small, and as many for its promises
 CLOSED_ENDS = re.compile(rb"(?:true|false)\],")  # in a reply to `show`, before the last writers
 
 
@@ -87,14 +88,14 @@ class Violation:
         anomaly = self.story.anomaly
         if anomaly is not None:
             return anomaly.sentence
-        return self.story.because[-1] if self.story.because else self.story.sentence
+        return self.story.reasons.end or self.story.sentence
 
     def lines(self) -> Iterator[str]:
         """All of it as text."""
         told = [*story_lines(replace(self.story, because=()))]
         yield visible(told[0])
         yield from (visible_line(line) for line in told[1:])
-        yield "what the application ran"
+        yield "what the application ran:"
         for one in self.told:
             label = f"{one.label} ({one.id[0]}.{one.id[1]})"
             yield from (f"    {line}" for line in lines_of(label, one.its))
@@ -200,7 +201,7 @@ def explained(
     promise: Promise = SERIALIZABLE,
 ) -> Violation:
     """The violation that this report of a round tells of, with what the proxy said of it. Takes up
-    to three times so many seconds. Raises ProgramEndedError and the like."""
+    to twice so many seconds. Raises ProgramEndedError and the like."""
     _, round_number, _, counts, certificate = report
     history, names = from_start(held)
     part = held.lost_part(history, program, promise)
@@ -224,9 +225,11 @@ def explained(
     older: Mapping[str, str] = getattr(names, "older", {})
     its = {shown.get(key, key): told for key, told in older.items()}
     called.older = its  # type: ignore[attr-defined]  # what `version` looks for
-    script = audited(small, program, promise)[1]
+    audited = audited_apart(small, program, promise)
     renamed = _with_keys(small, shown)
-    story = story_of(renamed, called, script, counts, seconds, promise)
+    audited = audited._replace(keys=[shown.get(key, key) for key in audited.keys])
+    explanation = explanation_of(audited, renamed, called)
+    story = story_of(renamed, called, explanation, audited.script, counts, promise)
     story = named_story(story, renamed, called)
     story = replace(story, standing=standing(small, program, promise, seconds))
     told = tuple(Told(labels[one], one, answered.transactions.get(one)) for one in ordered)

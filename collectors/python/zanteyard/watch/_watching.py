@@ -97,8 +97,8 @@ class Watching:
                 self._take(items)
                 self._begin_anew_if_due()
         except Exception:
-            logger.exception("the audit ends by a mistake of this program's own")
-            self.board.ended("of a mistake in this program, which the log tells")
+            logger.exception("the audit ends because of a bug in this program")
+            self.board.ended("a bug in this program; see the log")
         finally:
             self.stopped.set()
             self.auditing.end()
@@ -157,7 +157,7 @@ class Watching:
             self._logged_kind, self._logged_at = kind, now
         logger.log(
             logging.INFO if is_due else logging.DEBUG,
-            "round %d: %s, of %d transactions, %d of them remembered; %.1f s behind",
+            "round %d: %s; %d transactions, %d of them held in memory; %.1f s behind",
             number, word_of(kind, self.auditing.promise), seen.taken, seen.remaining, seen.behind,
         )
         if kind == "violated":
@@ -180,7 +180,7 @@ class Watching:
         assert self._violated is not None
         report, self._violated = json.loads(self._violated), None
         sentence = self.auditing.promise.sentence("violated")
-        logger.error("VIOLATED: %s; an explanation follows", sentence)
+        logger.error("VIOLATED: %s; explanation follows", sentence)
         held = Held(self._retained, report, self.auditing.ask(SHOW))
         self.explaining.begin(
             report,
@@ -192,7 +192,7 @@ class Watching:
     # the audit's end, and another one
 
     def _lose(self, reason: str) -> None:
-        logger.error("the audit has ended: %s; applications are served as before", reason)
+        logger.error("the audit ended: %s; applications run on as before", reason)
         self._end_audit(reason)
 
     def _end_audit(self, reason: str, is_lost: bool = True) -> None:
@@ -216,7 +216,7 @@ class Watching:
     def _begin_anew(self) -> None:
         self._has_given_up = False
         self.board.begins_anew()
-        logger.info("another audit begins, of what is done from now on")
+        logger.info("another audit begins, for what happens from now on")
 
     # events
 
@@ -257,7 +257,7 @@ class Watching:
 
     def _given_up(self, event: Event) -> None:
         """One that has never begun lacks something, unless it only waited for a transaction."""
-        reason = text(event.get("reason")) or "the proxy gave it up"
+        reason = text(event.get("reason")) or "the proxy gave up the audit"
         if self._has_started or event.get("blocked") is True:
             self._lose(reason)
         else:

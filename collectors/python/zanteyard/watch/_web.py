@@ -53,9 +53,9 @@ def host_and_port(address: str) -> Tuple[str, int]:
     """Of HOST:PORT; raises ValueError. The host of an IPv6 address may stand in brackets."""
     host, colon, port = address.rpartition(":")
     if not (colon and port.isascii() and port.isdecimal() and int(port) < 1 << 16):
-        raise ValueError("HOST:PORT, as 127.0.0.1:8080")
+        raise ValueError("give HOST:PORT, such as 127.0.0.1:8080")
     if ":" in host and not (host.startswith("[") and host.endswith("]")):
-        raise ValueError("an IPv6 address stands in brackets, as [::1]:8080")
+        raise ValueError("put an IPv6 address in brackets, such as [::1]:8080")
     return host.strip("[]") or "127.0.0.1", int(port)
 
 

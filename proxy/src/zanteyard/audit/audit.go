@@ -196,7 +196,7 @@ func (r *running) health(ctx context.Context) error {
 	case health.Kept > r.audit.config.Kept:
 		return fmt.Errorf("%w: %d bytes are kept for it", slot.ErrBehind, health.Kept)
 	case health.Kept > r.audit.config.Kept/2:
-		r.joiner.Warn("the slot is far behind: the audit ends when the server keeps twice as much of its log for it")
+		r.joiner.Warn("the slot is far behind: the audit will end if the server has to keep twice as much WAL for it")
 	}
 	return nil
 }

@@ -120,7 +120,7 @@ func hearSlot(t *testing.T, plugin slot.Plugin) {
 	}
 	if left := leftOut(tables); left["public.none: the table has no primary key"] != 1 {
 		t.Errorf("of tables without a key it was told %v", left)
-	} else if left["aside.log: a table that wasn't asked for"] < 2 || left["aside.part: a table that wasn't asked for"] != 0 {
+	} else if left["aside.log: a table excluded by --tables"] < 2 || left["aside.part: a table excluded by --tables"] != 0 {
 		t.Errorf("of tables that weren't asked for it was told %v", left)
 	}
 

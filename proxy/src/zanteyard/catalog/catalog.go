@@ -224,7 +224,7 @@ func (t *Table) reason() string {
 	case t.system.persistence == "t":
 		return "a temporary table"
 	case t.Kind == 'r' && t.system.method != "heap":
-		return "its storage isn't the heap"
+		return "it isn't stored as a heap"
 	case !t.system.primary:
 		return "no primary key"
 	case t.children > 0:

@@ -6,7 +6,7 @@ import (
 )
 
 // NotAsked is why a table isn't seen that a Filter leaves out.
-const NotAsked = "a table that wasn't asked for"
+const NotAsked = "a table excluded by --tables"
 
 // Filter says which tables are asked for, by patterns of their names. The zero value has all.
 type Filter struct{ patterns []pattern }
@@ -28,7 +28,7 @@ func ParseFilter(text string) (Filter, error) {
 			schema, table = "*", one
 		}
 		if schema == "" || table == "" {
-			return Filter{}, fmt.Errorf("%q is no table's name or pattern: give them as public.*, shop.orders", one)
+			return Filter{}, fmt.Errorf("%q isn't a table name or pattern: use the form public.*, shop.orders", one)
 		}
 		f.patterns = append(f.patterns, pattern{schema, table, one})
 	}

@@ -182,7 +182,7 @@ func (c *Catalog) takeIndex(row []string) error {
 		}
 	}
 	if len(t.Key) != keyColumns {
-		return fmt.Errorf("the primary key of %s.%s has columns that aren't known", t.Schema, t.Name)
+		return fmt.Errorf("the primary key of %s.%s has unknown columns", t.Schema, t.Name)
 	}
 	return nil
 }

@@ -16,7 +16,7 @@ type command struct {
 func obey(line []byte, to Commands) error {
 	var it command
 	if err := json.Unmarshal(line, &it); err != nil {
-		return fmt.Errorf("a command isn't understood: %w", err)
+		return fmt.Errorf("can't read a command: %w", err)
 	}
 	switch it.Command {
 	case "cut":
@@ -30,7 +30,7 @@ func obey(line []byte, to Commands) error {
 	case "stop":
 		to.Stop()
 	default:
-		return fmt.Errorf("there is no command %q", it.Command)
+		return fmt.Errorf("unknown command %q", it.Command)
 	}
 	return nil
 }

@@ -87,7 +87,7 @@ func coverage(it join.Coverage) map[string]any {
 		"committed": it.Committed, "offered": it.Offered, "fences": it.Fences, "aborted": it.Aborted, "empty": it.Empty,
 		"folded": it.Folded,
 		"reads": map[string]any{"seen": it.Reads, "offered": it.ReadsOffered, "own": it.ReadsOwn, "before": it.ReadsBefore,
-			"left_out": it.ReadsLeft},
+			"folded": it.ReadsFolded, "left_out": it.ReadsLeft},
 		"writes": map[string]any{"seen": it.Writes, "offered": it.WritesOffered, "left_out": it.WritesLeft},
 		"unseen": unseen,
 		"connections": map[string]any{

@@ -40,12 +40,12 @@ nothing
 	if err != nil {
 		t.Error(err)
 	}
-	want := []string{"cut [1 2]", "describe 7 [[3 17] [0 0]]", "round", "restart", `warn there is no command "dance"`, "", "warn a command is too long", "stop", "stop"}
+	want := []string{"cut [1 2]", "describe 7 [[3 17] [0 0]]", "round", "restart", `warn unknown command "dance"`, "", "warn a command is too long", "stop", "stop"}
 	if len(o.its) != len(want) {
 		t.Fatalf("%q", o.its)
 	}
 	for i := range want {
-		if want[i] == "" && strings.HasPrefix(o.its[i], "warn a command isn't understood") {
+		if want[i] == "" && strings.HasPrefix(o.its[i], "warn can't read a command") {
 			continue
 		}
 		if o.its[i] != want[i] {

@@ -9,7 +9,7 @@ func (j *Joiner) Cut(marks []uint64) {
 			j.unanswered--
 		}
 		if !j.core.cut(marks) {
-			j.warn(fmt.Sprintf("these marks aren't of this audit: %v", marks))
+			j.warn(fmt.Sprintf("these marks belong to another audit: %v", marks))
 		}
 	})
 }

@@ -18,7 +18,7 @@ type core struct {
 	opt         Options
 	tables      Tables
 	out         func(line []byte) // takes a line for the auditor, without its end; it copies what it keeps
-	now         time.Time
+	began, now  time.Time
 	connections map[uint64]*connection
 	queue       []*connection // that have no session
 	sessions    []*session
@@ -65,7 +65,7 @@ type batchAt struct {
 func newCore(opt Options, tables Tables, base uint32, out func([]byte), now time.Time) *core {
 	opt = opt.withDefaults()
 	c := &core{
-		opt: opt, tables: tables, out: out, now: now, base: base,
+		opt: opt, tables: tables, out: out, began: now, now: now, base: base,
 		connections: map[uint64]*connection{},
 		rows:        newRows(opt.Rows),
 		writers:     map[uint32]*writer{},
@@ -103,8 +103,8 @@ func (c *core) commit(it record.Commit) {
 	if w == nil {
 		w = &writer{number: it.Number}
 	}
-	w.place, w.start, w.seen = c.commits, it.Start, c.now
-	w.subs = append(w.subs, it.Subs...)
+	w.place, w.start, w.seen, w.bare = c.commits, it.Start, c.now.Sub(c.began), it.Bare
+	w.addSubs(it.Subs...)
 	c.addVersions(w, it)
 	if w.fate == undecided {
 		c.writers[it.Number] = w
@@ -115,7 +115,7 @@ func (c *core) commit(it record.Commit) {
 	}
 	delete(c.writers, it.Number)
 	if w.fate == folded {
-		w.writes = nil
+		w.forgetWrites()
 	}
 }
 
@@ -125,7 +125,7 @@ func (c *core) addVersions(w *writer, it record.Commit) {
 		v := &version{writer: w, left: w.named && !w.fences}
 		c.rows.add(c.rows.fence, v)
 		if !v.left {
-			w.writes = append(w.writes, write{c.rows.fence, v})
+			w.addWrite(write{c.rows.fence, v})
 		}
 		return // a fence does nothing else; were it to, that is left out
 	}
@@ -141,10 +141,10 @@ func (c *core) addVersions(w *writer, it record.Commit) {
 		if c.opt.Snapshot && one.Inserted && r.last != nil {
 			r = c.rows.renew(r)
 		}
-		v := &version{writer: w, deleted: one.Deleted, left: len(w.writes) >= mostOfEach}
+		v := &version{writer: w, deleted: one.Deleted, left: len(w.writes()) >= mostOfEach}
 		c.rows.add(r, v)
 		if !v.left {
-			w.writes = append(w.writes, write{r, v})
+			w.addWrite(write{r, v})
 		} else {
 			c.counts.leftWrites["more than 256 writes of one transaction"]++
 		}
@@ -155,7 +155,7 @@ func (c *core) addVersions(w *writer, it record.Commit) {
 // fold leaves the writer's versions out.
 func (c *core) fold(w *writer, reason string) {
 	w.fate = folded
-	w.writes = nil
+	w.forgetWrites()
 	if w.place != 0 {
 		delete(c.writers, w.number)
 	}
@@ -222,11 +222,15 @@ func (c *core) foldLate() {
 	for len(c.late) > 0 {
 		w := c.late[0]
 		if w.fate == undecided && !w.named {
-			if c.now.Sub(w.seen) < c.opt.Late {
+			if c.now.Sub(c.began)-w.seen < c.opt.Late {
 				return
 			}
-			c.counts.fold(byOthers)
-			c.fold(w, byOthers)
+			reason := byOthers
+			if w.bare {
+				reason = withoutRows
+			}
+			c.counts.fold(reason)
+			c.fold(w, reason)
 		}
 		c.late[0] = nil
 		c.late = c.late[1:]
@@ -261,9 +265,9 @@ func (c *core) forgetTable(relation record.Relation) {
 
 // forget gives up versions that were overwritten long ago: nobody is expected to read them still.
 func (c *core) forget() {
-	before := c.now.Add(-c.opt.Stale)
+	before := c.now.Sub(c.began) - c.opt.Stale
 	c.rows.trim(func(v *version) bool {
-		return v.writer.fate != undecided && (v.writer.place <= c.fenced || v.writer.seen.Before(before))
+		return v.writer.fate != undecided && (v.writer.place <= c.fenced || v.writer.seen < before)
 	})
 	least := c.used
 	for _, s := range c.sessions {

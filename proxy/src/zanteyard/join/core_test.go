@@ -137,6 +137,20 @@ func TestStories(t *testing.T) {
 			b.tell(1, 0, record.Transaction{Number: 1001, Reads: []record.Read{read("a", 3)}})
 			b.settle()
 		}, []string{`["offer",0,0,[[[[1,"init"]],[]]]]`}, ""},
+		{"a commit without any row counts apart from others'", func(b *bench) {
+			b.connect(1)
+			b.commit(1001, "a")
+			b.place += 100
+			b.core.commit(record.Commit{Number: 1002, LSN: b.place, Bare: true}) // somebody else's
+			b.place += 100
+			b.core.commit(record.Commit{Number: 1003, LSN: b.place, Bare: true}) // a session tells of it
+			b.tell(1, 0, record.Transaction{Number: 1001})
+			b.tell(1, 1, record.Transaction{Number: 1003, Reads: []record.Read{read("a", 1001)}})
+			b.settle()
+			if n := b.core.counts.folded; n[withoutRows] != 1 || n[byOthers] != 0 {
+				b.t.Errorf("counted are %v", n)
+			}
+		}, []string{`["offer",0,0,[[[[1,"init"]],[1]],[[[1,0,0]],[]]]]`}, withoutRows},
 		{"a partition's row is its root's", func(b *bench) {
 			b.connect(1)
 			b.core.commit(record.Commit{Number: 1001, LSN: 200, Writes: []record.Write{{Relation: 10, Key: "a"}}})

@@ -60,6 +60,22 @@ func TestReadsOfVersionsFromBeforeTheAudit(t *testing.T) {
 	}
 }
 
+// TestReadsOfVersionsThatArentOffered: they count as reads of the version before, and are counted.
+func TestReadsOfVersionsThatArentOffered(t *testing.T) {
+	b := newBench(t, Options{Sessions: 3})
+	b.connect(1, 2, 3)
+	b.commit(1001, "a") // somebody else's, with nothing offered before it
+	b.commit(1002, "b")
+	b.commit(1003, "b", "-c") // somebody else's
+	b.tell(1, 0, record.Transaction{Number: 1002, Reads: []record.Read{read("a", 1001)}})
+	b.tell(2, 0, record.Transaction{Reads: []record.Read{read("a", 1001), read("b", 1003), read("b", 1002)}})
+	b.tell(3, 0, record.Transaction{Level: record.RepeatableRead, Snapshot: "1004:1004:", Absent: []record.Absence{absent("c")}})
+	b.settle()
+	if n := b.core.counts; n.readsFolded != 4 || n.before != 0 || n.readsOffered != 5 {
+		t.Errorf("%d of %d reads were of versions that aren't offered, %d of versions from before", n.readsFolded, n.readsOffered, n.before)
+	}
+}
+
 // TestFencesAreCountedApart: a fence is offered, and neither its read nor its write is the application's.
 func TestFencesAreCountedApart(t *testing.T) {
 	c := newBench(t, Options{Sessions: 2}).core
@@ -79,7 +95,7 @@ func TestWhatIsFoldedTakesNoRoom(t *testing.T) {
 		t.Fatalf("the writer is %v", w)
 	}
 	b.core.fold(w, byOthers)
-	if its := b.core.writers[1001]; its != nil || w.fate != folded || len(w.writes) != 0 {
+	if its := b.core.writers[1001]; its != nil || w.fate != folded || len(w.writes()) != 0 {
 		t.Errorf("it is still there: %v", its)
 	}
 }

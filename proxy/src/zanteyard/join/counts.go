@@ -5,7 +5,7 @@ type counts struct {
 	committed, offered, fences, aborted, empty, ever, rounds, dropped, lost, unread uint64
 	handed                                                                          uint64 // sessions that were handed on
 	folded                                                                          map[string]uint64
-	reads, readsOffered, own, before                                                uint64
+	reads, readsOffered, own, before, readsFolded                                   uint64
 	leftReads                                                                       map[string]uint64
 	writes, writesOffered                                                           uint64
 	leftWrites                                                                      map[string]uint64
@@ -31,6 +31,7 @@ func (c *counts) put(e *entry, to *resolution) {
 	}
 	c.own += to.own
 	c.before += to.before
+	c.readsFolded += to.folded
 	c.readsOffered += uint64(len(e.its.Reads)+len(e.its.Absent)) - min(left+to.own, uint64(len(e.its.Reads)+len(e.its.Absent)))
 	c.writesOffered += uint64(len(to.writes))
 }

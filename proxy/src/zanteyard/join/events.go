@@ -54,6 +54,7 @@ type Coverage struct {
 	Folded                                    map[string]uint64
 	Reads, ReadsOffered, ReadsOwn             uint64
 	ReadsBefore                               uint64 // of those that are offered: of versions from before the audit
+	ReadsFolded                               uint64 // and of versions that aren't offered
 	ReadsLeft                                 map[string]uint64
 	Writes, WritesOffered                     uint64
 	WritesLeft                                map[string]uint64
@@ -135,14 +136,15 @@ func (j *Joiner) coverageEvent(isLast bool) Coverage {
 	it := Coverage{
 		At: time.Now(), Committed: n.committed, Offered: n.offered, Fences: n.fences, Aborted: n.aborted, Empty: n.empty,
 		Folded: copyOf(n.folded), Reads: n.reads, ReadsOffered: n.readsOffered, ReadsOwn: n.own, ReadsBefore: n.before,
-		ReadsLeft: copyOf(n.leftReads),
-		Writes:    n.writes, WritesOffered: n.writesOffered, WritesLeft: copyOf(n.leftWrites),
+		ReadsFolded: n.readsFolded,
+		ReadsLeft:   copyOf(n.leftReads),
+		Writes:      n.writes, WritesOffered: n.writesOffered, WritesLeft: copyOf(n.leftWrites),
 		Unseen: unseen, Connections: len(c.connections), ConnectionsEver: n.ever,
 		Lag: c.lag(), Rows: len(c.rows.by), Rounds: n.rounds, StatementsDropped: n.dropped, Lost: n.lost, SubsLost: n.unread,
 		Remaining: c.remaining(),
 	}
 	if n.lost > 0 {
-		it.Folded["told faster than they could be taken in"] = n.lost
+		it.Folded["reported faster than they could be processed"] = n.lost
 	}
 	for reason, n := range gone {
 		it.Folded[reason] = n

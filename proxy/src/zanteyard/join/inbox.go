@@ -103,7 +103,7 @@ func (b *Inbox) UnseenMany(shape, reason string, reads bool, n uint64) {
 		it = &Unseen{Shape: shape, Reason: reason, Reads: reads, First: b.now()}
 		b.unseen[key] = it
 	case b.outside == nil:
-		b.outside = &Unseen{Shape: "others", Reason: "more shapes than are told apart", Reads: reads, First: b.now()}
+		b.outside = &Unseen{Shape: "others", Reason: "more shapes than are counted separately", Reads: reads, First: b.now()}
 		it = b.outside
 	default:
 		it = b.outside

@@ -128,7 +128,8 @@ func (j *Joiner) give(it fromSlot) error {
 const (
 	step      = 5 * time.Millisecond
 	giveOut   = 50 * time.Millisecond // each line costs those who take it, however little is in it
-	askPlace  = 20 * time.Millisecond
+	askSoon   = 20 * time.Millisecond
+	askPlace  = 100 * time.Millisecond
 	each      = time.Second
 	questions = 5 * time.Second // how long the server is waited for
 	patience  = time.Minute     // with a server that doesn't answer
@@ -278,14 +279,19 @@ func (j *Joiner) tick(ctx context.Context) error {
 		return j.failed
 	}
 	if !j.failing.IsZero() && now.Sub(j.failing) > patience {
-		return fmt.Errorf("ask the server how far its log is: %w", j.failure)
+		return fmt.Errorf("ask the server for its WAL position: %w", j.failure)
 	}
 	return nil
 }
 
-// askPlace asks where the log stands, for what was told up to now.
+// askPlace asks where the log stands, for what was told up to now. The question takes a processor longer than most
+// transactions do, and holds up those that want the same one; so it is seldom asked while nobody waits for the answer.
 func (j *Joiner) askPlace(ctx context.Context, now time.Time) {
-	if j.placing || now.Sub(j.placedAt) < askPlace {
+	pause := askPlace
+	if j.meeting.phase != apart || len(j.core.held) > 0 {
+		pause = askSoon
+	}
+	if j.placing || now.Sub(j.placedAt) < pause {
 		return
 	}
 	batch, wanted := j.core.wantsPlace()

@@ -246,7 +246,7 @@ func TestCutOfAnotherAudit(t *testing.T) {
 	s.update(1, "a")
 	s.until("an offer", func() bool { return s.lined("offer") > 0 })
 	s.joiner.Cut([]uint64{1 << 40, 0, 0, 0})
-	s.until("a warning", func() bool { return s.warnings("aren't of this audit") == 1 })
+	s.until("a warning", func() bool { return s.warnings("belong to another audit") == 1 })
 	s.joiner.Describe(9, [][2]uint64{{0, 0}, {0, 1 << 40}, {99, 0}})
 	s.until("the answer", func() bool {
 		it, is := s.events[len(s.events)-1].(Transactions)

@@ -41,7 +41,7 @@ func (c *core) put(s *session, e *entry, to *resolution) {
 	s.written = e.name.number() + 1
 	c.keep(s, e, to)
 	if e.writer != nil {
-		e.writer.writes = nil
+		e.writer.forgetWrites()
 		if e.writer.fence {
 			c.fences = append(c.fences, e.writer)
 		}

@@ -13,12 +13,12 @@ const mostOfEach = 256
 
 // Why a read of a transaction that is offered is left out.
 const (
-	versionUnknown = "its version isn't known"
-	subUnknown     = "its version may be a savepoint's, and these can't be looked up"
-	readOfItself   = "its version was written behind its own"
-	absentAtLevel  = "a row that wasn't there, without a snapshot that says so"
-	absentUnknown  = "a row that wasn't there, although its last known version is"
-	absentOwn      = "a row that wasn't there, and that the transaction itself wrote"
+	versionUnknown = "its version is unknown"
+	subUnknown     = "its version may be from a savepoint, which can't be looked up"
+	readOfItself   = "its version was written after the reader's own"
+	absentAtLevel  = "an absent row, read without a snapshot"
+	absentUnknown  = "an absent row whose last known version exists"
+	absentOwn      = "an absent row that the transaction itself wrote"
 	tooMany        = "more than 256 reads of one transaction"
 )
 
@@ -29,6 +29,7 @@ type resolution struct {
 	left   map[string]uint64
 	own    uint64
 	before uint64 // of the reads, how many found a version that was written before the audit
+	folded uint64 // and how many one that isn't offered: they count as reads of the offered one before it
 }
 
 func (r *resolution) leave(reason string) {
@@ -63,7 +64,7 @@ func (c *core) resolveWrites(e *entry, to *resolution) bool {
 	if e.writer == nil {
 		return true
 	}
-	for _, one := range e.writer.writes {
+	for _, one := range e.writer.writes() {
 		from, known := one.version.predecessor()
 		if !known {
 			return false
@@ -100,6 +101,9 @@ func (c *core) resolveReads(e *entry, to *resolution) bool {
 			from, known := under(v)
 			if !known {
 				return false
+			}
+			if v.isFolded() {
+				to.folded++
 			}
 			c.add(e, to, id, r, from)
 		case c.isOld(one.Version):
@@ -162,6 +166,9 @@ func (c *core) resolveAbsent(e *entry, to *resolution) bool {
 				known := false
 				if from, known = under(v); !known {
 					return false
+				}
+				if v.isFolded() {
+					to.folded++
 				}
 				found = true
 			}
@@ -262,7 +269,7 @@ func (c *core) answered(writers []*writer, subs [][]uint32) {
 	for i, w := range writers {
 		w.subsAre = answered
 		if i < len(subs) {
-			w.subs = append(w.subs, subs[i]...)
+			w.addSubs(subs[i]...)
 		}
 	}
 }

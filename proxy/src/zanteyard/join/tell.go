@@ -8,18 +8,19 @@ import (
 
 // Why a transaction isn't offered, or its writes aren't.
 const (
-	byOthers     = "committed by others than the proxy, or told too late"
-	noConnection = "its connection isn't known"
-	noSession    = "its connection has no session of the auditor"
-	noFence      = "its session waits for a fence"
-	acrossMoment = "it ran while the sessions met, or were handed on"
-	noRoom       = "the auditor's limit is reached"
-	isUnclear    = "its outcome isn't known"
-	elsewhere    = "its connection is of another database"
+	byOthers     = "committed without the proxy, or reported too late"
+	withoutRows  = "without a row in the replication slot, such as the server's own ANALYZE"
+	noConnection = "unknown connection"
+	noSession    = "its connection has no session"
+	noFence      = "its session was waiting for a fence"
+	acrossMoment = "it ran during a meeting, or while sessions changed hands"
+	noRoom       = "the auditor's limit was reached"
+	isUnclear    = "its outcome is unknown"
+	elsewhere    = "its connection uses another database"
 	sampledOut   = "its connection isn't in the sample"
 	itAborted    = "it aborted"
-	notKept      = "a transaction read more than is kept of one: all of that counts once here"
-	noNumber     = "its number wasn't learned"
+	notKept      = "a transaction read more than is kept (counted once)"
+	noNumber     = "its transaction number is unknown"
 )
 
 // tell takes in a transaction that has ended.
@@ -81,7 +82,7 @@ func (c *core) leave(it record.Transaction, reason string) {
 }
 
 func (c *core) leaveWriter(w *writer, reason string) {
-	c.counts.leftWrites[reason] += uint64(len(w.writes))
+	c.counts.leftWrites[reason] += uint64(len(w.writes()))
 	c.fold(w, reason)
 	if w.place == 0 {
 		c.expected = append(c.expected, expected{c.batch, w})
@@ -100,7 +101,7 @@ func (c *core) writer(it record.Transaction) *writer {
 	w.named, w.fences = true, it.Fence
 	for _, sub := range it.Versions {
 		if sub != number && !w.is(sub) {
-			w.subs = append(w.subs, sub)
+			w.addSubs(sub)
 		}
 	}
 	return w
@@ -274,7 +275,7 @@ func (c *core) join(e *entry) bool {
 		}
 		return true // its next fence may do
 	}
-	from, known := w.writes[0].version.predecessor()
+	from, known := w.writes()[0].version.predecessor()
 	if !known || from != initial && c.sessions[from.session()].written <= from.number() {
 		return false
 	}

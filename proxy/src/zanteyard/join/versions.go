@@ -35,20 +35,66 @@ const (
 	answered
 )
 
-// writer is a transaction that wrote, as far as its versions need it.
+// writer is a transaction that wrote, as far as its versions need it. There may be as many as rows (Options.Rows): what
+// few of them have, or none for long, stands beside it.
 type writer struct {
 	fate    fate
 	subsAre inquiry
-	named   bool   // a session told of it: it isn't somebody else's
-	fences  bool   // and that it is a fence
-	fence   bool   // the slot tells that it wrote the fences' row
-	number  uint32 // the server's
-	name    name   // where it is offered
-	place   uint64 // in the order of commits, from 1; 0 until the slot has told of it
-	start   uint64 // where its commit record begins, 0 if that isn't known
-	seen    time.Time
-	subs    []uint32 // its subtransactions, as far as they are known
-	writes  []write  // until it is resolved
+	named   bool          // a session told of it: it isn't somebody else's
+	fences  bool          // and that it is a fence
+	fence   bool          // the slot tells that it wrote the fences' row
+	bare    bool          // the slot told of no row in it
+	number  uint32        // the server's
+	name    name          // where it is offered
+	place   uint64        // in the order of commits, from 1; 0 until the slot has told of it
+	start   uint64        // where its commit record begins, 0 if that isn't known
+	seen    time.Duration // when the slot told of it, since the audit began
+	beside  *beside       // nil if there is nothing of it
+}
+
+type beside struct {
+	subs   []uint32 // its subtransactions, as far as they are known
+	writes []write  // until it is resolved
+}
+
+func (w *writer) subs() []uint32 {
+	if w.beside == nil {
+		return nil
+	}
+	return w.beside.subs
+}
+
+func (w *writer) writes() []write {
+	if w.beside == nil {
+		return nil
+	}
+	return w.beside.writes
+}
+
+func (w *writer) addSubs(its ...uint32) {
+	if len(its) > 0 {
+		w.needBeside().subs = append(w.beside.subs, its...)
+	}
+}
+
+func (w *writer) addWrite(its write) {
+	w.needBeside().writes = append(w.beside.writes, its)
+}
+
+func (w *writer) needBeside() *beside {
+	if w.beside == nil {
+		w.beside = &beside{}
+	}
+	return w.beside
+}
+
+// forgetWrites is for when it is resolved.
+func (w *writer) forgetWrites() {
+	if subs := w.subs(); len(subs) > 0 {
+		w.beside.writes = nil
+	} else {
+		w.beside = nil
+	}
 }
 
 // is says whether a row's xmin is this transaction's.
@@ -56,7 +102,7 @@ func (w *writer) is(xmin uint32) bool {
 	if w.number == xmin {
 		return true
 	}
-	for _, sub := range w.subs {
+	for _, sub := range w.subs() {
 		if sub == xmin {
 			return true
 		}

@@ -29,7 +29,7 @@ type Member interface {
 
 // Errors of Meet. A meeting that failed has done no harm: the fences that were made are transactions like others.
 var (
-	ErrBusy    = errors.New("meeting: a session was in a transaction for too long")
+	ErrBusy    = errors.New("meeting: a session stayed in a transaction for too long")
 	ErrUnknown = errors.New("meeting: no such connection")
 )
 

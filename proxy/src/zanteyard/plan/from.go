@@ -116,17 +116,17 @@ func (f *fromClause) table(r node, at place, sampled bool) {
 	t, ok := f.maker.catalog.Find(schema, name)
 	switch {
 	case r.has("catalogname"):
-		reason = "a table with the name of its database"
+		reason = "a table name with a database name"
 	case !ok && (schema == "pg_catalog" || schema == "information_schema" || schema == "" && strings.HasPrefix(name, "pg_")):
 		return // the server's own tables have no versions that are audited
 	case ok && t.Kind == 'S':
 		return // nor have sequences
 	case !ok:
-		reason = "the table isn't known"
+		reason = "unknown table"
 	case t.Hidden != "":
 		reason = t.Hidden
 	case r.node("alias").has("colnames"):
-		reason = "a table with other names for its columns"
+		reason = "a table alias that renames columns"
 	}
 	if reason != "" {
 		f.plan.leaveOut(reason)
@@ -160,13 +160,13 @@ func (f *fromClause) groups() (string, []*item) {
 	for _, it := range f.found {
 		switch {
 		case named[it.name] > 1, it.name == f.taken:
-			f.plan.leaveOut("two tables of one name")
+			f.plan.leaveOut("two tables with the same name")
 		case len(f.group) > 0 && !f.grouped(it):
 			f.plan.leaveOut("GROUP BY")
 		case f.removable(it):
-			f.plan.leaveOut("a join that the server may leave out")
+			f.plan.leaveOut("a join that the server may skip")
 		case f.indexOnly(it):
-			f.plan.leaveOut("an index may answer alone")
+			f.plan.leaveOut("an index may answer without the table")
 		default:
 			it.write(&out)
 			seen = append(seen, it)

@@ -68,7 +68,7 @@ func (m *maker) other(p *Plan, name string, body node) {
 	default:
 		p.Kind, p.MayWriteUnseen, p.ChangesNames = Definition, true, true
 		if name == "CreateTableAsStmt" {
-			p.leaveOut("a table made of a query")
+			p.leaveOut("a table created from a query")
 		}
 	}
 }

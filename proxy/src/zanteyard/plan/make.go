@@ -92,7 +92,7 @@ func (c *Cache) make(state *cached, s *scanner) *Plan {
 	switch {
 	case err != nil:
 		p = &Plan{Kind: Other, Shape: m.shape, Unknown: true, MayWriteUnseen: true, ChangesNames: true}
-		p.leaveOut("it couldn't be parsed")
+		p.leaveOut("it can't be parsed")
 	case len(stmts) == 0:
 		p = &Plan{Kind: Empty}
 	case len(stmts) > 1:
@@ -116,10 +116,10 @@ func (p *Plan) stamp(generation uint64) {
 // unknownPlan is for texts that aren't parsed at all.
 func unknownPlan(generation uint64) *Plan {
 	p := &Plan{
-		Shape: "(a very long or unfinished text)", Generation: generation,
+		Shape: "(a very long or incomplete statement)", Generation: generation,
 		Unknown: true, MayWriteUnseen: true, ChangesNames: true,
 	}
-	p.leaveOut("a very long or unfinished text")
+	p.leaveOut("a very long or incomplete statement")
 	return p
 }
 

@@ -60,16 +60,16 @@ func (m *maker) finish(p *Plan, stmt statement, field string, start int) {
 	reason := ""
 	switch {
 	case m.mentions(alias):
-		reason = "it uses the name of the hidden columns"
+		reason = "it uses the hidden columns' name"
 	case !m.sound(p, stmt, field):
-		reason = "its form isn't known"
+		reason = "unknown form of statement"
 	}
 	if reason != "" {
 		*p = *p.without(reason)
 		return
 	}
 	if len(p.positions) > 0 {
-		p.misplaced = p.without("a place of ORDER BY or GROUP BY that may be no column's")
+		p.misplaced = p.without("ORDER BY or GROUP BY may refer to a column by its position")
 	}
 	p.sample = m.sample(p, stmt, start)
 }

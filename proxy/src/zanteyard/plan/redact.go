@@ -6,7 +6,7 @@ import "strings"
 func Redacted(text string) string {
 	var s scanner
 	if !s.scan(text) {
-		return "(a very long or unfinished text)"
+		return "(a very long or incomplete statement)"
 	}
 	var out strings.Builder
 	behind := int32(0)

@@ -8,7 +8,7 @@ func TestRedacted(t *testing.T) {
 		`UPDATE "t 1" SET a=E'x\'y', b=$1, c = $$5$$ /* b='secret' */`: `UPDATE "t 1" SET a=?, b=$1, c = ?`,
 		"SELECT -1.5e3, B'01', U&'d\\0061'":                            "SELECT -?, ?, ?",
 		"":                                                             "",
-		"SELECT 'unfinished":                                           "(a very long or unfinished text)",
+		"SELECT 'unfinished":                                           "(a very long or incomplete statement)",
 	} {
 		if got := Redacted(text); got != want {
 			t.Errorf("%s: %s, and not %s", text, got, want)

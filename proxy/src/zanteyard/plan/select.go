@@ -6,7 +6,7 @@ import "zanteyard/catalog"
 func (m *maker) selects(p *Plan, body node, start, end int) {
 	if body.has("intoClause") {
 		p.Kind, p.MayWriteUnseen, p.ChangesNames = Definition, true, true
-		p.leaveOut("a table made of a query")
+		p.leaveOut("a table created from a query")
 		return
 	}
 	if body.has("valuesLists") {
@@ -27,7 +27,7 @@ func (m *maker) selects(p *Plan, body node, start, end int) {
 		return
 	}
 	if word < 0 {
-		p.leaveOut("its form isn't known")
+		p.leaveOut("unknown form of statement")
 		return
 	}
 	for _, source := range found {

@@ -294,7 +294,7 @@ func TestSearchPaths(t *testing.T) {
 	known := load(t, connection)
 	cache := NewCache(known)
 	path := func() string { return string(run(t, connection, catalog.PathSQL)[0].Rows[0][0]) }
-	if p, _ := cache.PlanIn(path(), "SELECT v FROM t"); seen(known, p) != "" || reasons(p) != "the table isn't known" {
+	if p, _ := cache.PlanIn(path(), "SELECT v FROM t"); seen(known, p) != "" || reasons(p) != "unknown table" {
 		t.Errorf("in the path %s: %+v", path(), p)
 	}
 	for set, want := range map[string]string{"one, public": "one", `"Two"`: "Two", `one, "Two"`: "one"} {

@@ -15,7 +15,7 @@ func (m *maker) inserts(p *Plan, body node, end int) {
 	}
 	conflict := body.node("onConflictClause")
 	if conflict != nil && (conflict.text("action") == "ONCONFLICT_NOTHING" || conflict.has("whereClause")) {
-		p.leaveOut("a row that is in conflict and isn't written")
+		p.leaveOut("a conflicting row that isn't written")
 	}
 	if target == nil {
 		return
@@ -34,7 +34,7 @@ func (m *maker) changes(p *Plan, body node, end int, others string) {
 	target := m.target(p, body.node("relation"))
 	if target == nil {
 		if body.has(others) {
-			p.leaveOut("tables of an UPDATE or DELETE that isn't changed")
+			p.leaveOut("tables of an UPDATE or DELETE that it doesn't change")
 		}
 		return
 	}
@@ -42,7 +42,7 @@ func (m *maker) changes(p *Plan, body node, end int, others string) {
 	current, _ := only(body["whereClause"])
 	if !m.mayReturn(p, body, target, key != nil || current == "CurrentOfExpr") {
 		if body.has(others) {
-			p.leaveOut("tables of an UPDATE or DELETE that isn't changed")
+			p.leaveOut("tables of an UPDATE or DELETE that it doesn't change")
 		}
 		return
 	}
@@ -58,7 +58,7 @@ func (m *maker) target(p *Plan, r node) *item {
 	reason := ""
 	switch {
 	case !ok:
-		reason = "the table isn't known"
+		reason = "unknown table"
 	case t.Hidden != "":
 		reason = t.Hidden
 	}

@@ -127,6 +127,7 @@ type Commit struct {
 	Fence   bool       // it wrote the fence table's row
 	Emptied []Relation // tables that it truncated
 	Names   uint64     // how often tables' names had changed their meaning as it was read
+	Bare    bool       // the slot told of no row in it, not even of a table without a key
 }
 
 // Sink takes what the sessions of a proxy tell. Its calls don't wait longer than it takes to append to a buffer: where a

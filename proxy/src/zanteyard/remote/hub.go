@@ -22,8 +22,8 @@ type Sink interface {
 
 // Why transactions of a proxy elsewhere never arrive.
 const (
-	lostOnTheWay = "lost between another proxy and the audit"
-	noRoomThere  = "told faster than another proxy could send them"
+	lostOnTheWay = "lost on the way from another proxy"
+	noRoomThere  = "reported faster than another proxy could send them"
 )
 
 // Hub takes what proxies elsewhere send, and has them meet. Safe for use by many goroutines.
@@ -108,10 +108,10 @@ func (h *Hub) reached(ctx context.Context, err error) {
 	case ctx.Err() != nil:
 	case err != nil:
 		h.down = err.Error()
-		h.logs.say("proxies elsewhere aren't heard, Redis can't be reached: " + h.down)
+		h.logs.say("can't reach Redis, so proxies on other machines don't feed the audit: " + h.down)
 	case h.down != "":
 		h.down = ""
-		h.options.Log("Redis is reached again")
+		h.options.Log("Redis is reachable again")
 	}
 }
 
@@ -131,7 +131,7 @@ func (h *Hub) take(l *link, its []entry) {
 		switch {
 		case err != nil:
 			h.refused++
-			h.logs.say("messages were refused: " + err.Error())
+			h.logs.say("refused messages: " + err.Error())
 		case m.Run != h.run: // for a watch that was before this one
 		case m.Hello != nil:
 			h.greet(&m, now)
@@ -142,7 +142,7 @@ func (h *Hub) take(l *link, its []entry) {
 	}
 	if _, err := l.do(0, "XTRIM", h.options.proxies(), "MINID", behind(its[len(its)-1].id)); err != nil {
 		h.lock.Lock()
-		h.logs.say("Redis can't forget what was read (version 6.2 is needed): " + err.Error())
+		h.logs.say("Redis can't drop what was read (it needs version 6.2): " + err.Error())
 		h.lock.Unlock()
 	}
 }
@@ -157,7 +157,7 @@ func (h *Hub) greet(m *toHub, now time.Time) {
 	reply := answer{Proxy: m.Proxy, Try: its.Try, Mark: h.mark, Redacts: h.options.Redacts, Refused: h.refuses(its)}
 	if reply.Refused != "" || h.mark == 0 {
 		if reply.Refused != "" {
-			h.logs.say("the proxy " + its.Name + " is refused: " + reply.Refused)
+			h.logs.say("the proxy " + its.Name + " was refused: " + reply.Refused)
 			h.say(fromHub{Answer: &reply})
 		}
 		return
@@ -184,13 +184,13 @@ func (h *Hub) greet(m *toHub, now time.Time) {
 func (h *Hub) refuses(its *hello) string {
 	switch {
 	case its.Protocol != protocol:
-		return fmt.Sprintf("it speaks version %d of the messages, and the audit version %d", its.Protocol, protocol)
+		return fmt.Sprintf("its messages have version %d, the audit's have version %d", its.Protocol, protocol)
 	case its.Database != h.who.database && h.mark != 0:
-		return fmt.Sprintf("it is before the database %s, and the audit is of %s", its.Database, h.who.database)
+		return fmt.Sprintf("it serves the database %s, but the audit is of %s", its.Database, h.who.database)
 	case its.System != "" && h.who.system != "" && its.System != h.who.system:
-		return fmt.Sprintf("its server is another one (%s) than the audit's (%s)", its.System, h.who.system)
+		return fmt.Sprintf("its server (%s) isn't the audit's (%s)", its.System, h.who.system)
 	case its.Fence != h.options.Fence:
-		return fmt.Sprintf("its fences' table is %s, and the audit's is %s", its.Fence, h.options.Fence)
+		return fmt.Sprintf("its fence table is %s, but the audit's is %s", its.Fence, h.options.Fence)
 	}
 	return ""
 }
@@ -207,7 +207,7 @@ func (h *Hub) one(m *toHub, now time.Time) {
 	case m.Number < a.next:
 		return // once more
 	case m.Number > a.next:
-		h.end(a, "something it sent was lost")
+		h.end(a, "a message from it was lost")
 		h.say(fromHub{Gone: m.Epoch})
 		return
 	}
@@ -281,7 +281,7 @@ func (h *Hub) end(a *attached, why string) {
 		return
 	}
 	if why != "" {
-		h.options.Log("the proxy " + a.name + " doesn't feed this audit any more: " + why)
+		h.options.Log("the proxy " + a.name + " no longer feeds this audit: " + why)
 	}
 	a.epoch = 0
 	numbers := make([]uint64, 0, len(a.connections))
@@ -378,7 +378,7 @@ func (h *Hub) claim(ctx context.Context, l *link) bool {
 		return h.owns
 	}
 	if !owns {
-		h.logs.say("another watch has the audit " + h.options.Audit + " in this Redis: other machines' proxies feed that one")
+		h.logs.say("another `zanteyard watch` has the audit " + h.options.Audit + " in this Redis: proxies on other machines feed that one")
 	}
 	h.owns = owns
 	return owns
@@ -403,7 +403,7 @@ func (h *Hub) look(ctx context.Context) {
 				delete(h.proxies, id)
 			case a.epoch == 0:
 			case time.Since(a.heard) > silence:
-				h.end(a, "it isn't heard")
+				h.end(a, "it fell silent")
 			default:
 				wait = every
 			}
@@ -430,7 +430,7 @@ func (h *Hub) keepMark(ctx context.Context) {
 					h.end(a, "the audit's connection to the server was lost")
 				}
 			}
-			h.logs.say("no proxy elsewhere can feed this audit: " + err.Error())
+			h.logs.say("no proxy on another machine can feed this audit: " + err.Error())
 			h.lock.Unlock()
 		}
 		pause(ctx, time.Second)
@@ -461,7 +461,7 @@ func (h *Hub) audited(ctx context.Context, mark int64) error {
 	ctx, cancel := context.WithTimeout(ctx, patience)
 	defer cancel()
 	if is, err := sees(ctx, mark); err == nil && !is {
-		return errors.New("the audit reads the log of another server than they reach")
+		return errors.New("the audit reads the log of another server than theirs")
 	}
 	return nil
 }
@@ -473,7 +473,7 @@ func (h *Hub) keep(ctx context.Context, s *server) error {
 	if mark != 0 {
 		sees, err := s.sees(ctx, mark)
 		if err == nil && !sees {
-			err = errors.New("the lock by which they know the server is gone")
+			err = errors.New("the lock that identifies the server is gone")
 		}
 		if err == nil {
 			err = h.audited(ctx, mark)

@@ -106,11 +106,11 @@ func TestSigned(t *testing.T) {
 // TestRefuses: who isn't of the audit's server and database has no attachment.
 func TestRefuses(t *testing.T) {
 	for name, change := range map[string]func(*hello){
-		"":            func(*hello) {},
-		"version 2":   func(it *hello) { it.Protocol = 2 },
-		"the databas": func(it *hello) { it.Database = "till" },
-		"its server":  func(it *hello) { it.System = "2" },
-		"its fences'": func(it *hello) { it.Fence = "g" },
+		"":                func(*hello) {},
+		"version 2":       func(it *hello) { it.Protocol = 2 },
+		"the databas":     func(it *hello) { it.Database = "till" },
+		"its server":      func(it *hello) { it.System = "2" },
+		"its fence table": func(it *hello) { it.Fence = "g" },
 	} {
 		h := newTestHub(t, newHeard())
 		m := someHello(h, "p", 1)

@@ -59,9 +59,9 @@ func CheckURL(text string) error {
 	its, err := url.Parse(text)
 	switch {
 	case err != nil:
-		return errors.New("the URL of Redis can't be read") // the error would show a password
+		return errors.New("can't read the URL of Redis") // the error would show a password
 	case its.Scheme != "redis" && its.Scheme != "rediss" && its.Scheme != "unix":
-		return errors.New("the URL of Redis begins with redis://, rediss:// or unix://")
+		return errors.New("the URL of Redis must begin with redis://, rediss:// or unix://")
 	}
 	return nil
 }
@@ -85,7 +85,7 @@ type entry struct {
 	text, signature []byte
 }
 
-var errReply = errors.New("remote: Redis answers in another form than expected")
+var errReply = errors.New("remote: unexpected form of an answer from Redis")
 
 // read waits for a moment for what stands in a stream behind an id.
 func (l *link) read(stream, after string) ([]entry, error) {

@@ -59,7 +59,7 @@ type identity struct{ database, system string }
 func (s *server) identity(ctx context.Context) (identity, error) {
 	texts, err := s.ask(ctx, "SELECT pg_catalog.current_database()")
 	if err != nil || len(texts) != 1 {
-		return identity{}, fmt.Errorf("ask the server who it is: %w", err)
+		return identity{}, fmt.Errorf("identify the server: %w", err)
 	}
 	its := identity{database: texts[0]}
 	if texts, err = s.ask(ctx, "SELECT system_identifier FROM pg_catalog.pg_control_system()"); err == nil && len(texts) == 1 {

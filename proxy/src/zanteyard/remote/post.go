@@ -109,7 +109,7 @@ func (p *Post) Unseen(shape, reason string, reads bool) {
 	defer p.lock.Unlock()
 	key := unseen{Shape: shape, Reason: reason, Reads: reads}
 	if _, is := p.unseen[key]; !is && len(p.unseen) >= most {
-		key = unseen{Shape: "others", Reason: "more shapes than are told apart", Reads: reads}
+		key = unseen{Shape: "others", Reason: "more shapes than are counted separately", Reads: reads}
 	}
 	p.unseen[key]++
 }
@@ -190,7 +190,7 @@ func (p *Post) take(ctx context.Context, its []entry) {
 	for _, one := range its {
 		var m fromHub
 		if err := p.options.open(downwards, one.text, one.signature, &m); err != nil {
-			p.say("a message was refused: " + err.Error())
+			p.say("refused a message: " + err.Error())
 			continue
 		}
 		if messages = append(messages, m); m.Tick > latest {
@@ -250,7 +250,7 @@ func (p *Post) one(ctx context.Context, m *fromHub, isNew bool) {
 // answered takes the answer to a hello. Called with lock held.
 func (p *Post) answered(it *answer) {
 	if it.Refused != "" {
-		p.logs.say("the audit refuses this proxy, which passes everything on without looking: " + it.Refused)
+		p.logs.say("the audit refused this proxy, which passes traffic on without auditing: " + it.Refused)
 		p.tried = time.Now().Add(verifying) // not soon again
 		return
 	}
@@ -260,7 +260,7 @@ func (p *Post) answered(it *answer) {
 // detach ends the attachment: what isn't sent yet is never told. Called with lock held.
 func (p *Post) detach() {
 	if p.epoch != 0 {
-		p.options.Log("the audit isn't told of this proxy any more; everything is passed on without looking")
+		p.options.Log("this proxy no longer feeds the audit; traffic is passed on without auditing")
 	}
 	p.epoch, p.wanted, p.meeting = 0, nil, 0
 	p.takes.Store(false)
@@ -284,7 +284,7 @@ func (p *Post) attach(it *answer) {
 		one := one
 		p.put(item{Connection: &one}, 0)
 	}
-	p.options.Log("the audit is told of this proxy")
+	p.options.Log("this proxy feeds the audit")
 }
 
 // look asks for an attachment where there is none, and sees to it that the server is the audit's.
@@ -338,8 +338,8 @@ func (p *Post) lookOnce(ctx context.Context, s *server, l *link) error {
 	return err
 }
 
-var errOther = errors.New("this proxy's server isn't the one that is audited (a copy or a standby of it, or its name leads " +
-	"elsewhere): everything is passed on without looking")
+var errOther = errors.New("this proxy's server isn't the audited one (it is a copy or a standby, or the name leads " +
+	"elsewhere): traffic is passed on without auditing")
 
 // greet sends a hello.
 func (p *Post) greet(ctx context.Context, s *server, l *link, run string) error {
@@ -426,7 +426,7 @@ func (p *Post) message(alive bool) (m *toHub, more bool) {
 func (p *Post) deliver(ctx context.Context, l *link, m *toHub) {
 	text, err := encode(m)
 	if err != nil {
-		p.say("a message can't be written: " + err.Error())
+		p.say("can't write a message: " + err.Error())
 		return
 	}
 	signature := p.options.sign(upwards, text)

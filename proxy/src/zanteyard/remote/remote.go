@@ -58,7 +58,7 @@ func ReadKey(path string) ([]byte, error) {
 		return nil, fmt.Errorf("%w: %v", ErrKey, err)
 	}
 	if state.Mode().Perm()&0o077 != 0 {
-		return nil, fmt.Errorf("%w: others than its owner may use the file %s: chmod 600 it", ErrKey, path)
+		return nil, fmt.Errorf("%w: other users can access the file %s: run chmod 600 on it", ErrKey, path)
 	}
 	key, err := os.ReadFile(path)
 	if err != nil {

@@ -32,7 +32,7 @@ func targets(config *pgconn.Config) []target {
 	return all
 }
 
-var errNoTLS = errors.New("the server has no TLS")
+var errNoTLS = errors.New("the server doesn't offer TLS")
 
 // dial connects to the server in the first way that works. The startup message isn't sent.
 func (s *Server) dial(ctx context.Context) (net.Conn, error) {

@@ -88,7 +88,7 @@ func (s *Server) accept(ctx context.Context, listener net.Listener) error {
 			if delay > time.Second {
 				delay = time.Second
 			}
-			s.options.Log("no connection can be taken: " + err.Error())
+			s.options.Log("can't accept a connection: " + err.Error())
 			select {
 			case <-time.After(delay):
 			case <-ctx.Done():

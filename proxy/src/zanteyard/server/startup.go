@@ -22,7 +22,7 @@ const (
 // longestStartup is PostgreSQL's own bound (MAX_STARTUP_PACKET_LENGTH).
 const longestStartup = 10000
 
-var errStartup = errors.New("server: no startup message of PostgreSQL's protocol")
+var errStartup = errors.New("server: not a PostgreSQL startup message")
 
 // packet is a message without a type, as a connection begins with: a startup message, or a request for something else.
 type packet []byte

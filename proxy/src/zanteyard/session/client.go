@@ -108,9 +108,11 @@ func (s *Session) usable(st *statement) bool {
 // rewritable leaves cursors alone whose rows don't come in their own transaction, or not in the format that was asked
 // for.
 func rewritable(st *statement) bool {
-	return st.plan.Kind != plan.Prepare && (st.plan.Kind != plan.Declare || !mentions(st.text, "hold") &&
-		!mentions(st.text, "binary"))
+	return st.plan.Kind != plan.Prepare && (st.plan.Kind != plan.Declare || !differs(st.text))
 }
+
+// differs says that a cursor is, or may be, one WITH HOLD or BINARY.
+func differs(declare string) bool { return mentions(declare, "hold") || mentions(declare, "binary") }
 
 func (s *Session) query(o *output, m []byte, start, end int) {
 	s.begin()

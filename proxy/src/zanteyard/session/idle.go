@@ -116,7 +116,7 @@ func (s *Session) Release() {
 }
 
 // ErrNoFence says that a session can't make fences.
-var ErrNoFence = errors.New("session: it can make no fence")
+var ErrNoFence = errors.New("session: it can't make a fence")
 
 // Fence makes a fence as soon as the session has nothing under way. It returns at once; done is called with the
 // number of the fence's transaction, or with what went wrong. After Release it isn't begun any more, and done isn't

@@ -39,7 +39,7 @@ func TestPoolerBehind(t *testing.T) {
 						t.Errorf("%s: told %+v", mode, it)
 					}
 				}
-				if !p.sink.left("a pooler is between") {
+				if !p.sink.left("a pooler between") {
 					t.Errorf("%s: left out %v", mode, p.sink.unseen)
 				}
 				p.conn.Close()

@@ -345,3 +345,27 @@ func TestPreparedBefore(t *testing.T) {
 		t.Errorf("%d reads were told", n)
 	}
 }
+
+// TestCursorsThatArentSeen: what a cursor gives after its transaction, or in its own format, is no read of any transaction,
+// and is counted by its reason.
+func TestCursorsThatArentSeen(t *testing.T) {
+	needServer(t)
+	sql(t, fill)
+	for _, kind := range []string{"c CURSOR WITH HOLD", "c BINARY CURSOR"} {
+		texts := []string{"BEGIN ISOLATION LEVEL REPEATABLE READ", "DECLARE " + kind + " FOR SELECT id, v FROM t ORDER BY id",
+			"FETCH 1 FROM c", "UPDATE t SET v = 5 WHERE id = 3", "COMMIT", "FETCH 2 FROM c", "CLOSE ALL"}
+		p := through(t, "postgres", nil)
+		p.warm(texts...)
+		for _, text := range texts {
+			p.query(text)
+		}
+		p.settle()
+		got := p.sink.take()
+		if len(got) != 1 || len(got[0].Reads) != 0 || got[0].Number == 0 {
+			t.Errorf("%s: told %+v", kind, got)
+		}
+		if !p.sink.left("a cursor WITH HOLD or BINARY") {
+			t.Errorf("%s: that it was left out isn't told: %q", kind, p.sink.unseen)
+		}
+	}
+}

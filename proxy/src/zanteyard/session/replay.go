@@ -58,7 +58,7 @@ func (s *Session) again(e *expectation, m []byte) bool {
 	r.failure = wire.AppendMoved(r.failure[:0], m, e.moved())
 	if u := e.use; u != nil {
 		u.state, u.generation = failed, s.trust.generation
-		u.reason = "it failed once, since what it needs had changed"
+		u.reason = "it failed once, because a table had changed"
 		s.options.Shared.drop(s.trust.signature, u.plan)
 	}
 	return true

@@ -15,7 +15,7 @@ const (
 )
 
 // borrowed is why a read is left out.
-const borrowed = "read by another transaction's snapshot"
+const borrowed = "read in another transaction's snapshot"
 
 // transaction is what is known of the transaction that runs.
 type transaction struct {
@@ -250,7 +250,11 @@ func (s *Session) leftOut(p *plan.Plan, e *expectation) {
 		s.options.Sink.Unseen(u.Shape, u.Reason, true)
 	}
 	if !e.changed && e.use != nil {
-		s.options.Sink.Unseen(p.Shape, s.trust.why(e.use), p.Kind != plan.Write)
+		reason := s.trust.why(e.use)
+		if p.Kind == plan.Declare && differs(p.Shape) {
+			reason = "a cursor WITH HOLD or BINARY"
+		}
+		s.options.Sink.Unseen(p.Shape, reason, p.Kind != plan.Write)
 	}
 	if e.hidden > 0 && p.Asked && e.rows == 0 {
 		if e.at != nil && e.at.asked.known || e.at == nil && e.on.asked.known {

@@ -144,13 +144,13 @@ func (t *trust) usable(u *use, sample *statement) bool {
 func (t *trust) why(u *use) string {
 	switch {
 	case t.pooled:
-		return "a pooler is between the proxy and the server"
+		return "a pooler between proxy and server"
 	case t.broken:
-		return "the connection's user can't ask what the proxy has to ask"
+		return "the connection's user may not run the proxy's queries"
 	case u.state == failed:
 		return u.reason
 	case u.state == tried:
-		return "something may have changed what names mean"
+		return "something may have changed what names refer to"
 	}
 	return "not tried on its connection yet"
 }
@@ -275,7 +275,7 @@ func (s *Session) tryError(e *expectation, m []byte) {
 		return // it waits for another idle moment
 	}
 	e.use.state = failed
-	e.use.reason = "what the audit needs can't be asked for on its connection: " + string(wire.Field(m, 'C'))
+	e.use.reason = "the audit's columns can't be read on its connection: " + string(wire.Field(m, 'C'))
 }
 
 // passing says that an error came from what others do at the moment: a lock, a cancel, a limit of time or memory.
@@ -325,9 +325,9 @@ func (s *Session) tryEnd() {
 			u.state = waiting
 			t.queue = append(t.queue, u)
 		case !u.allowed:
-			u.state, u.reason = failed, "the connection's user may not read what the audit needs"
+			u.state, u.reason = failed, "the connection's user may not read the audit's columns"
 		default:
-			u.state, u.reason = failed, "on its connection the names mean something else"
+			u.state, u.reason = failed, "names refer to something else on its connection"
 		}
 	}
 }

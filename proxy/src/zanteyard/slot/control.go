@@ -121,7 +121,7 @@ func (c *Control) one(ctx context.Context, sql string) (string, error) {
 		return "", err
 	}
 	if len(rows) != 1 || len(rows[0]) != 1 {
-		return "", fmt.Errorf("the server's answer to %q has another form than expected", sql)
+		return "", fmt.Errorf("unexpected form of the server's answer to %q", sql)
 	}
 	return rows[0][0], nil
 }

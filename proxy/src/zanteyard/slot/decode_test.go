@@ -42,6 +42,9 @@ func show(it record.Commit) string {
 	for _, one := range it.Emptied {
 		text += fmt.Sprint(" emptied ", one)
 	}
+	if it.Bare {
+		text += " bare"
+	}
 	return text
 }
 
@@ -92,7 +95,8 @@ func TestDecoders(t *testing.T) {
 			[]string{`table public.t: INSERT: x[integer[]]:'{1,2}' id[integer]:-7 b[bytea]:'\x00ff' c[timestamp with time zone]:'2026-01-01 00:00:00+00'`},
 			" +1(-7)"},
 		{"an application's message", []string{`{"action":"M","transactional":true,"prefix":"p","content":"[{\"x"}`},
-			[]string{`message: transactional: 1 prefix: p, sz: 1 content:x`}, ""},
+			[]string{`message: transactional: 1 prefix: p, sz: 1 content:x`}, " bare"},
+		{"nothing, as from ANALYZE", nil, nil, " bare"},
 	} {
 		t.Run(one.name, func(t *testing.T) {
 			want := "725 at 0/15527F0:" + one.want

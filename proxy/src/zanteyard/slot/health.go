@@ -44,7 +44,7 @@ func (c *Control) Started(ctx context.Context) (join.Started, error) {
 		return join.Started{}, err
 	}
 	if len(rows) != 1 || len(rows[0]) != 3 {
-		return join.Started{}, errors.New("the server doesn't say who it is")
+		return join.Started{}, errors.New("the server doesn't identify itself")
 	}
 	its := join.Started{Database: rows[0][0], Server: rows[0][1]}
 	if c.options.Permanent && (rows[0][2] == "-1" || rows[0][2] == "") {
@@ -71,7 +71,7 @@ func (c *Control) Open(ctx context.Context) string {
 		"WHERE backend_xid IS NOT NULL AND pid <> pg_backend_pid() UNION ALL "+
 		"SELECT 'the prepared transaction ' || quote_literal(gid) || ', since ' || prepared FROM pg_prepared_xacts LIMIT 5")
 	if err != nil || len(rows) == 0 {
-		return "nothing more is known of it"
+		return "no details are known"
 	}
 	its := make([]string, len(rows))
 	for i, row := range rows {

@@ -14,7 +14,7 @@ type scanner struct {
 	at   int
 }
 
-var errForm = errors.New("slot: a message of the slot has another form than expected")
+var errForm = errors.New("slot: a message from the slot has an unexpected form")
 
 func (s *scanner) space() {
 	for s.at < len(s.text) && (s.text[s.at] == ' ' || s.text[s.at] == '\n' || s.text[s.at] == '\t' || s.text[s.at] == '\r') {

@@ -53,9 +53,9 @@ type Receiver interface {
 // Errors of Open and Read.
 var (
 	ErrNoPlugin = errors.New("slot: neither wal2json nor test_decoding is installed on the server")
-	ErrBlocked  = errors.New("slot: a transaction that was open before keeps the slot from beginning")
+	ErrBlocked  = errors.New("slot: the slot waits for a transaction that was already open")
 	ErrEnded    = errors.New("slot: the server ended the replication")
-	ErrBehind   = errors.New("slot: it is so far behind that the server was about to drop its log")
+	ErrBehind   = errors.New("slot: it fell so far behind that the server was about to drop its WAL")
 )
 
 // parsePlace reads a place in the log, as PostgreSQL writes it.

@@ -121,7 +121,7 @@ func (r *Reader) known(ctx context.Context) error {
 	case err != nil:
 		return fmt.Errorf("look at the replication slot: %w", err)
 	case len(rows) != 1 || rows[0][1] != "t":
-		return fmt.Errorf("the replication slot %s is another database's", r.options.Name)
+		return fmt.Errorf("the replication slot %s belongs to another database", r.options.Name)
 	case rows[0][2] == "t":
 		return fmt.Errorf("the replication slot %s is in use", r.options.Name)
 	}

@@ -232,7 +232,7 @@ func (t *Tables) Words(relation record.Relation, key record.Key) (table, row str
 	t.lock.RUnlock()
 	parts := strings.Split(string(key), "\x00")
 	if it == nil {
-		return "a table that is gone", strings.Join(parts, ", "), nil
+		return "a dropped table", strings.Join(parts, ", "), nil
 	}
 	columns = make([]string, len(it.Key))
 	for i, one := range it.Key {

@@ -28,6 +28,7 @@ func (d *testDecoding) decode(text []byte, end uint64) (record.Commit, bool, err
 	case bytes.HasPrefix(text, []byte("COMMIT")):
 		return d.open.commit(end), true, nil
 	case bytes.HasPrefix(text, []byte("table ")):
+		d.open.touched = true
 		return record.Commit{}, false, d.change(text[len("table "):])
 	}
 	return record.Commit{}, false, nil // a message that an application left in the log

@@ -15,6 +15,7 @@ type transaction struct {
 	at      map[place]int // of a row in writes, where there are many
 	fence   bool
 	emptied []record.Relation
+	touched bool // the slot told of a change of some table
 	dropped uint64
 }
 
@@ -77,5 +78,6 @@ func (t *transaction) empty(relation record.Relation) {
 func (t *transaction) commit(end uint64) record.Commit {
 	return record.Commit{
 		Number: t.number, LSN: end, Start: t.start, Writes: t.writes, Fence: t.fence, Emptied: t.emptied, Names: t.names,
+		Bare: !t.touched,
 	}
 }

@@ -60,6 +60,7 @@ func (w *wal2json) decode(text []byte, _ uint64) (record.Commit, bool, error) {
 		}
 		return w.open.commit(end), true, nil
 	case 'I', 'U', 'D', 'T':
+		w.open.touched = true
 		w.change(m)
 	case 'M': // a message that an application left in the log
 	default:

@@ -41,7 +41,7 @@ func NewReader(from io.Reader) *Reader {
 // valid until the next call.
 func (r *Reader) Whole() (messages []byte, more int, err error) {
 	if r.rest > 0 {
-		return nil, 0, errors.New("wire: a long message wasn't read to its end")
+		return nil, 0, errors.New("wire: a long message wasn't read completely")
 	}
 	r.shrink()
 	for {

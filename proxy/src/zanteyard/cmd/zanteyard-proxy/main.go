@@ -14,6 +14,7 @@ import (
 	"os"
 	"os/signal"
 	"runtime"
+	"runtime/debug"
 	"strings"
 	"sync"
 	"sync/atomic"
@@ -63,47 +64,47 @@ func parse(args []string, errors io.Writer) (flags, error) {
 	set := flag.NewFlagSet("zanteyard-proxy", flag.ContinueOnError)
 	var told strings.Builder // its mistakes are in the error as well
 	set.SetOutput(&told)
-	set.StringVar(&f.listen, "listen", "127.0.0.1:6432", "`address` where clients connect; with a / it is a socket's path")
-	set.StringVar(&f.server, "server", "", "the server and database, as a `URL` or keywords, as libpq has them; "+
-		"user and password are for the audit's own connections")
+	set.StringVar(&f.listen, "listen", "127.0.0.1:6432", "`address` for clients to connect to; with a / it is a Unix socket's path")
+	set.StringVar(&f.server, "server", "", "the server and database, as libpq's `URL` or keywords; "+
+		"its user and password are for the audit's own connections")
 	set.StringVar(&f.certificate, "tls-cert", "", "`file` with the certificate for clients' TLS")
 	set.StringVar(&f.key, "tls-key", "", "`file` with its key")
 	set.StringVar(&f.fence, "fence-table", "public.zanteyard_fence", "`table` for fences, with its schema")
 	set.DurationVar(&f.bound, "hold", 50*time.Millisecond,
 		"the longest `time` for which a meeting holds what clients send")
-	set.DurationVar(&f.look, "look", time.Second, "`time` between two looks for changed definitions")
-	set.IntVar(&f.reads, "reads", 10000, "`number` of reads of a transaction that are kept")
+	set.DurationVar(&f.look, "look", time.Second, "`time` between two checks for changed definitions")
+	set.IntVar(&f.reads, "reads", 10000, "the largest `number` of reads kept of one transaction")
 	set.BoolVar(&f.texts, "statements", true, "keep statements' texts for explanations")
 	set.BoolVar(&f.parameters, "parameters", false, "keep their parameters as well")
-	set.StringVar(&f.slot, "slot", "", "`name` of the replication slot; one of its own if it is left out")
-	set.BoolVar(&f.permanent, "permanent-slot", false, "the slot outlasts the proxy: it has to be dropped by hand")
-	set.Int64Var(&f.kept, "kept", 4<<30, "`bytes` of its log that the server may keep for the slot before the audit ends")
-	set.Int64Var(&f.held, "held", 64<<20, "`bytes` of what sessions saw that may wait for the audit")
+	set.StringVar(&f.slot, "slot", "", "`name` of the replication slot (default: a name of its own)")
+	set.BoolVar(&f.permanent, "permanent-slot", false, "keep the slot after the proxy ends: it must be dropped by hand")
+	set.Int64Var(&f.kept, "kept", 4<<30, "`bytes` of WAL that the server may keep for the slot before the audit ends")
+	set.Int64Var(&f.held, "held", 64<<20, "`bytes` of records that may wait for the audit")
 	set.IntVar(&f.join.Sessions, "sessions", 64, "`number` of the auditor's sessions")
 	set.IntVar(&f.join.Limit, "limit", 4096, "`number` of transactions that may remain at a time")
-	set.Func("promise", "serializable, or snapshot: what is audited is asked about snapshot isolation, with half as many "+
+	set.Func("promise", "serializable, or snapshot: audit for snapshot isolation, with half as many "+
 		"transactions", func(text string) error {
 		f.join.Snapshot = text == "snapshot"
 		if text != "snapshot" && text != "serializable" {
-			return fmt.Errorf("serializable or snapshot")
+			return fmt.Errorf("give serializable or snapshot")
 		}
 		return nil
 	})
 	set.Float64Var(&f.join.Sample, "sample", 1, "the `part` of the connections that is audited")
-	set.DurationVar(&f.join.Between, "between", 2*time.Second, "the least `time` between two meetings")
+	set.DurationVar(&f.join.Between, "between", 2*time.Second, "the shortest `time` between two meetings")
 	set.Func("tables", "audit only these tables, given as `patterns` such as public.*, shop.orders", func(text string) (err error) {
 		f.tables, err = catalog.ParseFilter(text)
 		return err
 	})
-	set.StringVar(&f.redis, "redis", os.Getenv(redisURL), "several proxies feed one audit over the Redis with this `URL`; better "+
+	set.StringVar(&f.redis, "redis", os.Getenv(redisURL), "let several proxies feed one audit through the Redis with this `URL`; better "+
 		"given by the environment's "+redisURL)
 	set.StringVar(&f.audit, "audit", "", "the audit's `name` in that Redis")
-	set.StringVar(&f.shared, "key", "", "`file` with the key that all of them share")
-	set.BoolVar(&f.remote, "remote", false, "audit nothing here: what sessions saw is sent to the audit of that name")
-	set.BoolVar(&f.redact, "redact", false, "no constants and parameters of statements leave a proxy for that Redis")
-	set.StringVar(&f.name, "name", "", "what people call this proxy; its machine's name if it is left out")
-	set.StringVar(&f.records, "records", "", "write what sessions saw to this `file`, as JSON, and audit nothing")
-	set.BoolVar(&f.passing, "pass", false, "pass all on without looking, and audit nothing")
+	set.StringVar(&f.shared, "key", "", "`file` with the key that proxies and audit share")
+	set.BoolVar(&f.remote, "remote", false, "audit nothing here: send the records to the audit of that name")
+	set.BoolVar(&f.redact, "redact", false, "send no constants and parameters of statements to Redis")
+	set.StringVar(&f.name, "name", "", "this proxy's name in the audit (default: the machine's name)")
+	set.StringVar(&f.records, "records", "", "write the records to this `file`, as JSON, and audit nothing")
+	set.BoolVar(&f.passing, "pass", false, "pass traffic on unchanged, and audit nothing")
 	set.BoolVar(&f.version, "version", false, "print the version and end")
 	if err := set.Parse(args); err != nil {
 		fmt.Fprint(errors, strings.TrimPrefix(told.String(), err.Error()+"\n"))
@@ -171,8 +172,8 @@ func run(ctx context.Context, f flags, in io.Reader, out io.Writer) error {
 		return fmt.Errorf("--server: %w", err)
 	}
 	if !f.passing && hosts(config) > 1 {
-		return errors.New("--server: an audit has one server, and several are named: connections could be with one of them " +
-			"while another one's log is read")
+		return errors.New("--server: an audit has exactly one server, but several are given: a connection could use one of them " +
+			"while the log of another is read")
 	}
 	var clientTLS *tls.Config
 	if f.certificate != "" || f.key != "" {
@@ -194,10 +195,14 @@ func run(ctx context.Context, f flags, in io.Reader, out io.Writer) error {
 		Shared:    session.NewShared(),
 		Log:       func(text string) { log.Print(text) },
 	}
-	// Go collects garbage when there is as much of it as of what is in use, which here is little. This counts as in use but
-	// takes no memory, since nothing is ever written to it: so there are some 16 MiB more of garbage, collected less often.
-	ballast := make([]byte, 16<<20)
+	// Go collects garbage when there is as much of it as of what is in use. That is more than needs be where 250,000 rows
+	// are known, and too little where few are: half as much is enough, with some that counts as in use but takes no memory,
+	// since nothing is ever written to it. It has 32 MiB of garbage be there before any is collected.
+	ballast := make([]byte, 64<<20)
 	defer runtime.KeepAlive(ballast)
+	if os.Getenv("GOGC") == "" {
+		debug.SetGCPercent(50)
+	}
 	loops, err := loop.New()
 	if err != nil {
 		return err

@@ -1,0 +1,199 @@
+"""Reads a refutation of the auditor's, a flat list of items, into an Explanation. What is told is
+what the auditor has checked: its circles, what they force, and its splits.
+
+Two things make it shorter. If what a circle rests on goes round by itself in fewer arcs, that is
+the circle that is told. And if an arc of the circle at the end was forced, that circle and the one
+that forced the arc each rule out one side of a choice: the shorter of the two is told at the end.
+"""
+
+from __future__ import annotations
+
+from typing import Any, Callable, Dict, List, Mapping, Sequence, Tuple
+
+from ..core._records import History, Naming, ShownId
+from ..promises._kinds import EVENTS
+from ..promises._times import TIME_KEYS
+from ._arc_words import ArcWords, is_of_writers
+from ._arcs import SESSION, WRITTEN, Arc, Choice, Ends, Event, Node, below, merged
+from ._arcs import shortest_circle, table, transaction_of
+from ._explanation import Case, Explanation
+
+MOST_ARCS = 256  # among which a shorter circle is looked for
+MANY = 24  # splits of a refutation; with more it isn't told case by case
+Facts = Mapping[Ends, Arc]  # what is taken, in the order in which it was
+
+
+class UnreadableError(Exception):
+    """The items aren't those of a refutation of this history."""
+
+
+def read_refutation(
+    items: Sequence[Sequence[Any]],
+    history: History,
+    keys: Sequence[str],
+    name: Naming,
+    moved: Callable[[ShownId], ShownId] = ShownId,
+    keeps_sessions: bool = True,
+) -> Explanation:
+    """What the items tell of the history. `keys` are the names of keys by their numbers, and
+    `moved` gives the place in the history of a transaction of the items. A read from the reader's
+    own session is told by the session, if its order is kept. Raises UnreadableError."""
+    count = sum(item[0] == "split" for item in items)
+    if count > MANY:
+        return Explanation(f"the auditor's refutation has {count + 1:,} cases, too many to tell")
+    try:
+        return _Reading(items, history, keys, name, moved, keeps_sessions).part({})
+    except (LookupError, TypeError, ValueError, StopIteration) as error:
+        raise UnreadableError(f"{error!r}") from error
+
+
+class _Reading:
+    """Of one refutation, item by item."""
+
+    def __init__(
+        self,
+        items: Sequence[Sequence[Any]],
+        history: History,
+        keys: Sequence[str],
+        name: Naming,
+        moved: Callable[[ShownId], ShownId],
+        keeps_sessions: bool,
+    ) -> None:
+        self.items, self.keeps_sessions = iter(items), keeps_sessions
+        self.keys, self.name, self.moved = keys, name, moved
+        self.txns = table(history)
+        self.words = ArcWords(self.txns, name)
+
+    def part(self, above: Facts) -> Explanation:
+        """The items up to the end of this part of the argument."""
+        facts: Dict[Ends, Arc] = {**above}
+        while True:
+            kind, *rest = next(self.items)
+            if kind == "force":
+                choice, side = self._choice(rest[0]), rest[1]
+                needs = self._path(rest[2], choice.sides()[2 - side], facts)
+                arc = self._forced(choice, side, needs)
+                facts.setdefault(arc.ends, arc)
+            elif kind == "split":
+                choice = self._choice(rest[0])
+                first, second = (self._case(choice, 1, facts), self._case(choice, 2, facts))
+                return Explanation(self.words.between(choice), cases=(first, second))
+            elif kind == "cycle":
+                return self._circle([self._arc(arc, facts) for arc in rest[0]], facts)
+            else:
+                return self._wrong_read(rest)
+
+    def _case(self, choice: Choice, side: int, facts: Facts) -> Case:
+        arc = self.words.assumed(choice, side)
+        return Case(arc, self.part({**facts, arc.ends: arc}))
+
+    def _wrong_read(self, parts: Sequence[Any]) -> Explanation:
+        node, number = self._read(parts, "node key")
+        reader, key = transaction_of(node), self.keys[number]
+        source = next(
+            source
+            for its, source in self.txns[reader].reads
+            if its == key and source in self.txns and key not in self.txns[source].writes
+        )
+        return Explanation(self.words.wrong_read(reader, key, source))
+
+    def _path(self, cycle: Sequence[Any], ruled_out: Ends, facts: Facts) -> List[Arc]:
+        """The rest of a cycle, from the end of what it rules out to its start."""
+        at = next(at for at, arc in enumerate(cycle) if self._ends(arc) == ruled_out)
+        rest = [*cycle[at + 1 :], *cycle[:at]]
+        return merged([self._arc(arc, facts) for arc in rest], self.name)
+
+    def _forced(self, choice: Choice, side: int, needs: Sequence[Arc]) -> Arc:
+        (first, *more) = needs
+        if side == 2 and is_of_writers(choice) and not more and first.needs:
+            its = first.choice
+            if its is not None and is_of_writers(its) and its.key == choice.key:
+                return self.words.after_own(first)
+        return self.words.forced(choice, side, needs)
+
+    def _circle(self, arcs: Sequence[Arc], facts: Facts) -> Explanation:
+        needed = below(arcs)
+        if len(needed) <= MOST_ARCS:  # what it rests on may go round already
+            arcs = shortest_circle([*arcs, *needed])
+        around = self._turned(self._better(self._turned(arcs), facts))
+        names = [self.words.step(arc.start) for arc in around]
+        end = self.words.none_first(around)
+        return Explanation(end, tuple(around), tuple([*names, names[0]]))
+
+    def _turned(self, arcs: Sequence[Arc]) -> List[Arc]:
+        """The same circle from the first of its transactions on, no run of one session cut."""
+        first = next(at for at, arc in enumerate(arcs) if {arcs[at - 1].why, arc.why} != {SESSION})
+        around = merged([*arcs[first:], *arcs[:first]], self.name)
+        at = min(range(len(around)), key=lambda at: _place(around[at].start))
+        return [*around[at:], *around[:at]]
+
+    def _better(self, around: List[Arc], facts: Facts) -> List[Arc]:
+        """Of this circle, and the one that ruled out the other side of what was forced last in it,
+        the one that is told in fewer steps."""
+        order = [*facts]
+        forced = [at for at, arc in enumerate(around) if arc.needs and arc.ends in facts]
+        if not forced:
+            return around
+        at = max(forced, key=lambda at: order.index(around[at].ends))
+        last, rest = around[at], [*around[at + 1 :], *around[:at]]
+        choice = last.choice
+        assert choice is not None
+        side = 2 if last.ends == choice.sides()[0] else 1
+        other = self._forced(choice, side, merged(rest, self.name))
+        ways = [other, *last.needs]
+        if any(one.end != two.start for one, two in zip(ways, [*ways[1:], ways[0]])):
+            return around
+        return min(around, ways, key=_length)
+
+    # what items are made of
+
+    def _choice(self, parts: Sequence[Any]) -> Choice:
+        reader, key, writer, other = self._read(parts, "node key node node")
+        return Choice(reader, self.keys[key], writer, other)
+
+    def _ends(self, parts: Sequence[Any]) -> Ends:
+        start, end = self._read(parts, f"kind {KEY_OF.get(parts[0], '')} node node")[-2:]
+        return start, end
+
+    def _arc(self, parts: Sequence[Any], facts: Facts) -> Arc:
+        kind, *key, start, end = self._read(parts, f"kind {KEY_OF.get(parts[0], '')} node node")
+        if kind == "session":
+            return self.words.in_session(start, end)
+        if kind == "taken":
+            return facts[start, end]
+        if key[0] >= TIME_KEYS:
+            return self.words.in_time(start, end)
+        if kind == "read":
+            first, second = transaction_of(start), transaction_of(end)
+            if self.keeps_sessions and first[0] == second[0] and first[1] < second[1]:
+                return self.words.in_session(start, end)
+            return self.words.read(self.keys[key[0]], start, end)
+        return self.words.read_before_all(self.keys[key[0]], start, end)
+
+    def _read(self, parts: Sequence[Any], shape: str) -> List[Any]:
+        """Parts of such a shape: a node is two numbers, and a word if begins are told apart."""
+        left, found = [*parts], []
+        for what in shape.split():
+            if what != "node":
+                found.append(left.pop(0))
+                continue
+            id = self.moved(ShownId((left.pop(0), left.pop(0))))
+            is_event = bool(left) and left[0] in EVENTS
+            found.append(Event(id, left.pop(0)) if is_event else id)
+        if left:
+            raise ValueError(f"{parts}")
+        return found
+
+
+KEY_OF = {"read": "key", "base": "key"}  # kinds of arcs that name one
+
+
+def _length(around: Sequence[Arc]) -> Tuple[int, int, int]:
+    """What it takes to tell of a circle: its own arcs, all that it rests on, and those of its arcs
+    that say which of two writers came first, and not who read what."""
+    return len(around), len(below(around)), sum(arc.kind == WRITTEN for arc in around)
+
+
+def _place(node: Node) -> Tuple[ShownId, str]:
+    """By which the nodes of a circle are compared."""
+    return transaction_of(node), node.what if isinstance(node, Event) else ""

@@ -1,0 +1,123 @@
+package join
+
+import (
+	"testing"
+	"time"
+
+	"zanteyard/record"
+)
+
+// Of quiet moments the last 4,096 are kept, or the later half of them; then a transaction that began before the first one
+// counts as spanning one.
+func TestMomentsAreBounded(t *testing.T) {
+	at := func(n int) time.Time { return time.Unix(1000, 0).Add(time.Duration(n) * time.Second) }
+	var m moments
+	for n := 1; n <= mostMoments; n++ {
+		if !m.set(at(n)) {
+			t.Fatalf("moment %d isn't set", n)
+		}
+	}
+	if len(m.its) != mostMoments || m.forgot || m.spanned(at(0), at(0)) {
+		t.Errorf("%d are kept; some are forgotten: %v", len(m.its), m.forgot)
+	}
+	if m.set(at(mostMoments)) {
+		t.Error("one is set that isn't later")
+	}
+	m.set(at(mostMoments + 1))
+	if len(m.its) != mostMoments/2+1 || !m.forgot || !m.spanned(at(0), at(0)) {
+		t.Errorf("%d are kept; some are forgotten: %v", len(m.its), m.forgot)
+	}
+	if first := mostMoments/2 + 1; !m.its[0].Equal(at(first)) || m.spanned(at(first), at(first)) {
+		t.Errorf("the first one is at %v", m.its[0])
+	}
+}
+
+// A row waits once to be forgotten, however often it is written; the fences' row doesn't.
+func TestRowsWaitOnceToBeForgotten(t *testing.T) {
+	b := newBench(t, Options{Sessions: 1, Rows: 2})
+	b.commit(1001, "a")
+	b.commit(1002, "a", "b")
+	b.commitFence(1003)
+	b.commit(1004, "b", "a")
+	if n := b.core.rows.written.len(); n != 2 {
+		t.Errorf("%d wait", n)
+	}
+	b.commit(1005, "c") // there is no room for three
+	var kept []string
+	for id := range b.core.rows.by {
+		kept = append(kept, string(id.key))
+	}
+	if b.core.rows.written.len() != 2 || len(kept) != 2 || b.core.rows.by[rowID{1, "a"}] != nil {
+		t.Errorf("kept are %v", kept)
+	}
+}
+
+// A transaction of a connection that isn't in the sample is left out for that reason.
+func TestOutsideTheSample(t *testing.T) {
+	b := newBench(t, Options{Sessions: 64, Sample: 0.5})
+	in, out := uint64(0), uint64(0)
+	for number := uint64(1); number <= 20; number++ {
+		if b.core.sampled(number) {
+			in++
+		} else {
+			out++
+		}
+		b.connect(number)
+		b.tell(number, 0, record.Transaction{Reads: []record.Read{read("a", 5)}})
+	}
+	b.settle()
+	if in == 0 || out == 0 {
+		t.Fatalf("%d are in the sample, and %d aren't", in, out)
+	}
+	n := b.core.counts
+	if n.offered != in || n.folded[sampledOut] != out || n.leftReads[sampledOut] != out || n.folded[noSession] != 0 {
+		t.Errorf("%d are in the sample: offered %d, folded %v", in, n.offered, n.folded)
+	}
+}
+
+// Nobody asks for a decided transaction by its number any more, whoever told of it first.
+func TestWhatIsDecidedTakesNoRoom(t *testing.T) {
+	b := newBench(t, Options{Sessions: 1})
+	b.connect(1, 2)
+	b.tell(1, 0, record.Transaction{Number: 1001}) // offered, and the slot tells of it later
+	b.tell(2, 0, record.Transaction{Number: 1002}) // left out: its connection has no session
+	if len(b.core.writers) != 2 {
+		t.Fatalf("waiting are %v", b.core.writers)
+	}
+	b.commit(1001, "a")
+	b.commit(1002, "a")
+	b.commit(1003, "a")
+	b.tell(1, 1, record.Transaction{Number: 1003}) // the slot told of it before
+	if len(b.core.writers) != 0 {
+		t.Errorf("waiting are %v", b.core.writers)
+	}
+	b.settle()
+	if len(b.core.writers) != 0 || b.core.counts.offered != 2 {
+		t.Errorf("waiting are %v", b.core.writers)
+	}
+}
+
+// A connection's transactions follow one another by their places: only then is none of them owed a quiet moment.
+func TestPlacesOfAConnection(t *testing.T) {
+	b := newBench(t, Options{Sessions: 1})
+	b.connect(1)
+	for _, one := range []struct{ place, folded uint64 }{{4, 0}, {5, 0}, {5, 1}, {3, 2}, {6, 2}} {
+		b.tell(1, one.place, record.Transaction{Reads: []record.Read{read("a", 5)}})
+		if n := b.core.counts.folded[acrossMoment]; n != one.folded {
+			t.Errorf("after place %d %d are left out", one.place, n)
+		}
+	}
+}
+
+// A cut that no round waits for, as one of the audit before, is no answer to the next one.
+func TestCutThatNoRoundWaitsFor(t *testing.T) {
+	for _, one := range []struct{ waiting, left int }{{0, 0}, {1, 0}, {2, 1}} {
+		b := newBench(t, Options{Sessions: 1})
+		j := &Joiner{core: b.core, commands: make(chan func(), 1), done: make(chan struct{}), unanswered: one.waiting}
+		j.Cut([]uint64{0})
+		(<-j.commands)()
+		if j.unanswered != one.left {
+			t.Errorf("of %d rounds %d wait", one.waiting, j.unanswered)
+		}
+	}
+}
