@@ -6,8 +6,8 @@ use Rattle.session_clocks.proofs.Marked.{IsTrail-none}
 use Rattle.session_clocks.proofs.Widened.{IsKept-wide, Reaches-same}
 use Rattle.session_clocks.proofs.graph.Graph.add_session.Goals as goal
 
-pub widened_lines-first-requires : goal.widened_lines-first-requires
-widened_lines-first-requires c =
+pub widened_lines-requires : goal.widened_lines-requires
+widened_lines-requires c =
     let kept = c.self.invariant.kept in
     rw (c.deref.ensures.value, c.deref-2.ensures.value, c.deref-3.ensures.value) record {
       gone = sym kept.first_lines.sessions;
@@ -16,8 +16,8 @@ widened_lines-first-requires c =
       rows = λ session within. kept.first_lines.rows session (omega (arith, within, kept.first_lines.sessions));
     }
 
-pub widened_lines-counts-requires : goal.widened_lines-counts-requires
-widened_lines-counts-requires c =
+pub widened_lines-requires-2 : goal.widened_lines-requires-2
+widened_lines-requires-2 c =
     let kept = c.self.invariant.kept in
     rw (c.deref-4.ensures.value, c.deref-5.ensures.value, c.deref-6.ensures.value) record {
       gone = sym kept.count_lines.sessions;
