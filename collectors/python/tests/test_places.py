@@ -58,6 +58,16 @@ class Meetings(unittest.TestCase):
                 self.assertEqual(live._in_vain == 0, is_cut)
 
 
+    def test_room_is_kept_for_the_meetings_of_open_sessions(self):
+        """Four transactions for each, and for one if all are closed: another one may come."""
+        with Auditor(3) as auditor:
+            live = LiveAuditor(auditor, seconds=3600.0)
+            live.stop()
+            for closed, room in ((set(), 12), ({1}, 8), ({0, 1}, 4), ({0, 1, 2}, 4)):
+                with mock.patch.object(live._audit, "_closed", closed):
+                    self.assertEqual(live._audit.reserve, room)
+
+
 @unittest.skipUnless(os.path.isfile(PROGRAM), f"{PROGRAM} is not built")
 class Added(unittest.TestCase):
     def test_the_place_of_a_session_that_could_not_be_made_is_free_again(self):
