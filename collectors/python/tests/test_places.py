@@ -80,6 +80,18 @@ class Added(unittest.TestCase):
             self.assertEqual(live.session(MemoryStore().connect()).number, 0)
             live.stop()
 
+    def test_an_audit_of_other_processes_notes_its_own_first_session(self):
+        """What that did last nobody knows, if this process ends."""
+        with Auditor(2) as auditor:
+            live, noted = LiveAuditor(auditor, seconds=3600.0, elsewhere=True), []
+            self.assertFalse(auditor.has_sessions)
+            note = auditor.note_sessions
+            auditor.note_sessions = lambda: noted.append(note())
+            for count in range(2):
+                live.session(MemoryStore().connect())
+                self.assertEqual((auditor.has_sessions, len(noted)), (True, 1))
+            live.stop()
+
     def test_what_came_before_an_audit_goes_on_is_no_reason_to_meet(self):
         with tempfile.TemporaryDirectory() as folder:
             with Auditor(1, journal=f"{folder}/journal") as auditor:
