@@ -2,6 +2,7 @@
 import os
 import tempfile
 import threading
+import time
 import unittest
 from contextlib import suppress
 from dataclasses import fields
@@ -57,6 +58,18 @@ class Meetings(unittest.TestCase):
                 self.assertEqual(live._audit.why_no_cut, why)
                 self.assertEqual(live._in_vain == 0, is_cut)
 
+
+    def test_audits_are_numbered(self):
+        with Auditor(1) as auditor, self.assertLogs("zanteyard"):
+            live = LiveAuditor(auditor, seconds=3600.0)
+            for count in range(1, 3):
+                live.lose(RuntimeError("for the sake of it"))
+                ends = time.monotonic() + SECONDS
+                while len(live.outcome.earlier) < count and time.monotonic() < ends:
+                    time.sleep(0.01)
+            name, outcome = auditor.run_name, live.stop()
+            names = [one.name for one in (*outcome.earlier, outcome)]
+            self.assertEqual(names, [name, f"{name}, audit 2", f"{name}, audit 3"])
 
     def test_room_is_kept_for_the_meetings_of_open_sessions(self):
         """Four transactions for each, and for one if all are closed: another one may come."""
