@@ -44,6 +44,7 @@ TESTS = (
     *("two_stores.InMemory", "two_stores.Told", "aborted", "joining", "live", "rounds", "killed.Killed"),
 )
 GO_SLOW = "Lives|MakesUpNo|MemoryIsBounded|HotRow"  # of the joiner's tests, those that take seconds
+QUICKEST = 100  # tests, for what is run before any of them
 LONGEST = 1800.0  # seconds for a call of tests without a mutant
 Mutant = collections.namedtuple("Mutant", "path line about text")  # the text is made when it is asked for
 COMPARED = {
@@ -213,20 +214,23 @@ def places_of(mutant):
 
 
 def covering(mutant, ran):
-    """The tests that can see it, the quickest first, and the seconds that they take."""
+    """The tests that can see it, the quickest first, and the seconds that they take. What is run as a module is imported, all
+    may see: the quickest ones are taken."""
     file, lines = os.path.relpath(mutant.path, PYTHON), places_of(mutant)
     its = [(seconds, id) for id, (seconds, ran_lines) in ran.items()
            if any(path == file and number in lines for path, number in ran_lines)]
-    return [id for _, id in sorted(its)], sum(seconds for seconds, _ in its)
+    its = sorted(its) or sorted((seconds, id) for id, (seconds, _) in ran.items())[:QUICKEST]
+    return [id for _, id in its], sum(seconds for seconds, _ in its)
 
 
 def python_fate(folder, mutant, ran):
     """Of a mutant: "found", "hangs", or "lives"; and what found it. The tests are run in a copy of the tree."""
     names, seconds = covering(mutant, ran)
-    if not names:
-        return "lives", "no test runs it"
     tree = os.path.join(folder, os.path.relpath(PYTHON, TOP))
     shutil.copytree(PYTHON, tree, ignore=shutil.ignore_patterns("__pycache__", "out"))
+    for name in os.listdir(TOP):  # some tests read what stands beside
+        if name != "collectors":
+            os.symlink(os.path.join(TOP, name), os.path.join(folder, name))
     with open(os.path.join(tree, os.path.relpath(mutant.path, PYTHON)), "w", encoding="utf-8") as file:
         file.write(mutant.text())
     call = [sys.executable, "-W", "ignore", "-m", "unittest", "-f", *names]

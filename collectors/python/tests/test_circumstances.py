@@ -44,7 +44,7 @@ class Circumstances(unittest.TestCase):
         here = os.path.basename(__file__)
         self.assertRegex(
             text,
-            rf"0\.1 began at \d\d:\d\d:\d\d\.\d{{3}} from .*{here}:\d+; "
+            rf"0\.1 began at \d\d:\d\d:\d\d\.\d{{3}} called from .*{here}:\d+; "
             "read rent: '100'; wrote rent: '90'",
         )
         page = page_of(story_of(small, name, explain_history(small)), "a bank", "proved")

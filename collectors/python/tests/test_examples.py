@@ -141,7 +141,7 @@ class Examples(unittest.TestCase):
                 running.send_signal(number)
                 text = running.communicate(timeout=4 * ENDING)[0]
                 self.assertEqual(running.returncode, 0, text)
-                self.assertIn("ending, with a last round", text)
+                self.assertIn("ending after a last round", text)
                 self.assertRegex(text, "(?m)^mixed at serializable: serial: ([0-9]+) of \\1 ")
                 self.assertNotIn("Traceback", text)
                 self.assertEqual(os.listdir(f"{self.folder}/tmp"), [])

@@ -495,7 +495,7 @@ class Strict(unittest.TestCase):
             self.assertEqual(status, 2)
             self.assertIn("import it again without --strict", err)
             lines = self.long(1100, 700)
-            self.assertIn("line 1: from here on 70", tried("--strict")[2])
+            self.assertIn("line 1: from here on, 70", tried("--strict")[2])
 
     @unittest.skipUnless(os.path.isfile(PROGRAM), f"{PROGRAM} is not built")
     def test_what_time_alone_excludes_is_told_so(self):

@@ -169,6 +169,15 @@ class Noted(unittest.TestCase):
         if outcome is not None:
             self.notes.write(0, 0, outcome, None, None, True, is_last, self.UNCLEAR)
 
+    def test_who_was_to_join_and_was_not_answered_has_its_number_for_good(self):
+        """The store may have been asked of an attempt before; one that was answered left nothing."""
+        self.before(0, Logged([("x", "init")], ()))
+        found, place = self.told(Place(0, must_join=True))
+        self.assertEqual((found, place.begun, place.is_ended, place.unknown), ([], 1, True, ((0, 1),)))
+        self.notes.write(0, 0, "aborted", None)
+        found, place = self.told(Place(0, must_join=True))
+        self.assertEqual((found, place.begun, place.is_ended, place.unknown), ([], 0, False, ()))
+
     def told_of_the_living(self, come=0):
         """Of a process that isn't heard of, and may go on."""
         backlog, place = Backlog(8), Place(0)
@@ -281,7 +290,7 @@ class WhatIsNoted(unittest.TestCase):
         told = []
         auditor = mock.Mock(run_name="run", is_named=False, policy=Policy(30.0))
         auditor.miss = lambda *missed: told.append(missed)
-        session = Session(auditor, 0, store.connect(), "run")
+        session = Session(auditor, 2, store.connect(), "run")
         session.notes = self.notes
         if unclaimed:
             session.unclaimed, session.claim_at = AuditLostError(unclaimed), math.inf
@@ -292,6 +301,7 @@ class WhatIsNoted(unittest.TestCase):
         (before, answered), told = self.run_one(MemoryStore())
         self.assertIn(("x", "init"), unpacked(before.packed).reads)
         self.assertEqual((before.unclear, answered.unclear, told), (None, None, []))
+        self.assertEqual([(note.session, note.number) for note in (before, answered)], [(2, 0), (2, 0)])
 
     def test_that_it_is_unclear_is_noted_before_and_behind(self):
         (before, answered), told = self.run_one(written_by_a_child("run"))

@@ -251,7 +251,7 @@ class ByTheAuditor(unittest.TestCase):
     def test_what_cant_be_asked_is_refused_in_words(self):
         opened = ["open", 2, 4096]
         rows = (
-            (SNAPSHOT, [["resume", 1, 4]], "resumes another"),
+            (SNAPSHOT, [["resume", 1, 4]], "continues another one"),
             (SNAPSHOT, [opened, ["save", "marks"]], "split in two"),
             (SNAPSHOT, [opened, ["begin"], ["answer", "order", []]], "from elsewhere"),
             (SNAPSHOT, [opened, ["offer", 0, 0, [[[], [KEYS]]]]], "below 9223372036854775808"),

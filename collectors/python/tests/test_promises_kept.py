@@ -165,7 +165,7 @@ class Promises(OfSnapshots):
         journal = Journal(self.path)
         journal.begin_anew(_entries.checkpoint(head, _entries.keys(0, ["fence"]), (), lines))
         journal.close()
-        with self.assertRaisesRegex(JournalError, "promise causal"):
+        with self.assertRaisesRegex(JournalError, "promise: causal"):
             self.resumed()
 
 

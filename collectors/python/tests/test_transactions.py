@@ -32,6 +32,22 @@ class Unanswered(Interrupted):
         return "unknown"
 
 
+class TwiceInterrupted(Interrupted):
+    """By a handler behind the commit, and by Ctrl-C as it is rolled back."""
+
+    rollbacks = 0
+
+    def commit(self):
+        self.connection.commit()
+        raise RuntimeError("a handler's own")
+
+    def rollback(self):
+        self.rollbacks += 1
+        if self.rollbacks == 1:
+            raise KeyboardInterrupt
+        self.connection.rollback()
+
+
 @unittest.skipUnless(os.path.isfile(PROGRAM), f"{PROGRAM} is not built")
 class Transactions(unittest.TestCase):
     def setUp(self):
@@ -85,6 +101,13 @@ class Transactions(unittest.TestCase):
         (did,) = self.auditor.history[0]
         self.assertEqual((did.outcome, [*did.reads], [*did.writes]), ("unknown", [], ["x"]))
         self.assertEqual([*map(tuple, did.values)], [("wrote", "x", "'1'")])
+
+    def test_what_is_in_doubt_as_it_is_given_up_is_told_as_unknown(self):
+        session = self.session(TwiceInterrupted(self.store.connect()))
+        with self.assertRaises(KeyboardInterrupt):
+            session.run(lambda transaction: transaction.put("x", "1"))
+        (did,) = self.auditor.history[0]
+        self.assertEqual((did.outcome, [*did.reads], [*did.writes]), ("unknown", [], ["x"]))
 
     def test_an_interrupt_behind_the_commit_makes_nothing_up(self):
         session = self.session(Interrupted(self.store.connect()))

@@ -293,7 +293,7 @@ class Postgres(Pairs, Quiet):
 
 @unittest.skipUnless(redis and redis_server(), "Redis or redis-py isn't installed (no two of them were told apart)")
 class Redis(Pairs, Quiet):
-    shown = r"database \d of the Redis at .*, behind '.*' \(store [0-9a-f]+\).*database \d of the Redis at .*"
+    shown = r"database \d of the Redis at .*, prefix '.*' \(store [0-9a-f]+\).*database \d of the Redis at .*"
 
     def setUp(self):
         super().setUp()

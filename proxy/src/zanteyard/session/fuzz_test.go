@@ -12,7 +12,17 @@ import (
 	"zanteyard/wire"
 )
 
-var theSeed = flag.Int64("seed", 0, "of the random programs and messages; 0: by the clock")
+var theSeed = flag.Int64("seed", 1, "of the random programs and messages; 0: by the clock")
+
+// seeded gives random numbers, the same ones in each run unless the seed is the clock's.
+func seeded(t *testing.T) *rand.Rand {
+	seed := *theSeed
+	if seed == 0 {
+		seed = time.Now().UnixNano()
+	}
+	t.Logf("seed %d", seed)
+	return rand.New(rand.NewSource(seed))
+}
 
 // TestNonsense sends messages that are well-formed but for some bytes, in any order. Direct and by way of a session,
 // the server may refuse them or end the connection; the session must not fail by itself, and others are to be
@@ -20,12 +30,7 @@ var theSeed = flag.Int64("seed", 0, "of the random programs and messages; 0: by 
 func TestNonsense(t *testing.T) {
 	needServer(t)
 	sql(t, fill)
-	seed := *theSeed
-	if seed == 0 {
-		seed = time.Now().UnixNano()
-	}
-	t.Logf("seed %d", seed)
-	r := rand.New(rand.NewSource(seed))
+	r := seeded(t)
 	kinds := []pgproto3.FrontendMessage{
 		&pgproto3.Query{String: "SELECT v FROM t WHERE id = 1"},
 		&pgproto3.Query{String: "BEGIN; SELECT v FROM t WHERE id = 2; COMMIT"},
@@ -44,7 +49,7 @@ func TestNonsense(t *testing.T) {
 		&pgproto3.Query{String: "COPY t FROM STDIN"}, &pgproto3.Parse{Query: "COPY t FROM STDIN"},
 	}
 	for round := 0; round < 60; round++ {
-		kinds := kinds
+		round, kinds := round, kinds // what is wrong may be logged in the next round
 		var change func(*Options)
 		if round%2 == 0 {
 			kinds = kinds[:len(kinds)-2]
@@ -70,6 +75,10 @@ func TestNonsense(t *testing.T) {
 				all = append(all, encoded(&pgproto3.Sync{})...)
 			}
 		}
+		var cuts []int // drawn first: the same ones whatever the server does
+		for left := len(all); left > 0; left -= cuts[len(cuts)-1] {
+			cuts = append(cuts, 1+r.Intn(left))
+		}
 		go func() { // what comes back isn't looked at
 			b := make([]byte, 4096)
 			for {
@@ -78,8 +87,7 @@ func TestNonsense(t *testing.T) {
 				}
 			}
 		}()
-		for len(all) > 0 {
-			n := 1 + r.Intn(len(all))
+		for _, n := range cuts {
 			if _, err := p.conn.Write(all[:n]); err != nil {
 				break // the server has ended it
 			}

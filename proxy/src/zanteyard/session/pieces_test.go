@@ -7,7 +7,6 @@ import (
 	"net"
 	"sync"
 	"testing"
-	"time"
 )
 
 // pieces_ has what clients and servers send arrive in pieces, cut anywhere, nil if it isn't cut.
@@ -84,12 +83,7 @@ func behindRelay(t testing.TB, port int) net.Conn {
 // TestPieces: the answers are the same however messages are cut on their way, on both sides.
 func TestPieces(t *testing.T) {
 	needServer(t)
-	seed := *theSeed
-	if seed == 0 {
-		seed = time.Now().UnixNano()
-	}
-	t.Logf("seed %d", seed)
-	pieces_ = &cuts{r: rand.New(rand.NewSource(seed))}
+	pieces_ = &cuts{r: seeded(t)}
 	defer func() { pieces_ = nil }()
 	for _, x := range exchanges() {
 		x := x

@@ -199,12 +199,7 @@ func shapes() []shape {
 // to be told, if its statement isn't counted as left out; and each number has to be that of the rows' xmin.
 func TestRandomPrograms(t *testing.T) {
 	needServer(t)
-	seed := *theSeed
-	if seed == 0 {
-		seed = time.Now().UnixNano()
-	}
-	t.Logf("seed %d", seed)
-	r := rand.New(rand.NewSource(seed))
+	r := seeded(t)
 	sql(t, tagged)
 	ctx := context.Background()
 	observer, err := pgconn.ConnectConfig(ctx, config())
