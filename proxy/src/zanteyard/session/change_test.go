@@ -73,6 +73,29 @@ func TestChanges(t *testing.T) {
 	}
 }
 
+// TestChangesBeforeSync: an error that could be undone, but with a Query behind it, and the client's Sync isn't sent yet.
+// The client isn't made to wait for what only its Sync brings.
+func TestChangesBeforeSync(t *testing.T) {
+	needServer(t)
+	sql(t, "DROP TABLE IF EXISTS r; CREATE TABLE r (id int PRIMARY KEY, v int); INSERT INTO r VALUES (1, 1)")
+	d, err := definitions.Open(context.Background(), config(), time.Hour, func(string) {})
+	if err != nil {
+		t.Fatal(err)
+	}
+	p := through(t, "postgres", func(o *Options) { o.Plans, o.Generation = d, d.Generation })
+	p.warm("SELECT v FROM r WHERE true")
+	sql(t, "ALTER TABLE r DROP COLUMN id")
+	p.conn.SetDeadline(time.Now().Add(time.Minute))
+	p.do(messages('E', &pgproto3.Parse{Query: "SELECT v FROM r WHERE true"}, &pgproto3.Query{String: "SELECT 1"}))
+	if !p.session.Busy() {
+		t.Error("the server waits for a Sync, and the session takes it for idle")
+	}
+	p.do(messages('Z', &pgproto3.Sync{}))
+	if got := p.query("SELECT 2"); len(got) != 4 {
+		t.Errorf("got %s", show(got))
+	}
+}
+
 // TestTrialDoesNotWait: a trial that would wait for a lock gives up, and the client's next statement isn't held.
 func TestTrialDoesNotWait(t *testing.T) {
 	needServer(t)

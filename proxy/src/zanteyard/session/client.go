@@ -45,7 +45,13 @@ func (s *Session) fromClient(o *output, batch []byte) []byte {
 			if !s.queue.empty() {
 				s.queue.push(expectation{message: 'c'})
 			}
-		default: // passwords, data of a COPY, Flush, Terminate
+		case 'H':
+			o.pass(at, end)
+			if len(m) > wire.Header { // malformed: it is owed an error, and what follows is left out
+				s.open = true
+				s.queue.push(expectation{message: 'H'})
+			}
+		default: // passwords, data of a COPY, Terminate
 			o.pass(at, end)
 		}
 		at = end

@@ -402,6 +402,13 @@ func extendedExchanges() []exchange {
 			messages('Z', &pgproto3.Parse{Query: "SELECT v FROM t WHERE id = 1"}, &pgproto3.Bind{}, &pgproto3.Execute{},
 				&pgproto3.Sync{}),
 			query("SELECT v FROM t WHERE id = 1"), bound("s", nil)}},
+		{name: "a Query in a pipeline that fails, and what is sent behind it", steps: []step{
+			messages('E', &pgproto3.Parse{Query: "SELECT nothere"}, &pgproto3.Query{String: "SELECT w, v, w FROM t WHERE id = 9"}),
+			messages('Z', &pgproto3.Parse{Query: "UPDATE t SET v = 7 WHERE id = 9"}, &pgproto3.Bind{}, &pgproto3.Execute{},
+				&pgproto3.Sync{}), query("SELECT w, v, w FROM t WHERE id = 9")}},
+		{name: "a malformed Flush", sees: 1, steps: []step{{append([]byte{'H', 0, 0, 0, 5, 0},
+			encoded(&pgproto3.Query{String: "SELECT 1"}, &pgproto3.Sync{}, &pgproto3.Query{String: "SELECT v FROM t WHERE id = 1"},
+				&pgproto3.Parse{Query: "SELECT 2"}, &pgproto3.Sync{})...), 'Z', 3}, query("SELECT 3")}},
 		{name: "a block in a pipeline", sees: 2, steps: []step{
 			messages('Z', &pgproto3.Parse{Query: "BEGIN"}, &pgproto3.Bind{}, &pgproto3.Execute{},
 				&pgproto3.Parse{Query: "SELECT v FROM t WHERE id = 1"}, &pgproto3.Bind{}, &pgproto3.Execute{},

@@ -29,7 +29,8 @@ const (
 // expectation is what the server owes for one message that was sent to it. They are answered in order.
 type expectation struct {
 	kind purpose
-	// message is the type of the message: P B D E C S Q F; c is the end of a copy, which is owed nothing.
+	// message is the type of the message: P B D E C S Q F; H is a malformed Flush; c is the end of a copy, which is owed
+	// nothing.
 	message byte
 	mute    bool // what is answered isn't passed on, though it is the client's
 	binary  bool // hidden columns come as binary

@@ -54,6 +54,9 @@ func (s *Session) again(e *expectation, m []byte) bool {
 			return false // something comes behind
 		}
 	}
+	if last := s.queue.list[len(s.queue.list)-1].message; e.message != 'Q' && last != 'S' {
+		return false // the Sync hasn't been sent, and mustn't wait for its own answer
+	}
 	r.running = true
 	r.failure = wire.AppendMoved(r.failure[:0], m, e.moved())
 	if u := e.use; u != nil {

@@ -79,8 +79,7 @@ func (s *Session) answer(o *output, m []byte, start, end int) {
 	}
 }
 
-// synced gives the expectation that a ReadyForQuery answers. What is in front of it was skipped, without an error that
-// was known to have it skipped: one for a malformed Flush.
+// synced gives the expectation that a ReadyForQuery answers. What is in front of it wasn't answered.
 func (s *Session) synced() *expectation {
 	e := s.queue.first()
 	for ; e != nil && e.message != 'S' && e.message != 'Q' && e.message != 'F'; e = s.queue.first() {
@@ -104,8 +103,6 @@ func (s *Session) unasked(o *output, m []byte, start, end int) {
 		if s.status == 0 && len(m) >= wire.Header+4 {
 			s.backend = wire.Int32(m[wire.Header:])
 		}
-	case 'E':
-		s.skipping = s.open && !wire.Fatal(m) // for a Flush, which is owed nothing else
 	case 'Z': // the first one: startup is over
 		if len(m) > wire.Header {
 			if s.status == 0 {
@@ -318,7 +315,9 @@ func (s *Session) failed(o *output, e *expectation, m []byte, start, end int, pa
 	}
 	cleared := e.cleared
 	s.queue.skipped(s.names.back)
-	s.skipping = s.queue.empty()
+	if s.skipping = s.queue.empty(); s.skipping {
+		s.open = true // also behind a Query that was left out: nothing but the client's Sync ends this
+	}
 	if cleared {
 		s.names.setStatement("", nil)
 	}
