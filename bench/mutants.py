@@ -228,6 +228,9 @@ def python_fate(folder, mutant, ran):
     names, seconds = covering(mutant, ran)
     tree = os.path.join(folder, os.path.relpath(PYTHON, TOP))
     shutil.copytree(PYTHON, tree, ignore=shutil.ignore_patterns("__pycache__", "out"))
+    for name in os.listdir(TOP):  # some tests read what stands beside
+        if name != "collectors":
+            os.symlink(os.path.join(TOP, name), os.path.join(folder, name))
     with open(os.path.join(tree, os.path.relpath(mutant.path, PYTHON)), "w", encoding="utf-8") as file:
         file.write(mutant.text())
     call = [sys.executable, "-W", "ignore", "-m", "unittest", "-f", *names]

@@ -336,6 +336,13 @@ class GivenOut(unittest.TestCase):
         self.assertIsNone(places.take(0.0))
         self.assertFalse(places.are_all_taken)
 
+    def test_half_is_rounded_up(self):
+        for taken, kept in ((5, 30), (6, 29), (7, 29), (8, 28)):
+            places = SessionPool(64)
+            for _ in range(taken):
+                places.take(0.0)
+            self.assertEqual(len(places.spare(places.lend())), kept)
+
     def test_a_few_can_be_had_where_few_are_left(self):
         places = SessionPool(64)
         for _ in range(52):

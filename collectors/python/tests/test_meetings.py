@@ -29,6 +29,20 @@ class Meetings(unittest.TestCase):
         self.group.add(session)
         return session
 
+    def test_each_place_is_lent_to_a_session_in_turns(self):
+        sessions, seen = [self.session(number) for number in range(2)], []
+        self.group.held = dict.fromkeys(sessions)
+        self.group.begin = lambda meeting, session, deed, place, what: seen.append((deed, session.number, place.number, what))
+        self.group.end_all = lambda: seen.append("all of them")
+        self.group.share(1, [Place(number) for number in range(5, 10)], "flag")
+        lent = [("lend", number % 2, 5 + number, "flag") for number in range(5)]
+        self.assertEqual(seen, [*lent[:2], "all of them", *lent[2:4], "all of them", *lent[4:], "all of them"])
+        del seen[:]
+        self.group.share(1, [], "flag")
+        self.group.held = {}
+        self.group.share(1, [Place(5)], "flag")
+        self.assertEqual(seen, [])
+
     def test_who_is_let_go_as_its_time_is_up_keeps_its_place(self):
         """The timer comes behind the flags, and the client begins a transaction at once."""
         session, begun = self.session(0), []

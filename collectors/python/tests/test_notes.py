@@ -290,7 +290,7 @@ class WhatIsNoted(unittest.TestCase):
         told = []
         auditor = mock.Mock(run_name="run", is_named=False, policy=Policy(30.0))
         auditor.miss = lambda *missed: told.append(missed)
-        session = Session(auditor, 0, store.connect(), "run")
+        session = Session(auditor, 2, store.connect(), "run")
         session.notes = self.notes
         if unclaimed:
             session.unclaimed, session.claim_at = AuditLostError(unclaimed), math.inf
@@ -301,6 +301,7 @@ class WhatIsNoted(unittest.TestCase):
         (before, answered), told = self.run_one(MemoryStore())
         self.assertIn(("x", "init"), unpacked(before.packed).reads)
         self.assertEqual((before.unclear, answered.unclear, told), (None, None, []))
+        self.assertEqual([(note.session, note.number) for note in (before, answered)], [(2, 0), (2, 0)])
 
     def test_that_it_is_unclear_is_noted_before_and_behind(self):
         (before, answered), told = self.run_one(written_by_a_child("run"))

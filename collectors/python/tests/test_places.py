@@ -2,6 +2,7 @@
 import os
 import tempfile
 import threading
+import time
 import unittest
 from contextlib import suppress
 from dataclasses import fields
@@ -58,6 +59,28 @@ class Meetings(unittest.TestCase):
                 self.assertEqual(live._in_vain == 0, is_cut)
 
 
+    def test_audits_are_numbered(self):
+        with Auditor(1) as auditor, self.assertLogs("zanteyard"):
+            live = LiveAuditor(auditor, seconds=3600.0)
+            for count in range(1, 3):
+                live.lose(RuntimeError("for the sake of it"))
+                ends = time.monotonic() + SECONDS
+                while len(live.outcome.earlier) < count and time.monotonic() < ends:
+                    time.sleep(0.01)
+            name, outcome = auditor.run_name, live.stop()
+            names = [one.name for one in (*outcome.earlier, outcome)]
+            self.assertEqual(names, [name, f"{name}, audit 2", f"{name}, audit 3"])
+
+    def test_room_is_kept_for_the_meetings_of_open_sessions(self):
+        """Four transactions for each, and for one if all are closed: another one may come."""
+        with Auditor(3) as auditor:
+            live = LiveAuditor(auditor, seconds=3600.0)
+            live.stop()
+            for closed, room in ((set(), 12), ({1}, 8), ({0, 1}, 4), ({0, 1, 2}, 4)):
+                with mock.patch.object(live._audit, "_closed", closed):
+                    self.assertEqual(live._audit.reserve, room)
+
+
 @unittest.skipUnless(os.path.isfile(PROGRAM), f"{PROGRAM} is not built")
 class Added(unittest.TestCase):
     def test_the_place_of_a_session_that_could_not_be_made_is_free_again(self):
@@ -68,6 +91,18 @@ class Added(unittest.TestCase):
                     live.session(MemoryStore().connect())
             self.assertEqual((live._pool.taken, live._pool.numbers()), (0, [0]))
             self.assertEqual(live.session(MemoryStore().connect()).number, 0)
+            live.stop()
+
+    def test_an_audit_of_other_processes_notes_its_own_first_session(self):
+        """What that did last nobody knows, if this process ends."""
+        with Auditor(2) as auditor:
+            live, noted = LiveAuditor(auditor, seconds=3600.0, elsewhere=True), []
+            self.assertFalse(auditor.has_sessions)
+            note = auditor.note_sessions
+            auditor.note_sessions = lambda: noted.append(note())
+            for count in range(2):
+                live.session(MemoryStore().connect())
+                self.assertEqual((auditor.has_sessions, len(noted)), (True, 1))
             live.stop()
 
     def test_what_came_before_an_audit_goes_on_is_no_reason_to_meet(self):

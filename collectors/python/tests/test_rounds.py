@@ -21,6 +21,7 @@ from zanteyard.journal import _writer as journal_writer
 from zanteyard.program._auditor import PROGRAM
 from zanteyard.program._check_report import by_turns
 from zanteyard.program._intake import EFFORTS
+from zanteyard.program._rounds import Rounds
 from zanteyard.stores.memory import MemoryStore
 
 from .built import path_of
@@ -213,6 +214,25 @@ class OverlappingWhereProgramsDie(Overlapping):
     def test_reports_are_right_of_what_they_were_begun_with(self):
         super().test_reports_are_right_of_what_they_were_begun_with()
         self.assertGreater(self.kills, self.RUNS)
+
+
+class Waiting(unittest.TestCase):
+    def test_who_waits_for_a_search_takes_no_time_of_a_processor(self):
+        rounds, looks = Rounds.__new__(Rounds), []
+
+        class Search:
+            def pause(self, seconds):
+                looks.append("a pause")
+
+        def look():
+            looks.append("a look")
+            if len(looks) > 4:
+                rounds._search = None  # it has ended
+
+        rounds.lock, rounds._search, rounds._look, rounds._may_be_open = threading.Lock(), Search(), look, False
+        with rounds._between_rounds():
+            self.assertTrue(rounds.lock.locked())
+        self.assertEqual(looks, ["a look", "a pause"] * 2 + ["a look"])
 
 
 class WithMadeUp(unittest.TestCase):

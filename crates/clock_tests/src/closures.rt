@@ -1,170 +1,21 @@
-ghost use Rattle.std.specs.Prelude.{◌≡◌, ◌∷◌};
-
-use session_clocks::{Addition, Graph};
+use crate::drawn::{Drawn, SESSIONS, draw_arcs, draw_graph, id};
+use session_clocks::Graph;
 use std::alloc::Global;
 use std::process::Abort;
 use std::test::Fail;
 use test_histories::Relation;
-use txn::{Arc, TxnId};
-
-const SESSIONS: u8 = 4;
-
-// Transactions and arcs that are drawn for one graph.
-const DRAWN: usize = 60;
-
-// Arcs that are drawn behind a mark.
-const BEHIND_A_MARK: usize = 8;
-
-fn id(session: u8, number: u64) -> TxnId {
-    TxnId { session, number }
-}
-
-// A generator of numbers (Knuth's constants for 64 bits), whose high bits are taken.
-fn next(state: &mut u64, below: usize) -> usize {
-    *state = state
-        .wrapping_mul(6364136223846793005)
-        .wrapping_add(1442695040888963407);
-    (*state >> 33) as usize % below.max(1)
-}
-
-// The session's next transaction, behind the others of its session.
-fn add_node(
-    rt: &impl Abort,
-    graph: &mut Graph,
-    ids: &mut Vec<TxnId>,
-    session: u8,
-) -> Result<(), Fail> {
-    let numbers = graph.received();
-    assert!(rt; usize::from(session) < numbers.len());
-    assert!(rt; numbers[usize::from(session)] < u64::MAX);
-    let added = graph.add_node(session)?;
-    assert_eq!(rt; added.session, session);
-    ids.push(added)?;
-    Ok(())
-}
-
-// An arc between two that are there; whether it closes a cycle.
-fn add_arc(
-    rt: &impl Abort,
-    alloc: Global,
-    graph: &mut Graph,
-    from: TxnId,
-    to: TxnId,
-    told: &mut Vec<TxnId>,
-) -> Result<bool, Fail>
-    ensures { graph.new.marks ≡ graph.old.marks }
-{
-    let arc = Arc::Taken { from, to };
-    assert!(rt; graph.contains(arc.start()) && graph.contains(arc.end()));
-    Ok(graph.add_arc(alloc, arc, told)? == Addition::Cycle)
-}
-
-// The pairs of which the graph says that the one reaches the other.
-fn said_by(alloc: Global, graph: &Graph, ids: &[TxnId]) -> Result<Relation, Fail> {
-    let mut said = Relation::none(alloc, ids)?;
-    for from in ids {
-        for to in ids {
-            if graph.reaches(*from, *to) {
-                said.note((*from, *to));
-            }
-        }
-    }
-    Ok(said)
-}
-
-// Whether it reaches one more than before, or one more reaches it.
-fn has_grown(graph: &Graph, before: &Relation, ids: &[TxnId], id: TxnId) -> bool {
-    for other in ids {
-        if graph.reaches(id, *other) != before.contains((id, *other)) {
-            return true;
-        }
-        if graph.reaches(*other, id) != before.contains((*other, id)) {
-            return true;
-        }
-    }
-    false
-}
-
-// All those are told of, and no others.
-fn assert_told(rt: &impl Abort, graph: &Graph, before: &Relation, ids: &[TxnId], told: &[TxnId]) {
-    for id in ids {
-        assert_eq!(rt; told.contains(id), has_grown(graph, before, ids, *id));
-    }
-}
-
-// What was drawn: the transactions, and the pairs that arcs join.
-#[derive(Drop)]
-struct Drawn {
-    ids: Vec<TxnId>,
-    pairs: Vec<(TxnId, TxnId)>,
-}
-
-fn pick(ids: &[TxnId], state: &mut u64) -> Result<TxnId, Fail> {
-    let found = ids.get(next(state, ids.len())).copied();
-    Ok(found.ok_or("no transaction")?)
-}
-
-// An arc between two of them, and whether it closes a cycle.
-fn draw_arc(
-    rt: &impl Abort,
-    alloc: Global,
-    graph: &mut Graph,
-    drawn: &mut Drawn,
-    state: &mut u64,
-) -> Result<(), Fail>
-    ensures { graph.new.marks ≡ graph.old.marks }
-{
-    let from = pick(&drawn.ids, state)?;
-    let to = pick(&drawn.ids, state)?;
-    let was_back = from == to || graph.reaches(to, from);
-    let before = said_by(alloc, graph, &drawn.ids)?;
-    let mut told = Vec::new(alloc);
-    let is_cycle = add_arc(rt, alloc, graph, from, to, &mut told)?;
-    assert_eq!(rt; is_cycle, was_back);
-    assert_told(rt, graph, &before, &drawn.ids, &told);
-    drawn.pairs.push((from, to))?;
-    Ok(())
-}
-
-// One more transaction, or an arc between two of them.
-fn draw_one(
-    rt: &impl Abort,
-    alloc: Global,
-    graph: &mut Graph,
-    drawn: &mut Drawn,
-    state: &mut u64,
-) -> Result<(), Fail> {
-    if drawn.ids.len() < 2 || next(state, 3) == 0 {
-        let session = (next(state, 4) % 4) as u8;
-        return add_node(rt, graph, &mut drawn.ids, session);
-    }
-    draw_arc(rt, alloc, graph, drawn, state)
-}
-
-// So many arcs.
-fn draw_arcs(
-    rt: &impl Abort,
-    alloc: Global,
-    graph: &mut Graph,
-    drawn: &mut Drawn,
-    state: &mut u64,
-) -> Result<(), Fail>
-    ensures { graph.new.marks ≡ graph.old.marks }
-{
-    for _turn in 0..BEHIND_A_MARK {
-        draw_arc(rt, alloc, graph, drawn, state)?;
-    }
-    Ok(())
-}
+use txn::TxnId;
 
 // The closure of the pairs and of the sessions.
-fn closure_of(alloc: Global, drawn: &Drawn) -> Result<Relation, Fail> {
-    let mut reached = Relation::none(alloc, drawn.ids.as_slice())?;
-    for pair in &drawn.pairs {
-        reached.note(*pair);
-    }
-    for id in &drawn.ids {
-        for other in &drawn.ids {
+pub(crate) fn closure_of(
+    alloc: Global,
+    ids: &[TxnId],
+    pairs: &[(TxnId, TxnId)],
+) -> Result<Relation, Fail> {
+    let mut reached = Relation::none(alloc, ids)?;
+    reached.note_all(pairs);
+    for id in ids {
+        for other in ids {
             if id.session == other.session && id.number < other.number {
                 reached.note((*id, *other));
             }
@@ -176,13 +27,13 @@ fn closure_of(alloc: Global, drawn: &Drawn) -> Result<Relation, Fail> {
 
 // How many of a session reach the transaction, and which is the first that it reaches.
 fn assert_clocks(rt: &impl Abort, graph: &Graph, reached: &Relation, at: TxnId, session: u8) {
-    let numbers = graph.received();
-    assert!(rt; usize::from(session) < numbers.len());
-    let received = numbers[usize::from(session)];
-    assert!(rt; graph.contains(at));
+    let line = usize::from(session);
+    let gone = graph.gone();
+    let received = graph.received();
+    assert!(rt; line < gone.len() && line < received.len() && graph.contains(at));
     let before = graph.before(at, session);
     let after = graph.after(at, session);
-    for number in 0..received {
+    for number in gone[line]..received[line] {
         let other = id(session, number);
         assert_eq!(rt; number < before, reached.contains((other, at)));
         assert_eq!(rt; after <= number, reached.contains((at, other)));
@@ -199,15 +50,22 @@ fn assert_reached(rt: &impl Abort, graph: &Graph, reached: &Relation, ids: &[Txn
 
 fn assert_all_clocks(rt: &impl Abort, graph: &Graph, reached: &Relation, ids: &[TxnId]) {
     for at in ids {
-        for session in 0..SESSIONS {
-            assert_clocks(rt, graph, reached, *at, session);
+        for session in 0..=SESSIONS {
+            if usize::from(session) < graph.gone().len() {
+                assert_clocks(rt, graph, reached, *at, session);
+            }
         }
     }
 }
 
 // All that the graph says is what the closure says.
-fn assert_same(rt: &impl Abort, alloc: Global, graph: &Graph, drawn: &Drawn) -> Result<(), Fail> {
-    let reached = closure_of(alloc, drawn)?;
+pub(crate) fn assert_same(
+    rt: &impl Abort,
+    alloc: Global,
+    graph: &Graph,
+    drawn: &Drawn,
+) -> Result<(), Fail> {
+    let reached = closure_of(alloc, &drawn.ids, &drawn.pairs)?;
     assert_reached(rt, graph, &reached, &drawn.ids);
     assert_all_clocks(rt, graph, &reached, &drawn.ids);
     Ok(())
@@ -236,22 +94,25 @@ fn assert_back(
     assert_same(rt, alloc, graph, drawn)
 }
 
-// None drawn yet.
-fn nothing(alloc: Global) -> Drawn {
-    Drawn {
-        ids: Vec::new(alloc),
-        pairs: Vec::new(alloc),
-    }
+// Arcs behind a mark that is forgotten stay.
+fn assert_forgotten(
+    rt: &impl Abort,
+    alloc: Global,
+    graph: &mut Graph,
+    drawn: &mut Drawn,
+    state: &mut u64,
+) -> Result<(), Fail> {
+    graph.mark()?;
+    draw_arcs(rt, alloc, graph, drawn, state)?;
+    graph.forget_marks();
+    assert_same(rt, alloc, graph, drawn)
 }
 
 fn assert_drawn(rt: &impl Abort, alloc: Global, seed: u64) -> Result<(), Fail> {
-    let mut graph = Graph::new(alloc, &[0; SESSIONS as usize])?;
-    let mut drawn = nothing(alloc);
     let mut state = seed;
-    for _turn in 0..DRAWN {
-        draw_one(rt, alloc, &mut graph, &mut drawn, &mut state)?;
-    }
+    let (mut graph, mut drawn) = draw_graph(rt, alloc, &mut state)?;
     assert_same(rt, alloc, &graph.clone()?, &drawn)?;
+    assert_forgotten(rt, alloc, &mut graph, &mut drawn, &mut state)?;
     assert_back(rt, alloc, &mut graph, &mut drawn, &mut state)
 }
 

@@ -3,3 +3,11 @@
 
 #[cfg(test)]
 mod closures;
+#[cfg(test)]
+mod drawn;
+#[cfg(test)]
+mod drops;
+#[cfg(test)]
+mod paths;
+#[cfg(test)]
+mod sessions;

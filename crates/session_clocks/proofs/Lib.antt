@@ -1,8 +1,10 @@
 pub mod Added
+pub mod Behind
 pub mod Closures
 pub mod Counts
 pub mod Dropped
 pub mod Firsts
+pub mod FoundPaths
 pub mod Kept
 pub mod LineLists
 pub mod Marked
@@ -10,6 +12,8 @@ pub mod Next
 pub mod Noted
 pub mod Orders
 pub mod Places
+pub mod Removed
 pub mod Steps
 pub mod Told
 pub mod Trails
+pub mod Widened

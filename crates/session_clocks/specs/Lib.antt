@@ -5,8 +5,12 @@ pub mod Graphs
 pub mod Lines
 pub mod Marks
 pub mod Notes
+pub mod Paths
 pub mod Reach
+pub mod Removals
 pub mod Rows
 pub mod SavedNumbers
 pub mod Sweeps
 pub mod Tails
+pub mod Trees
+pub mod Widths

@@ -1,9 +1,9 @@
 // The arcs and the rows of what stays, when the fronts of sessions go.
-ghost use Rattle.std.specs.Prelude.{◌≡◌, ℕ, ◌-◌, ◌*◌, ◌<◌, ◌≤◌, filter, length, slice_index};
-ghost use Rattle.session_clocks.specs.Drops.{id_stays, arc_stays, IsDropped, AreDropped};
-ghost use Rattle.session_clocks.specs.Rows.{line_at, IsOneLine};
+ghost use Rattle.std.specs.Prelude.{◌≡◌, ◌↔◌, ℕ, ◌-◌, ◌*◌, ◌<◌, ◌≤◌, IsTrue, filter, length, slice_index};
+ghost use Rattle.session_clocks.specs.Drops.{id_stays, arc_stays, first_left, IsBehind, IsDropped, AreDropped};
+ghost use Rattle.session_clocks.specs.Rows.{line_at, HasRow, IsOneLine};
 
-use crate::rows::line;
+use crate::rows::{line, row_of};
 use txn::{Arc, TxnId};
 
 /// Whether a transaction isn't among the first ones of its session, of which so many go.
@@ -65,4 +65,42 @@ pub(crate) fn drop_rows(lines: &mut [Vec<u64>], were: &[u64], gone: &[u64])
     for session in 0..lines.len() {
         drop_line(lines, session, gone[session] - were[session], gone.len());
     }
+}
+
+/// Whether a transaction's row has no number of one that goes.
+fn is_behind(first: &[Vec<u64>], were: &[u64], gone: &[u64], id: TxnId) -> bool
+    requires row { HasRow were.now first.now id }
+    requires sessions { length gone.now ≡ length were.now }
+    ensures { IsTrue result ↔ IsBehind were.now first.now gone.now id }
+{
+    let row = row_of(first, were, id);
+    for session in 0..gone.len() {
+        if row[session] < gone[session] {
+            return false;
+        }
+    }
+    true
+}
+
+/// Whether the rows of the first ones of all sessions that stay have none.
+pub(crate) fn are_behind(first: &[Vec<u64>], were: &[u64], received: &[u64], gone: &[u64]) -> bool
+    requires few { length gone.now ≤ 256 }
+    requires sessions { length gone.now ≡ length were.now }
+    requires received { length received.now ≡ length were.now }
+    requires rows { (session : ℕ) → session < length gone.now → slice_index gone.now session < slice_index received.now session → HasRow were.now first.now (first_left gone.now session) }
+    ensures { IsTrue result ↔ ((session : ℕ) → session < length gone.now → slice_index gone.now session < slice_index received.now session → IsBehind were.now first.now gone.now (first_left gone.now session)) }
+{
+    for session in 0..gone.len() {
+        if received[session] <= gone[session] {
+            continue;
+        }
+        let id = TxnId {
+            session: session as u8,
+            number: gone[session],
+        };
+        if !is_behind(first, were, gone, id) {
+            return false;
+        }
+    }
+    true
 }

@@ -1,20 +1,25 @@
-ghost use Rattle.std.specs.Prelude.{◌≡◌, ◌≢◌, ◌⊎◌, ◌↔◌, ℕ, [], ◌∷◌, ◌++◌, ◌+◌, ◌-◌, ◌*◌, ◌^◌, ◌<◌, ◌≤◌, IsTrue, filter, IfOk, OnOk, OnErr, length, slice_index};
+ghost use Rattle.std.specs.Prelude.{◌≡◌, ◌≢◌, ◌⊎◌, ◌↔◌, ℕ, [], ◌∷◌, ◌++◌, ◌+◌, ◌-◌, ◌*◌, ◌^◌, ◌<◌, ◌≤◌, IsTrue, filter, IfOk, MatchOption, OnOk, OnErr, length, slice_index, take};
 ghost use Rattle.txn.specs.declared.transactions.TxnId.{TxnId};
 ghost use Rattle.txn.specs.Arcs.{start_of, end_of};
 ghost use Rattle.session_clocks.specs.Additions.{IsAddition, AreTold, IsFrontOf};
-ghost use Rattle.session_clocks.specs.Drops.{arc_stays};
+ghost use Rattle.session_clocks.specs.Drops.{arc_stays, NoneReachesBack};
 ghost use Rattle.session_clocks.specs.Graphs.{HasNode, IsOneMore, back_to, last_mark};
+ghost use Rattle.session_clocks.specs.Paths.{IsPathOf};
 ghost use Rattle.session_clocks.specs.Reach.{IsThere, Reaches, IsOrReaches};
+ghost use Rattle.session_clocks.specs.Removals.{IsLast, IsUntouched};
 
-use crate::drops::{drop_arcs, drop_rows};
+use crate::drops::{are_behind, drop_arcs, drop_rows};
 use crate::lines::{copied, no_lines, push_rows};
 use crate::notes::{note_spans, note_tails};
-use crate::rows::{clock, count_row, first_row};
+use crate::paths::find_path;
+use crate::removals::pop_row;
+use crate::rows::{NONE, clock, count_row, first_row};
 use crate::sweeps::{lower_all, raise_all};
 use crate::trail::{Mark, Trail, put_back};
+use crate::widths::{widened_lines, with_one};
 use std::alloc::Global;
 use std::marker::Model;
-use txn::{Arc, NoMemory, TxnId};
+use txn::{Arc, NoMemory, Sequence, TxnId};
 
 /// What became of an arc.
 #[derive(Clone, Copy, Debug, PartialEq, Eq)]
@@ -139,7 +144,8 @@ impl Graph {
 
     /// For each session how many of it are gone.
     pub fn gone(&self) -> &[u64]
-        ensures { result.now ≡ self.now.gone }
+        ensures numbers { result.now ≡ self.now.gone }
+        ensures few { length result.now ≤ 256 }
     {
         self.gone.as_slice()
     }
@@ -157,6 +163,33 @@ impl Graph {
         ensures { result.now ≡ self.now.arcs }
     {
         self.arcs.as_slice()
+    }
+
+    /// One or more steps that lead from the one to the other, each one of the first so many arcs or one to a later transaction of
+    /// the session, if there are any.
+    pub fn path_within(
+        &self,
+        alloc: Global,
+        len: usize,
+        from: TxnId,
+        to: TxnId,
+    ) -> Result<Option<Sequence<Arc>>, NoMemory>
+        requires from { HasNode self.now from }
+        requires to { HasNode self.now to }
+        requires len { len ≤ length self.now.arcs }
+        ensures { IfOk result (λ found. MatchOption found
+            (¬ Reaches self.now.gone self.now.received (take len self.now.arcs) from to)
+            (λ path. Reaches self.now.gone self.now.received (take len self.now.arcs) from to
+            × IsPathOf self.now.gone self.now.received (take len self.now.arcs) from path to)) }
+    {
+        find_path(
+            alloc,
+            &self.gone,
+            &self.received,
+            &self.arcs[..len],
+            from,
+            to,
+        )
     }
 
     /// Adds the next transaction of a session, which all of its session reach, and takes all marks away.
@@ -183,6 +216,49 @@ impl Graph {
         self.received[line] = number + 1;
         self.trail.clear();
         Ok(TxnId { session, number })
+    }
+
+    /// Takes the last transaction of a session away, which no arc touches, and all marks. It takes no memory.
+    pub fn remove_node(&mut self, id: TxnId)
+        requires there { HasNode self.old id }
+        requires last { IsLast self.old.received id }
+        requires untouched { IsUntouched self.old.arcs id }
+        ensures received { IsOneMore self.new.received self.old.received id.session }
+        ensures gone { self.new.gone ≡ self.old.gone }
+        ensures arcs { self.new.arcs ≡ self.old.arcs }
+        ensures marks { self.new.marks ≡ [] }
+        // Among the rest all stays as it was.
+        ensures rest { (a b : TxnId) → Reaches self.new.gone self.new.received self.new.arcs a b
+            ↔ (Reaches self.old.gone self.old.received self.old.arcs a b × HasNode self.new a × HasNode self.new b) }
+    {
+        let line = usize::from(id.session);
+        let width = self.gone.len();
+        pop_row(&mut self.first, line, width);
+        pop_row(&mut self.count, line, width);
+        self.received[line] = id.number;
+        self.trail.clear();
+    }
+
+    /// Adds a session behind the others, of which so many are gone, and takes all marks away.
+    pub fn add_session(&mut self, alloc: Global, count: u64) -> Result<(), NoMemory>
+        requires { length self.old.gone < 256 }
+        ensures gone { OnOk result (self.new.gone ≡ self.old.gone ++ count ∷ []) }
+        ensures received { OnOk result (self.new.received ≡ self.old.received ++ count ∷ []) }
+        ensures arcs { self.new.arcs ≡ self.old.arcs }
+        ensures marks { OnOk result (self.new.marks ≡ []) }
+        ensures same { OnOk result ((a b : TxnId) → Reaches self.new.gone self.new.received self.new.arcs a b ↔ Reaches self.old.gone self.old.received self.old.arcs a b) }
+        ensures err { OnErr result (self.new ≡ self.old) }
+    {
+        let first = widened_lines(alloc, &self.first, &self.gone, &self.received, NONE)?;
+        let counts = widened_lines(alloc, &self.count, &self.gone, &self.received, 0)?;
+        let gone = with_one(alloc, &self.gone, count)?;
+        let received = with_one(alloc, &self.received, count)?;
+        self.first = first;
+        self.count = counts;
+        self.gone = gone;
+        self.received = received;
+        self.trail.clear();
+        Ok(())
     }
 
     /// Whether one more arc closes a cycle.
@@ -296,6 +372,13 @@ impl Graph {
         Ok(())
     }
 
+    /// Takes all marks away, and leaves the arcs as they are. It takes no memory.
+    pub fn forget_marks(&mut self)
+        ensures { self.new ≡ record self.old { marks = [] } }
+    {
+        self.trail.clear();
+    }
+
     /// Takes the arcs behind the last mark back, and the mark away, in time of what they changed. It takes no memory.
     pub fn back(&mut self)
         requires { self.old.marks ≢ [] }
@@ -309,13 +392,24 @@ impl Graph {
         self.arcs.truncate(mark.arcs);
     }
 
+    /// Whether none that stays reaches one that goes, where the first transactions of each session go, up to these numbers. It
+    /// takes no memory.
+    pub fn can_drop(&self, gone: &[u64]) -> bool
+        requires sessions { length gone.now ≡ length self.now.gone }
+        requires more { (session : ℕ) → slice_index self.now.gone session ≤ slice_index gone.now session }
+        requires within { (session : ℕ) → slice_index gone.now session ≤ slice_index self.now.received session }
+        ensures { IsTrue result ↔ NoneReachesBack self.now.gone self.now.received self.now.arcs gone.now }
+    {
+        are_behind(&self.first, &self.gone, &self.received, gone)
+    }
+
     /// Drops the first transactions of each session, up to these numbers, which none that stays reaches, with the arcs that
     /// touch them, and takes all marks away. It takes no memory.
     pub fn drop_fronts(&mut self, gone: &[u64])
         requires sessions { length gone.now ≡ length self.old.gone }
         requires more { (session : ℕ) → slice_index self.old.gone session ≤ slice_index gone.now session }
         requires within { (session : ℕ) → slice_index gone.now session ≤ slice_index self.old.received session }
-        requires before { (id other : TxnId) → IsThere gone.now self.old.received id → ¬ IsThere gone.now self.old.received other → ¬ Reaches self.old.gone self.old.received self.old.arcs id other }
+        requires before { NoneReachesBack self.old.gone self.old.received self.old.arcs gone.now }
         ensures gone { self.new.gone ≡ gone.now }
         ensures received { self.new.received ≡ self.old.received }
         ensures arcs { self.new.arcs ≡ filter (arc_stays gone.now) self.old.arcs }

@@ -6,9 +6,12 @@ mod drops;
 mod graph;
 mod lines;
 mod notes;
+mod paths;
+mod removals;
 mod rows;
 mod sweeps;
 mod tails;
 mod trail;
+mod widths;
 
 pub use graph::{Addition, Graph};

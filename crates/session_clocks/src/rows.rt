@@ -109,7 +109,7 @@ pub(crate) fn line(lines: &[Vec<u64>], session: usize) -> &[u64]
 }
 
 /// A row of a session.
-fn row_in(line: &[u64], row: usize, width: usize) -> &[u64]
+pub(crate) fn row_in(line: &[u64], row: usize, width: usize) -> &[u64]
     requires { row * width + width ≤ length line.now }
     ensures len { length result.now ≡ width }
     ensures numbers { (k : ℕ) → k < width → slice_index result.now k ≡ number_at width line.now row k }
@@ -118,7 +118,7 @@ fn row_in(line: &[u64], row: usize, width: usize) -> &[u64]
 }
 
 /// A transaction's row.
-fn row_of<'a>(lines: &'a [Vec<u64>], gone: &[u64], id: TxnId) -> &'a [u64]
+pub(crate) fn row_of<'a>(lines: &'a [Vec<u64>], gone: &[u64], id: TxnId) -> &'a [u64]
     requires row { HasRow gone.now lines.now id }
     ensures len { length result.now ≡ length gone.now }
     ensures numbers { (session : ℕ) → session < length gone.now → slice_index result.now session ≡ clock_of gone.now lines.now id session }

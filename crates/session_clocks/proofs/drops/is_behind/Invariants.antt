@@ -1,0 +1,5 @@
+use Rattle.std.proofs.Common.{ℕ, ◌<◌, ◌≤◌, get_or}
+use Rattle.session_clocks.proofs.drops.is_behind.Given as goal
+
+abbrev pub invariant-loop-session : goal.invariant-loop-session
+invariant-loop-session l = (k : ℕ) → k < l.session → get_or l.gone k 0 ≤ get_or l.row k 0
