@@ -1,12 +1,12 @@
 #!/usr/bin/env bash
-# Installs those of Debian's packages in packages.txt that are missing, if it runs as root where apt-get reaches an archive.
-# It fails never: what can't be installed is named in one line, and the tests that want it are skipped with a word.
+# Installs the Debian packages in packages.txt that are missing, if it runs as root and apt-get can reach an archive. It never fails: one
+# line names the packages that can't be installed, and the tests that need them are skipped with a message.
 #
-#     ./install_packages.sh            all of them, as ./test.sh wants them
-#     ./install_packages.sh wheel      those of one line of packages.txt, as ./try.sh wants them
+#     ./install_packages.sh            all of them, as ./test.sh needs them
+#     ./install_packages.sh wheel      those of one line of packages.txt, as ./try.sh needs them
 set -uo pipefail
 cd "$(dirname "$0")"
-missing() { # the packages of packages.txt that aren't installed, one a line
+missing() { # prints the packages of packages.txt that aren't installed, one on each line
     sed -n "s/^${1:-[^#:][^:]*}://p" packages.txt | tr -s ' ' '\n' | sed '/^$/d' | while read -r name; do
         [ "$(dpkg-query -W -f '${db:Status-Status}' "$name" 2> /dev/null)" = installed ] || echo "$name"
     done
@@ -25,7 +25,7 @@ echo "installing ${#names[@]} packages: ${names[*]}"
 export DEBIAN_FRONTEND=noninteractive
 timeout 300 apt-get update -qq > /dev/null 2>&1 || true
 if ! timeout 1200 apt-get install -y -qq --no-install-recommends "${names[@]}" > /dev/null 2>&1; then
-    for name in "${names[@]}"; do # one that can't be had doesn't keep the others away
+    for name in "${names[@]}"; do # so that one which isn't available doesn't prevent the others
         timeout 600 apt-get install -y -qq --no-install-recommends "$name" > /dev/null 2>&1 || true
     done
 fi

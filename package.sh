@@ -1,12 +1,12 @@
 #!/usr/bin/env bash
-# Makes a wheel of the Python package with the auditor inside, in the folder out: what `pip install` then needs is this one file.
+# Makes a wheel of the Python package, including the auditor, in the folder out. `pip install` needs only this one file.
 #
-#     ./package.sh                 the auditor as the prover built it; asks the prover whether anything has changed since
-#     ./package.sh --built         the same as it stands, where it is newer than all sources: what the gate has just built
+#     ./package.sh                 with the auditor that the prover built; asks the prover whether anything has changed since
+#     ./package.sh --built         the same without asking, if it is newer than all sources: for use right after the gate
 #     ./package.sh --unproved      builds the auditor without a proof, in a minute or two, for a first try; its version says so. It has
-#                                  its checks compiled in, and is some 300 times slower: what suits it, ./try.sh shows
+#                                  its checks compiled in, and is about 300 times slower: ./try.sh shows a run that suits it
 #
-# It wants Python 3.9 or later with setuptools and wheel (on Debian python3-setuptools and python3-wheel), and asks no index.
+# It needs Python 3.9 or later with setuptools and wheel (on Debian python3-setuptools and python3-wheel), and downloads nothing.
 set -euo pipefail
 here=$(dirname "$0")
 for python in /usr/bin/python3 python3; do

@@ -1,12 +1,12 @@
 #!/usr/bin/env bash
-# The test command: Debian's packages that the tests want, where they may be installed; the gate (`rt ci`: every proof from nothing, the
-# edits that must be refused, the programs and their tests); the proxy's tests in Go; and the Python tests, over the auditor that the gate has
-# just proved and built. The last line is the gate's own, `N passed, M failed`. If the proxy's or the Python tests fail, it counts one more as
-# failed for each, so that nobody who sees that line alone takes it for a pass.
+# The test command. It installs the Debian packages that the tests need, if it runs as root; then runs the gate (`rt ci`: every proof from
+# scratch, the edits that must be refused, the programs and their tests), the proxy's tests in Go, and the Python tests, with the auditor
+# that the gate has just proved and built. The last line is the gate's, `N passed, M failed`. If the proxy's or the Python tests fail, each
+# counts as one more failure, so that line alone can't be taken for a pass.
 set -euo pipefail
 cd "$(dirname "$0")"
 export COBRA_AUDIT=$PWD/crates/cobra_audit/out/cobra_audit PYTHONDONTWRITEBYTECODE=1
-rm -f "$COBRA_AUDIT" # what stands there later is of this run
+rm -f "$COBRA_AUDIT" # so a file that is there later is from this run
 told=$(mktemp)
 trap 'rm -f "$told"' EXIT
 

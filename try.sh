@@ -1,10 +1,10 @@
 #!/usr/bin/env bash
-# A first try, on a machine with the kit (its command rt): installs what it wants of Debian's packages, where it may; takes what the gate
-# has built here, or the auditor that COBRA_AUDIT names, or builds one without proofs; installs the wheel into an environment of its own;
-# and audits an embedded store under load, whose level allows lost updates, while its clients run. It takes a minute or two on an idle
-# machine, and about 200 MB. It ends with status 0 if the violation was found and told, and says what to run next.
+# A first try, on a machine with the kit (its command rt). It installs the Debian packages that it needs, if it runs as root; takes the
+# auditor that the gate has built here, or the one that COBRA_AUDIT names, or builds one without proofs; installs the wheel into a new
+# virtual environment; and audits an embedded store under load while its clients run, at a level that allows lost updates. It takes a minute
+# or two on an idle machine, and about 200 MB. Its status is 0 if the violation was found and explained. Then it says what to run next.
 #
-#     ./try.sh [FOLDER]      the folder is made anew (out/try)
+#     ./try.sh [FOLDER]      the folder is replaced (out/try)
 set -euo pipefail
 folder=$(realpath -m "${1:-$(dirname "$0")/out/try}")
 cd "$(dirname "$0")"

@@ -1,17 +1,17 @@
 #!/usr/bin/env python3
-"""How soon lines are answered while a search goes on beside them.
+"""How soon lines are answered while a search runs.
 
     python3 bench/beside.py [--seconds N] [--rate N] [--apart] [PROGRAM]
 
-Run at the top of the repository, after `rt run < /dev/null` has built the auditor in its crate, or
-with COBRA_AUDIT naming it. A search that would take hours, of a history that has no order, goes on
-for so many seconds (10), in one thread and in four, and is then skipped. Meanwhile so many times a
-second (50) a transaction is offered, and it is asked whether the search has ended. The same is done
-before without a search. A row has the median, the 99th of a hundred, and the longest, in
-milliseconds, and how long `skip` took. With --apart offers go through an AuditorApart in place of a
+Run it at the top of the repository, after `rt run < /dev/null` has built the auditor in its crate,
+or with COBRA_AUDIT naming the program. A search that would take hours, in a history without an
+order, runs for N seconds (10), in one thread and in four, and is then skipped. Meanwhile, N times a
+second (50), a transaction is offered and the program is asked whether the search has ended. The
+same is done before, without a search. A row has the median, the 99th percentile and the maximum, in
+milliseconds, and how long `skip` took. With --apart offers go through an AuditorApart instead of a
 pipe, while another thread waits for its round.
 
-What a processor does besides is in the figures: the head line tells the machine's load.
+The figures include the effects of other programs on the machine; the first line has its load.
 """
 import argparse
 import json
@@ -30,7 +30,7 @@ WAYS = 40  # of the history: enough for hours
 
 
 class Script:
-    """The program by a pipe."""
+    """The program, over a pipe."""
 
     def __init__(self, program):
         pipes = {"stdin": subprocess.PIPE, "stdout": subprocess.PIPE}
@@ -51,7 +51,7 @@ class Script:
 
 
 def history(effort):
-    """Offers, and the number of the last session, of which one transaction is there."""
+    """Offers, and the number of the last session, which has one transaction."""
     log = hard.contradiction(2, hard.all_ways(2), WAYS)
     *offers, _ = [json.loads(line) for line in log.lines(*effort)]
     return offers, offers[0][1] - 1
@@ -81,7 +81,7 @@ def by_pipe(asked, effort):
 
 
 def apart(asked, effort):
-    """The same by an AuditorApart: there is no collect of our own."""
+    """The same with an AuditorApart, which does its own collects."""
     from zanteyard import AuditorApart, Logged
 
     offers, session = history(effort or [1, 0, 1])
@@ -120,9 +120,9 @@ def told(times):
 
 def main():
     words = argparse.ArgumentParser(description=__doc__.splitlines()[0])
-    words.add_argument("--seconds", type=float, default=10.0)
-    words.add_argument("--rate", type=float, default=50.0)
-    words.add_argument("--apart", action="store_true")
+    words.add_argument("--seconds", type=float, default=10.0, help="how long the search runs (10)")
+    words.add_argument("--rate", type=float, default=50.0, help="transactions offered a second (50)")
+    words.add_argument("--apart", action="store_true", help="offer through an AuditorApart, not a pipe")
     default = os.environ.get("COBRA_AUDIT", "crates/cobra_audit/out/cobra_audit")
     words.add_argument("program", nargs="?", default=default)
     asked = words.parse_args()

@@ -2,12 +2,12 @@
 
     python3 bench/documented_statements.py [--folder HTML] [--page NAME ..] [--show N]
 
-Each page's examples that look like SQL are run in order, by psql, on two servers that begin the
-same, one of them behind the proxy, while it audits. What psql prints has to be the same: answers,
-errors and their positions. Examples that show what differs between two servers anyway (processes,
-times, identifiers, chance) are passed over, and counted. The exit status is 1 if a page differs.
+Each page's examples that look like SQL are run in order, by psql, on two servers with the same
+initial state, one of them behind the proxy, which audits. psql has to print the same: answers,
+errors and their positions. Examples whose output differs between two servers anyway (processes,
+times, identifiers, random values) are skipped and counted. The exit status is 1 if a page differs.
 
-The documentation is Debian's package postgresql-doc-15, which no other test wants.
+The documentation is in Debian's package postgresql-doc-15, which no other test needs.
 """
 
 from __future__ import annotations
@@ -35,7 +35,8 @@ WORDS = (
     "UPDATE VALUES WITH"
 ).split()
 BEGINS = re.compile(rf"\s*(?:{'|'.join(WORDS)})\b", re.I)
-# What two servers tell in two ways, what reaches beyond the database, and what ends the connection.
+# Statements whose output differs between servers, that reach beyond the database, or that end the
+# connection.
 OTHERWISE = re.compile(
     r"pg_sleep|random|now\(|current_(?:time|date|timestamp)|localtime|clock_timestamp|timeofday|age\(|"
     r"backend_pid|pg_stat|pg_locks|txid|xact_id|xmin|xmax|ctid|snapshot|lsn|wal|pg_control|inet_|"
@@ -60,7 +61,7 @@ def examples(path: str) -> Iterator[str]:
 
 
 def script_of(path: str) -> Tuple[str, int, int]:
-    """What psql is given for a page, how many examples are in it, and how many were passed over."""
+    """psql's input for a page, how many examples are in it, and how many were skipped."""
     kept: List[str] = []
     left = 0
     for one in examples(path):
@@ -68,16 +69,16 @@ def script_of(path: str) -> Tuple[str, int, int]:
             left += 1
         else:
             kept.append(one)
-    # Each is asked twice: the second time the plan has been tried, and its hidden columns are used.
+    # Each is run twice: the second time the plan has been tried, and its hidden columns are used.
     body = "\n".join(f"{one}\nSELECT pg_sleep(0.02);\n{one}" for one in kept)
     return f"SET client_min_messages = notice;\n{body}\nROLLBACK;\n", len(kept), left
 
 
 def main() -> int:
     parser = argparse.ArgumentParser(description=__doc__.splitlines()[0])
-    parser.add_argument("--folder", default=FOLDER)
-    parser.add_argument("--page", nargs="+", help="as tutorial-join")
-    parser.add_argument("--show", type=int, default=3, help="lines that differ, of each page")
+    parser.add_argument("--folder", default=FOLDER, help="where the documentation's HTML is")
+    parser.add_argument("--page", nargs="+", help="only these pages, such as tutorial-join")
+    parser.add_argument("--show", type=int, default=3, help="how many different lines of a page to show (3)")
     asked = parser.parse_args()
     pages = sorted(glob.glob(os.path.join(asked.folder, "*.html")))
     if asked.page:

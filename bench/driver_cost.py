@@ -1,16 +1,16 @@
-"""What the proxy costs applications by their drivers, with the server near and far.
+"""What the proxy costs applications with several drivers, and with the server near or far.
 
     python3 bench/driver_cost.py [--seconds N] [--times N] [--clients N] [--driver NAME ..]
         [--way NAME ..] [--delay US ..]
 
-Each transaction is two reads and an update at serializable. It is run by psycopg2, psycopg 3,
-asyncpg and JDBC, in turns in each way: `direct`, `pgbouncer`, `passing`, `audited`, as
-bench/proxy_cost.py has them. With --delay the server is as far away as so many microseconds take
-one way: from the application if it is `direct`, else from what is between, which runs beside the
-application. The table has transactions a second, as medians, and their part of the direct ones.
+Each transaction is two reads and an update at serializable. It is run with psycopg2, psycopg 3,
+asyncpg and JDBC, each way in turn: `direct`, `pgbouncer`, `passing`, `audited`, as in
+bench/proxy_cost.py. With --delay the server is that many microseconds away, one way: from the
+application if it is `direct`, else from the pooler or proxy, which runs next to the application.
+The table has transactions per second, as medians, and their share of the direct ones.
 
-Runs need a PostgreSQL 15, pgbouncer, Go, the drivers and the proved programs. TMPDIR=/dev/shm has
-the server's folder in memory.
+It needs PostgreSQL 15, pgbouncer, Go, the drivers and the proved programs. With TMPDIR=/dev/shm the
+server's folder is in memory.
 """
 
 from __future__ import annotations
@@ -31,7 +31,7 @@ JAR = "/usr/share/java/postgresql.jar"
 
 
 def commands(folder: str, asked: Any) -> Dict[str, List[str]]:
-    """What starts each driver's program, without its port and what follows."""
+    """The command that starts each driver's program, without its port and what follows."""
     found = {}
     for driver in asked.driver:
         if driver in PYTHON:
@@ -44,7 +44,8 @@ def commands(folder: str, asked: Any) -> Dict[str, List[str]]:
 
 
 def run(asked: Any, call: List[str], way: Way) -> Tuple[float, float, float]:
-    """Transactions a second, and processor time for each: between and beside, in microseconds."""
+    """Transactions per second, and processor time for each, of the pooler or proxy and of the
+    auditor, in microseconds."""
     before = way.used()
     call = [*call, str(way.port), str(asked.clients), str(asked.seconds), str(100_000 * asked.scale)]
     done = subprocess.run(call, capture_output=True, text=True, check=False, timeout=600)
@@ -84,11 +85,11 @@ def table(asked: Any, delay: int, started: Started, calls: Dict[str, List[str]])
 
 def main() -> None:
     parser = argparse.ArgumentParser(description=__doc__.splitlines()[0])
-    parser.add_argument("--seconds", type=float, default=5)
-    parser.add_argument("--times", type=int, default=5)
-    parser.add_argument("--scale", type=int, default=10)
-    parser.add_argument("--clients", type=int, default=8)
-    parser.add_argument("--delay", type=int, nargs="+", default=[0], metavar="US")
+    parser.add_argument("--seconds", type=float, default=5, help="the length of a run (5)")
+    parser.add_argument("--times", type=int, default=5, help="how many runs of each kind (5)")
+    parser.add_argument("--scale", type=int, default=10, help="pgbench's scale (10)")
+    parser.add_argument("--clients", type=int, default=8, help="how many clients (8)")
+    parser.add_argument("--delay", type=int, nargs="+", default=[0], metavar="US", help="microseconds one way (0)")
     parser.add_argument(
         "--driver", nargs="+", choices=(*PYTHON, "jdbc"), default=[*PYTHON, "jdbc"]
     )

@@ -1,25 +1,24 @@
 #!/usr/bin/env python3
-"""Has each read and each write of the three programs fail in turn, by a C library whose calls fail.
+"""Makes each read and each write of the programs fail in turn, with a C library whose calls fail.
 
-Run at the top of the repository, after `rt run < /dev/null` has built each program in its crate, or
-with COBRA_AUDIT, COBRA_CHECK and COBRA_DEMO naming them; it wants cc:
+Run it at the top of the repository, after `rt run < /dev/null` has built each program in its crate,
+or with COBRA_AUDIT, COBRA_CHECK and COBRA_DEMO naming them. It needs cc:
 
     python3 bench/failing_devices.py [--some WORD] [--only PROGRAM]
 
-Each worked script whose name has the word (first_cut, where none is told) is given to the programs
-by devices that move 1, 7 and 4,096 bytes a call, whose k-th read fails, for each k that there is,
-and then whose k-th write fails: by an error, by a signal, by having to wait, by a full device, and
-by taking no byte of what is written. The status has to be 1, the words `device failed`, and what
-was written a front of what is owed:
+Each worked script whose name contains WORD (default first_cut) is given to the programs by devices
+that move 1, 7 and 4,096 bytes per call. First the k-th read fails, for each k; then the k-th write
+fails: with an error, a signal, a wait, a full device, and with zero bytes written. The status has
+to be 1, the message `device failed`, and the output a prefix of the right one:
 
-- by cobra_audit, with every reply of the lines before;
-- by cobra_check, which is given the script's stored replies, too, with all that is told of the
-  replies before;
-- by cobra_demo, whose run writes once, where the write fails, and nothing where the read does.
+- cobra_audit: every reply to the lines read before;
+- cobra_check, which is also given the script's stored replies: everything about the replies read
+  before;
+- cobra_demo, which writes once: it fails in the write, and writes nothing if a read fails.
 
-Without a failure all is told, with status 0. Then the script is cut off at every byte, and what
-cobra_audit tells of that has to be what the plain model owes (`judge.py`). It prints a line for
-each size, and ends with status 1 where one is wrong.
+Without a failure the output is complete, with status 0. Then the script is cut off at every byte,
+and cobra_audit's output has to be that of the plain model (`judge.py`). It prints a line for each
+size, and ends with status 1 if one is wrong.
 """
 import argparse
 import os
@@ -76,7 +75,7 @@ def path_of(name):
 
 
 class Devices:
-    """The program beside the shim, in a folder of its own."""
+    """The program with the failing library, in a folder of its own."""
 
     def __init__(self, program, folder):
         self.program, self.shim = program, f"{folder}/devices.so"
@@ -86,7 +85,7 @@ class Devices:
                         "-ldl"], check=True)
 
     def run(self, script, most, read=0, write=0, error=5):
-        """What was written, and how it ended, where this read or this write fails."""
+        """What was written, and how it ended, if this read or this write fails."""
         settings = {"LD_PRELOAD": self.shim, "MOST": str(most), "FAILING_READ": str(read),
                     "FAILING_WRITE": str(write), "ERROR": str(error)}
         ended = subprocess.run([self.program], input=script, env=settings, stdout=subprocess.PIPE,
@@ -95,14 +94,14 @@ class Devices:
 
 
 def after_reads(script, owed, reads, most):
-    """What is owed where so many reads gave bytes and the next one failed: the reply to each line
-    whose LF was read."""
+    """The right output if this many reads return bytes and the next one fails: the reply to each
+    line whose LF was read."""
     count = script[:reads * most].count(b"\n")
     return b"".join(reply + b"\n" for reply in owed.split(b"\n")[:count])
 
 
 def failing_reads(devices, script, owed, most):
-    """Has each read fail in turn; yields what is wrong, or None for a run that is right."""
+    """Makes each read fail in turn; yields what is wrong, or None for a correct run."""
     for read in range(1, -(-len(script) // most) + 2):
         told, ended = devices.run(script, most, read=read, error=ERRORS[read % 3])
         if (told, ended) == (after_reads(script, owed, read - 1, most), FAILED):
@@ -112,8 +111,8 @@ def failing_reads(devices, script, owed, most):
 
 
 def failing_writes(devices, script, owed, most):
-    """Has each write fail in turn, up to one that isn't made any more; yields as above. Each but
-    the last of a reply moves as much as it may."""
+    """Makes each write fail in turn, up to one that doesn't take place any more; yields as above.
+    Each except the last one of a reply moves as much as it may."""
     fronts = fronts_of(owed, most)
     for write, front in enumerate(fronts, 1):
         error = (*ERRORS, 0)[write % 5]
@@ -127,7 +126,7 @@ def failing_writes(devices, script, owed, most):
 
 
 def fronts_of(owed, most):
-    """How much was written before each write, where each reply is written by itself."""
+    """How much was written before each write, if each reply is written by itself."""
     fronts, before = [], 0
     for reply in owed.split(b"\n")[:-1]:
         fronts += range(before, before + len(reply) + 1, most)
@@ -148,7 +147,7 @@ def cut_off(program, script):
 
 
 def wrong_runs(program, folder, script):
-    """For each kind of run of cobra_audit how many there were and what was wrong with them."""
+    """For each kind of run of cobra_audit, how many there were and what was wrong with them."""
     devices = Devices(program, folder)
     owed, ended = devices.run(script, 4096)
     if first_difference(script, owed) or ended != (0, b""):
@@ -162,8 +161,8 @@ def wrong_runs(program, folder, script):
 
 
 def until_none_fails(device, run):
-    """Has the k-th read or write fail, for each k up to one that isn't made any more; yields k,
-    what was written and how it ended."""
+    """Makes the k-th read or write fail, for each k up to one that doesn't take place any more;
+    yields k, what was written and how it ended."""
     errors = ERRORS[:3] if device == "read" else (*ERRORS, 0)
     for call in range(1, 100000):
         told, ended = run(**{device: call, "error": errors[call % len(errors)]})
@@ -174,13 +173,13 @@ def until_none_fails(device, run):
 
 
 def checker_runs(program, folder, turns):
-    """The same of cobra_check, which is given a script's lines and the replies by turns."""
+    """The same for cobra_check, which is given a script's lines and their replies alternately."""
     devices = Devices(program, folder)
     owed, ended = devices.run(turns, 4096)
     if ended != (0, b""):
         raise RuntimeError(f"without a failure it says {owed!r}, {ended}")
     lines = turns.splitlines(keepends=True)
-    # Of so many lines what is told of them, without the last line, which counts.
+    # The output for each number of lines, without its last line, which has the count.
     fronts = [b"".join(devices.run(b"".join(lines[:count - count % 2]), 4096)[0].splitlines(
         keepends=True)[:-1]) for count in range(len(lines) + 1)]
 
@@ -200,7 +199,7 @@ def checker_runs(program, folder, turns):
 
 
 def is_front(told, owed):
-    """Whether it is whole lines of what is owed."""
+    """Whether the output is whole lines of the right one."""
     return owed.startswith(told) and (not told or told.endswith(b"\n"))
 
 
@@ -209,7 +208,7 @@ def wrong_unless(is_right, call, told, ended):
 
 
 def demonstration_runs(program, folder, line, owed):
-    """The same of cobra_demo, which is given a line."""
+    """The same for cobra_demo, which is given a line."""
     devices = Devices(program, folder)
     for most in SIZES:
         def run(**how):
@@ -225,7 +224,7 @@ def demonstration_runs(program, folder, line, owed):
 
 
 def all_runs(name, program, folder, script, replies):
-    """The runs of the program with this name."""
+    """All runs of the program with this name."""
     if name == "cobra_audit":
         return wrong_runs(program, folder, script)
     if name == "cobra_check":
@@ -240,9 +239,9 @@ HONEST = (b"fault none\n" + b"".join(b"collector %d submitted 11 taken 11\n" % e
 
 
 def main():
-    words = argparse.ArgumentParser(description=__doc__.splitlines()[0])
-    words.add_argument("--some", default="first_cut", metavar="WORD")
-    words.add_argument("--only", default="", metavar="PROGRAM")
+    words = argparse.ArgumentParser(description=__doc__.split("\n\n")[0])
+    words.add_argument("--some", default="first_cut", metavar="WORD", help="scripts with this in their name (first_cut)")
+    words.add_argument("--only", default="", metavar="PROGRAM", help="only this program")
     asked = words.parse_args()
     if not has_compiler():
         sys.exit("no cc is installed: nothing was tried")

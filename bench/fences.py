@@ -1,13 +1,16 @@
 #!/usr/bin/env python3
-"""What looking for a cut costs a round, by how many fences remain: 4,096 transactions with so many of them on key 0, beside the same
-transactions with these on another key, where nothing is a fence, in one run.
+"""What looking for a cut costs a round, depending on the number of fences.
 
-Run at the top of the repository, after `cd crates/cobra_audit && rt run < /dev/null` has built the program:
+Run it at the top of the repository, after `cd crates/cobra_audit && rt run < /dev/null` has built
+the program:
 
     python3 bench/fences.py [PROGRAM]
 
-At a meeting every session makes a fence, and then a second one. `silent` leaves a session out of all meetings, so that no fence is
-settled, and each is tried. Each time is the least of seven rounds, of both kinds by turns.
+4,096 transactions with that many of them on key 0 are compared, in one run, with the same
+transactions with these on another key, where nothing is a fence. At a meeting every session makes a
+fence, and then a second one. `silent` leaves a session out of all meetings, so that no fence is
+settled, and each is tried. Each time is the minimum of seven rounds, alternating between both
+kinds.
 """
 import json
 import sys
@@ -22,7 +25,8 @@ ROUNDS = 7
 
 
 def lines_of(sessions, meetings, silent, key):
-    """A script: transactions that read two keys and write one of them, in which the sessions meet so many times, and a round over all."""
+    """A script: transactions that read two keys and write one of them, in which the sessions meet
+    this many times, and a round over everything."""
     store = Store(sessions, 1, 0)
     present = sessions - 1 if silent else sessions
     ordinary = REMAIN - 2 * present * meetings

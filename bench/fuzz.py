@@ -1,20 +1,20 @@
 #!/usr/bin/env python3
-"""Gives cobra_audit lines that nobody should write, and scripts, beside a plain model of it.
+"""Gives cobra_audit broken lines and scripts, and compares its replies with those of a plain model.
 
-Run at the top of the repository, after `cd crates/cobra_audit && rt run < /dev/null` has built the
-program, or with COBRA_AUDIT naming another one:
+Run it at the top of the repository, after `cd crates/cobra_audit && rt run < /dev/null` has built
+the program, or with COBRA_AUDIT naming another one:
 
     python3 bench/fuzz.py [--lines N] [--seed S] [--minutes M] [--processes N] [--only WORD]
                           [--keep FILE] [PROGRAM]
 
-Four generators: bytes mutated, lines mutated by their grammar, whole scripts, and answers that are
-handed in (`fuzz_lines.py`). Each reply is held against the one that the plain model owes
-(`judge.py`), and each program has to end with status 0 and no word more. It prints a table of what
-was tried by kind of line and by reply; so it does where SIGINT or SIGTERM stops it. At the first
-difference it stops, makes the script smaller while a difference stays, writes it to FILE
-(fuzz-difference.jsonl) and ends with status 1. --only takes the generators alone whose name has the
-word. --processes shares the lines among so many processes, each a model beside a program. The same
-seed and as many processes give the same lines to programs that answer alike.
+There are four generators (`fuzz_lines.py`): mutated bytes, lines mutated by their grammar, whole
+scripts, and answers that are handed in. Each reply is compared with that of the plain model
+(`judge.py`), and each program has to end with status 0 and nothing else. It prints a table of what
+was tried by kind of line and by reply, also if SIGINT or SIGTERM stops it. At the first difference
+it stops, reduces the script as long as a difference stays, writes it to FILE
+(fuzz-difference.jsonl) and ends with status 1. --only uses only the generators whose name contains
+WORD. --processes distributes the lines over N processes, each with a model and a program. The same
+seed and number of processes give the same lines to programs that answer alike.
 """
 import argparse
 import fcntl
@@ -36,18 +36,18 @@ from fuzz_lines import Answers, Bytes, Grammar, Longest, Scripts
 from judge import Model, first_difference
 from plain_verdicts import Wrong
 
-PIPE = 1 << 20  # bytes that wait in a pipe before its writer has to
-SECONDS = 600.0  # for the replies to a chunk, where other programs have the processors
+PIPE = 1 << 20  # bytes that fit into a pipe before its writer has to wait
+SECONDS = 600.0  # seconds for the replies to a chunk, on a busy machine
 GENERATORS = {"bytes": (Bytes, 30), "grammar": (Grammar, 30), "scripts": (Scripts, 25),
               "answers": (Answers, 15)}
 FORKS = multiprocessing.get_context("fork")
 EACH = 600  # lines of a script, about
-OFTEN = 5.0  # seconds from which a process tells again how far it is
+OFTEN = 5.0  # seconds between two progress reports
 FEW = 100000  # lines for each script of the longest lines
 
 
 class Program:
-    """The program, beside pipes."""
+    """The program, over pipes."""
 
     def __init__(self, path):
         pipes = {"stdin": subprocess.PIPE, "stdout": subprocess.PIPE, "stderr": subprocess.PIPE}
@@ -56,7 +56,7 @@ class Program:
             fcntl.fcntl(end, fcntl.F_SETPIPE_SZ, PIPE)
 
     def ask(self, lines):
-        """The replies to the lines, without LFs; fewer where it ended, or where none comes."""
+        """The replies to the lines, without LFs; fewer if it ended, or if no reply arrives."""
         try:
             text = memoryview(b"\n".join(lines) + b"\n")
             while text:
@@ -75,7 +75,7 @@ class Program:
         return b"".join(told).split(b"\n")[:-1]
 
     def end(self, rest=b""):
-        """What it tells of a last line without LF, and whether it ended as it should."""
+        """What it answers to a last line without LF, and whether it ended correctly."""
         try:
             told, error = self.running.communicate(rest, timeout=SECONDS)
         except subprocess.TimeoutExpired:
@@ -98,7 +98,7 @@ class Table:
         self.lines = self.scripts = 0
 
     def add(self, kind, reply):
-        """The word of the reply: of a refusal its name, of a report its kind."""
+        """The word of the reply: a refusal's name, or a report's kind."""
         if reply[:5] == b'["no"':
             word = reply[reply.rindex(b',"') + 2:-2].decode()
         elif reply[:9] == b'["report"':
@@ -134,8 +134,8 @@ class Table:
 
 @dataclass
 class Run:
-    """What is tried: scripts from this seed until so many lines were, or that time has come, by the
-    generators whose name has the word."""
+    """What is tried: scripts from this seed until that many lines were given, or until that time,
+    by the generators whose name contains the word."""
 
     seed: str
     lines: int
@@ -147,14 +147,14 @@ class Run:
             self.until is not None and time.monotonic() >= self.until)
 
     def shared(self, count):
-        """The parts of so many processes, each with a seed of its own."""
+        """The parts for this many processes, each with a seed of its own."""
         return [replace(self, seed=f"{self.seed}/{at}",
                         lines=self.lines // count + (at < self.lines % count))
                 for at in range(count)]
 
 
 class Difference(Exception):
-    """A script whose last line is not answered as it has to be."""
+    """A script whose last line has a wrong reply."""
 
     def __init__(self, script, why):
         super().__init__(why)
@@ -162,7 +162,7 @@ class Difference(Exception):
 
 
 def try_script(generator, dice, start, table, most):
-    """Gives a script of about so many lines to a program; raises Difference."""
+    """Gives a script of about this many lines to a program. Raises Difference."""
     model, program, given = Model(), start(), []
     try:
         while len(given) < most and not generator.is_over(model):
@@ -208,7 +208,7 @@ def end_script(model, program, given, table, dice):
 
 
 def fuzz(start, run, table=None, tell=None):
-    """The run, in this process; raises Difference."""
+    """Does the run in this process. Raises Difference."""
     table, number, longest = table if table is not None else Table(), 0, 0
     chosen = {name: it for name, it in GENERATORS.items() if run.only in name}
     kinds, weights = zip(*chosen.values()) if chosen else ((Longest,), (1,))
@@ -225,10 +225,10 @@ def fuzz(start, run, table=None, tell=None):
 
 
 def fuzz_beside(answers, start, run):
-    """What one of several processes does. Now and then, and at its end, it sends what it has tried,
-    whether it is over, and of a difference the script and the reason."""
+    """One of several processes. From time to time, and at its end, it sends what it has tried,
+    whether it is done, and if it found a difference, the script and the reason."""
     signal.signal(signal.SIGTERM, lambda *_: sys.exit(1))  # its program is stopped, too
-    signal.signal(signal.SIGINT, signal.SIG_IGN)  # who has begun it sees to that
+    signal.signal(signal.SIGINT, signal.SIG_IGN)  # the parent process handles that
     table, last, found = Table(), [time.monotonic()], None
 
     def tell(table):
@@ -254,7 +254,7 @@ class Beside:
         end.close()
 
     def hear(self):
-        """Takes what it sends; raises Difference."""
+        """Takes what it sends. Raises Difference."""
         try:
             self.table, self.is_over, found = self.answers.recv()
         except EOFError:
@@ -263,13 +263,16 @@ class Beside:
             raise Difference(*found)
 
     def stop(self):
-        self.process.terminate()
-        self.process.join()
+        """Ends it. The signal is sent again if it doesn't end: Python ignores an exception that is
+        raised while a destructor runs, such as that of a finished program, and so the signal."""
+        while self.process.is_alive():
+            self.process.terminate()
+            self.process.join(1.0)
         self.answers.close()
 
 
 def fuzz_side_by_side(start, run, processes, table=None, tell=None):
-    """The run, shared by so many processes; at the first difference all stop. Raises Difference."""
+    """Does the run in this many processes; at the first difference all stop. Raises Difference."""
     table = table if table is not None else Table()
     team = []
     try:
@@ -290,7 +293,7 @@ def fuzz_side_by_side(start, run, processes, table=None, tell=None):
 
 
 def replies_of(start, lines, has_end=True):
-    """What a program says to these lines; the last may have no LF."""
+    """A program's replies to these lines; the last may have no LF."""
     program = start()
     try:
         told = program.ask(lines if has_end else lines[:-1])
@@ -301,14 +304,15 @@ def replies_of(start, lines, has_end=True):
 
 
 def differs(start, lines):
-    """Whether some reply to these lines isn't the one owed, and why."""
+    """Whether some reply to these lines is wrong, and why."""
     told, why = replies_of(start, lines)
     found = first_difference(b"".join(line + b"\n" for line in lines), told)
     return found or ((len(lines), why) if why else None)
 
 
 def shrunk(start, lines, most=400):
-    """The lines without those that can go while a difference stays, by so many trials at most."""
+    """The lines without those that can be left out while a difference stays, after at most this
+    many trials."""
     found = differs(start, lines)
     if not found:
         return lines, "it isn't met again"
@@ -328,7 +332,7 @@ def shrunk(start, lines, most=400):
 
 
 def tell_difference(start, difference, path):
-    """Writes the script, made small, and says what is wrong with it."""
+    """Writes the reduced script, and prints what is wrong with it."""
     print(f"DIFFERENCE after {len(difference.script)} lines: {difference.why}", flush=True)
     with open(path, "wb") as file:
         file.write(b"".join(line + b"\n" for line in difference.script))
@@ -339,20 +343,20 @@ def tell_difference(start, difference, path):
 
 
 def arguments():
-    words = argparse.ArgumentParser(description=__doc__.splitlines()[0])
-    words.add_argument("--lines", type=int, default=1000000)
-    words.add_argument("--seed", default="1")
-    words.add_argument("--minutes", type=float)
-    words.add_argument("--processes", type=int, default=1, metavar="N")
-    words.add_argument("--only", default="", metavar="WORD")
-    words.add_argument("--keep", default="fuzz-difference.jsonl", metavar="FILE")
+    words = argparse.ArgumentParser(description=__doc__.split("\n\n")[0])
+    words.add_argument("--lines", type=int, default=1000000, help="how many lines (1,000,000)")
+    words.add_argument("--seed", default="1", help="the seed of the dice (1)")
+    words.add_argument("--minutes", type=float, help="stop after this many minutes")
+    words.add_argument("--processes", type=int, default=1, metavar="N", help="share the lines among so many (1)")
+    words.add_argument("--only", default="", metavar="WORD", help="generators with this in their name")
+    words.add_argument("--keep", default="fuzz-difference.jsonl", metavar="FILE", help="where a difference is written")
     words.add_argument("program", nargs="?", default=os.environ.get(
         "COBRA_AUDIT", "crates/cobra_audit/out/cobra_audit"))
     return words.parse_args()
 
 
 def main():
-    gc.disable()  # it looks at each list of a line of 8 MiB, and next to nothing is in a circle
+    gc.disable()  # it would look at each list of a line of 8 MiB, and nearly nothing is in a cycle
     asked = arguments()
     path, begin = os.path.abspath(asked.program), time.monotonic()
     run = Run(asked.seed, asked.lines, None, asked.only)

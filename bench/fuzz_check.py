@@ -1,18 +1,17 @@
 #!/usr/bin/env python3
-"""Gives cobra_check stored replies and scripts with bytes mutated, beside the plain model of what
-is owed.
+"""Gives cobra_check mutated replies and scripts, and compares its verdicts with a plain model's.
 
-Run at the top of the repository, after `cd crates/cobra_check && rt run < /dev/null` has built the
-program, or with COBRA_CHECK naming another one:
+Run it at the top of the repository, after `cd crates/cobra_check && rt run < /dev/null` has built
+the program, or with COBRA_CHECK naming another one:
 
     python3 bench/fuzz_check.py [--runs N] [--seed S] [--minutes M] [--keep FILE]
 
 Each run takes a worked script and its replies, mutates some bytes of either (`fuzz_lines.py`), or
-exchanges, drops or doubles replies, and gives them by turns. Where the plain model (`judge.py`)
-finds every reply to be the one owed, the program has to tell them right, with status 0; else wrong,
-with status 3, at the first reply that the model finds wrong or before it, since it holds a reply to
-its own text. It says nothing on standard error. It prints a table of what was told; at the first
-difference it stops, writes the input to FILE (fuzz-check-difference.txt), and ends with status 1.
+exchanges, drops or doubles replies, and gives them alternately. If the plain model (`judge.py`)
+finds every reply right, the program has to call them right, with status 0; else wrong, with status
+3, at the first reply that the model finds wrong or before it, since it also compares texts. It
+prints nothing on standard error. The script prints a table of the results. At the first difference
+it stops, writes the input to FILE (fuzz-check-difference.txt), and ends with status 1.
 """
 import argparse
 import copy
@@ -27,12 +26,12 @@ from collections import Counter
 HERE = os.path.dirname(os.path.abspath(__file__))
 sys.path.insert(0, HERE)
 from fuzz_lines import Bytes, NO_TEXT  # noqa: E402
-from judge import REFUSALS, Model, command_of  # noqa: E402
+from judge import REFUSALS, Model, command_of, is_known  # noqa: E402
 from plain_verdicts import Wrong  # noqa: E402
 
 DATA = os.path.join(HERE, "../crates/cobra_examples/data")
 SECONDS = 60.0
-PROGRAM = None  # its path, where a caller knows better
+PROGRAM = None  # its path, set by a caller
 
 
 def path_of():
@@ -47,7 +46,7 @@ def worked():
                 lines = file.read().removesuffix(b"\n").split(b"\n")
             with open(os.path.join(DATA, name[:-5] + "replies"), "rb") as file:
                 replies = file.read().removesuffix(b"\n").split(b"\n")
-            if not any(line.startswith(b'["resume"') for line in lines):
+            if is_known(lines) and not any(line.startswith(b'["resume"') for line in lines):
                 yield lines, replies
 
 
@@ -90,16 +89,16 @@ class Mutation:
 
 
 class Checked(Model):
-    """What may be stored: cobra_check doesn't search, so it takes it as told that a budget was used
-    up, and that an answer is another one than before."""
+    """The model for stored replies: cobra_check doesn't search, so it accepts that a budget was
+    used up, and that an answer differs from an earlier one."""
 
     judges_search = False
 
 
 def owed_by_model(lines, replies):
-    """The place of the first reply that isn't owed, or None. That memory was wanting is taken as
-    told where the command may stand there and may want memory; then nothing has changed, but that
-    a search is over that was to be collected."""
+    """The place of the first wrong reply, or None. NoMemory is accepted if the command is allowed
+    there and may run out of memory; then nothing has changed, except that a search that was to be
+    collected is over."""
     model = Checked()
     for place, (line, reply) in enumerate(zip(lines, replies)):
         if reply == REFUSALS[16]:
@@ -127,7 +126,7 @@ MAY_WANT = ("open", "offer", "join", "begin", "finish", "round", "collect", "tru
 
 
 def try_run(mutation):
-    """The way it was changed, and how the program ended; raises Difference."""
+    """How it was changed, and how the program ended. Raises Difference."""
     way, lines, replies = mutation.changed()
     given = b"".join(line + b"\n" + reply + b"\n" for line, reply in zip(lines, replies))
     lacks = len(replies) < len(lines)
@@ -158,7 +157,7 @@ class Difference(Exception):
 
 
 def fuzz(seed, runs, until=None):
-    """What was told by way; raises Difference."""
+    """The results by kind of change. Raises Difference."""
     scripts, table = list(worked()), Counter()
     for number in range(runs):
         if until and time.monotonic() > until:
@@ -168,11 +167,11 @@ def fuzz(seed, runs, until=None):
 
 
 def main():
-    asked = argparse.ArgumentParser(description=__doc__.splitlines()[0])
-    asked.add_argument("--runs", type=int, default=10000)
-    asked.add_argument("--seed", default="1")
-    asked.add_argument("--minutes", type=float)
-    asked.add_argument("--keep", default="fuzz-check-difference.txt", metavar="FILE")
+    asked = argparse.ArgumentParser(description=__doc__.split("\n\n")[0])
+    asked.add_argument("--runs", type=int, default=10000, help="how many runs (10,000)")
+    asked.add_argument("--seed", default="1", help="the seed of the dice (1)")
+    asked.add_argument("--minutes", type=float, help="stop after this many minutes")
+    asked.add_argument("--keep", default="fuzz-check-difference.txt", metavar="FILE", help="where a difference is written")
     asked = asked.parse_args()
     begin = time.monotonic()
     try:

@@ -1,8 +1,8 @@
-"""Lines for bench/fuzz.py: bytes mutated, lines mutated by their grammar, and whole scripts.
+"""Lines for bench/fuzz.py: mutated bytes, lines mutated by their grammar, and whole scripts.
 
-Each generator is made for one script, from dice, and asked for chunk after chunk: a list of pairs
-of a kind, which is a word for the table, and a line without its LF. It looks at the plain model for
-what was taken in so far; within a chunk it goes on as if all were accepted.
+Each generator is made for one script, from dice, and asked for one chunk after another: a list of
+pairs of a kind, which is a word for the table, and a line without its LF. It looks at the plain
+model for what has been taken in so far; within a chunk it assumes that everything is accepted.
 """
 from collections import defaultdict
 
@@ -33,7 +33,7 @@ BUDGETS = (1, 1, 1, 2, 2, 3, 4, 5, 7, 8, 15, 16, 31, 32, 33, 64, 64, 128, 256)
 
 
 class Raw(str):
-    """A piece of a line that is written as it stands."""
+    """A piece of a line that is written unchanged."""
 
 
 VERSIONS = (2, 2, 2, 1, 0, 3, 4, 256, WHOLE, "2", "", None, True, [], [2], Raw("2.0"), Raw("-2"),
@@ -43,7 +43,7 @@ OUTCOMES = (*[ABORTED] * 4, "Aborted", "abort", "aborted ", "committed", "", Non
 
 
 def copied(told):
-    """The list, and those in it, copied."""
+    """A deep copy of the list."""
     return [copied(part) if type(part) is list else part for part in told]
 
 
@@ -58,7 +58,7 @@ def effort(dice):
 
 
 def save(dice, sessions):
-    """What is asked of the parts."""
+    """A request for the parts of the saved state."""
     return ["save", *dice.choice((["marks"], ["last", dice.choice((0, 0, 1, 5, WHOLE - 1))],
                                   ["remain", dice.randrange(sessions + 1), dice.randrange(9)]))]
 
@@ -69,8 +69,8 @@ def opening(word, sessions, limit, version):
 
 
 def versioned(dice, line):
-    """The line with something behind what an opening, or a transaction, has in version 1: what
-    version 2 has there, or not; one more of it; or without it."""
+    """The line with an addition to what an opening, or a transaction, has in version 1: version 2's
+    or not, twice, or removed."""
     line = copied(line)
     if line[0] in ("open", "resume"):
         line = line[:3] if dice.random() < 0.8 else line
@@ -89,7 +89,7 @@ def versioned(dice, line):
 
 
 def handing(dice, handed, sessions, limit, version):
-    """A line of a hand-over that may well be taken next."""
+    """A line of a hand-over that may well be accepted next."""
     if handed is None or dice.random() < 0.02:
         return opening("resume", sessions, limit, version)
     if handed.parts is None:
@@ -109,7 +109,7 @@ def handing(dice, handed, sessions, limit, version):
 
 
 def join(dice, parts, last_fence):
-    """A session that joins, or comes back, with a fence, and mostly may."""
+    """A session that joins or returns with a fence, usually correctly."""
     sessions = len(parts.gone)
     ended = [at for at in range(sessions) if parts.closed[at] and not parts.remaining[at]]
     ended = dice.choice(ended or [sessions])
@@ -125,8 +125,8 @@ def join(dice, parts, last_fence):
 
 
 def forged(dice, model, fewest=0):
-    """An answer that is handed in: what a report has shown at last, mostly changed, and by so many
-    changes at the fewest, or the other of the two."""
+    """An answer that is handed in: what a report has shown last, usually changed, at least this
+    often, or the other of the two."""
     word = dice.choice(("order", "refuted"))
     given = copied(model.shown[word])
     for _ in range(max(fewest, dice.choice((0, 0, 1, 1, 1, 2, 3)))):
@@ -143,7 +143,7 @@ def cut_off(dice, items):
 
 
 def swapped(dice, items):
-    """The list with two pieces that stand side by side swapped, as the halves of a split."""
+    """The list with two neighbouring pieces swapped, such as the halves of a split."""
     one, two, three = sorted(dice.randrange(len(items) + 1) for _ in range(3))
     return items[:one] + items[two:three] + items[one:two] + items[three:]
 
@@ -161,7 +161,7 @@ def exchanged(dice, items):
 
 
 class Store:
-    """A store that runs transactions one after another, and lies now and then; what it has logged
+    """A store that runs transactions one after another, and lies now and then. What it has logged
     waits in its session until it is offered."""
 
     def __init__(self, dice, sessions):
@@ -174,7 +174,7 @@ class Store:
         self.blind = dice.choice((0.0, 0.1, 0.5, 0.9))
         self.meets = dice.choice((0.0, 0.1, 0.2)) if sessions < 7 else 0.0
         self.torn = sessions > 7 and dice.random() < 0.7
-        if self.torn:  # who reads doesn't write, and reads anything: what takes a search
+        if self.torn:  # readers don't write, and read anything: this requires a search
             self.keys, self.lies = [1, 2, 3, 4][:dice.choice((2, 3, 4))], 0.5
         self.aborts = 0.0  # attempts; a lie may be a read of what one of them wrote
         self.last, self.writers = {}, defaultdict(list)
@@ -182,8 +182,8 @@ class Store:
         self.first = [0] * sessions
 
     def execute(self):
-        """One more transaction, which waits in its session; or a meeting, at which each session
-        runs two fences."""
+        """Runs one more transaction, which waits in its session; or a meeting, at which each
+        session runs two fences."""
         dice = self.dice
         if dice.random() < self.meets:
             for session in [*range(self.sessions)] * 2:
@@ -200,7 +200,7 @@ class Store:
             self.log(dice.randrange(self.sessions), keys, sorted(writes))
 
     def log(self, session, keys, writes):
-        """A transaction of the session, which reads and writes these keys."""
+        """Logs a transaction of the session, which reads and writes these keys."""
         me = session, self.first[session] + len(self.waiting[session])
         reads = [[key, *self.source(key, me)] for key in keys]
         is_lost = self.dice.random() < self.aborts
@@ -219,8 +219,8 @@ class Store:
         return ("init",) if found is None or found == me else found
 
     def go_on(self, model):
-        """What was taken in waits no more. Sessions may have joined, or another number of them may
-        have been opened, and in version 1: then what was aborted is idle."""
+        """Follows the model: what was taken in no longer waits. Sessions may have joined; or
+        another number of them was opened, perhaps in version 1, where aborted attempts are idle."""
         received = model.parts.received()
         if model.version == 1 and self.aborts:
             self.aborts = 0.0
@@ -246,33 +246,33 @@ class Store:
 
 
 class Scripts:
-    """Whole scripts: several sessions, whose fragments come in any order, rounds, cuts and all."""
+    """Whole scripts: several sessions, whose fragments come in any order, with rounds and cuts."""
 
     def __init__(self, dice):
         self.dice = dice
         self.sessions = dice.choice((1, 2, 2, 3, 3, 4, 6, 12, 16, 64 if dice.random() < 0.1 else 5))
         self.limit = dice.choice((1, 4, 8, 16, 20, 30, 40, 50, 4096, 4096))
         self.store = Store(dice, self.sessions)
-        self.most = dice.choice((8, 12, 16, 30))  # what remains goes little above it
+        self.most = dice.choice((8, 12, 16, 30))  # what remains is at most a little more
         if self.store.torn:
             self.most = dice.choice((12, 16))
         self.version = dice.choice((1, 2))
         if self.version == 2:
             self.store.aborts = dice.choice((0.0, 0.1, 0.3))
         self.is_open, self.odd = False, dice.choice((0.0, 0.0, 0.05, 0.2))
-        self.full = 0  # chunks that began with so much, one after another
+        self.full = 0  # consecutive chunks that began with that much
         self.joins = dice.choice((0.0, 0.05, 0.2)) if self.store.meets else 0.0
         self.resumes = dice.random() < 0.25
 
     def opening(self, model):
-        """The next line of what a script begins with."""
+        """The next line of a script's beginning."""
         line = opening("open", self.sessions, self.limit, self.version)
         if self.resumes:
             line = handing(self.dice, model.handed, self.sessions, self.limit, self.version)
         return [self.told(line)]
 
     def told(self, line):
-        """The line with its kind; it may be an odd one."""
+        """The line with its kind; it may be replaced by an odd one."""
         kind = f"script: {line[0]}"
         if self.dice.random() < self.odd:
             line, kind = odd(self.dice, line), f"script: odd {line[0]}"
@@ -286,7 +286,7 @@ class Scripts:
         return self.full > 2
 
     def chunk(self, model):
-        """Some thirty lines."""
+        """About thirty lines."""
         dice, store = self.dice, self.store
         if model.parts is None:
             return self.opening(model)
@@ -315,7 +315,7 @@ class Scripts:
         return lines
 
     def offer(self, sent):
-        """The next fragment of some session, as if all that was sent were taken in."""
+        """The next fragment of some session, assuming that everything sent was taken in."""
         dice, store = self.dice, self.store
         for _ in range(dice.choice((0, 1, 2, 3))):
             store.execute()
@@ -331,7 +331,8 @@ class Scripts:
         return ["offer", session, first, txns]
 
     def join(self, model):
-        """A session joins with a fence, which the store has run where it may well be taken in."""
+        """A session joins with a fence; the store has run the fence if the line is likely to be
+        accepted."""
         line = join(self.dice, model.parts, self.store.last.get(0))
         me = line[1], line[2] if len(line) == 4 else 0
         if not self.is_open and not model.joining_fault(*me, list(map(effect_of, line[-1]))):
@@ -360,14 +361,14 @@ class Scripts:
         return ["close", dice.randrange(self.sessions + 1)] if dice.random() < closes else ["show"]
 
     def ending(self):
-        """What may well end the open round, beside a search or without one."""
+        """What may well end the open round, during a search or without one."""
         dice = self.dice
         return dice.choice((["finish", *effort(dice)], ["collect", "wait"], ["collect", "wait"],
                             ["collect"], ["skip"]))
 
 
 def odd(dice, line):
-    """The line with one of its parts, or a part of a part, moved by a little or to a limit."""
+    """The line with one of its parts, or a part of a part, changed a little or to a limit."""
     line = copied(line)
     found = places(line)
     if not found:
@@ -404,7 +405,7 @@ def places(value):
 
 
 class Mutated:
-    """Lines that are nearly commands that may stand there."""
+    """Lines that are nearly commands that are allowed there."""
 
     def __init__(self, dice):
         self.dice = dice
@@ -419,7 +420,7 @@ class Mutated:
         return False
 
     def base(self, model):
-        """A command that may well be accepted."""
+        """A command that is likely to be accepted."""
         dice, store = self.dice, self.store
         turn = dice.random()
         if model.parts is None and (model.handed or turn > 0.7):
@@ -431,7 +432,7 @@ class Mutated:
             store.execute()
             session = dice.choice([at for at, its in enumerate(store.waiting) if its])
             *txns, last = store.waiting[session][:4]
-            if model.version == 1 and dice.random() < 0.1:  # which version 2 alone would take
+            if model.version == 1 and dice.random() < 0.1:  # which only version 2 would accept
                 last = [*last, ABORTED]
             return ["offer", session, store.first[session], [*txns, last]]
         if turn < 0.8:
@@ -449,7 +450,7 @@ class Mutated:
         return [dice.choice(("show", "show", "show", "begin", "truncate", "rebuild"))]
 
     def openings_of_none(self):
-        """Some that are of no version, which have to be given before one that is."""
+        """Openings of no version, which have to be given before a valid one."""
         line = opening("open", self.sessions, self.limit, self.version)
         pieces = [write(versioned(self.dice, line)).encode() for _ in range(9)]
         return [(f"{self.name}: open in no version", piece) for piece in pieces
@@ -485,8 +486,8 @@ class Answers:
         return False
 
     def chunk(self, model):
-        """While a round is open, answers to it, of which only the last may be as it was shown,
-        since a right one ends the round; else more is taken in, and a round is opened on it, after
+        """While a round is open, answers to it, of which only the last may be unchanged, since a
+        right answer ends the round. Otherwise more is taken in, and a round is opened on it, after
         a report."""
         if model.parts is None:
             line = opening("open", self.store.sessions, 4096, self.version)
@@ -522,7 +523,7 @@ class Answers:
 
 
 class Bytes(Mutated):
-    """Lines with bytes changed, taken out, put in, and spliced."""
+    """Lines with bytes changed, removed, inserted, and spliced."""
 
     name = "bytes"
 
@@ -538,7 +539,7 @@ class Bytes(Mutated):
         return [(f"bytes: {kind}", bytes(piece)) for piece in line.split(b"\n")]
 
     def make_as_it_is(self, line, at, place):
-        """Nothing: what is right is answered so."""
+        """No change: right lines get right replies."""
 
     def make_flipped(self, line, at, place):
         line[at] ^= 1 << self.dice.randrange(8)
@@ -637,7 +638,7 @@ class Grammar(Mutated):
                                   *WORDS)), *command[1:]]
 
     def make_escape(self, command):
-        """Words whose letters are escaped, as JSON allows, or nearly."""
+        """Words whose letters are escaped, as JSON allows, or nearly so."""
         dice = self.dice
 
         def escaped(old):
@@ -705,7 +706,7 @@ class Grammar(Mutated):
 
 
 def write(value):
-    """Compact JSON, but for pieces that stand as they are."""
+    """Compact JSON, except for pieces that are written unchanged."""
     kind = type(value)
     if kind is int:
         return repr(value)
@@ -715,7 +716,7 @@ def write(value):
 
 
 def long_offer(dice, command):
-    """Fragments, reads and writes as many as are allowed, or one more."""
+    """As many fragments, reads and writes as are allowed, or one more."""
     session, first = command[1:3] if command[0] == "offer" else (0, 0)
     count = dice.choice((255, 256, 257))
     turn, more = dice.randrange(4), dice.choice(([], [], [ABORTED]))
@@ -731,7 +732,7 @@ def long_offer(dice, command):
 
 
 class Longest:
-    """Few lines, each as long as a line may be, or a byte longer."""
+    """Few lines, each of maximal length, or a byte longer."""
 
     def __init__(self, dice):
         self.dice, self.is_done = dice, False

@@ -1,11 +1,13 @@
-"""Gives the daemon's end of a stream entries that were changed, cut, moved, repeated or made up.
+"""Gives the daemon's end of a stream forged entries: changed, cut, moved, repeated or made up.
 
     /usr/bin/python3 bench/fuzz_messages.py [--messages 1000000] [--seed 1]
 
-The oracle knows what was signed, for whom, by whom and under which number: an entry is accepted if and only if it is
-such a one, and what is then read is what was signed. Anything but that, another exception than the refusal, or memory
-that grows, is told, and the status is 1. Half of the entries have a right signature over a text that no client of ours
-would send, so that the reading of texts is tried as well as the signature."""
+The oracle records the text, signer, recipient and number of each signed entry. An entry must be
+accepted exactly if it is recorded, and must be read as it was signed. Anything else, an exception
+other than the refusal, or growing memory is reported, and the status is 1. Half
+of the entries have a right signature for a text that no client of ours would send, so that the
+reading of texts is tested as well as the signature.
+"""
 import argparse
 import json
 import os
@@ -44,7 +46,7 @@ class Counts:
 
 
 def value(draws, deep):
-    """A plain one."""
+    """A plain value."""
     kind = draws.randrange(9 if deep else 6)
     if kind < 2:
         return draws.choice(WORDS)
@@ -96,7 +98,7 @@ def strange_text(draws):
 
 
 def is_within(text):
-    """Plainly, by json alone, whether it is a message within the bounds; and which."""
+    """Whether it is a message within the bounds, decided with json only; and which one."""
 
     def reads(plain, deep):
         if isinstance(plain, list):
@@ -123,7 +125,7 @@ class Pairs(dict):
 
 
 def is_same(found, plain):
-    """Whether what was read is what the text has."""
+    """Whether what was read is the text's contents."""
     if isinstance(plain, dict):
         its = plain["logged"]
         return found == b"" if its is None else isinstance(found, bytes) and frozen([*unpacked(found)]) == frozen(its)
@@ -137,7 +139,7 @@ def frozen(plain):
 
 
 def fuzz(draws, count, grows=None):
-    """So many entries."""
+    """This many entries."""
     its, before = Signer(KEY, UP, "bank", CLIENT, ADMISSION), Signer(KEY, UP, "bank", CLIENT, "")
     opens, counts = up_opener(KEY, "bank", CLIENT, ADMISSION), Counts()
     for at in range(count):
@@ -185,8 +187,8 @@ def fuzz(draws, count, grows=None):
 
 def main():
     parser = argparse.ArgumentParser(description=__doc__.splitlines()[0])
-    parser.add_argument("--messages", type=int, default=1_000_000)
-    parser.add_argument("--seed", type=int, default=1)
+    parser.add_argument("--messages", type=int, default=1_000_000, help="how many entries (1,000,000)")
+    parser.add_argument("--seed", type=int, default=1, help="the seed of the dice (1)")
     asked = parser.parse_args()
     draws, began = random.Random(asked.seed), time.monotonic()
     fuzz(draws, 10000)

@@ -1,12 +1,14 @@
-"""What each crate costs the gate, in seconds of processor time: its proof, its tests and its must-fail edits.
+"""What each crate costs the gate, in processor seconds: its proof, its tests and its must-fail
+edits.
 
-    python3 bench/gate_cost.py                    at the top: runs `rt ci --anew`, which proves and tries all from nothing
-    python3 bench/gate_cost.py --pid PID          watches a run of `rt ci` that goes on, to its end
+    python3 bench/gate_cost.py                    runs `rt ci --anew`, which proves and tests everything from nothing
+    python3 bench/gate_cost.py --pid PID          watches a running `rt ci` to its end
     python3 bench/gate_cost.py --pid PID --seconds 60
 
-The prover's processes are looked at twice a second, so up to half a second of each is missed. Machines differ by half
-and more: the last column counts in proofs of `txn`, where this run had one. Prints a table, and ends with the status of
-the run that it began."""
+It looks at the prover's processes twice a second, so it misses up to half a second of each.
+Machines differ by half and more: the last column is in units of the proof of `txn`, if this run had
+one. It prints a table, and ends with the status of the run that it began.
+"""
 import argparse
 import collections
 import glob
@@ -20,7 +22,7 @@ KINDS = ("proof", "tests", "edits")
 
 
 def processes():
-    """Of each process its parent and its seconds of processor time so far."""
+    """For each process its parent and its processor seconds so far."""
     found = {}
     for place in glob.glob("/proc/[0-9]*"):
         try:
@@ -39,7 +41,8 @@ def is_below(pid, top, found):
 
 
 def work_of(pid):
-    """The crate that a process of the prover checks or builds, and what for; none of another process."""
+    """The crate that a process of the prover checks or builds, and the kind of work; none for other
+    processes."""
     try:
         with open(f"/proc/{pid}/cmdline", encoding="utf-8", errors="replace") as file:
             words = file.read().split("\0")
@@ -48,7 +51,7 @@ def work_of(pid):
         return None
     if os.path.basename(words[0]) != "rattle" or "--crate-name" not in words:
         return None
-    is_edit = folder.startswith("rt-edit")  # a copy of the crate, in which the edit is made
+    is_edit = folder.startswith("rt-edit")  # a copy of the crate with the edit
     return words[words.index("--crate-name") + 1], "edits" if is_edit else "tests" if "--test" in words else "proof"
 
 
@@ -86,8 +89,8 @@ def row(name, kinds, edits, unit):
 
 def main():
     parser = argparse.ArgumentParser(description=__doc__, formatter_class=argparse.RawDescriptionHelpFormatter)
-    parser.add_argument("--pid", type=int, help="of the run of rt ci that is watched")
-    parser.add_argument("--seconds", type=float, default=float("inf"), help="for which it is watched at most")
+    parser.add_argument("--pid", type=int, help="the process of a running rt ci to watch")
+    parser.add_argument("--seconds", type=float, default=float("inf"), help="how long to watch it at most")
     asked = parser.parse_args()
     until = time.monotonic() + asked.seconds
     if asked.pid:

@@ -1,13 +1,14 @@
 #!/usr/bin/env python3
-"""Histories that take a search, decided by cobra_audit, in one table.
+"""How cobra_audit decides histories that need a search, in one table.
 
-Run at the top of the repository, after `cd crates/cobra_audit && rt run < /dev/null` has built the program:
+Run it at the top of the repository, after `cd crates/cobra_audit && rt run < /dev/null` has built
+the program:
 
     python3 bench/hard.py [--budget N] [--some WORD] [--write FOLDER] [PROGRAM]..
 
-With several programs each has its columns: give the one of an earlier commit to compare with. Where one of the SAT solvers `clasp`, `cadical`
-or `minisat` is installed it is timed beside, over an encoding of its own. --some takes the rows alone whose name has the word; --write
-writes the scripts into a folder and runs nothing.
+With several programs, each has its own columns: name an earlier commit's program to compare it. If
+one of the SAT solvers `clasp`, `cadical` or `minisat` is installed, it is timed, too, with its own
+encoding.
 """
 import argparse
 import itertools
@@ -29,7 +30,8 @@ class Log:
         self.sessions = []
 
     def add(self, reads, writes, session=None):
-        """Reads are pairs of a key and the name of its writer. The transaction has a session of its own where none is told."""
+        """Adds a transaction. Reads are pairs of a key and the name of its writer. By default the
+        transaction has a session of its own."""
         if session is None:
             session = len(self.sessions)
         while len(self.sessions) <= session:
@@ -48,7 +50,8 @@ class Log:
 
 
 def idle(log, count):
-    """So many pairs of writers of one key with a reader of the first, in three sessions: whichever side is taken, nothing follows."""
+    """This many pairs of writers of one key with a reader of the first, in three sessions:
+    whichever side is taken, nothing follows."""
     first = len(log.sessions)
     for key in range(10001, 10001 + count):
         writer = log.add([], [key], first)
@@ -57,8 +60,9 @@ def idle(log, count):
 
 
 def hide(log, pairs, wrong):
-    """So many pairs of writers of one key, whose order is open, and for each clause readers that rule out one way to order some of the pairs: a
-    clause is pairs of a writer pair's number and which of the two comes first. Each transaction has a session of its own."""
+    """This many pairs of writers of one key, whose order is open, and for each clause readers that
+    rule out one way to order some of the pairs. A clause is pairs of a writer pair's number and
+    which of the two comes first. Each transaction has a session of its own."""
     key = itertools.count(20001)
     made = []
     for _ in range(pairs):
@@ -89,8 +93,9 @@ def formula(pairs, count, width, seed):
 
 
 def store(txns, sessions, keys, seed, blind, stale=0.0, behind=0):
-    """A store under load: a transaction reads what is current, or, at the chance `stale`, what was up to `behind` transactions before, and writes
-    mostly a key that it hasn't read."""
+    """A store under load. A transaction reads the current version, or, with probability `stale`,
+    what was current up to `behind` transactions before, and usually writes a key that it hasn't
+    read."""
     draw = random.Random(seed)
     log, written = Log(), [{}]
     last = {}
@@ -115,8 +120,9 @@ def store(txns, sessions, keys, seed, blind, stale=0.0, behind=0):
 
 
 def blind_counter(txns, keys, sessions, same, seed=1):
-    """Every second transaction writes a key blindly, and the next one reads it, in the same session or in any: an honest store. In the same
-    one nothing orders the sessions, and nearly every writer is open to nearly every read."""
+    """Every second transaction writes a key blindly, and the next one reads it, in the same session
+    or in any; the store is correct. In the same session nothing orders the sessions, and nearly
+    every writer is open to nearly every read."""
     draw = random.Random(seed)
     log = Log()
     for number in range(0, txns, 2):
@@ -127,14 +133,14 @@ def blind_counter(txns, keys, sessions, same, seed=1):
 
 
 def open_choices(log):
-    """How many choices the known relation leaves open; none where that has a cycle."""
+    """How many choices the known relation leaves open; none if it has a cycle."""
     relation = Relation(log)
     relation.saturate()
     return len(relation.open) if not relation.has_cycle() else -1
 
 
 class Relation:
-    """What every order keeps, as plain sets of bits; for the tables alone."""
+    """What every order keeps, as plain sets of bits; only for the tables."""
 
     def __init__(self, log):
         self.number = {}
@@ -196,7 +202,7 @@ def contradiction(pairs, wrong, spare):
 
 
 def busy(seed, violated):
-    """A serial store, or one with stale reads, with a contradiction beside it."""
+    """A serial store, or one with stale reads, and an independent contradiction."""
     draw = random.Random(seed)
     log = store(240 if violated else 300, 14, draw.choice((12, 24, 48)), seed, 0.9)
     if violated:
@@ -219,6 +225,8 @@ def rows():
         yield f"store serial, seed {seed}", busy(seed, False)
     for seed in range(10):
         yield f"store stale, seed {seed}", store(300, 16, 48, seed, 0.9, 0.1, 12)
+    for keys, blind in ((16, 0.3), (64, 0.5), (64, 0.9), (256, 0.9)):
+        yield f"store honest, {keys} keys, blind {blind}", store(4096, 64, keys, 1, blind)
     for same in (True, False):
         for keys in (1, 2, 16):
             for sessions in (8, 64):
@@ -227,7 +235,8 @@ def rows():
 
 
 def run(program, lines):
-    """The kind, the size of the certificate, the seconds of the round, and the peak memory in MiB."""
+    """The kind, the size of the certificate, the seconds of the round, and the peak memory in
+    MiB."""
     process = subprocess.Popen([program], stdin=subprocess.PIPE, stdout=subprocess.PIPE)
     for line in lines[:-1]:
         process.stdin.write(line.encode() + b"\n")
@@ -246,7 +255,8 @@ def run(program, lines):
 
 
 class Formula:
-    """Clauses for a SAT solver: each transaction has a place, a binary number, and who comes before another has the lower one."""
+    """Clauses for a SAT solver: each transaction has a place, a binary number, and earlier ones
+    have lower places."""
 
     def __init__(self, log):
         relation = Relation(log)
@@ -269,7 +279,8 @@ class Formula:
         return self.last
 
     def below(self, a, b):
-        """A literal from which it follows that a's place is below b's: at some bit a has 0 and b has 1, and above it they are the same."""
+        """A literal that implies that a's place is below b's: at some bit a has 0 and b has 1, and
+        above it they are equal."""
         if (a, b) in self.known:
             return self.known[(a, b)]
         less = self.fresh()
@@ -292,9 +303,9 @@ class Formula:
 
 def main():
     words = argparse.ArgumentParser(description=__doc__, formatter_class=argparse.RawDescriptionHelpFormatter)
-    words.add_argument("--budget", type=int, default=65536)
-    words.add_argument("--some", metavar="WORD", default="")
-    words.add_argument("--write", metavar="FOLDER")
+    words.add_argument("--budget", type=int, default=65536, help="nodes of a search (65,536)")
+    words.add_argument("--some", metavar="WORD", default="", help="only rows with this in their name")
+    words.add_argument("--write", metavar="FOLDER", help="write the scripts there, and run nothing")
     words.add_argument("programs", nargs="*", default=["crates/cobra_audit/out/cobra_audit"])
     asked = words.parse_args()
     solver = next(filter(None, map(shutil.which, ("cadical", "clasp", "minisat"))), None)

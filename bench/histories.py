@@ -1,16 +1,17 @@
 """Histories of a store under load, as lines of scripts: what the benchmarks give to cobra_audit.
 
-A store executes transactions one after another, and answers each read by the last writer of its key, or now and then, where
-`stale` says so, by an older one. Kinds: counter (each transaction reads one of a few hot keys, and writes it), mixed (1 to 4
-reads and 0 to 3 writes, half of these of keys that weren't read), skew (reads two keys, writes one of them), blind (writes
-without a read, or a read alone).
+A store executes transactions one after another, and answers each read with the last version of its
+key, or sometimes, as `stale` says, with an older one. Kinds: counter (each transaction reads one of
+a few hot keys, and writes it), mixed (1 to 4 reads and 0 to 3 writes, half of them of keys that
+weren't read), skew (reads two keys, writes one of them), blind (only writes, or only reads).
 """
 import json
 import random
 
 
 class Store:
-    """A serial store, which keeps for each key its writers in order, and for each session its log."""
+    """A serial store, which keeps for each key its writers in order, and for each session its
+    log."""
 
     def __init__(self, sessions, seed, stale):
         self.random = random.Random(seed)
@@ -19,7 +20,8 @@ class Store:
         self.logs = [[] for _ in range(sessions)]
 
     def source(self, key):
-        """The last writer of the key, or, at a chance of `stale` in a thousand, an older one."""
+        """The last writer of the key, or, with a probability of `stale` per thousand, an older
+        one."""
         writers = self.writers.get(key, [])
         back = 1
         if writers and self.random.randrange(1000) < self.stale:
@@ -60,7 +62,8 @@ KINDS = {"counter": counter, "mixed": mixed, "skew": skew, "blind": blind}
 
 
 def script(kind, transactions, sessions=8, keys=400, seed=1, stale=0, fragment=8, last=("round", 4096, 0, 1, "guided")):
-    """The lines of a script: the offers of a history, shuffled between its sessions, and then one more command."""
+    """The lines of a script: the offers of a history, shuffled between its sessions, and then one
+    more command."""
     store = Store(sessions, seed, stale)
     lines, sent = [["open", sessions, 4096]], [0] * sessions
 

@@ -1,15 +1,15 @@
 #!/usr/bin/env python3
-"""Runs in which sessions join, are closed and come back, judged over their whole histories.
+"""Runs in which sessions join, close and return, judged over their whole histories.
 
     python3 bench/joins.py [--runs N] [--seed N] [--program PROGRAM]
 
-Each run is a small store that executes what clients do, and lies now and then; clients come and go,
+Each run is a small store that executes what clients do, and lies now and then. Clients come and go,
 meet, and are logged in any order between their sessions. Its lines go to cobra_audit, with rounds
-and cuts between them; of some rounds the search goes on beside the lines, and some of these are
-skipped. Each reply is judged by the plain model (`judge.py`), and each report once
-more by the definition over all that was ever accepted, as if nothing had been cut away: who joined
-has a session more, and who came back goes on in one. Prints a table, and with status 1 the first
-run that differs, as a script.
+and cuts between them; some rounds are searched while more lines arrive, and some of these are
+skipped. Each reply is judged by the plain model (`judge.py`), and each report also by the
+definition over everything that was ever accepted, as if nothing had been cut away: a client that
+joined has an additional session, and one that returned goes on in an existing one. It prints a
+table, and the first wrong run as a script, with status 1.
 """
 import argparse
 import json
@@ -22,7 +22,7 @@ from collections import Counter, defaultdict
 from judge import ABORTED, NAMES, Model, command_of, effect_of
 from plain_verdicts import NO, SPENT, YES, Parts, Relation, Wrong, cut_of, has_order, scan
 
-FARTHEST = 20000  # nodes or fronts that are looked at over a whole history
+FARTHEST = 20000  # nodes or fronts that are tried for a whole history
 INIT = ("init",)
 
 
@@ -31,7 +31,8 @@ def compact(told):
 
 
 def verdict_of(history, counts):
-    """By its definition, of so many transactions of each session; None where it takes too long."""
+    """The verdict by definition, for this many transactions of each session; None if it takes too
+    long."""
     parts = Parts([0] * len(counts), [txns[:count] for txns, count in zip(history, counts)],
                   [False] * len(counts))
     found = has_order(parts, FARTHEST)
@@ -44,7 +45,7 @@ def verdict_of(history, counts):
 
 
 class Clients:
-    """What they do in the store, which runs it one after another; it waits in their sessions."""
+    """What clients do in the store, which runs it one after another; it waits in their sessions."""
 
     def __init__(self, dice):
         self.dice = dice
@@ -100,7 +101,7 @@ class Clients:
             self.waiting[session].append(None)
 
     def join(self, parts):
-        """A new one, or one of which nothing remains and nothing waits."""
+        """A new session, or one of which nothing remains and nothing waits."""
         vacant = [session for session, txns in enumerate(parts.remaining)
                   if parts.closed[session] and not txns and not self.waiting[session]]
         is_next = len(self.begun) == len(parts.gone) < 8
@@ -121,13 +122,13 @@ class Clients:
             self.log(session, [0], [0], True)
 
     def give_up(self, session):
-        """What it is to join with is refused for good: it was never there."""
+        """What it is to join with is refused for good: it never existed."""
         self.waiting[session], self.open[session] = [], False
 
 
 class Foreseen(Model):
-    """Says what will be answered, as far as a run has to know it: of a report whether it finds an
-    order, and so a cut."""
+    """Predicts the reply, as far as a run has to know it: whether a report finds an order, and so a
+    cut."""
 
     def foresee(self, command):
         word, *rest = command
@@ -147,17 +148,17 @@ class Foreseen(Model):
 
 
 class Run:
-    """One run: its lines, and what was accepted by then."""
+    """One run: its lines, and what has been accepted."""
 
     def __init__(self, dice):
         self.dice = dice
         self.clients, self.model, self.history = Clients(dice), Foreseen(), []
-        self.script, self.opens = [], None  # of each session what was accepted, as a round began
-        self.counts = {}  # of each report's line, of each session what was accepted by then
-        self.refused = Counter()  # joins of each session, one after another
+        self.script, self.opens = [], None  # what was accepted of each session when a round began
+        self.counts = {}  # by report's line, what had been accepted of each session
+        self.refused = Counter()  # consecutive refused joins of each session
 
     def ask(self, *told):
-        """What will be answered."""
+        """The predicted reply."""
         line = compact(told)
         reply = self.model.foresee(command_of(line))
         if reply == ["ok"]:
@@ -182,7 +183,7 @@ class Run:
             self.opens = None
 
     def judge(self, program, table):
-        """Of what the program answers; raises Wrong."""
+        """Judges the program's replies. Raises Wrong."""
         script = b"\n".join([*self.script, b""])
         ran = subprocess.run([program], input=script, stdout=subprocess.PIPE, check=False)
         model, replies = Model(), ran.stdout.split(b"\n")
@@ -236,7 +237,7 @@ class Run:
         self.ask("show")
 
     def settle(self):
-        """The clients meet, and what they have done is handed in; then mostly something can be
+        """The clients meet, and what they have done is handed in; usually something can then be
         forgotten."""
         self.clients.meet()
         if self.dice.random() < 0.2:
@@ -264,7 +265,7 @@ class Run:
         self.ask("search", 4096, 0, 1, "guided")
 
     def end_round(self):
-        """The one that is open."""
+        """Ends the open round."""
         if not self.model.search:
             self.ask("finish", 4096, 0, 1, "guided")
         elif self.dice.random() < 0.15:
@@ -273,7 +274,7 @@ class Run:
             self.ask("collect", "wait")
 
     def hand_in(self, most=3):
-        """What waits in some sessions, in any order."""
+        """Hands in what waits in some sessions, in any order."""
         for session in self.dice.sample(range(len(self.clients.waiting)),
                                         len(self.clients.waiting)):
             for _ in range(self.dice.randrange(most + 1)):
@@ -326,8 +327,8 @@ class Run:
 
 def main():
     asked = argparse.ArgumentParser(description=__doc__.splitlines()[0])
-    asked.add_argument("--runs", type=int, default=300)
-    asked.add_argument("--seed", type=int, default=random.randrange(10**6))
+    asked.add_argument("--runs", type=int, default=300, help="how many runs (300)")
+    asked.add_argument("--seed", type=int, default=random.randrange(10**6), help="the seed of the dice (drawn)")
     default = os.environ.get("COBRA_AUDIT", "crates/cobra_audit/out/cobra_audit")
     asked.add_argument("--program", default=default)
     asked = asked.parse_args()

@@ -1,19 +1,23 @@
 #!/usr/bin/env python3
-"""What a journal costs: a log is given to an auditor with one and to one without, in turns.
+"""What a journal costs: auditors with and without a journal are given the same log, in turn.
 
     python3 bench/journal_cost.py [--transactions 20000] [--keys 400] [--runs 5] [PROGRAM]
     python3 bench/journal_cost.py --live [--postgres] [--seconds 5] [--kills] [--runs 5] [PROGRAM]
 
-Eight sessions, of which each transaction reads a key and writes it, meet after every so many (2,560, as of a LiveAuditor), with a
-round and a cut behind. A row a way of giving it: one transaction a line, or as many as a LiveAuditor gives at a time. It tells the
-least of all runs, of each transaction: the time from the first line to the last answer, in which this program makes the lines and
-cobra_audit answers them, and this program's own processor time in it. A last row tells how long another program took to be brought
-where a killed one stood. The program has to know ["save",..].
+Eight sessions, in which each transaction reads a key and writes it, meet after every 2,560
+transactions, as with a LiveAuditor, followed by a round and a cut. There is a row for each way of
+giving the log: one transaction per line, or as many as a LiveAuditor gives at a time. The figures
+are minimums over all runs, for each transaction: the time from the first line to the last answer,
+in which this program makes the lines and cobra_audit answers them, and this program's own processor
+time in it. A last row has the time that a new program took to reach a killed one's state. The
+program has to know ["save",..].
 
-With --live eight clients run beside a LiveAuditor over an AuditorApart instead, threads over a store in memory, or processes over a
-PostgreSQL. It tells the collector's processor time a transaction: of the clients, of the process that they hand over to, and of the
-one beside cobra_audit, and not of cobra_audit or the server; medians of all runs. With --kills cobra_audit is killed in the middle
-of each run where there is a journal; it tells how long a client waited at most for a transaction, with a kill and without.
+With --live eight clients run with a LiveAuditor over an AuditorApart instead: threads over a store
+in memory, or processes over PostgreSQL. The figures are the collector's processor time per
+transaction, as medians of all runs: of the clients, of the process that they hand over to, and of
+the one next to cobra_audit, without cobra_audit and the server. With --kills cobra_audit is killed
+in the middle of each run that has a journal; then the longest time that a client waited for a
+transaction is printed, with and without a kill.
 """
 import argparse
 import contextlib
@@ -36,7 +40,7 @@ SESSIONS, EVERY, MOST = 8, 2560, 128
 
 
 def history(transactions, keys):
-    """Of each session its log, and how many of each had been done at each meeting's end."""
+    """Each session's log, and how many transactions of each were done at each meeting's end."""
     store, ends = Store(SESSIONS, 1, 0), []
     for number in range(1, transactions + 1):
         key = store.random.randint(1, keys)
@@ -77,7 +81,7 @@ def fed(auditor, logs, ends, size):
 
 
 def run(program, logs, ends, size, path):
-    """The same; with a journal also how long another program took, and the file's size."""
+    """The same; with a journal also how long a new program took, and the file's size."""
     with Auditor(SESSIONS, program=program, journal=path) as auditor:
         took = fed(auditor, logs, ends, size)
         if path is None:
@@ -98,7 +102,7 @@ def busy(pid):
 
 
 def kill_later(auditor, seconds, kills):
-    """Once, after so many seconds."""
+    """Kills it once, after this many seconds."""
     time.sleep(seconds)
     with open(f"/proc/{auditor.process.pid}/task/{auditor.process.pid}/children") as file:
         for pid in file.read().split()[:1]:
@@ -108,7 +112,8 @@ def kill_later(auditor, seconds, kills):
 
 
 def live_run(asked, folder, make_store, is_kept):
-    """Microseconds a transaction, how long one took at most, how many programs were killed, and the outcome."""
+    """Microseconds per transaction, the longest one, how many programs were killed, and the
+    outcome."""
     journal = f"{folder}/journal" if is_kept else None
     own, kills = time.process_time(), []
     with AuditorApart(SESSIONS, program=asked.program, journal=journal) as auditor:
@@ -164,14 +169,14 @@ def live(asked):
 def main():
     asked = argparse.ArgumentParser(description=__doc__.split("\n")[0])
     asked.add_argument("program", nargs="?", default=PROGRAM)
-    asked.add_argument("--transactions", type=int, default=20000)
-    asked.add_argument("--keys", type=int, default=400)
-    asked.add_argument("--runs", type=int, default=5)
-    asked.add_argument("--live", action="store_true")
-    asked.add_argument("--postgres", action="store_true")
-    asked.add_argument("--seconds", type=float, default=5.0)
-    asked.add_argument("--rate", type=float, help="transactions a second; else as many as there can be")
-    asked.add_argument("--kills", action="store_true")
+    asked.add_argument("--transactions", type=int, default=20000, help="the length of the log (20,000)")
+    asked.add_argument("--keys", type=int, default=400, help="how many keys it has (400)")
+    asked.add_argument("--runs", type=int, default=5, help="how many runs of each kind (5)")
+    asked.add_argument("--live", action="store_true", help="run clients and a LiveAuditor instead")
+    asked.add_argument("--postgres", action="store_true", help="with --live: over a PostgreSQL")
+    asked.add_argument("--seconds", type=float, default=5.0, help="with --live: the length of a run (5)")
+    asked.add_argument("--rate", type=float, help="with --live: transactions a second (no limit)")
+    asked.add_argument("--kills", action="store_true", help="with --live: kill cobra_audit in each run")
     asked = asked.parse_args()
     if asked.live:
         live(asked)

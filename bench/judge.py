@@ -1,13 +1,13 @@
 #!/usr/bin/env python3
-"""A plain model of cobra_audit: which reply is owed to each line of a script.
+"""A plain model of cobra_audit: the right reply to each line of a script.
 
     python3 bench/judge.py SCRIPT [PROGRAM]
 
-Written from docs/FORMATS.md and docs/DEFINITIONS.md alone, and never from the auditor's code. Where
-the documents pin a reply's bytes (refusals, `ok`, cuts, states) they are compared. A report's order
-or refutation is checked, and so is that spent comes only where the budget may be used up; a small
-remainder is decided by trial of all orders, too. As a program it prints the first reply that isn't
-the one owed, and why, with status 1, or how many lines were answered rightly.
+Written only from docs/FORMATS.md and docs/DEFINITIONS.md, never from the auditor's code. If the
+documents determine a reply's bytes (refusals, `ok`, cuts, states), they are compared. A report's
+order or refutation is checked, and so is that `spent` comes only if the budget may be used up; a
+small remainder is also decided by trying all orders. As a program it prints the first wrong reply
+and the reason, with status 1, or how many lines were answered correctly.
 """
 import json
 import os
@@ -17,7 +17,7 @@ import sys
 from plain_proofs import check_order, check_tree
 from plain_verdicts import INIT, Parts, Relation, Wrong, cut_of, has_order, is_fence, may_be_spent
 
-LONGEST = 8388608  # bytes of a line, its LF left out
+LONGEST = 8388608  # bytes of a line, without its LF
 WHOLE, NUMBERS = 2**64, 2**48
 DEEPEST, FARTHEST = 600, 400  # nodes that are searched here, and fronts that are tried
 NAMES = {1: "BadLine", 2: "BadSession", 3: "BadTxn", 4: "BadFence", 5: "Gap", 6: "Repeat",
@@ -26,18 +26,18 @@ NAMES = {1: "BadLine", 2: "BadSession", 3: "BadTxn", 4: "BadFence", 5: "Gap", 6:
          14: "BadParts", 16: "NoMemory", 17: "NotAnchored"}
 REFUSALS = {number: b'["no",%d,"%s"]' % (number, name.encode()) for number, name in NAMES.items()}
 OK, SEARCHING = b'["ok"]', b'["searching"]'
-ABORTED = "aborted"  # behind the lists of a transaction of which nothing was committed
+ABORTED = "aborted"  # after the lists of a transaction of which nothing was committed
 decode = json.JSONDecoder().decode
 encode = json.JSONEncoder(separators=(",", ":")).encode
 
 
 def is_whole(it, below=WHOLE):
-    """Whether it is a whole number without sign, below that."""
+    """Whether it is a whole number without a sign, below this limit."""
     return type(it) is int and 0 <= it < below
 
 
 def are_wholes(numbers):
-    """The same of each of them."""
+    """The same for each of them."""
     for it in numbers:
         if type(it) is not int or not 0 <= it < WHOLE:
             return False
@@ -63,14 +63,15 @@ def is_read(it):
 
 
 def is_txn(it):
-    """A third entry says that it was aborted; whether that may stand there is judged by `Model`."""
+    """Whether it has the form of a transaction. A third entry says that it aborted; `Model` judges
+    whether that is allowed there."""
     return (type(it) is list and len(it) in (2, 3) and type(it[0]) is list and type(it[1]) is list
             and all(map(is_read, it[0])) and are_wholes(it[1])
             and it[2:] in ([], [ABORTED]))
 
 
 def tells_aborted(command):
-    """Whether the command has a transaction that was aborted, which version 2 alone knows."""
+    """Whether the command has an aborted transaction, which only version 2 knows."""
     return command[0] in ("offer", "join") and any(map(is_aborted, command[-1]))
 
 
@@ -81,7 +82,7 @@ def is_offer(parts):
 
 
 def is_opening(parts):
-    """Two numbers, and behind them the version where that is 2: a 1 isn't said."""
+    """Two numbers, followed by the version if that is 2; version 1 isn't stated."""
     return are_wholes(parts) and parts[2:] in ([], [2])
 
 
@@ -137,7 +138,7 @@ def is_reader(it):
     return are_wholes(it[1:]) and it[1] < 256
 
 
-TREE_FORMS = {  # with how many parts more wait for their end, behind it
+TREE_FORMS = {  # with how many more parts then wait for their end
     ("force", 4): (lambda it: is_choice(it[1]) and is_whole(it[2], 3) and it[2] > 0
                    and is_cycle(it[3]), 0),
     ("split", 2): (lambda it: is_choice(it[1]), 1),
@@ -200,13 +201,13 @@ FORMS = {
     ("resumed", 1): is_nothing,
     ("answer", 3): is_answer,
 }
-BEGINNING = ("open", "resume")  # the words that may stand as long as no auditor is open
-HANDED = ("marks", "last", "resumed")  # and those that stand in a hand-over alone, beside offer
+BEGINNING = ("open", "resume")  # the words that are allowed while no auditor is open
+HANDED = ("marks", "last", "resumed")  # and those that are allowed only in a hand-over, in addition to offer
 
 
 def command_of(line):
-    """The command that a line is, as the list that it says; None where it is none. No command has a
-    minus sign, and Python would read -0 as 0."""
+    """The command in a line, as a list; None if it is none. No command has a minus sign, and Python
+    would read -0 as 0."""
     if len(line) > LONGEST or b"-" in line:
         return None
     try:
@@ -224,13 +225,13 @@ def is_aborted(told):
 
 
 def txn_of(told):
-    """Its lists, whether it was committed or not: both are judged by the same rules."""
+    """Its lists, whether or not it was committed: both are judged by the same rules."""
     reads, writes, *_ = told
     return [(read[0], INIT if len(read) == 2 else (read[1], read[2])) for read in reads], writes
 
 
 def effect_of(told):
-    """What it did: nothing, where it was aborted."""
+    """What it did; nothing, if it aborted."""
     return ([], []) if is_aborted(told) else txn_of(told)
 
 
@@ -239,7 +240,7 @@ def rises(items):
 
 
 def txn_fault(me, txn):
-    """The number of the refusal of a transaction that isn't well formed; else None."""
+    """The number of the refusal of a malformed transaction; else None."""
     reads, writes = txn
     if not rises(reads) or not rises(writes):
         return 3
@@ -271,13 +272,13 @@ def text(told):
 
 
 def told_txn(txn):
-    """A transaction, as a line has it."""
+    """A transaction in the form of a line."""
     reads, writes = txn
     return [[[key, "init"] if source == INIT else [key, *source] for key, source in reads], writes]
 
 
 def place_fault(parts, session, first):
-    """The number of the refusal of a fragment that doesn't come next in its session; else None."""
+    """The number of the refusal of a fragment that isn't the next one of its session; else None."""
     if session >= len(parts.gone):
         return 2
     received = parts.gone[session] + len(parts.remaining[session])
@@ -292,8 +293,8 @@ class HandOver:
         self.parts, self.writers = None, []
 
     def owed(self, command):
-        """What is owed to the command; where it is done, the parts have changed. What was aborted
-        has left nothing that would be handed over, in neither version."""
+        """The right reply to the command, whose effect on the parts is applied. Aborted attempts
+        leave nothing to hand over, in either version."""
         word, *told = command
         if word == "offer" and self.parts and not tells_aborted(command):
             return self.offer(*told)
@@ -334,21 +335,21 @@ class HandOver:
 
 
 class Model:
-    """The auditor as the documents say it: `judge` takes a line and the reply to it. What its
-    search comes to is judged too: that a budget is used up, and that it answers alike again."""
+    """The auditor as the documents define it: `judge` takes a line and the reply to it. The result
+    of its search is judged, too: that a budget is used up, and that it answers the same again."""
 
     judges_search = True
 
     def __init__(self):
         self.parts = self.limit = self.snapshot = self.held = self.handed = None
-        self.search = None  # what the search was given that goes on beside the open round
-        self.version = 1  # of what may be offered: what the script was opened with
+        self.search = None  # the arguments of the open round's running search
+        self.version = 1  # the version of the script's opening, for what may be offered
         self.rounds = 0
-        self.told = {}  # of what remains now: of each budget and depth, the report without number
-        self.shown = {"order": [], "refuted": [["cycle", []]]}  # what reports have shown at last
+        self.told = {}  # for what remains now: by budget and depth, the report without its number
+        self.shown = {"order": [], "refuted": [["cycle", []]]}  # what reports have shown last
 
     def judge(self, line, reply):
-        """Raises Wrong where this isn't the reply that is owed to the line; neither has its LF."""
+        """Raises Wrong if this isn't the right reply to the line; neither has its LF."""
         command = command_of(line)
         if self.search and command == ["collect"] and reply == SEARCHING:
             return
@@ -359,8 +360,8 @@ class Model:
             raise Wrong(f"owed is {owed[:300].decode()}")
 
     def owed(self, command):
-        """The reply that is owed to what `command_of` gives, which is done; None, and nothing is
-        done, where that is a report."""
+        """The right reply to the result of `command_of`, whose effect is applied. None, without any
+        effect, if the reply is a report."""
         if command is None:
             return REFUSALS[1]
         if self.handed and command[0] not in BEGINNING:
@@ -445,7 +446,8 @@ class Model:
         return None if self.is_anchored(txns[0]) else 17
 
     def is_anchored(self, txn):
-        """Whether it is a fence that reads from one that remains, or from the last that is gone."""
+        """Whether it is a fence that reads from one that remains, or from the last one
+        forgotten."""
         if not is_fence(txn):
             return False
         source = txn[0][0][1]
@@ -554,7 +556,7 @@ class Model:
         return None if self.snapshot else REFUSALS[11]
 
     def judge_report(self, command, reply):
-        """A report on the open round, or on all that was taken in."""
+        """Judges a report on the open round, or on everything that was taken in."""
         budget, depth = self.search[:2] if command[0] == "collect" else command[1:3]
         parts, self.snapshot = self.snapshot or self.parts, None
         self.search = None
@@ -590,7 +592,7 @@ class Model:
 
 
 def report_of(reply):
-    """The list that a report is."""
+    """The list in a report."""
     try:
         report = decode(reply.decode("ascii"))
     except ValueError:
@@ -603,7 +605,7 @@ def report_of(reply):
 
 
 def check_by_trial(parts, kind):
-    """A small remainder's verdict, by trial of all orders."""
+    """Checks a small remainder's verdict by trying all orders."""
     if kind == "spent" or sum(map(len, parts.remaining)) > 12:
         return
     found = has_order(parts, FARTHEST)
@@ -612,14 +614,19 @@ def check_by_trial(parts, kind):
 
 
 def lines_of(script):
-    """The lines of a script: a last piece without LF is one where it isn't empty."""
+    """The lines of a script; a last piece without LF is one unless it is empty."""
     lines = script.split(b"\n")
     return lines if lines[-1] else lines[:-1]
 
 
+def is_known(lines):
+    """Whether the model knows scripts like this: not if it asks for snapshot isolation."""
+    return not any(line.endswith(b',"snapshot"]') for line in lines)
+
+
 def first_difference(script, replies):
-    """The place of the first line whose reply isn't the one owed, with the reason; else None.
-    `replies` are the bytes that were written."""
+    """The place of the first line with a wrong reply, and the reason; else None. `replies` are the
+    bytes that were written."""
     model, lines, told = Model(), lines_of(script), replies.split(b"\n")
     rest = told.pop()
     for place, line in enumerate(lines):

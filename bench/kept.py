@@ -1,20 +1,25 @@
 #!/usr/bin/env python3
-"""Whether a round costs what is new, and a cut what goes: rounds made again, audits of many rounds, and keys of the past.
+"""Whether a round costs only what is new, and a cut only what it forgets.
 
-Run at the top of the repository, after `cd crates/cobra_audit && rt run < /dev/null` has built the program:
+Run it at the top of the repository, after `cd crates/cobra_audit && rt run < /dev/null` has built
+the program:
 
     python3 bench/kept.py [--table again|grown|runs|keys] .. [--transactions N] [--most N] [PROGRAM ..]
 
-With several programs each stands beside the others, in one run. The histories are those of bench/histories.py.
+Several programs are compared in one run. The histories are those of bench/histories.py.
 
-- again: 3,000 transactions remain, of one kind. The milliseconds of processor time of the first round; of a second one, where nothing came since;
-  and of a `begin` and of a `finish` after these. The last column is the second round's part of the first.
-- grown: 2,000 transactions remain, of one kind, and have had a round. Then so many more come, and a round, again and again: the same of each of
-  these rounds, beside the first and a second one where nothing came.
-- runs: so many transactions of clients that meet before each round and read each blind key once, with a round and a truncate after each 300 and
-  after each 2,000: the processor time of the whole script from a file, the time of CPython's json.loads over its lines, and their ratio.
-- keys: 10,000 keys are written and cut away, and with --most up to a million and more; then 20,000 writes of new keys with their round and truncate.
-  The milliseconds of these, and the resident memory for each key so far, in bytes, but for what the program takes at ten thousand.
+- again: 3,000 transactions of one kind remain. Milliseconds of processor time of the first round;
+  of a second one, without anything new; and of a `begin` and a `finish` after these. The last
+  column is the second round's share of the first.
+- grown: 2,000 transactions of one kind remain, and had a round. Then, repeatedly, more arrive,
+  followed by a round: the same figures for each of these rounds, and for the first one and a second
+  one without anything new.
+- runs: transactions of clients that meet before each round and read each blind key once, with a
+  round and a truncate after each 300 and after each 2,000. Processor time of the whole script from
+  a file, the time of CPython's json.loads over its lines, and their ratio.
+- keys: 10,000 keys are written and cut away, and with --most up to a million and more; then 20,000
+  writes of new keys with their round and truncate. Milliseconds of these, and resident memory for
+  each key so far, in bytes, above what the program takes with ten thousand.
 """
 import argparse
 import json
@@ -35,7 +40,7 @@ MORE = (1, 8, 32, 64, 128, 192, 256, 320)
 
 
 class Lines:
-    """In an auditor's place: keeps what it is asked, and says that all is done."""
+    """Stands in for an auditor: keeps what it is asked, and says that everything is done."""
 
     def __init__(self):
         self.lines = []
@@ -90,7 +95,7 @@ def grown(programs):
 
 
 def lines_of(kind, transactions, every):
-    """The script of an audit with a round and a truncate after so many transactions."""
+    """The script of an audit with a round and a truncate after each group of transactions."""
     told = Lines()
     clients = Clients(told, 8)
     draw = clients.store.random
@@ -121,7 +126,8 @@ def of_children():
 
 
 def seconds_of(program, path):
-    """The processor time of the whole script, whose replies go to a file; each has to be a good one."""
+    """The processor time of the whole script, whose replies go to a file; each has to be a good
+    one."""
     with open(path, "rb") as source, tempfile.TemporaryFile() as replies:
         begin = of_children()
         subprocess.run([program], stdin=source, stdout=replies, check=True)
@@ -148,13 +154,13 @@ def runs(programs, transactions):
 
 
 def resident(auditor):
-    """The memory that the program has now, in bytes."""
+    """The program's current memory, in bytes."""
     with open(f"/proc/{auditor.process.pid}/status", encoding="ascii") as told:
         return next(int(line.split()[1]) for line in told if line.startswith("VmRSS:")) * 1024
 
 
 class Writer:
-    """Sessions that write keys that nobody wrote before, eight a transaction, and meet."""
+    """Sessions that write keys that nobody wrote before, eight per transaction, and meet."""
 
     def __init__(self, program):
         self.auditor = Auditor(program)
@@ -162,7 +168,7 @@ class Writer:
         self.keys = 0
 
     def write(self, keys):
-        """So many keys, with a round and a truncate behind them."""
+        """Writes this many keys, followed by a round and a truncate."""
         for place in range(keys // 8):
             first = self.keys + 1
             self.clients.store.execute(place % 8, [], list(range(first, first + 8)))
@@ -202,9 +208,9 @@ def keys(programs, most):
 
 def main():
     words = argparse.ArgumentParser(description=__doc__, formatter_class=argparse.RawDescriptionHelpFormatter)
-    words.add_argument("--table", action="append", choices=TABLES)
-    words.add_argument("--transactions", type=int, default=60_000)
-    words.add_argument("--most", type=int, default=1_000_000)
+    words.add_argument("--table", action="append", choices=TABLES, help="only this table; may be repeated")
+    words.add_argument("--transactions", type=int, default=60_000, help="of the table runs (60,000)")
+    words.add_argument("--most", type=int, default=1_000_000, help="keys of the table keys (1,000,000)")
     words.add_argument("program", nargs="*", default=["crates/cobra_audit/out/cobra_audit"])
     asked = words.parse_args()
     tables = asked.table or TABLES

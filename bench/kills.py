@@ -1,11 +1,12 @@
-"""The tests in which processes are killed, and how many of which kind these were.
+"""Runs the tests in which processes are killed, and counts the kills by kind.
 
     /usr/bin/python3 bench/kills.py [--seed 1] [--times 1] [--kills 300] [TEST..]
 
-Each of these tests compares its verdicts with those of the same log, given whole to a program that nobody kills; with
-a fault switched on, the violation has to be found in each. Moments are drawn by the seed; those of the journal run so
-many times as long. Prints a line a test and a table of the kills by kind, and ends with status 1 where a test fails, or
-where there were fewer kills than `--kills`."""
+Each of these tests compares its verdicts with those of a program that nobody kills on the same
+whole log; with a fault switched on, each has to find the violation. Moments are drawn with the
+seed; the journal's tests run --times as long. It prints a line per test and a table of the kills by
+kind, and ends with status 1 if a test fails, or if there were fewer kills than --kills.
+"""
 import argparse
 import collections
 import os
@@ -38,7 +39,7 @@ KINDS = (  # a word of its command line, and what it is
 
 
 class Counting(unittest.TextTestResult):
-    """Of processes that this one has begun, those that have ended by SIGKILL before their test was over."""
+    """Counts child processes that SIGKILL ended before their test was over."""
 
     kills, ended, is_over, last = collections.Counter(), [], False, None
 
@@ -65,7 +66,7 @@ def count(process):
 
 
 def cleaning_up(deed):
-    """What is killed there, or before a subtest begins, isn't in the middle of anything."""
+    """A kill there, or before a subtest begins, isn't in the middle of anything."""
 
     def done(*its):
         Counting.is_over, before = True, Counting.is_over
@@ -85,9 +86,9 @@ def classes_of(tests):
 
 def main():
     parser = argparse.ArgumentParser(description=__doc__.splitlines()[0])
-    parser.add_argument("--seed", default="1")
-    parser.add_argument("--times", default="1")
-    parser.add_argument("--kills", type=int, default=300)
+    parser.add_argument("--seed", default="1", help="the seed of the moments (1)")
+    parser.add_argument("--times", default="1", help="how many times as long the journal's tests run (1)")
+    parser.add_argument("--kills", type=int, default=300, help="fail if there were fewer (300)")
     parser.add_argument("tests", nargs="*", default=TESTS, metavar="TEST")
     asked = parser.parse_args()
     os.environ.update(ZANTEYARD_SEED=asked.seed, ZANTEYARD_KILLS=asked.times)
@@ -105,7 +106,7 @@ def main():
     tests = unittest.defaultTestLoader.loadTestsFromNames(asked.tests)
     try:
         found = unittest.TextTestRunner(verbosity=2, resultclass=Counting).run(tests)
-    except KeyboardInterrupt:  # unittest leaves what is begun: servers and clients
+    except KeyboardInterrupt:  # unittest leaves servers and clients running
         signal.signal(signal.SIGTERM, signal.SIG_IGN)  # once is enough
         if Counting.last is not None:
             Counting.last.doCleanups()

@@ -1,14 +1,15 @@
 #!/usr/bin/env python3
 """How long the calls of known_graph take at 4,096 nodes, and its peak memory.
 
-Run at the top of the repository:
+Run it at the top of the repository:
 
     python3 bench/known_graph.py
 
-It puts bench/graph, a program over txn and known_graph, into a repository of its own in a temporary folder, proves and builds
-it there (some minutes: the two libraries are proved anew), and runs the program. Its files end in .txt here, since the gate
-wants each source file to belong to a crate that it proves. A copy in memory of as many bytes as
-the rows that an arc changes is timed beside the arc, in one run.
+It puts bench/graph, a program on txn and known_graph, into a repository of its own in a temporary
+folder, proves and builds it there (a few minutes, since the two libraries are proved again), and
+runs the program. Its files end in .txt here, since the gate requires each source file to belong to
+a crate that it proves. For comparison, a memory copy of as many bytes as the rows that an arc
+changes is timed in the same run.
 """
 import pathlib
 import shutil
@@ -33,7 +34,7 @@ def lay_out(top, folder):
 
 
 def peak_of(program):
-    """The peak memory in KiB, as last told while it ran."""
+    """The peak memory in KiB, as last printed while it ran."""
     peak = 0
     process = subprocess.Popen([program], stdout=subprocess.DEVNULL)
     while process.poll() is None:

@@ -1,14 +1,14 @@
-"""What verdict each workload and level gets, and how long it takes to say why.
+"""Which verdict each workload gets at each level, and how long an explanation takes.
 
     python3 bench/levels.py [--times N] [--seconds N] [--jobs N] [--workload NAME ..]
         [--level NAME ..]
 
-Runs examples/postgres_live.py so many times for each workload and level, with clients in threads
-and in processes, so many runs beside one another. Of each it tells how many runs were violated,
-serial, or incomplete (the audit ended where it couldn't keep up, and another one began); how long
-it took at most from the violation to the end of its explanation, in seconds; how many transactions
-it names at most; and how many explanations name a key of the collector's own. The status is 0 where
-nothing is violated that its level doesn't allow, and everything is that it owes.
+Runs examples/postgres_live.py --times times for each workload and level, with clients in threads
+and in processes, --jobs runs in parallel. For each it prints how many runs were violated, serial,
+or incomplete (the audit ended because it couldn't keep up, and another one began); the longest time
+from the violation to the end of its explanation, in seconds; the largest number of transactions in
+an explanation; and how many explanations name a key of the collector's own. The status is 0 if
+nothing was violated at a level that forbids it, and everything was that has to be at its level.
 """
 import argparse
 import os
@@ -44,7 +44,7 @@ class Run:
         self.kind = found.group(1) if found else "".join(lines[-3:])
 
     def line(self, line):
-        """Keeps what it says of the explanation."""
+        """Keeps what a line says about the explanation."""
         if re.match(r"round \d+: violated", line):
             self.began = time.monotonic()
         elif line.endswith(" can come first"):
@@ -57,9 +57,9 @@ class Run:
 
 def arguments():
     asked = argparse.ArgumentParser(description=__doc__.splitlines()[0])
-    asked.add_argument("--times", type=int, default=20)
-    asked.add_argument("--seconds", type=float, default=5.0)
-    asked.add_argument("--jobs", type=int, default=1)
+    asked.add_argument("--times", type=int, default=20, help="how many runs of each kind (20)")
+    asked.add_argument("--seconds", type=float, default=5.0, help="the length of a run (5)")
+    asked.add_argument("--jobs", type=int, default=1, help="how many runs at a time (1)")
     asked.add_argument("--workload", nargs="+", choices=WORKLOADS, default=WORKLOADS)
     asked.add_argument("--level", nargs="+", choices=OWED, default=[*OWED])
     return asked.parse_args()

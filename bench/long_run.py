@@ -1,14 +1,18 @@
 #!/usr/bin/env python3
-"""A long audit that forgets what is settled: whether each round finds a cut, how much remains, and whether time and memory stay flat.
+"""A long audit that forgets what is settled: cuts, what remains, and whether time and memory stay
+flat.
 
-Run at the top of the repository, after `cd crates/cobra_audit && rt run < /dev/null` has built the program:
+Run it at the top of the repository, after `cd crates/cobra_audit && rt run < /dev/null` has built
+the program:
 
     python3 bench/long_run.py [--transactions N] [--every N] [--ways] [PROGRAM]
 
-A row a kind of history (bench/histories.py has them), of clients that meet before each round and read each blind key once (docs/COLLECTORS.md,
-"Fences"): how many rounds found a cut, the most transactions that remained after a round, the processor time for each transaction in the
-first and the last tenth of the run and their ratio, and the peak memory of the program when a tenth is done and at the end. With --ways, a row
-also without the meetings, without those reads, and without both; such a run ends where no more than 4,096 transactions remain.
+There is a row for each kind of history (bench/histories.py), with clients that meet before each
+round and read each blind key once (docs/COLLECTORS.md, "Fences"): how many rounds found a cut, the
+most transactions that remained after a round, the processor time per transaction in the first and
+the last tenth of the run and their ratio, and the program's peak memory after a tenth and at the
+end. With --ways, there are also rows without the meetings, without those reads, and without both;
+such a run ends when 4,096 transactions remain.
 """
 import argparse
 import json
@@ -23,7 +27,7 @@ TICKS = os.sysconf("SC_CLK_TCK")
 
 
 class Auditor:
-    """The program, asked over pipes: a line, then its reply."""
+    """The program over pipes: a line, then its reply."""
 
     def __init__(self, program):
         self.process = subprocess.Popen([program], stdin=subprocess.PIPE, stdout=subprocess.PIPE)
@@ -34,12 +38,12 @@ class Auditor:
         return json.loads(self.process.stdout.readline())
 
     def seconds(self):
-        """The processor time so far."""
+        """Its processor time so far, in seconds."""
         with open(f"/proc/{self.process.pid}/schedstat", encoding="ascii") as told:
             return int(told.read().split()[0]) / 1e9
 
     def peak(self):
-        """The most memory so far, in MiB."""
+        """Its peak memory so far, in MiB."""
         with open(f"/proc/{self.process.pid}/status", encoding="ascii") as told:
             return next(int(line.split()[1]) for line in told if line.startswith("VmHWM:")) / 1024
 
@@ -49,7 +53,7 @@ class Auditor:
 
 
 class Clients:
-    """Clients of a store, a session each, that have their transactions audited."""
+    """Clients of a store, each with a session, whose transactions are audited."""
 
     def __init__(self, auditor, sessions):
         self.auditor = auditor
@@ -76,7 +80,7 @@ class Clients:
                 self.execute(session, [0], [0])
 
     def sweep(self):
-        """Each key that was written without a read is read once."""
+        """Each key that was written without being read is read once."""
         keys = sorted(self.blind)
         for place in range(0, len(keys), 8):
             self.execute(place // 8 % len(self.sent), keys[place : place + 8], [])
@@ -90,7 +94,8 @@ class Clients:
 
 
 def tenth(clients, kind, transactions, every, meets, sweeps):
-    """Makes some rounds. Their number, how many found a cut, and the most that remained after one."""
+    """Runs some rounds. Returns their number, how many found a cut, and the most that remained
+    after one."""
     rounds = cuts = most = 0
     draw = clients.store.random
     for number in range(1, transactions + 1):
@@ -136,10 +141,10 @@ def run(program, kind, transactions, every, meets, sweeps):
 
 def main():
     words = argparse.ArgumentParser(description=__doc__, formatter_class=argparse.RawDescriptionHelpFormatter)
-    words.add_argument("--transactions", type=int, default=20000)
-    words.add_argument("--every", type=int, default=300)
-    words.add_argument("--kinds", default="counter,mixed,skew,blind")
-    words.add_argument("--ways", action="store_true")
+    words.add_argument("--transactions", type=int, default=20000, help="the length of a run (20,000)")
+    words.add_argument("--every", type=int, default=300, help="transactions between two rounds (300)")
+    words.add_argument("--kinds", default="counter,mixed,skew,blind", help="kinds of histories, with commas between")
+    words.add_argument("--ways", action="store_true", help="also without meetings, and without reads of blind keys")
     words.add_argument("program", nargs="?", default="crates/cobra_audit/out/cobra_audit")
     asked = words.parse_args()
     print("kind     clients      rounds    cuts     left   us first    us last  ratio  MiB 1/10   MiB end")

@@ -1,18 +1,20 @@
-"""Audits of clients on several machines in which processes and the Redis are killed, over and over.
+"""Audits clients on several machines, while processes and the Redis are killed over and over.
 
     /usr/bin/python3 bench/machines_killed.py [--seeds 10] [--first 1]
     /usr/bin/python3 bench/machines_killed.py --seconds 3600 [--every 10] [--clients 5] [--fault] [--keep DIR]
 
-Without `--seconds` it runs collectors/python/tests/test_machines.py once for each seed, by which clients choose what
-they do and when: each verdict has to be that of the same log, given whole to cobra_audit. It prints a line a seed, and
-ends with status 1 at the first that fails, with what it told.
+Without --seconds it runs collectors/python/tests/test_machines.py once for each seed, which
+determines what clients do and when: each verdict has to be that of cobra_audit about the whole log.
+It prints a line per seed, and at the first failure ends with status 1 and the test's output.
 
-With `--seconds` clients of a PostgreSQL run for so long. Every so many seconds one of the auditor, the daemon, a client
-and the Redis is killed, by turns, at a moment drawn by the seed; another one comes in its place. It prints a line a
-kill. A client that is killed keeps its session, so that another audit begins when none is left. At the end of each, all
-commits that the table has are in the log, and no violation is found, by the daemon, by a cobra_audit to which the log
-is given whole, and by examples/check_reports.py, which believes neither. With `--fault` the store is at repeatable
-read, and clients skew writes: then each audit ends violated, and the next one begins."""
+With --seconds clients of a PostgreSQL run for that long. Every --every seconds the auditor, the
+daemon, a client or the Redis is killed, in turn, at a moment drawn with the seed, and replaced. It
+prints a line per kill. A killed client keeps its session, so another audit begins when none is
+left. At the end of each audit, all commits in the table have to be in the log, and no violation may
+be found by the daemon, by a cobra_audit that is given the whole log, or by the independent
+examples/check_reports.py. With --fault the store is at repeatable read, and clients skew writes:
+then each audit ends violated, and the next one begins.
+"""
 import argparse
 import json
 import os
@@ -35,7 +37,7 @@ TURNS = ("auditor", "daemon", "client", "redis")
 
 
 class LongRun(Machines):
-    """One audit, or with a fault one behind the other."""
+    """One audit, or with a fault one after another."""
 
     asked = None  # how long, and with what
     silence = 10.0
@@ -69,7 +71,7 @@ class LongRun(Machines):
             self.make_place()
 
     def make_place(self):
-        """For another audit."""
+        """Makes room for another audit."""
         self.folder = self.folder_of_its_own()
         self.sql("DELETE FROM zanteyard")
         self.daemons, self.clients, self.logs, self.killed_clients = [], [], [], 0
@@ -92,7 +94,7 @@ class LongRun(Machines):
             yield from self.dice.sample(TURNS, len(TURNS))
 
     def has_sessions_left(self):
-        """Each client that was killed has kept its own."""
+        """Whether sessions are left: each killed client has kept its own."""
         return self.killed_clients + self.asked.clients < self.asked.sessions
 
     def is_over(self):
@@ -105,11 +107,11 @@ class LongRun(Machines):
     def begin_client(self):
         workload = "skew" if self.asked.fault else "counter"
         client = self.client(pause=self.asked.pause, workload=workload)
-        if not self.asked.fault:  # else the audit may be over by now
+        if not self.asked.fault:  # else the audit may be over already
             self.begun(client)
 
     def wait_for(self, condition, seconds=300.0):
-        """Other programs may have the processors."""
+        """Waits long enough for a busy machine."""
         super().wait_for(condition, seconds)
 
     # the kills
@@ -142,13 +144,13 @@ class LongRun(Machines):
         time.sleep(2 * self.dice.random())
         self.redis.start()
 
-    # what is told
+    # the output
 
     def say(self, what, text):
         print(f"{time.monotonic() - self.began:7.1f} {what:8} {text}", flush=True)
 
     def figures(self):
-        """What grows if something isn't given back."""
+        """What would grow if something weren't given back."""
         daemon, tells = self.daemons[-1].pid, machines.redis.Redis(unix_socket_path=self.redis.socket)
         try:
             streams = {kind: [tells.xlen(key) for key in tells.scan_iter(f"*:{kind}:*")] for kind in ("up", "down")}
@@ -168,7 +170,7 @@ class LongRun(Machines):
         return "; ".join(its)
 
     def given_up(self):
-        """Processes of which the auditor's knows that they aren't heard of."""
+        """Processes that the auditor's process can't hear any more."""
         tells = machines.redis.Redis(unix_socket_path=self.redis.socket)
         try:
             return sum(1 for _ in tells.scan_iter("*:buried:*"))
@@ -176,11 +178,11 @@ class LongRun(Machines):
             tells.close()
 
     def longest(self):
-        """Seconds that a transaction took of a client that wasn't killed."""
+        """Seconds of the longest transaction of a client that wasn't killed."""
         return max(float(it.stdout.readline().split()[1]) for it in self.clients if it.returncode == 0)
 
     def keep(self):
-        """What is told of the audit at hand."""
+        """Saves the output of the current audit."""
         if self.asked.keep:
             shutil.copytree(self.folder, f"{self.asked.keep}/{self.audits}")
             for at, log in enumerate(self.logs):
@@ -190,7 +192,7 @@ class LongRun(Machines):
 
     def each_commit_is_in_the_log(self, _):
         super().each_commit_is_in_the_log(False)
-        self.assertEqual(self.missed, set())  # nor of who was killed: all was noted
+        self.assertEqual(self.missed, set())  # nor by killed clients: everything was noted
 
     def verdict(self):
         return self.verdict_with_cuts(self.asked.sessions)
@@ -235,17 +237,17 @@ def run_seeds(asked):
 
 def main():
     parser = argparse.ArgumentParser(description=__doc__.splitlines()[0])
-    parser.add_argument("--seeds", type=int, default=10)
-    parser.add_argument("--first", type=int, default=1)
-    parser.add_argument("--seconds", type=float, help="runs for so long, with a kill every so many")
-    parser.add_argument("--every", type=float, default=10.0)
-    parser.add_argument("--clients", type=int, default=5)
-    parser.add_argument("--sessions", type=int, default=64, help="when none is left, another audit begins")
-    parser.add_argument("--pause", type=float, default=0.3, help="seconds that a client waits at most")
-    parser.add_argument("--meets", type=int, default=300, help="transactions between two meetings")
-    parser.add_argument("--seed", type=int, default=1)
-    parser.add_argument("--fault", action="store_true", help="repeatable read, and writes that skew")
-    parser.add_argument("--keep", metavar="DIR", help="where the daemons' logs and scripts go at the end")
+    parser.add_argument("--seeds", type=int, default=10, help="how many runs of the tests (10)")
+    parser.add_argument("--first", type=int, default=1, help="the first seed (1)")
+    parser.add_argument("--seconds", type=float, help="instead, run clients of a PostgreSQL for so long")
+    parser.add_argument("--every", type=float, default=10.0, help="seconds between two kills (10)")
+    parser.add_argument("--clients", type=int, default=5, help="client processes at a time (5)")
+    parser.add_argument("--sessions", type=int, default=64, help="sessions of an audit (64); when none is left, another audit begins")
+    parser.add_argument("--pause", type=float, default=0.3, help="how long a client pauses at most, in seconds (0.3)")
+    parser.add_argument("--meets", type=int, default=300, help="transactions between two meetings (300)")
+    parser.add_argument("--seed", type=int, default=1, help="the seed of the kills (1)")
+    parser.add_argument("--fault", action="store_true", help="run write skew at repeatable read")
+    parser.add_argument("--keep", metavar="DIR", help="keep the daemons' logs and scripts in this folder")
     asked = parser.parse_args()
     run_seeds(asked) if asked.seconds is None else run_long(asked)
 

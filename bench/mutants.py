@@ -1,12 +1,14 @@
-"""Whether the tests see small faults: each mutant is the code with one of its places changed.
+"""Whether the tests find small faults: each mutant is the code with one place changed.
 
     /usr/bin/python3 bench/mutants.py python|go [--count 60] [--seed 1] [--processes 2] [--only FILE:LINE] [--rows FILE]
 
-Mutants of the Python package's sessions, live audits, rounds, notes and searches for killed clients, or of the proxy's
-joiner, are drawn by the seed. Python: the tests are traced once; each mutant is run under those that run its line and pass
-without it, in a copy of the tree. Go: under the joiner's tests, by an overlay. One is found if a test fails, or takes eight
-times as long as without a mutant. Prints a line for each that isn't found, which is to be read: it means the same, or a test
-is missing. The status is 1 if more than one in twenty isn't found."""
+Mutants of the Python package's sessions, live audits, rounds, notes and crash recovery, or of the
+proxy's joiner, are drawn with the seed. Python: the tests are traced once; each mutant is run with
+the tests that run its line and pass without it, in a copy of the tree. Go: with the joiner's tests,
+by an overlay. A mutant is found if a test fails, or takes eight times as long as without it. It
+prints a line for each mutant that isn't found, which somebody has to read: either it means the
+same, or a test is missing. The status is 1 if more than one in twenty isn't found.
+"""
 import argparse
 import ast
 import collections
@@ -38,15 +40,15 @@ FILES = {
     ),
     "go": ("src/zanteyard/join/*.go",),
 }
-# Of the Python package: each mutant is run under those of their tests that run its line.
+# Of the Python package: each mutant is run with the tests in these modules that run its line.
 TESTS = (
     *("transactions", "meetings", "places", "forks", "notes", "circumstances", "redacting", "processes", "no_harm"),
     *("two_stores.InMemory", "two_stores.Told", "aborted", "joining", "live", "rounds", "killed.Killed"),
 )
-GO_SLOW = "Lives|MakesUpNo|MemoryIsBounded|HotRow"  # of the joiner's tests, those that take seconds
-QUICKEST = 100  # tests, for what is run before any of them
+GO_SLOW = "Lives|MakesUpNo|MemoryIsBounded|HotRow"  # the joiner's tests that take seconds
+QUICKEST = 100  # tests, for code that runs before any of them
 LONGEST = 1800.0  # seconds for a call of tests without a mutant
-Mutant = collections.namedtuple("Mutant", "path line about text")  # the text is made when it is asked for
+Mutant = collections.namedtuple("Mutant", "path line about text")  # the text is made on demand
 COMPARED = {
     ast.Lt: ast.LtE, ast.LtE: ast.Lt, ast.Gt: ast.GtE, ast.GtE: ast.Gt, ast.Eq: ast.NotEq, ast.NotEq: ast.Eq,
     ast.Is: ast.IsNot, ast.IsNot: ast.Is, ast.In: ast.NotIn, ast.NotIn: ast.In,
@@ -60,7 +62,7 @@ GO = (  # what is changed, and into what
 
 
 def changed(node):
-    """The ways in which a node may be changed: each gives what it is about, or None."""
+    """The ways in which a node may be changed: each returns a description, or None."""
 
     def compare():
         node.ops[0] = COMPARED[type(node.ops[0])]()
@@ -107,7 +109,8 @@ def changed(node):
 
 
 def is_of_annotation(source, node):
-    """Constants of a module are sizes and times; what the log is told is no matter of meaning."""
+    """Whether its line is a module's constant, a log message, a decorator or a raise, which tests
+    needn't cover."""
     line = source[node.lineno - 1]
     return "logger." in line or re.match(r"[A-Z_]+ ?[:,=]", line) or line.lstrip().startswith(("@", "raise "))
 
@@ -151,8 +154,8 @@ def go_mutant(lines, at, line):
 
 
 def trace(name, path):
-    """Runs a module of tests, and writes of each that passes its seconds and which lines of the mutants' files it ran, if it
-    wasn't in another process."""
+    """Runs a module of tests, and writes for each test that passes its seconds and which lines of
+    the mutants' files it ran, except in other processes."""
     home = os.path.join(PYTHON, "zanteyard")
     files = {file for name in FILES["python"] for file in glob.glob(os.path.join(home, name))}
     lines, ran = set(), {}
@@ -187,7 +190,8 @@ def trace(name, path):
 
 
 def traced(names, folder):
-    """Of each test that passes, its seconds and lines, by modules that are traced once; the file of one stays in the folder."""
+    """For each test that passes, its seconds and lines. Each module is traced once, and its file
+    stays in the folder."""
     ran = {}
     for name in names:
         path = os.path.join(folder, f"{name}.lines")
@@ -202,7 +206,8 @@ def traced(names, folder):
 
 
 def places_of(mutant):
-    """The lines of which one is run by who runs what is changed: those of the innermost statement, of a function its body's."""
+    """The lines of which one runs whenever the changed place does: those of the innermost
+    statement; for a function, those of its body."""
     with open(mutant.path, encoding="utf-8") as file:
         whole = ast.parse(file.read())
     its = [node for node in ast.walk(whole) if isinstance(node, ast.stmt) and node.lineno <= mutant.line <= node.end_lineno]
@@ -214,8 +219,8 @@ def places_of(mutant):
 
 
 def covering(mutant, ran):
-    """The tests that can see it, the quickest first, and the seconds that they take. What is run as a module is imported, all
-    may see: the quickest ones are taken."""
+    """The tests that can find it, the fastest first, and the seconds that they take. What runs when
+    a module is imported can be found by all: then the fastest ones are taken."""
     file, lines = os.path.relpath(mutant.path, PYTHON), places_of(mutant)
     its = [(seconds, id) for id, (seconds, ran_lines) in ran.items()
            if any(path == file and number in lines for path, number in ran_lines)]
@@ -224,11 +229,12 @@ def covering(mutant, ran):
 
 
 def python_fate(folder, mutant, ran):
-    """Of a mutant: "found", "hangs", or "lives"; and what found it. The tests are run in a copy of the tree."""
+    """The fate of a mutant: "found", "hangs", or "lives"; and what found it. The tests run in a
+    copy of the tree."""
     names, seconds = covering(mutant, ran)
     tree = os.path.join(folder, os.path.relpath(PYTHON, TOP))
     shutil.copytree(PYTHON, tree, ignore=shutil.ignore_patterns("__pycache__", "out"))
-    for name in os.listdir(TOP):  # some tests read what stands beside
+    for name in os.listdir(TOP):  # some tests read other files of the repository
         if name != "collectors":
             os.symlink(os.path.join(TOP, name), os.path.join(folder, name))
     with open(os.path.join(tree, os.path.relpath(mutant.path, PYTHON)), "w", encoding="utf-8") as file:
@@ -245,12 +251,13 @@ def fate_by(status, told):
 
 
 def limit_of(seconds):
-    """After how many seconds tests count as hanging that take so many without a mutant."""
+    """After how many seconds tests count as hanging, if they take this many without a mutant."""
     return 120.0 + 8 * seconds
 
 
 def go_calls(folder, names, mutant):
-    """The tests of the joiner, those that end at once first; then those of other packages. None if it can't be compiled."""
+    """The tests of the joiner, the fast ones first; then those of other packages. None if it can't
+    be compiled."""
     text, overlay, program = (os.path.join(folder, name) for name in ("mutant.go", "overlay", "tests"))
     if mutant is not None:
         with open(text, "w", encoding="utf-8") as file:
@@ -272,7 +279,7 @@ def go_calls(folder, names, mutant):
 
 
 def go_fate(folder, mutant, names, limits):
-    """As python_fate; "isn't one" where it can't be compiled."""
+    """As python_fate; "isn't one" if it can't be compiled."""
     for one in go_calls(folder, names, mutant):
         if one is None:
             return "isn't one", ""
@@ -285,7 +292,8 @@ def go_fate(folder, mutant, names, limits):
 
 
 def go_limits(folder, names):
-    """Of each call its limit; None where it fails without a mutant, too: it would find whatever there is."""
+    """The limit for each call; None if it fails without a mutant, too, since it would then find
+    anything."""
     limits = {}
     for name, call, home in go_calls(folder, names, None):
         began = time.monotonic()
@@ -297,7 +305,8 @@ def go_limits(folder, names):
 
 
 def end_of(call, home, folder, seconds):
-    """Its status, None where it doesn't end, and what it told; what it has begun is ended with it."""
+    """Its status, None if it doesn't end, and its output. The processes that it began are ended
+    with it."""
     with tempfile.TemporaryFile() as told:
         with subprocess.Popen(call, cwd=home, env={**os.environ, "TMPDIR": folder}, stdin=subprocess.DEVNULL, stdout=told,
                               stderr=subprocess.STDOUT, start_new_session=True) as process:
@@ -325,7 +334,7 @@ def drawn(kind, count, seed, only):
 
 
 def written_rows(path):
-    """The rows of an earlier run, by place and what was changed there; what lived is run again."""
+    """The rows of an earlier run, by place and change; mutants that lived are run again."""
     if not path or not os.path.exists(path):
         return {}
     with open(path, encoding="utf-8") as file:
@@ -337,16 +346,16 @@ def main():
         trace(*sys.argv[2:])
     parser = argparse.ArgumentParser(description=__doc__.splitlines()[0])
     parser.add_argument("kind", choices=FILES)
-    parser.add_argument("--count", type=int, default=60)
-    parser.add_argument("--seed", type=int, default=1)
-    parser.add_argument("--processes", type=int, default=2)
-    parser.add_argument("--only", metavar="FILE:LINE", help="those of this line")
+    parser.add_argument("--count", type=int, default=60, help="how many mutants (60)")
+    parser.add_argument("--seed", type=int, default=1, help="the seed of the dice (1)")
+    parser.add_argument("--processes", type=int, default=2, help="how many mutants at a time (2)")
+    parser.add_argument("--only", metavar="FILE:LINE", help="only mutants of this line")
     parser.add_argument("--tests", nargs="+", metavar="NAME", help="modules of the Python package's tests, as notes, in place of "
                         "the usual ones; or further packages of the proxy, as audit, for what the joiner's own don't find")
-    parser.add_argument("--rows", metavar="FILE", help="a row for each goes there; what is found there isn't run again")
-    parser.add_argument("--lines", metavar="FOLDER", help="where the lines that tests run are kept, and looked for first")
+    parser.add_argument("--rows", metavar="FILE", help="write a row for each mutant there; those already there aren't run again")
+    parser.add_argument("--lines", metavar="FOLDER", help="keep there which lines the tests run, and use what is there")
     asked = parser.parse_args()
-    if asked.kind == "go":  # as proxy/env.sh has it
+    if asked.kind == "go":  # as in proxy/env.sh
         words = subprocess.run(["sh", "-c", ". ./env.sh && env"], cwd=PROXY, capture_output=True, text=True, check=True)
         os.environ.update(line.split("=", 1) for line in words.stdout.splitlines() if re.match(r"(GO|CGO_)\w+=", line))
     fates, earlier, writing = collections.Counter(), written_rows(asked.rows), threading.Lock()
@@ -363,7 +372,7 @@ def main():
         its = earlier.get((place, mutant.about))
         if its is None:
             with tempfile.TemporaryDirectory() as folder:
-                os.chmod(folder, 0o711)  # servers run as another user, where this runs as root
+                os.chmod(folder, 0o711)  # if this runs as root, servers run as another user
                 if asked.kind == "go":
                     its = go_fate(folder, mutant, asked.tests or (), limits)
                 else:

@@ -1,9 +1,10 @@
 #!/usr/bin/env python3
-"""What it costs a client that its process notes what it is about to commit and was answered: the
-processor time of a transaction's two notes, in the client's thread, in runs with and without them
-in turns, over a store that does nothing. Each transaction reads a key and writes it.
+"""What a client's notes cost: the processor time of a transaction's two notes.
 
     bench/notes_cost.py [--count 20000] [--runs 9]
+
+One note comes before the commit, and one after the answer, both in the client's thread. Runs with and without notes alternate,
+over a store that does nothing. Each transaction reads a key and writes it.
 """
 import argparse
 import os
@@ -19,7 +20,7 @@ from zanteyard.core._records import as_bytes  # noqa: E402
 
 
 class Nowhere:
-    """A store of one key, which nobody else has."""
+    """A store of one key, for one client."""
 
     name, statement = None, "SELECT value, run, session, number FROM zanteyard WHERE key = 'x'"
 
@@ -42,7 +43,7 @@ class Nowhere:
 
 
 class Taking:
-    """In place of an AuditClient: makes bytes of what is handed in, and has sent it soon."""
+    """Stands in for an AuditClient: packs what is handed in, and counts it as sent soon."""
 
     run_name, sent = "2026-11-25 15:00:00 0123456789ab", {}
 
@@ -69,9 +70,9 @@ def seconds(count, path):
 
 
 def main():
-    asked = argparse.ArgumentParser(description=__doc__.split("\n")[0])
-    asked.add_argument("--count", type=int, default=20000)
-    asked.add_argument("--runs", type=int, default=9)
+    asked = argparse.ArgumentParser(description=__doc__.split("\n\n")[0])
+    asked.add_argument("--count", type=int, default=20000, help="transactions of a run (20,000)")
+    asked.add_argument("--runs", type=int, default=9, help="how many runs of each kind (9)")
     asked = asked.parse_args()
     with tempfile.TemporaryDirectory() as folder:
         runs = [

@@ -1,15 +1,15 @@
-"""A plain checker of what reports show: orders, and refutations as docs/FORMATS.md has them.
+"""A plain checker of what reports show: orders, and refutations as docs/FORMATS.md defines them.
 
-Each check raises Wrong, with a sentence, where what is shown doesn't hold.
+Each check raises Wrong, with a sentence, if something doesn't hold.
 """
 from plain_verdicts import INIT, Wrong
 
-DEEPEST = 4096  # nodes above one another in a tree: splits, and runs of forced sides
+DEEPEST = 4096  # nested nodes of a tree: splits, and runs of forced sides
 
 
 def check_order(parts, order):
-    """Every transaction that remains stands once, each session's in order; each read meets the last
-    writer in front of it, or names a transaction that has not come."""
+    """Every remaining transaction occurs once, each session's in order; each read sees the last
+    writer before it, or names a transaction that hasn't arrived."""
     next_of, last = list(parts.gone), dict(parts.base)
     for entry in order:
         session, number = pair(entry)
@@ -29,8 +29,9 @@ def check_order(parts, order):
 
 
 def check_tree(parts, items, is_handed_in=False):
-    """Each split has both its parts, each part its end, and what is forced is forced by a cycle. The
-    auditor's own cycles begin with the fact that is ruled out; one that is handed in needn't."""
+    """Each split has both its parts, each part its end, and what is forced is forced by a cycle.
+    The auditor's own cycles begin with the fact that is ruled out; one that is handed in
+    needn't."""
     if not isinstance(items, list):
         raise Wrong("the tree is no list")
     waiting = [(frozenset(), 0, False)]  # what is taken, how many nodes are above, whether forced
@@ -53,8 +54,8 @@ def check_tree(parts, items, is_handed_in=False):
 
 
 def _forced(parts, taken, choice, side, cycle, is_handed_in):
-    """What is taken behind a forced side. The fact that it rules out is the first arc of its
-    cycle, unless it is handed in: a taken one, or the arc by which the reads have it as well."""
+    """What is taken after a forced side. The fact that it rules out is the first arc of its cycle,
+    unless it is handed in: a taken arc, or the arc that the reads imply, too."""
     both = sides(parts, choice)
     if type(side) is not int or side not in (1, 2):
         raise Wrong(f"{side} is no side")
@@ -87,7 +88,7 @@ def _is_such(parts, name, key, source):
 
 
 def check_cycle(parts, taken, arcs):
-    """Right arcs, each beginning where the one before ends, and the first where the last ends."""
+    """Right arcs, each beginning where the previous one ends, and the first where the last ends."""
     if not isinstance(arcs, list) or not arcs:
         raise Wrong("a cycle has no arcs")
     end = ends(arcs[-1])[1]
@@ -130,14 +131,14 @@ def sides(parts, choice):
 
 
 def named(item):
-    """The word that a list begins with."""
+    """The word with which a list begins."""
     if not isinstance(item, list) or not item or not isinstance(item[0], str):
         raise Wrong(f"{item} isn't a list that begins with a word")
     return item[0]
 
 
 def numbers(entry, count=None):
-    """A list of so many whole numbers."""
+    """A list of this many whole numbers."""
     if not isinstance(entry, list) or any(type(number) is not int for number in entry):
         raise Wrong(f"{entry} isn't a list of whole numbers")
     if count is not None and len(entry) != count:

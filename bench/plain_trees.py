@@ -1,15 +1,15 @@
-"""Refutations in plain Python: one as a search comes to it, with all that it tried, and what is
-left of a tree once all that can go has gone.
+"""Refutations in plain Python: as a search finds them, and reduced as far as possible.
 
-Written from docs/FORMATS.md and docs/DEFINITIONS.md alone. A tree is a list of items, as a report
-has it. Nothing here is quick: it is for histories of some tens of transactions.
+Written only from docs/FORMATS.md and docs/DEFINITIONS.md. A tree is a list of items, as in a
+report. Nothing here is fast: it is for histories of a few dozen transactions.
 """
 from plain_proofs import check_tree, ends, sides
 from plain_verdicts import INIT, Wrong
 
 
 class Arcs:
-    """What comes before what by the transactions alone: of each id the arcs that lead on."""
+    """What comes before what because of the transactions themselves: for each id the arcs that
+    begin there."""
 
     def __init__(self, parts):
         ids = parts.ids()
@@ -31,8 +31,8 @@ class Arcs:
         self.after[before].append([name, *([] if key is None else [key]), *before, *after])
 
     def path(self, taken, start, goal):
-        """A shortest way of arcs that leads from the one to the other; None where there is none.
-        Where both are one it goes round."""
+        """A shortest path of arcs from one node to the other; None if there is none. If both are
+        the same, a cycle."""
         reached, waiting = {}, [start]
         for at in waiting:
             facts = [["taken", *at, *after] for before, after in taken if before == at]
@@ -56,7 +56,7 @@ class Arcs:
 
 
 def choices_of(parts):
-    """All choices, in order: of each reader's reads, by each other writer of the key."""
+    """All choices, in order: for each reader's reads, for each other writer of the key."""
     ids = parts.ids()
     return [[*me, key, *source, *other] for me in ids for key, source in parts.get(me)[0]
             if source != parts.source_before(key) and parts.get(source) is not None
@@ -65,8 +65,8 @@ def choices_of(parts):
 
 
 def refuted(parts):
-    """The tree that a search comes to which splits its first open choice, with each step that it
-    forced and each split that it made; None where there is an order."""
+    """The tree found by a search that splits its first open choice, with each step that it forced
+    and each split that it made; None if there is an order."""
     leaf = _bad_read(parts)
     if leaf is not None:
         return [leaf]
@@ -105,7 +105,7 @@ def _search(parts, arcs, choices, taken):
 
 
 def _forced(parts, arcs, choices, taken):
-    """The first step that is new: a side whose other side closes a circle."""
+    """The first new step: a side whose other side closes a cycle."""
     for choice in choices:
         facts = sides(parts, choice)
         for side in (1, 2):
@@ -117,7 +117,7 @@ def _forced(parts, arcs, choices, taken):
 
 
 def end_of(items, start):
-    """The place behind the part of the argument that begins there."""
+    """The place after the part of the argument that begins there."""
     parts = 1
     while parts:
         name, start = items[start][0], start + 1
@@ -138,7 +138,7 @@ def smaller(items):
 
 
 def minimised(parts, items):
-    """What is left once nothing can go any more so that a refutation stays."""
+    """A tree from which nothing more can be removed without losing the refutation."""
     check_tree(parts, items)
     for fewer in smaller(items):
         try:

@@ -1,9 +1,9 @@
-"""Verdicts in plain Python: what holds in every order, whether there is one, and which cut is owed.
+"""Verdicts in plain Python: what holds in every order, whether there is one, and the right cut.
 
-Written from docs/DEFINITIONS.md and docs/FORMATS.md alone, and never from the auditor's code. It is
-for small remainders: rows of bits are Python's whole numbers, and a search copies them.
+Written only from docs/DEFINITIONS.md and docs/FORMATS.md, never from the auditor's code. It is for
+small remainders: rows of bits are Python's whole numbers, and a search copies them.
 
-A transaction is a pair of its reads and the keys that it writes; a read is a pair of its key and
+A transaction is a pair of its reads and the keys that it writes. A read is a pair of its key and
 its source, which is an id (session, number), or INIT. What an auditor keeps is a `Parts`.
 """
 from dataclasses import dataclass, field
@@ -13,13 +13,14 @@ YES, NO, SPENT = "yes", "no", "spent"
 
 
 class Wrong(Exception):
-    """Why a reply is not the one that is owed."""
+    """Why a reply is wrong."""
 
 
 @dataclass
 class Parts:
-    """What is kept of a history: of each session how many transactions are gone, those that remain,
-    and whether it is closed; and of each key the last gone writer, where there is one."""
+    """What is kept of a history: for each session how many transactions are gone, those that
+    remain, and whether it is closed; and for each key its last writer that is gone, if there is
+    one."""
 
     gone: list
     remaining: list
@@ -27,7 +28,7 @@ class Parts:
     base: dict = field(default_factory=dict)
 
     def copy(self):
-        """What a round is about: what comes later changes nothing in it."""
+        """A copy for a round: what arrives later doesn't change it."""
         return Parts(list(self.gone), [list(txns) for txns in self.remaining], list(self.closed),
                      dict(self.base))
 
@@ -44,7 +45,7 @@ class Parts:
         return txn[0] < len(self.gone) and txn[1] < self.gone[txn[0]]
 
     def get(self, txn):
-        """The remaining transaction with this id; None where there is none."""
+        """The remaining transaction with this id; None if there is none."""
         session, number = txn
         if not 0 <= session < len(self.gone):
             return None
@@ -52,7 +53,7 @@ class Parts:
         return self.remaining[session][place] if 0 <= place < len(self.remaining[session]) else None
 
     def ids(self):
-        """The ids of what remains, rising."""
+        """The ids of what remains, ascending."""
         return [
             (session, first + place)
             for session, (first, txns) in enumerate(zip(self.gone, self.remaining))
@@ -75,7 +76,7 @@ class Parts:
         )
 
     def is_bad(self, key, source):
-        """Whether no order meets this read of a remaining transaction."""
+        """Whether no order allows this read of a remaining transaction."""
         if source == INIT or self.is_gone(source):
             return source != self.source_before(key)
         writer = self.get(source)
@@ -98,9 +99,9 @@ def is_fence(txn):
 
 class Relation:
     """What is known to come before what (DEFINITIONS, "The known relation"): the least transitive
-    relation with each session's order, writers before readers, readers of what was before
-    everything in front of each other writer of the key, the sides taken, and of each choice the
-    side that is left where the other one is ruled out."""
+    relation with each session's order, writers before readers, readers of older versions before
+    every other writer of the key, the sides taken, and for each choice the remaining side if the
+    other one is ruled out."""
 
     def __init__(self, parts):
         self.ids = parts.ids()
@@ -133,7 +134,7 @@ class Relation:
                              if other not in (me, writer)]
 
     def _add(self, a, b):
-        """The one comes before the other, with all that follows by transitivity."""
+        """Adds that one comes before the other, with everything that follows by transitivity."""
         if self.after[a] >> b & 1:
             return
         sources, targets = self.before[a] | 1 << a, self.after[b] | 1 << b
@@ -161,7 +162,7 @@ class Relation:
             left = still
 
     def _is_open(self, choice):
-        """Neither side is known, nor ruled out."""
+        """Whether neither side is known or ruled out."""
         reader, writer, other, _ = choice
         return not (
             self.after[other] >> writer & 1
@@ -177,7 +178,7 @@ class Relation:
         return any(row >> x & 1 for x, row in enumerate(self.after))
 
     def with_side(self, choice, side):
-        """The relation where this side is taken, too."""
+        """The relation with this side taken, too."""
         reader, writer, other, _ = choice
         taken = object.__new__(Relation)
         taken.ids, taken.place, taken.choices = self.ids, self.place, self.choices
@@ -196,7 +197,7 @@ def bits(word):
 
 
 def scan(relation, is_bad, nodes):
-    """What a search finds that may look at so many nodes, and how many are left (DEFINITIONS,
+    """What a search finds that may look at this many nodes, and how many are left (DEFINITIONS,
     `Scans`)."""
     if not nodes:
         return SPENT, 0
@@ -221,9 +222,8 @@ def cubes(relation, depth):
 
 
 def may_be_spent(parts, relation, budget, depth, most):
-    """Whether the first search is used up by this budget at this depth. A share of more than `most`
-    nodes is not searched here: then it is held against the bound that DEFINITIONS gives
-    (`MayBeSpent`) alone."""
+    """Whether the first search uses up this budget at this depth. A share of more than `most` nodes
+    isn't searched here: then only the bound in DEFINITIONS (`MayBeSpent`) is checked."""
     open_ = len(relation.open_choices())
     split = min(depth, open_)
     if budget + (1 << split) >= 1 << (open_ + 1):
@@ -238,8 +238,8 @@ def may_be_spent(parts, relation, budget, depth, most):
 
 
 def has_order(parts, most):
-    """By trial: whether some order explains the parts; None where more than so many fronts would
-    have to be looked at."""
+    """Whether some order explains the parts, by trial; None if more than this many fronts would
+    have to be tried."""
     if parts.has_bad_read():
         return False
     counts = tuple(map(len, parts.remaining))
@@ -267,8 +267,8 @@ def has_order(parts, most):
 
 
 def cut_of(parts, relation):
-    """The cut of the settled fence that comes after all other settled ones: the fence, what is in
-    front of it, rising, and the last writers, keys rising; None where no fence is settled."""
+    """The cut of the settled fence that comes after all other settled ones: the fence, what
+    precedes it, ascending, and the last writers, by ascending keys; None if no fence is settled."""
     whole = (1 << len(relation.ids)) - 1
     settled = [
         me for me, txn in enumerate(relation.ids)
@@ -301,7 +301,7 @@ def _is_settled(parts, relation, fence, whole):
 
 
 def _writers_in(parts, relation, front):
-    """Of each key that is written there, its writers."""
+    """For each key that is written there, its writers."""
     writers = {}
     for x in bits(front):
         for key in parts.get(relation.ids[x])[1]:
@@ -310,7 +310,7 @@ def _writers_in(parts, relation, front):
 
 
 def _last_in(relation, writers):
-    """The one of them before which all others come, if there is one."""
+    """The one that comes after all others, if there is one."""
     for x in writers:
         if all(other == x or relation.after[other] >> x & 1 for other in writers):
             return x

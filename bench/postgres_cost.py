@@ -1,16 +1,16 @@
-"""What an audit costs the clients of a PostgreSQL, in transactions a second.
+"""What an audit costs the clients of a PostgreSQL, in transactions per second.
 
     python3 bench/postgres_cost.py [--seconds N] [--times N] [--clients N] [--every N] [--delay N]
         [--workload NAME ..] [--processes]
 
-Rates are means, and how much less stands with its standard error: runs differ by a fifth and more
-where processors are idle now and then, so that many short runs tell more than few long ones. Beside
-them, as medians: processor time for each transaction begun, of the clients and what hands their log
-over, and of what audits it; how much of their time clients waited for meetings, and how long at
-most; how far the auditor was behind at most. The clients are threads of one process, or processes
-of their own; the same sessions run over the same store without the auditor, but nobody takes their
-log. With a delay, in milliseconds, each statement takes that much longer, as over a network.
-TMPDIR=/dev/shm has the server's folder in memory, where a disk would be what is measured.
+Rates are means, and the loss has its standard error: runs differ by a fifth and more when
+processors are idle now and then, so many short runs say more than a few long ones. The table also
+has, as medians: processor time per transaction begun, of the clients and what hands their log over,
+and of the auditing; how much of their time clients waited for meetings, and the longest wait; and
+the auditor's longest delay. The clients are threads of one process, or processes of their own. For
+comparison, the same sessions run over the same store without the auditor, and nobody takes their
+log. With --delay, in milliseconds, each statement takes that much longer, as over a network. With
+TMPDIR=/dev/shm the server's folder is in memory; otherwise the disk would be measured.
 """
 import argparse
 import os
@@ -32,7 +32,7 @@ from zanteyard.stores.postgres import PostgresStore, prepare
 
 
 class FarStore(PostgresStore):
-    """Each statement takes so many seconds more."""
+    """A store whose statements take this many more seconds each."""
 
     def __init__(self, dsn, delay):
         super().__init__(dsn, "serializable")
@@ -53,8 +53,8 @@ class MakeStore:
 
 
 def empty(dsn):
-    """The table; else old versions of few rows pile up, and each run is slower than the one
-    before."""
+    """Empties the table; otherwise old versions of few rows pile up, and each run is slower than
+    the previous one."""
     connection = psycopg2.connect(dsn)
     with connection:
         connection.cursor().execute("TRUNCATE zanteyard")
@@ -62,7 +62,7 @@ def empty(dsn):
 
 
 def of_children():
-    """Processor time of the processes that this one has started and that have ended."""
+    """Processor time of the child processes that have ended."""
     used = resource.getrusage(resource.RUSAGE_CHILDREN)
     return used.ru_utime + used.ru_stime
 
@@ -83,7 +83,7 @@ class Run:
         self.each, self.beside = 1e6 * used / begun, 1e6 * beside / begun
 
     def clients(self, live):
-        """They run beside that audit; None for none."""
+        """Runs the clients with this audit; None for none."""
         if self.asked.processes:
             return self.processes(live)
         stores = [self.make_store() for _ in range(self.asked.clients)]
@@ -117,13 +117,13 @@ class Run:
 
 def arguments():
     asked = argparse.ArgumentParser(description=__doc__.splitlines()[0])
-    asked.add_argument("--seconds", type=float, default=3.0)
-    asked.add_argument("--times", type=int, default=12)
-    asked.add_argument("--clients", type=int, default=8)
-    asked.add_argument("--every", type=int, default=LiveAuditor.EVERY)
-    asked.add_argument("--delay", type=float, default=0.0, help="milliseconds more a statement")
+    asked.add_argument("--seconds", type=float, default=3.0, help="the length of a run (3)")
+    asked.add_argument("--times", type=int, default=12, help="how many runs of each kind (12)")
+    asked.add_argument("--clients", type=int, default=8, help="how many clients (8)")
+    asked.add_argument("--every", type=int, default=LiveAuditor.EVERY, help="transactions between two meetings")
+    asked.add_argument("--delay", type=float, default=0.0, help="milliseconds by which each statement takes longer (0)")
     asked.add_argument("--workload", nargs="+", choices=WORKLOADS, default=[*WORKLOADS])
-    asked.add_argument("--processes", action="store_true")
+    asked.add_argument("--processes", action="store_true", help="clients in processes, not threads")
     return asked.parse_args()
 
 

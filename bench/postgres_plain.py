@@ -1,14 +1,14 @@
-"""What logging and auditing cost beside an application that does neither: transactions a second.
+"""What logging and auditing cost an application, in transactions per second.
 
     python3 bench/postgres_plain.py [--seconds N] [--times N] [--clients N] [--workload NAME ..]
 
-Three ways take turns. "plain" is the application as it was: the same keys read and written over a
-table of two columns, by the same driver, with no names and no log. "named" are the package's sessions,
-which write a name beside each value, and nobody takes their log. "audited" is the same beside the
-auditor. Rates are means, with how much less than plain. The clients are threads of one process, which
-wait for one another's interpreter: that is where logging costs most. TMPDIR=/dev/shm has the server's
-folder in memory.
-`bench/postgres_cost.py` compares named and audited more closely.
+Three ways alternate. "plain" is the application without the package: the same keys read and written
+over a table of two columns, with the same driver, with no names and no log. "named" are the
+package's sessions, which write a name next to each value, and nobody takes their log. "audited" is
+the same with the auditor. Rates are means, with the loss compared with plain. The clients are
+threads of one process, which wait for each other's interpreter: that is where logging costs most.
+With TMPDIR=/dev/shm the server's folder is in memory. `bench/postgres_cost.py` compares named and
+audited more closely.
 """
 import argparse
 import os
@@ -32,7 +32,7 @@ WRITE = """INSERT INTO plain VALUES (%s, %s)
 
 
 class Plain:
-    """The application as it was, with the two calls that a workload makes."""
+    """The application without the package, with the two calls that a workload makes."""
 
     longest, waited = 0.0, 0.0
 
@@ -59,7 +59,7 @@ class Plain:
 
 
 def run(way, cluster, asked, workload):
-    """Transactions a second that were committed."""
+    """Committed transactions per second."""
     with psycopg2.connect(cluster.dsn) as connection:
         connection.cursor().execute("TRUNCATE zanteyard, plain")
     connection.close()
@@ -81,9 +81,9 @@ def run(way, cluster, asked, workload):
 
 def main():
     asked = argparse.ArgumentParser(description=__doc__.splitlines()[0])
-    asked.add_argument("--seconds", type=float, default=2.0)
-    asked.add_argument("--times", type=int, default=8)
-    asked.add_argument("--clients", type=int, default=8)
+    asked.add_argument("--seconds", type=float, default=2.0, help="the length of a run (2)")
+    asked.add_argument("--times", type=int, default=8, help="how many runs of each kind (8)")
+    asked.add_argument("--clients", type=int, default=8, help="how many clients (8)")
     asked.add_argument("--workload", nargs="+", choices=WORKLOADS, default=[*WORKLOADS])
     asked = asked.parse_args()
     print("workload, plain a second, named and how much less, audited and how much less")

@@ -1,17 +1,17 @@
-"""What the proxy costs an application, beside a direct connection and beside pgbouncer.
+"""What the proxy costs an application, compared with a direct connection and with pgbouncer.
 
     python3 bench/proxy_cost.py [--seconds N] [--times N] [--clients N ..] [--work NAME ..]
         [--way NAME ..] [--protocol NAME ..] [--scale N] [--latency]
 
 Each work of pgbench (`select` is its -S, `update` its -N, `tpcb` its tpcb-like; `transfer` is two
-reads and an update at serializable) runs in turns in each way: `direct`, `pgbouncer` (pooling
-sessions), `passing` (the proxy with --pass), `audited` (`zanteyard watch` with all that it
-starts). What is between is started for its turn alone. The table has, as medians: transactions a second; their part of the direct ones; the
-microseconds of processor time for each transaction, of pgbouncer or of the proxy, and of all that
-the audit has beside the proxy; with --latency, how long a transaction took in the middle and 99 of
-100, in microseconds. TMPDIR=/dev/shm has the server's folder in memory.
+reads and an update at serializable) runs each way in turn: `direct`, `pgbouncer` (session pooling),
+`passing` (the proxy with --pass), `audited` (`zanteyard watch` with everything that it starts). The
+programs in between run only during their turn. The table has, as medians: transactions per second;
+their share of the direct ones; the microseconds of processor time per transaction, of pgbouncer or
+the proxy, and of the rest of the audit; and with --latency, the median and the 99th percentile of a
+transaction's time, in microseconds. With TMPDIR=/dev/shm the server's folder is in memory.
 
-Runs need a PostgreSQL 15, pgbouncer and a built proxy (`proxy/build.sh`, or ZANTEYARD_PROXY).
+It needs PostgreSQL 15, pgbouncer and a built proxy (`proxy/build.sh`, or ZANTEYARD_PROXY).
 """
 
 from __future__ import annotations
@@ -92,7 +92,7 @@ def wait_for_audit(figures: str, seconds: float = 60) -> None:
 
 
 def processor_time(pid: int) -> float:
-    """The seconds of processor time that a process has taken, all its threads; 0 if it is gone."""
+    """The processor time of a process, in seconds, with all its threads; 0 if it is gone."""
     try:
         with open(f"/proc/{pid}/stat", encoding="ascii") as file:
             fields = file.read().rpartition(")")[2].split()
@@ -118,7 +118,8 @@ class Way:
         self.name, self.host, self.port, self.pid = name, host, port, pid
 
     def used(self) -> Tuple[float, float]:
-        """Processor time so far: of what passes the traffic on, and of all beside it."""
+        """Processor time so far: of what passes the traffic on, and of everything else that was
+        started."""
         if self.pid is None:
             return 0.0, 0.0
         between = beside = 0.0
@@ -136,7 +137,7 @@ class Way:
 
 
 class Started:
-    """The programs between, one after another, ended together."""
+    """The programs in between, started one after another, and ended together."""
 
     def __init__(self, folder: str, host: str, port: int, proxy: str) -> None:
         self.folder, self.host, self.port, self.proxy = folder, host, port, proxy
@@ -179,7 +180,7 @@ class Started:
 
     @contextlib.contextmanager
     def turn(self, name: str) -> Iterator[Way]:
-        """What a way needs runs meanwhile."""
+        """A context in which a way's programs run."""
         try:
             yield self.way(name)
         finally:
@@ -197,7 +198,8 @@ class Started:
 
 
 def latencies(folder: str) -> Tuple[float, float]:
-    """Microseconds of a transaction by pgbench's logs: in the middle, and 99 of 100."""
+    """Microseconds of a transaction according to pgbench's logs: the median and the 99th
+    percentile."""
     taken = []
     for name in os.listdir(folder):
         if name.startswith("latency"):
@@ -211,7 +213,7 @@ def latencies(folder: str) -> Tuple[float, float]:
 
 
 class Figures:
-    """What one run told."""
+    """The figures of one run."""
 
     def __init__(self, rate: float, between: float, beside: float, late: Tuple[float, float]):
         self.rate, self.between, self.beside, self.late = rate, between, beside, late
@@ -271,7 +273,7 @@ def table(asked: Any, folder: str, started: Started) -> None:
 @contextlib.contextmanager
 def prepared_server(folder: str, scale: int) -> Iterator[Tuple[Server, str]]:
     """A server with pgbench's tables, prepared for an audit, and the proxy's program. The folder is
-    removed behind it, if nothing went wrong."""
+    removed afterwards, unless something went wrong."""
     proxy = proxy_program(folder)
     if proxy is None:
         raise SystemExit("Go or its libraries are missing")
@@ -297,17 +299,17 @@ def prepared_server(folder: str, scale: int) -> Iterator[Tuple[Server, str]]:
 
 def main() -> None:
     parser = argparse.ArgumentParser(description=__doc__.splitlines()[0])
-    parser.add_argument("--seconds", type=int, default=5)
-    parser.add_argument("--times", type=int, default=5)
-    parser.add_argument("--scale", type=int, default=10)
-    parser.add_argument("--clients", type=int, nargs="+", default=[1, 8])
+    parser.add_argument("--seconds", type=int, default=5, help="the length of a run (5)")
+    parser.add_argument("--times", type=int, default=5, help="how many runs of each kind (5)")
+    parser.add_argument("--scale", type=int, default=10, help="pgbench's scale (10)")
+    parser.add_argument("--clients", type=int, nargs="+", default=[1, 8], help="how many clients (1 8)")
     parser.add_argument("--work", nargs="+", choices=WORKS, default=list(WORKS))
     parser.add_argument("--way", nargs="+", choices=WAYS, default=list(WAYS))
     parser.add_argument(
         "--protocol", nargs="+", choices=("simple", "extended", "prepared"),
         default=["simple", "prepared"],
     )
-    parser.add_argument("--latency", action="store_true")
+    parser.add_argument("--latency", action="store_true", help="also show how long transactions took")
     asked = parser.parse_args()
     folder = tempfile.mkdtemp(prefix="proxy_cost")
     os.chmod(folder, 0o777)

@@ -1,13 +1,14 @@
 #!/usr/bin/env python3
-"""How fast cobra_audit reads scripts, beside CPython's json.loads over the same lines, in one run.
+"""How fast cobra_audit reads scripts, compared with CPython's json.loads on the same lines.
 
-Run at the top of the repository, after `cd crates/cobra_audit && rt run < /dev/null` has built the program:
+Run it at the top of the repository, after `cd crates/cobra_audit && rt run < /dev/null` has built
+the program:
 
     python3 bench/read_scripts.py [PROGRAM]
 
-It makes a script of 64,000 transactions in 2,000 offers (8 reads and 8 writes each), and one ten times as long. The offers
-are refused (they don't fit the limit), so that reading dominates. A third one, of version 2, tells that every other
-transaction was aborted. Times are the best of five runs.
+It makes a script of 64,000 transactions in 2,000 offers (8 reads and 8 writes each), and one ten
+times as long. The offers are refused (they exceed the limit), so that reading dominates. In a third
+script, of version 2, every other transaction aborted. Times are the best of five runs.
 """
 import json
 import os
@@ -21,7 +22,8 @@ RUNS = 5
 
 
 def offer(number, more=()):
-    """An offer of session 1 that names transactions of session 0 as its sources; every other one has more behind it."""
+    """An offer of session 1 that names transactions of session 0 as its sources; every other
+    transaction has `more` appended."""
     transactions = []
     for place in range(TRANSACTIONS):
         first = 1 + 1000 * number + 16 * place
@@ -46,7 +48,8 @@ def seconds_of_program(program, path):
 
 
 def peak_of_program(program, path):
-    """The peak memory in KiB, as last told while it ran: what wait4 tells has the memory of this program in it."""
+    """The peak memory in KiB, as last printed while it ran: the value from wait4 would include this
+    program's memory."""
     peak = 0
     with open(path, "rb") as script, open(os.devnull, "wb") as replies:
         process = subprocess.Popen([program], stdin=script, stdout=replies)

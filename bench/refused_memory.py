@@ -1,31 +1,29 @@
 #!/usr/bin/env python3
-"""Has each allocation of the three programs refused in turn, and each thread, by a C library that
-refuses one.
+"""Refuses each allocation and each thread of the programs in turn, with a C library.
 
-Run at the top of the repository, after `rt run < /dev/null` has built each program in its crate, or
-with COBRA_AUDIT, COBRA_CHECK and COBRA_DEMO naming them; it wants cc:
+Run it at the top of the repository, after `rt run < /dev/null` has built each program in its crate,
+or with COBRA_AUDIT, COBRA_CHECK and COBRA_DEMO naming them. It needs cc:
 
     python3 bench/refused_memory.py [--every N] [--only WORD] [--lasting]
 
-For each run of its table, and each n up to how many allocations the program makes for it, the
-program is run with its nth allocation refused; with --lasting all are refused from the nth on,
-until it has answered a line. Then it has to go one of these ways, and it prints a line a run with
-how many went which way:
+For each run in its table, and each n up to the run's number of allocations, the program is run with
+its nth allocation refused; with --lasting all are refused from the nth on, until it has answered a
+line. Then one of the following has to happen; it prints a line per run with how often each did:
 
-- given again: cobra_audit has answered a line NoMemory. Then the state is told as it was before the
-  line, a round is open where one was open before, and only there; and given once more the line is
-  answered as ever, a collect behind its search.
-- ended: with status 1 and `out of memory`, after whole lines that are a front of what is owed.
-- nothing seen: where the library goes on without the room that was refused.
+- given again: cobra_audit has answered a line NoMemory. Then the state is the one before the line,
+  a round is open exactly if one was open before, and when the line is given again it is answered as
+  usual, a collect after its search.
+- ended: with status 1 and `out of memory`, after whole lines that are a prefix of the right output.
+- nothing seen: the library goes on without the memory that was refused.
 
-Where workers share a round's search, its report only has to be one that the plain model
-(`judge.py`) finds right.
+If workers share a round's search, its report only has to be one that the plain model (`judge.py`)
+finds right.
 
-The runs are the worked scripts of crates/cobra_examples/data, whole; four of them step by step,
-with workers, and handed over to another run; their stored replies for cobra_check; and the
-demonstration. --every takes each Nth allocation alone, --only the runs whose
-name has the word. At the end it tells which commands of cobra_audit were answered NoMemory, and how
-often while a round was open. The status is 1 where one went wrong.
+The runs are the worked scripts of crates/cobra_examples/data, as a whole; four of them step by
+step, with workers, and handed over to another run; their stored replies for cobra_check; and the
+demonstration. --every takes only each Nth allocation, --only the runs whose name contains WORD. At
+the end it prints which commands of cobra_audit were answered NoMemory, and how often while a round
+was open. The status is 1 if anything else happened.
 """
 import argparse
 import json
@@ -40,7 +38,7 @@ from collections import Counter
 
 HERE = os.path.dirname(os.path.abspath(__file__))
 sys.path[:0] = [HERE, os.path.join(HERE, "../collectors/python")]
-from judge import Model, command_of, first_difference, told_txn  # noqa: E402
+from judge import Model, command_of, first_difference, is_known, told_txn  # noqa: E402
 from plain_verdicts import Wrong  # noqa: E402
 
 SHIM = r"""
@@ -95,14 +93,14 @@ __attribute__((constructor)) static void start(void) {
 NO_MEMORY, ROUND_OPEN = b'["no",16,"NoMemory"]\n', b'["no",10,"RoundOpen"]\n'
 OK = b'["ok"]\n'
 SHOW = b'["show"]\n'
-# No session joins by it, for want of an anchor; but where a round is open it is told that.
+# No session joins by it, for lack of an anchor; but if a round is open the reply says so.
 PROBE = b'["join",63,[[[],[5]]]]\n'
 ENDED = (1, b"out of memory\n")
 FOR_EVER = 2**63
 SECONDS = 60.0  # within which a program has to end
 STEPS = ("real_split", "first_cut", "gone_read", "unordered_writers")
 DEMONSTRATION = b"lost-update 1\n"
-PROGRAMS = {}  # of a program's name its path, where a caller knows better
+PROGRAMS = {}  # paths by program name, set by a caller
 
 
 def has_compiler():
@@ -128,7 +126,8 @@ class Shim:
             self.page = mmap.mmap(file.fileno(), 4096)
 
     def start(self, program, refused=0, is_lasting=False, thread=0):
-        """The program over pipes; refused is the number of an allocation, or of a thread, or 0."""
+        """Starts the program over pipes. `refused` is the number of an allocation, or of a thread,
+        or 0."""
         last = FOR_EVER if is_lasting else refused
         struct.pack_into("5Q", self.page, 0, 0, refused, last, 0, thread)
         pipes = {"stdin": subprocess.PIPE, "stdout": subprocess.PIPE, "stderr": subprocess.PIPE}
@@ -136,23 +135,23 @@ class Shim:
                                 env={"LD_PRELOAD": self.library, "PAGE": self.counted})
 
     def lift(self):
-        """Nothing more is refused."""
+        """Refuses nothing more."""
         struct.pack_into("Q", self.page, 8, 0)
 
     def counts(self):
-        """How many allocations, and how many threads, the last program has asked for."""
+        """How many allocations, and how many threads, the last program has requested."""
         return struct.unpack_from("Q", self.page)[0], struct.unpack_from("Q", self.page, 24)[0]
 
     def run(self, program, given, **refused):
-        """What is written of a whole input, the status and what is said."""
+        """The output for a whole input, the status and the messages."""
         with self.start(program, **refused) as running:
             told, said = running.communicate(given, timeout=SECONDS)
         return told, (running.returncode, said)
 
 
 class Audit:
-    """A script for cobra_audit, given line by line. Where `is_judged`, as where workers share a
-    search, a report may be another than that of the run in which nothing was refused."""
+    """A script for cobra_audit, given line by line. With `is_judged`, when workers share a search,
+    a report may differ from that of the run in which nothing was refused."""
 
     def __init__(self, name, lines, owed=None, is_judged=False):
         self.name, self.lines = name, [line + b"\n" for line in lines]
@@ -160,7 +159,7 @@ class Audit:
         self.refused, self.in_rounds = Counter(), 0  # commands; those while a round was open
 
     def prepare(self, shim):
-        """Has it run with nothing refused: how many allocations and threads there were."""
+        """Runs it with nothing refused; returns how many allocations and threads there were."""
         _, self.shows, _, ended = self.run(shim, shows=True)
         replies, _, _, also = self.run(shim)
         if (ended, also) != ((0, b""),) * 2 or self.owed not in (None, replies):
@@ -172,7 +171,7 @@ class Audit:
         return shim.counts()
 
     def run(self, shim, shows=False, **refused):
-        """The replies, the states before each line, where memory was wanting, and the end."""
+        """The replies, the states before each line, where memory ran out, and the end."""
         with shim.start(path_of("cobra_audit"), **refused) as running:
             replies, states, again, search = [], [], [], b""
             for line in self.lines:
@@ -197,7 +196,7 @@ class Audit:
         return replies, states, again, (running.returncode, said)
 
     def look(self, running, place, line):
-        """Nothing has changed by the line that was answered NoMemory."""
+        """Checks that the line that was answered NoMemory has changed nothing."""
         state = state_of(running)
         if state != self.shows[place]:
             raise Wrong(f"behind {line!r} the state is {state!r}, before it {self.shows[place]!r}")
@@ -205,7 +204,7 @@ class Audit:
         self.in_rounds += state[1] == ROUND_OPEN
 
     def way(self, shim, **refused):
-        """Which way it went; raises Wrong."""
+        """What happened. Raises Wrong if that isn't allowed."""
         replies, _, again, ended = self.run(shim, **refused)
         if ended not in ((0, b""), ENDED) or len(again) > 1:
             raise Wrong(f"it ends with {ended}, {again}")
@@ -233,7 +232,7 @@ def state_of(running):
 
 
 def ask(running, line):
-    """The reply to a line; nothing where the program has ended."""
+    """The reply to a line; empty if the program has ended."""
     try:
         running.stdin.write(line)
     except OSError:
@@ -279,7 +278,8 @@ def compact(told):
 
 
 def by_steps(lines):
-    """A script with its rounds begun and finished, and with all else that takes memory behind."""
+    """A script whose rounds are begun and finished separately, followed by everything else that
+    takes memory."""
     found, counts = [], Counter()
     for line in lines:
         command = command_of(line)
@@ -294,12 +294,12 @@ def by_steps(lines):
 
 
 def with_workers(lines):
-    """A script whose rounds are shared among four workers."""
+    """A script whose rounds are shared by four workers."""
     return [b'["round",2048,6,4]' if command_of(line)[0] == "round" else line for line in lines]
 
 
 def handed_over(lines):
-    """What the script's run keeps, handed over to another one, which makes a round and a cut."""
+    """What the script's run keeps, handed over to another one, which runs a round and a cut."""
     model = Model()
     for line in lines:
         command = command_of(line)
@@ -320,6 +320,8 @@ def runs(data):
             continue
         name = name[:-len(".jsonl")]
         lines, replies = (lines_of(f"{data}/{name}.{end}") for end in ("jsonl", "replies"))
+        if not is_known(lines):
+            continue
         yield Audit(f"cobra_audit, {name}", lines, [reply + b"\n" for reply in replies])
         if name in STEPS:
             yield Audit(f"cobra_audit, {name} by steps", by_steps(lines))
@@ -336,7 +338,7 @@ def is_built(run):
 
 
 def ways_of(shim, run, numbers, **how):
-    """How many runs went which way, and what was wrong with those that went none."""
+    """How many runs had which result, and what was wrong with the others."""
     ways, wrong = Counter(), []
     for what, number in numbers:
         try:
@@ -348,10 +350,10 @@ def ways_of(shim, run, numbers, **how):
 
 
 def main():
-    asked = argparse.ArgumentParser(description=__doc__.splitlines()[0])
-    asked.add_argument("--every", type=int, default=1)
-    asked.add_argument("--only", default="", help="runs whose name has this word")
-    asked.add_argument("--lasting", action="store_true", help="all are refused from the nth on")
+    asked = argparse.ArgumentParser(description=__doc__.split("\n\n")[0])
+    asked.add_argument("--every", type=int, default=1, help="only each Nth allocation (1)")
+    asked.add_argument("--only", default="", help="only runs with this in their name")
+    asked.add_argument("--lasting", action="store_true", help="refuse all from the nth on")
     asked = asked.parse_args()
     how = {"is_lasting": True} if asked.lasting else {}
     ways, words, in_rounds = Counter(), Counter(), 0

@@ -1,23 +1,29 @@
 #!/usr/bin/env python3
-"""How long the known relation of a history takes, and the peak memory, for each kind of history of bench/histories.py.
+"""How long the known relation of a history takes, and its peak memory, for each kind of history.
 
-Run at the top of the repository:
+Run it at the top of the repository:
 
     python3 bench/relation.py
 
-It puts bench/relation, a program over the libraries up to settle and truncate, into a repository of its own in a temporary folder, proves and
-builds it there (many minutes, where the libraries below it aren't proved yet), and runs it over generated histories of 8 sessions: the relation
-made of the whole, its open choices, a branch of it; the same relation made transaction by transaction and in fragments of 64, in the order in
-which the store fills these; and what a cut of its first half leaves of it, where all sessions make two fences in the middle. Each time is the
-least of three. How fast the machine copies memory stands beside. With a program's path it is that which runs.
+It puts bench/relation, a program on the libraries up to settle and truncate, into a repository of
+its own in a temporary folder, proves and builds it there (many minutes, if the libraries below it
+aren't proved yet), and runs it over generated histories (bench/histories.py) of 8 sessions: the
+relation of the whole, its open choices, and a branch of it; the same relation made transaction by
+transaction and in fragments of 64, in the order in which the store fills these; and what a cut of
+its first half leaves of it, with two fences by all sessions in the middle. Each time is the minimum
+of three. The speed of the machine's memory copies is printed for comparison. A program's path runs
+that program instead.
 
-The last table is of histories in which the sessions commit in rounds, each once: transactions come one by one in the order of the store, or
-with each round turned round, so that readers come before the writers that they read from. In the row `chain` each transaction reads what the
-one before it wrote, and in the last column one read in twenty is stale, so that its reader has to come before writers that were there.
+The last table is about histories in which each session commits once per round: transactions arrive
+one by one in the order of the store, or with each round reversed, so that readers come before the
+writers that they read from. In the row `chain` each transaction reads what the previous one wrote,
+and in the last column one read in twenty is stale, so that its reader has to come before existing
+writers.
 
-With --refused nothing is timed: small histories are added transaction by transaction with each allocation of the program refused in turn. What is
-refused is added once more; at the end all pairs that are known and the number of open choices have to be the same, or the program has ended for
-want of memory elsewhere.
+With --refused nothing is timed: small histories are added transaction by transaction with each
+allocation of the program refused in turn. What is refused is added again. At the end all known
+pairs and the number of open choices have to be the same, or the program has ended because memory
+ran out elsewhere.
 """
 import argparse
 import pathlib
@@ -63,7 +69,8 @@ def line_of(session, reads, writes):
 
 
 def store_of(kind, transactions, meet, keys=KEYS):
-    """A store with a history, and who made which transaction: as many of each session, and where they meet, two fences of each in the middle."""
+    """A store with a history, and who made which transaction: equally many for each session, and if
+    they meet, two fences of each in the middle."""
     store = histories.Store(SESSIONS, 1, 0)
     drawn = [number % SESSIONS for number in range(transactions - 2 * SESSIONS * meet)]
     store.random.shuffle(drawn)
@@ -79,7 +86,7 @@ def store_of(kind, transactions, meet, keys=KEYS):
 
 
 def in_fragments(sessions):
-    """The order in which fragments come, each when it is full."""
+    """The order in which fragments arrive, each when it is full."""
     waiting, order = [0] * SESSIONS, []
     for session in sessions:
         waiting[session] += 1
@@ -90,7 +97,7 @@ def in_fragments(sessions):
 
 
 def history(kind, transactions, timed, keys=KEYS):
-    """The program's input: what is timed, and then the transactions."""
+    """The program's input: what to time, and then the transactions."""
     store, sessions = store_of(kind, transactions, timed == CUT, keys)
     logs = [iter(log) for log in store.logs]
     order = in_fragments(sessions) if timed == FRAGMENTS else sessions
@@ -98,7 +105,8 @@ def history(kind, transactions, timed, keys=KEYS):
 
 
 def in_rounds(kind, transactions, stale, is_turned):
-    """The program's input: transactions one by one, of a store in which each session commits once a round; each round may be turned round."""
+    """The program's input: transactions one by one, of a store in which each session commits once
+    per round; each round may be reversed."""
     store = histories.Store(SESSIONS, 1, stale)
     execute, keys = (histories.counter, 1) if kind == "chain" else (histories.KINDS[kind], KEYS)
     order = []
@@ -119,7 +127,7 @@ def peak_of(process):
 
 
 def run(program, text):
-    """What the program tells, and its peak memory in MiB."""
+    """The program's output, and its peak memory in MiB."""
     peak = 0
     with tempfile.TemporaryFile() as given, tempfile.TemporaryFile() as told:
         given.write(text.encode("ascii"))
@@ -171,7 +179,8 @@ def turned_table(program):
 
 
 def refused(program):
-    """Of each kind: how often what was refused was added once more, and how often the program ended instead. Any other end is told."""
+    """For each kind: how often what was refused was added again, and how often the program ended
+    instead. Any other end is reported."""
     with tempfile.TemporaryDirectory() as folder:
         trial = refused_memory.Trial(program, folder)
         print("| Kind | Allocations | Added once more | Ended | Not seen | WRONG |\n|---|---|---|---|---|---|")
@@ -185,14 +194,16 @@ def refused(program):
 
 
 def told_with(trial, given, number):
-    """What the program tells where its allocation of this number is refused, its status, and how many allocations it made."""
+    """The program's output if its allocation of this number is refused, its status, and how many
+    allocations it made."""
     settings = {"LD_PRELOAD": trial.shim, "REFUSED": str(number), "COUNTED": trial.counted}
     ran = subprocess.run([trial.program], input=given, env=settings, capture_output=True, check=False)
     return ran.stdout.splitlines(), ran.returncode, int.from_bytes(pathlib.Path(trial.counted).read_bytes()[:8], "little")
 
 
 def relation_in(lines):
-    """Without the steps: which sides are logged, and not reached by others, depends on the order in which reads were looked at."""
+    """Without the steps: which sides are logged, rather than implied by others, depends on the
+    order in which reads were examined."""
     return [line for line in lines if not line.startswith((b"again ", b"step "))]
 
 
@@ -204,7 +215,7 @@ def end_of(told, wanted):
 
 
 def built(top, folder):
-    """The program, or what its check prints."""
+    """The program, or the output of its check."""
     crate = lay_out(top, folder)
     run = subprocess.run(["rt", "run"], cwd=crate, stdin=subprocess.DEVNULL, capture_output=True, text=True, check=False)
     program = crate / "out" / "relation"
@@ -215,7 +226,7 @@ def built(top, folder):
 
 def main():
     asked = argparse.ArgumentParser(description=__doc__, formatter_class=argparse.RawDescriptionHelpFormatter)
-    asked.add_argument("--refused", action="store_true")
+    asked.add_argument("--refused", action="store_true", help="refuse each allocation in turn, and time nothing")
     asked.add_argument("program", nargs="?")
     asked = asked.parse_args()
     task = refused if asked.refused else tables

@@ -1,17 +1,17 @@
 #!/usr/bin/env python3
-"""What it costs to give out what an audit keeps, and to begin with it, in one table.
+"""What it costs to save an audit's state, and to resume from it.
 
-Run at the top of the repository, after `cd crates/cobra_audit && rt run < /dev/null` has built the
-program, or with COBRA_AUDIT naming another one:
+Run it at the top of the repository, after `cd crates/cobra_audit && rt run < /dev/null` has built
+the program, or with COBRA_AUDIT naming another one:
 
     python3 bench/resume.py [--keys N] [--txns N] [PROGRAM]
 
-The parts have as many last gone writers as --keys says (1,000,000), and as many transactions that
-remain as --txns says (4,096), of 64 sessions; each reads and writes four of the keys, which no
-other does. They are handed over to a program; it gives them out, page by page; and what it gave out
-is handed over to another program, which then tells the same state. Told are seconds, of the program
-and of the processor that it took, and the program's peak memory. Wanted is that a hand-over takes
-at most 2 seconds, of the lower of the two times, and 100 MiB; a row that takes more is marked.
+The parts have --keys last forgotten writers (1,000,000) and --txns remaining transactions (4,096),
+in 64 sessions; each reads and writes four keys that no other one uses. They are handed over to a
+program, which hands them out, page by page; and what it handed out is handed over to another
+program, which then reports the same state. The table has seconds, processor seconds, and the
+program's peak memory. A hand-over should take at most 2 seconds, by the lower of the two times, and
+100 MiB; a row above that is marked.
 """
 import argparse
 import json
@@ -22,7 +22,7 @@ import tempfile
 import time
 
 SESSIONS, LIMIT, GONE, WRITERS, TXNS = 64, 4096, 1_000_000, 16384, 256
-SECONDS, MIB = 2.0, 100.0  # that are wanted of a hand-over
+SECONDS, MIB = 2.0, 100.0  # limits of a hand-over
 
 
 def compact(told):
@@ -47,7 +47,7 @@ def parts(keys, txns):
 
 
 def run(program, lines):
-    """The replies to the lines, seconds, seconds of the processor, and the peak in MiB."""
+    """The replies to the lines, seconds, processor seconds, and the peak in MiB."""
     with tempfile.TemporaryFile() as told:
         begun = time.monotonic()
         running = subprocess.Popen([program], stdin=subprocess.PIPE, stdout=told)
@@ -71,7 +71,7 @@ def run(program, lines):
 
 
 def questions(keys, sessions):
-    """What is asked for to have all that is kept, where the keys are known."""
+    """The questions that return everything that is kept, if the keys are known."""
     yield compact(["save", "marks"])
     for first in range(0, len(keys), WRITERS):
         yield compact(["save", "last", keys[first]])
@@ -86,9 +86,9 @@ def row(what, took, used, peak, wanted=True):
 
 
 def main():
-    parser = argparse.ArgumentParser()
-    parser.add_argument("--keys", type=int, default=1_000_000)
-    parser.add_argument("--txns", type=int, default=4096)
+    parser = argparse.ArgumentParser(description=__doc__.splitlines()[0])
+    parser.add_argument("--keys", type=int, default=1_000_000, help="keys whose last writer is gone (1,000,000)")
+    parser.add_argument("--txns", type=int, default=4096, help="transactions that remain (4,096)")
     parser.add_argument("program", nargs="?", default=os.environ.get("COBRA_AUDIT", os.path.join(
         os.path.dirname(__file__), "../crates/cobra_audit/out/cobra_audit")))
     asked = parser.parse_args()

@@ -1,14 +1,16 @@
 #!/usr/bin/env python3
-"""How long rounds take: whole scripts with one round at the end, beside CPython's json.loads over the same lines, in one run.
+"""How long rounds take: scripts with one round at the end, compared with CPython's json.loads.
 
-Run at the top of the repository, after `cd crates/cobra_audit && rt run < /dev/null` has built the program:
+Run it at the top of the repository, after `cd crates/cobra_audit && rt run < /dev/null` has built
+the program:
 
     python3 bench/rounds.py [--check] [--most N] [PROGRAM]
 
-A row a history (bench/histories.py has the kinds): the verdict, the time of the whole script, of its round alone (from the
-round's line to its report, over pipes), of json.loads over the lines, their ratio, and the program's peak memory. A `stale`
-history has older versions among its reads, and is mostly violated. With --check each report is checked by
-examples/check_reports.py, which takes long. --most leaves out histories of more transactions.
+There is a row per history (bench/histories.py has the kinds): the verdict, the time of the whole
+script, of its round alone (from the round's line to its report, over pipes), of json.loads on the
+same lines, their ratio, and the program's peak memory. A `stale` history has older versions among
+its reads, and is usually violated. With --check each report is checked by
+examples/check_reports.py, which takes long. --most leaves out histories with more transactions.
 """
 import argparse
 import json
@@ -65,8 +67,8 @@ def run(program, lines):
 
 def main():
     words = argparse.ArgumentParser(description=__doc__, formatter_class=argparse.RawDescriptionHelpFormatter)
-    words.add_argument("--check", action="store_true")
-    words.add_argument("--most", type=int, default=4096)
+    words.add_argument("--check", action="store_true", help="check each report by examples/check_reports.py")
+    words.add_argument("--most", type=int, default=4096, help="leave out longer histories (4,096)")
     words.add_argument("program", nargs="?", default="crates/cobra_audit/out/cobra_audit")
     asked = words.parse_args()
     print("kind     transactions sessions stale  verdict    script s   round s  json s   ratio  peak MiB")

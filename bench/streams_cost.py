@@ -1,12 +1,14 @@
-"""What it costs clients to be audited over a socket of one machine, and over streams of a Redis on the same machine.
+"""What an audit costs clients over a socket, and over streams of a Redis on the same machine.
 
     /usr/bin/python3 bench/streams_cost.py [--clients 4] [--transactions 900] [--runs 5]
 
-Each run has so many processes of clients over a store in memory, each with one session that runs as many
-transactions as it can: one read, one write. The auditor is one that says ok to everything, so that only the way there
-is measured. Of each kind there are several runs, in turns, and the median is told: transactions a second of all
-clients, what a transaction took its client, and the processor time of the client, of the auditor's process and of the
-Redis, each of them by transaction. `noted` are those of which the store could be asked: the note is waited for."""
+Each run has several client processes over a store in memory, each with one session that runs as
+many transactions as it can: one read, one write. The auditor is a fake that says ok to everything,
+so that only the transport is measured. Runs of all kinds alternate, and medians are printed:
+transactions per second of all clients, a transaction's time for its client, and the processor time
+per transaction of the client, of the auditor's process and of the Redis. With `noted` the store
+could be asked about each transaction, so the client waits for the note.
+"""
 import argparse
 import os
 import resource
@@ -38,7 +40,7 @@ for line in sys.stdin.buffer:
 
 
 def client(address, audit, transactions, is_noted):
-    """In a process of its own: tells seconds, and processor seconds."""
+    """A client in a process of its own: returns seconds, and processor seconds."""
     store = MemoryStore().connect()
     if is_noted:
         store.asks, store.ticket = (lambda: ("none",)), (lambda written: written)
@@ -79,7 +81,8 @@ def clients(address, asked, is_noted):
 
 
 def run(kind, is_noted, asked, program, redis):
-    """Transactions a second, and microseconds of a transaction: in all, and of each one's processor time."""
+    """Transactions per second, and microseconds per transaction: in total, and of each one's
+    processor time."""
     count = asked.clients * asked.transactions
     if kind == "none":
         took, cpu = clients("-", asked, is_noted)
@@ -103,9 +106,9 @@ def run(kind, is_noted, asked, program, redis):
 
 def main():
     parser = argparse.ArgumentParser(description=__doc__.splitlines()[0])
-    parser.add_argument("--clients", type=int, default=4)
-    parser.add_argument("--transactions", type=int, default=900)
-    parser.add_argument("--runs", type=int, default=5)
+    parser.add_argument("--clients", type=int, default=4, help="how many client processes (4)")
+    parser.add_argument("--transactions", type=int, default=900, help="transactions of each (900)")
+    parser.add_argument("--runs", type=int, default=5, help="how many runs of each kind (5)")
     parser.add_argument("--client", help=argparse.SUPPRESS)
     parser.add_argument("--noted", action="store_true", help=argparse.SUPPRESS)
     asked = parser.parse_args()

@@ -1,25 +1,26 @@
-"""Applications over PostgreSQL for as long as you like, watched, while they are disturbed.
+"""Watches applications of a PostgreSQL for as long as you like, while they are disturbed.
 
     python3 bench/watch_soak.py [--minutes M] [--level LEVEL] [--work NAME ..] [--clients N]
         [--pause MS] [--rate N] [--undisturbed] [--kill-server S] [--kill-proxy S] [--promise NAME]
 
 Each work is an application with tables of its own: `skew` reads two rows and writes one, `lost`
-reads a quantity and writes it one less, `bank` keeps a rule over a range, `shop` has joins, upserts,
-counts, savepoints, cursors and deletes, `tpcb`, `update` and `select` are pgbench's. All run at once,
---clients connections each, with a pause of up to --pause milliseconds behind each transaction; each
-pgbench makes --rate transactions a second.
+reads a quantity and writes it one less, `bank` keeps a rule over a range, `shop` has joins,
+upserts, counts, savepoints, cursors and deletes, `tpcb`, `update` and `select` are pgbench's. All
+run at once, with --clients connections each, and a pause of up to --pause milliseconds after each
+transaction; each pgbench makes --rate transactions per second.
 
-Beside them, without the proxy: somebody writes the same rows, columns and indexes come and go,
-tables are rewritten by VACUUM FULL, and connections of the applications are ended by the server. With
---kill-server the server is killed and started again each S seconds, with --kill-proxy the proxy is.
+Meanwhile, without the proxy, somebody writes the same rows, columns and indexes come and go, tables
+are rewritten by VACUUM FULL, and the server ends connections of the applications. With
+--kill-server the server is killed and started again every S seconds, with --kill-proxy the proxy
+is.
 
-A line a minute says how the audit stands: what was committed and checked so far, how long a meeting
-took in that minute and at most, memory and processors of each program. At serializable, and at
+A line per minute has the audit's state: what was committed and checked so far, how long a meeting
+took in that minute and at most, memory and processor time of each program. At serializable, and at
 repeatable read with `--promise snapshot`, no violation may be found, and each work has to get some
-transactions through: else the exit status is 1. Elsewhere the violations that were found are listed by
-their name.
+transactions through: else the exit status is 1. At other levels the violations that were found are
+listed by name.
 
-Runs need a PostgreSQL 15, psycopg2, a built proxy (ZANTEYARD_PROXY, or Go) and the proved programs.
+It needs PostgreSQL 15, psycopg2, a built proxy (ZANTEYARD_PROXY, or Go) and the proved programs.
 """
 
 from __future__ import annotations
@@ -68,7 +69,7 @@ INSERT INTO lost_stock SELECT i, 1000000 FROM generate_series(1, {ROWS}) i;
 INSERT INTO bank_moves (customer, amount) SELECT i, 100 FROM generate_series(1, {ROWS}) i;
 INSERT INTO shop_items SELECT i, 1000000 FROM generate_series(1, {ROWS}) i;
 """
-ROOM = 60  # moves of a customer above which the oldest are put together
+ROOM = 60  # moves of a customer above which the oldest are merged
 
 
 def skew(cursor: Any, chance: random.Random) -> None:
@@ -85,7 +86,7 @@ def lost(cursor: Any, chance: random.Random) -> None:
 
 
 def bank(cursor: Any, chance: random.Random) -> None:
-    """A customer's moves may not come to less than 0."""
+    """A customer's moves may not add up to less than 0."""
     customer = chance.randint(1, ROWS)
     cursor.execute("SELECT id, amount FROM bank_moves WHERE customer = %s ORDER BY id", (customer,))
     moves = cursor.fetchall()
@@ -151,7 +152,7 @@ AGAIN = (errors.SerializationFailure, errors.DeadlockDetected, errors.UniqueViol
 
 
 class Client:
-    """Connections of one application, each in a thread. What it counts is read by others."""
+    """Connections of one application, each in a thread. Others read its counts."""
 
     def __init__(self, asked: Any, work: str, dsn: str, ends: threading.Event) -> None:
         self.asked, self.work, self.dsn, self.ends = asked, work, dsn, ends
@@ -173,7 +174,7 @@ class Client:
 
     def use(self, connection: Any, chance: random.Random) -> None:
         with contextlib.closing(connection):
-            until = time.monotonic() + chance.uniform(1, 120)  # then it connects again
+            until = time.monotonic() + chance.uniform(1, 120)  # then it reconnects
             while not self.ends.is_set() and time.monotonic() < until:
                 try:
                     with connection, connection.cursor() as cursor:
@@ -181,14 +182,14 @@ class Client:
                     self.committed += 1
                 except AGAIN:
                     self.again += 1
-                except psycopg2.ProgrammingError as error:  # a definition has just changed
+                except psycopg2.ProgrammingError as error:  # the schema has just changed
                     name = type(error).__name__
                     self.failed[name] = self.failed.get(name, 0) + 1
                 time.sleep(chance.random() * self.asked.pause / 1000)
 
 
 class Disturber:
-    """What happens beside the applications, without the proxy."""
+    """What happens next to the applications, without the proxy."""
 
     def __init__(self, server: Server, works: List[str], ends: threading.Event) -> None:
         self.server, self.works, self.ends = server, works, ends
@@ -229,7 +230,7 @@ class Disturber:
 
 
 def used(pid: int) -> Dict[str, Tuple[float, float]]:
-    """MiB in memory and seconds of processor time of each of a program's processes, by name."""
+    """MiB in memory and processor seconds of each of a program's processes, by name."""
     told: Dict[str, Tuple[float, float]] = {}
     for each in descendants(pid):
         with contextlib.suppress(OSError, AttributeError):
@@ -415,16 +416,16 @@ def soak(asked: Any, server: Server, watch: Watch) -> int:
 
 def main() -> int:
     parser = argparse.ArgumentParser(description=__doc__.splitlines()[0])
-    parser.add_argument("--minutes", type=float, default=30)
+    parser.add_argument("--minutes", type=float, default=30, help="how long (30)")
     parser.add_argument("--level", choices=LEVELS, default="serializable")
     parser.add_argument("--work", nargs="+", choices=[*WORKS, *PGBENCH], default=[*WORKS, "tpcb"])
-    parser.add_argument("--clients", type=int, default=4)
-    parser.add_argument("--pause", type=float, default=20, help="milliseconds")
-    parser.add_argument("--rate", type=int, default=100, help="pgbench's transactions a second")
-    parser.add_argument("--undisturbed", action="store_true")
-    parser.add_argument("--kill-server", type=float, metavar="S")
-    parser.add_argument("--kill-proxy", type=float, metavar="S")
-    parser.add_argument("--promise", help="as watch's")
+    parser.add_argument("--clients", type=int, default=4, help="connections of each application (4)")
+    parser.add_argument("--pause", type=float, default=20, help="how long a client pauses at most after a transaction, in milliseconds (20)")
+    parser.add_argument("--rate", type=int, default=100, help="transactions a second of each pgbench (100)")
+    parser.add_argument("--undisturbed", action="store_true", help="disturb nothing")
+    parser.add_argument("--kill-server", type=float, metavar="S", help="kill the server every S seconds")
+    parser.add_argument("--kill-proxy", type=float, metavar="S", help="kill the proxy every S seconds")
+    parser.add_argument("--promise", help="as for zanteyard watch")
     asked = parser.parse_args()
     folder = tempfile.mkdtemp(prefix="watch_soak")
     os.chmod(folder, 0o755)

@@ -1,18 +1,22 @@
 #!/usr/bin/env python3
-"""How long rounds that search long take with 1, 2 and 4 workers.
+"""How long rounds with a long search take with 1, 2 and 4 workers.
 
-Run at the top of the repository, after `cd crates/cobra_audit && rt run < /dev/null` has built the program:
+Run it at the top of the repository, after `cd crates/cobra_audit && rt run < /dev/null` has built
+the program:
 
     python3 bench/workers.py [--free N] [--times N] [--single PROGRAM] [PROGRAM]
 
-The history has eight transactions that no order explains, which only a search finds: each way to order two pairs of writers fails
-one of their readers. Before them in the list of open choices stand N choices that are free, so that the search fails 2^N times. A
-round splits it into 64 cubes of one size. Told is the time from the round's line to its report, over pipes, the best of so many
-runs, and the processor time of the program from its start to its end. Another program, as an auditor with the solver of one
-thread, is timed beside. With other work on the machine's cores times say little: the head line tells its load.
+The history has eight transactions that no order explains, which only a search finds: each way to
+order two pairs of writers contradicts one of their readers. The list of open choices begins with N
+free choices, so that the search fails 2^N times. A round splits it into 64 cubes of equal size. The
+table has the time from the round's line to its report, over pipes, the best of --times runs, and
+the processor time of the program from its start to its end. Another program (--single), such as an
+auditor with the single-threaded solver, is timed for comparison. On a busy machine times mean
+little: the first line has its load.
 
-What the machine has to give is told by the rows "apart": so many programs at once, each with one worker and a round of its own. They share
-nothing, so that so many workers can hardly do better; two processors of a machine may be two threads of one core.
+The rows "apart" show what the machine can do: several programs at once, each with one worker and a
+round of its own. They share nothing, so that many workers can hardly do better. Two processors of a
+machine may be two threads of one core.
 """
 import argparse
 import json
@@ -22,7 +26,8 @@ import time
 
 
 def free_choices(count):
-    """Three sessions: writers of the keys 101, 102 and so on, other writers of the same keys, and readers of the first."""
+    """Three sessions: writers of the keys 101, 102 and so on, other writers of the same keys, and
+    readers of the first."""
     first = [[[], [101 + i]] for i in range(count)]
     second = [[[], [101 + i]] for i in range(count)]
     readers = [[[[101 + i, 1, i]], []] for i in range(count)]
@@ -30,7 +35,8 @@ def free_choices(count):
 
 
 def split_of(base):
-    """Eight sessions from this number on: four writers, and four readers of which one fails whichever way the writers stand."""
+    """Eight sessions from this number on: four writers, and four readers of which one is
+    contradicted however the writers are ordered."""
     a, b, c, d = ([base + i, 0] for i in range(4))
     writers = [[[], [1, 3]], [[], [1, 4]], [[], [2, 5]], [[], [2, 6]]]
     readers = [
@@ -61,7 +67,8 @@ def begun(program, lines):
 
 
 def run(program, lines, workers, copies):
-    """The report, the seconds of the round, or of as many rounds in as many programs at once, and the processor seconds of the whole."""
+    """The report, the seconds of the round, or of several rounds in as many programs at once, and
+    the processor seconds of the whole."""
     before = os.times()
     processes = [begun(program, lines) for _ in range(copies)]
     begin = time.perf_counter()
@@ -79,7 +86,8 @@ def run(program, lines, workers, copies):
 
 
 def measured(lines, rows, times):
-    """Of each row the report, and the least seconds and processor seconds of so many runs; the rows take turns."""
+    """For each row the report, and the minimal seconds and processor seconds of --times runs; the
+    rows alternate."""
     runs = [[] for _ in rows]
     for _ in range(times):
         for told, (_, program, workers, copies) in zip(runs, rows):
@@ -89,9 +97,9 @@ def measured(lines, rows, times):
 
 def main():
     words = argparse.ArgumentParser(description=__doc__, formatter_class=argparse.RawDescriptionHelpFormatter)
-    words.add_argument("--free", type=int, default=14)
-    words.add_argument("--times", type=int, default=10)
-    words.add_argument("--single", metavar="PROGRAM", help="an auditor with the solver of one thread")
+    words.add_argument("--free", type=int, default=14, help="N: the search fails 2^N times (14)")
+    words.add_argument("--times", type=int, default=10, help="how many runs of each kind (10)")
+    words.add_argument("--single", metavar="PROGRAM", help="an auditor with the single-threaded solver")
     words.add_argument("program", nargs="?", default="crates/cobra_audit/out/cobra_audit")
     asked = words.parse_args()
     rows = [("single", asked.single, 1, 1)] if asked.single else []

@@ -1,17 +1,19 @@
 #!/usr/bin/env python3
-"""Whether scripts are answered byte for byte alike with any number of workers, and by the solver of one thread.
+"""Whether replies are equal with any number of workers and with the single-threaded solver.
 
-Run at the top of the repository, after `rt run < /dev/null` in crates/cobra_audit and `rt run` in crates/cobra_examples have built
-the programs:
+Run it at the top of the repository, after `rt run < /dev/null` in crates/cobra_audit and `rt run`
+in crates/cobra_examples have built the programs:
 
     python3 bench/workers_agree.py [--times N] [--generated N] [PROGRAM [EXAMPLES]]
 
-Each script of crates/cobra_examples/data is given to cobra_audit with 1, 2, 4 and 16 workers in its rounds, as it stands and with
-each depth from 0 to 6 in their place, each so many times. What it answers is handed, as the replies that are wanted, to cobra_examples, which
-serves the script by the solver of one thread and compares. A line that is refused for its numbers stays as it is.
+Each script of crates/cobra_examples/data is given to cobra_audit with 1, 2, 4 and 16 workers in its
+rounds, unchanged and with each depth from 0 to 6 in their place, --times times each. Its replies
+are given, as the expected ones, to cobra_examples, which runs the script with the single-threaded
+solver and compares byte for byte. A line that is refused for its numbers stays unchanged.
 
-Then come as many generated histories as asked for, from a fixed seed: each is searched at each depth with each number of workers ten times, and told is how
-many were serial, violated and spent, and whether one report differs in more than its number from the others of its depth.
+Then follow --generated generated histories, from a fixed seed. Each is searched at each depth with
+each number of workers ten times. The output says how many were serial, violated and spent, and
+whether a report differs in more than its number from the others of its depth.
 """
 import argparse
 import collections
@@ -39,7 +41,7 @@ def is_round(line):
 
 
 def with_numbers(lines, depth, workers):
-    """The lines with these numbers in their rounds; a depth of None is left as it is."""
+    """The lines with these numbers in their rounds; a depth of None stays unchanged."""
     for line in lines:
         if is_round(line):
             told = json.loads(line)
@@ -54,7 +56,8 @@ def served(program, script):
 
 
 def generated(dice, sessions=6, each=3, keys=4):
-    """A history of transactions that are run one after another, and in which some reads are of any writer of their key."""
+    """A history of transactions that run one after another, in which some reads are of any writer
+    of their key."""
     last, writers, history = {}, collections.defaultdict(list), [[] for _ in range(sessions)]
     lies = dice.choice((0.0, 0.1, 0.3))
     turns = [session for session in range(sessions) for _ in range(each)]
@@ -73,7 +76,8 @@ def generated(dice, sessions=6, each=3, keys=4):
 
 
 def disagreements(program, count, times=10):
-    """Kinds of the reports on generated histories, and those histories and depths at which reports differ."""
+    """Kinds of the reports on generated histories, and those histories and depths at which reports
+    differ."""
     dice, kinds, others = random.Random(15), collections.Counter(), []
     for number in range(count):
         history, budget = generated(dice), dice.choice((3, 24, 4096))
@@ -92,8 +96,8 @@ def disagreements(program, count, times=10):
 
 def main():
     words = argparse.ArgumentParser(description=__doc__, formatter_class=argparse.RawDescriptionHelpFormatter)
-    words.add_argument("--times", type=int, default=1)
-    words.add_argument("--generated", type=int, default=200)
+    words.add_argument("--times", type=int, default=1, help="how often each script is run (1)")
+    words.add_argument("--generated", type=int, default=200, help="how many generated histories (200)")
     words.add_argument("program", nargs="?", default="crates/cobra_audit/out/cobra_audit")
     words.add_argument("examples", nargs="?", default="crates/cobra_examples/out/cobra_examples")
     asked = words.parse_args()

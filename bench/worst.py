@@ -1,19 +1,19 @@
 #!/usr/bin/env python3
-"""The dearest lines and rounds that were found, as an attacker would send them, in one table.
+"""What the most expensive known lines and rounds cost, as an attacker would send them.
 
-Run at the top of the repository, after `cd crates/cobra_audit && rt run < /dev/null` has built the
-program, or with COBRA_AUDIT naming another one:
+Run it at the top of the repository, after `cd crates/cobra_audit && rt run < /dev/null` has built
+the program, or with COBRA_AUDIT naming another one:
 
     python3 bench/worst.py [--size N] [--some WORD] [--seconds S] [--mib M] [PROGRAM]
 
-Each row begins a program, gives it what leads up to the dear line, and then that line: told are
-what it is answered, its seconds, those of the processor, by how many MiB the program grew while it
-was served, and the program's peak. --size says how many transactions remain (4,096); --some takes
-the rows alone whose name has the word. A line that takes longer than S seconds (120) or has the
-program grow past M MiB (4,096) is given up, and told so. Wanted is that no line takes over 2
-seconds or 64 MiB, and no round of a budget up to 65,536 over 10 seconds or 128 MiB; a row that does
-is marked, by the lower of the two times, since other programs may run beside it. --write FOLDER
-writes each row's script there in place of running it.
+Each row starts a program, gives it the lines before the expensive one, and then that line. The row
+has the reply, its seconds and processor seconds, by how many MiB the program grew meanwhile, and
+the program's peak. --size is how many transactions remain (4,096); --some takes only the rows whose
+name contains WORD. A line that takes longer than S seconds (120) or makes the program grow past M
+MiB (4,096) is given up, and the row says so. No line should take over 2 seconds or 64 MiB, and no
+round with a budget up to 65,536 over 10 seconds or 128 MiB; a row above that is marked, by the
+lower of the two times, since other programs may be running. --write FOLDER writes each row's script
+there instead of running it.
 """
 import argparse
 import json
@@ -27,7 +27,7 @@ import hard
 import resume
 
 LONGEST, MOST = 8388608, 256
-LINE, ROUND = (2.0, 64.0), (10.0, 128.0)  # seconds and MiB that are wanted
+LINE, ROUND = (2.0, 64.0), (10.0, 128.0)  # limits in seconds and MiB
 DEAREST = 2**64 - 1 - MOST  # keys of twenty digits from here on
 BUDGETS = (4096, 65536)
 
@@ -48,7 +48,7 @@ def opened(sessions, limit=4096):
 
 
 def largest():
-    """The largest offer that isn't TooLong, of keys with one to three digits, and of twenty."""
+    """The largest offers that aren't TooLong, of keys with one to three digits, and with twenty."""
     for first, about in ((1, "short"), (DEAREST, "twenty digits")):
         keys = list(range(first, first + MOST))
         txn = [[[key, 63, 281474976710655] for key in keys], keys]
@@ -57,13 +57,13 @@ def largest():
 
 
 def filled(begin, item, end):
-    """The list of as many of these items as a line has room for."""
+    """The list of as many of these items as fit in a line."""
     count = (LONGEST - len(begin) - len(end) + 1) // (len(item) + 1)
     return begin + b",".join([item] * count) + end
 
 
 def longest():
-    """Lines of as many bytes as are looked at."""
+    """Lines with as many bytes as are read."""
     fills = {
         "white space": b'["show"]' + b" " * (LONGEST - 8),
         "numbers": (b'["offer",0,0,[[[],[' + b"7," * (LONGEST // 2))[:LONGEST - 5] + b"7]]]]",
@@ -100,7 +100,7 @@ def longest():
 
 
 def chain(count, keys, sessions=1):
-    """Each transaction reads all keys from the one before, and overwrites them."""
+    """Each transaction reads all keys from the previous one, and overwrites them."""
     made, last = [[] for _ in range(sessions)], None
     for number in range(count):
         session = number % sessions
@@ -112,7 +112,7 @@ def chain(count, keys, sessions=1):
 
 
 def blind(count, keys, sessions=64, is_one=False):
-    """Half of them write all keys without a read, and each of the others reads them from one of
+    """Half of them write all keys without reading, and each of the others reads them from one of
     these: nothing orders the writers."""
     made, written = [[] for _ in range(sessions)], []
     every = list(range(1, keys + 1))
@@ -129,8 +129,8 @@ def blind(count, keys, sessions=64, is_one=False):
 
 
 def from_the_start(count, keys, sessions=64):
-    """Half of them read all keys as they were before any of them, and each of the others writes
-    them: each reader comes before each writer."""
+    """Half of them read all keys in their initial state, and each of the others writes them: each
+    reader comes before each writer."""
     made, every = [[] for _ in range(sessions)], list(range(1, keys + 1))
     for number in range(count):
         is_reader = number < count // 2
@@ -140,14 +140,14 @@ def from_the_start(count, keys, sessions=64):
 
 
 def stale(count):
-    """A chain at whose end the first version is read again: violated by a long circle."""
+    """A chain at whose end the first version is read again: violated by a long cycle."""
     made = chain(count - 1, 1, 64)
     made[63].append([[[1, 0, 0]], []])
     return made
 
 
 def fences(count, sessions):
-    """Fences alone, one after another: the last but few is settled."""
+    """Only fences, one after another: one of the last is settled."""
     made, last = [[] for _ in range(sessions)], ("init",)
     for number in range(count):
         session = number % sessions
@@ -157,14 +157,13 @@ def fences(count, sessions):
 
 
 def wide_fences(count):
-    """A session in which transactions of 256 keys, all different, stand before a fence."""
+    """A session in which transactions of 256 keys, all different, precede a fence."""
     txns = [[[], list(range(1 + at * MOST, 1 + (at + 1) * MOST))] for at in range(count - 1)]
     return [[*txns, [[[0, "init"]], [0]]]]
 
 
 def handed_on(count):
-    """Pairs, of which the one writes 256 keys of their own, and the other reads and overwrites
-    them."""
+    """Pairs, of which one writes 256 keys of their own, and the other reads and overwrites them."""
     sessions = [[] for _ in range(64)]
     for pair in range(count // 2):
         first, keys = pair % 32 * 2, list(range(1 + pair * MOST, 1 + (pair + 1) * MOST))
@@ -175,8 +174,8 @@ def handed_on(count):
 
 
 def one_reader(count):
-    """One key, one writer that is read, and as many other writers as there is room for, each of
-    which may stand on either side: the search goes as deep as it may."""
+    """One key, one writer that is read, and as many other writers as fit, each of which may be on
+    either side: the search goes as deep as it may."""
     sessions = [[] for _ in range(64)]
     sessions[0].append([[], [1]])
     sessions[1].append([[[1, 0, 0]], []])
@@ -198,8 +197,8 @@ def split_pairs(count):
 
 
 def open_chain(size):
-    """A chain of 256 keys, and behind it six pairs of writers that nothing orders, of other keys:
-    each worker that searches them has a relation over all of it."""
+    """A chain of 256 keys, and after it six pairs of writers of other keys that nothing orders:
+    each worker that searches them has a relation over everything."""
     pairs, made = split_pairs(18), chain(size - 18, MOST, 63)
     behind = [len(txns) for txns in made]
     for session, txns in enumerate(pairs):
@@ -222,7 +221,7 @@ def stored(size, keys, blind, stale, behind):
 
 
 def contradictions(size):
-    """What takes a search, beside as many pairs that play no part as there is room for."""
+    """Contradictions that need a search, with as many irrelevant pairs as fit."""
     for name, pairs, wrong in (("all ways of 3 pairs", 3, hard.all_ways(3)),
                                ("chain of 8 pairs", 8, hard.chain(8)),
                                ("formula of 8 pairs", 8, hard.formula(8, 13, 3, 1))):
@@ -236,8 +235,8 @@ def contradicted(size, pairs, wrong):
 
 
 def refuted_stores(size):
-    """Stores whose blind writes leave much open, beside three pairs of writers whose every way is
-    ruled out: a search that begins with the store finds it out again and again."""
+    """Stores whose blind writes leave much open, with three pairs of writers whose every order is
+    ruled out: a search that begins with the store finds that out again and again."""
     for keys, blind in ((512, 0.9), (64, 0.5)):
         yield (f"store, {keys} keys, blind {blind}, beside a contradiction",
                partial(refuted_store, size, keys, blind))
@@ -250,7 +249,8 @@ def refuted_store(size, keys, blind):
 
 
 def rounds(size, some):
-    """Rounds over as many transactions as may remain, of those whose name has the word."""
+    """Rounds over as many transactions as may remain, for histories whose name contains the
+    word."""
     made = {
         "chain of 1 key": partial(chain, size, 1),
         "chain of 1 key, 64 sessions": partial(chain, size, 1, 64),
@@ -287,8 +287,8 @@ def rounds(size, some):
 
 
 def later(size):
-    """A round to which a fragment came since the last one: of readers of what was before all
-    others, of writers of what these read."""
+    """A round to which a fragment was added since the last one: of readers of what was before all
+    others, and of writers of what these read."""
     some, asked = 128, compact(["round", 4096, 0, 1, "guided"])
     for what, at in (("readers", 0), ("writers", 32)):
         made = from_the_start(size - some, MOST)
@@ -299,7 +299,8 @@ def later(size):
 
 
 def awaited(size):
-    """Transactions with as many reads as may be, all of one that hasn't come; and its offer."""
+    """Transactions with as many reads as possible, all from one that hasn't arrived; and its
+    offer."""
     keys = list(range(1, MOST + 1))
     waiting = [[[key, 63, 0] for key in keys], []]
     sessions = [[waiting] * ((size - 1) // 63) for _ in range(63)]
@@ -311,7 +312,7 @@ def awaited(size):
 
 
 def joins(size):
-    """Sessions that join, and one of whom as much comes as may."""
+    """Sessions that join, and one that joins with as much as possible."""
     fence = [compact(["open", 1, size]), b'["offer",0,0,[[[[0,"init"]],[0]]]]']
     keys = list(range(DEAREST, DEAREST + MOST))
     dear = [[[key, 63, 281474976710655] for key in keys], keys]
@@ -329,7 +330,7 @@ def joins(size):
 
 
 def hand_overs(size):
-    """Parts with many last writers, and lines of a hand-over that are as long as may be."""
+    """Parts with many last writers, and lines of a hand-over that are as long as possible."""
     begin, keys = compact(["resume", resume.SESSIONS, resume.LIMIT]), 1_000_000
     handed = list(resume.parts(keys, size))
     yield f"resumed, {keys:,} last writers", [begin, *handed], b'["resumed"]'
@@ -358,7 +359,7 @@ def keys_of(at):
 
 
 def others(size):
-    """Lines that copy or make anew what remains, or tell of it."""
+    """Lines that copy, rebuild or report what remains."""
     dear = opened(chain(size, MOST, 64))
     yield "begin, chain of 256 keys", dear, b'["begin"]'
     yield "rebuild, chain of 256 keys", dear, b'["rebuild"]'
@@ -384,22 +385,22 @@ class Program:
         self.seconds, self.mib = seconds, mib
 
     def memory(self, word):
-        """MiB, of VmRSS or VmHWM."""
+        """MiB, from VmRSS or VmHWM."""
         with open(f"/proc/{self.running.pid}/status", encoding="ascii") as status:
             return next(int(line.split()[1]) / 1024 for line in status if line.startswith(word))
 
     def processor(self):
-        """Seconds that all its threads have had."""
+        """Processor seconds of all its threads."""
         with open(f"/proc/{self.running.pid}/stat", encoding="ascii") as stat:
             fields = stat.read().rsplit(")", 1)[1].split()
         return (int(fields[11]) + int(fields[12])) / os.sysconf("SC_CLK_TCK")
 
     def serve(self, line):
-        """The reply's first bytes, its seconds, those of the processor, by how much it grew, and
-        its peak; a reply that didn't come is None."""
+        """The reply's first bytes, its seconds, processor seconds, by how much it grew, and its
+        peak; the reply is None if it didn't arrive."""
         before, used, begin = self.memory("VmRSS:"), self.processor(), time.perf_counter()
         with open(f"/proc/{self.running.pid}/clear_refs", "w", encoding="ascii") as file:
-            file.write("5")  # the peak begins anew
+            file.write("5")  # resets the peak
         text = memoryview(line + b"\n")
         while text:
             text = text[self.running.stdin.write(text):]
@@ -451,11 +452,11 @@ def write(folder, name, lines):
 
 def main():
     words = argparse.ArgumentParser(description=__doc__.splitlines()[0])
-    words.add_argument("--size", type=int, default=4096)
-    words.add_argument("--some", default="", metavar="WORD")
-    words.add_argument("--seconds", type=float, default=120.0)
-    words.add_argument("--mib", type=float, default=4096.0)
-    words.add_argument("--write", metavar="FOLDER")
+    words.add_argument("--size", type=int, default=4096, help="transactions that remain (4,096)")
+    words.add_argument("--some", default="", metavar="WORD", help="only rows with this in their name")
+    words.add_argument("--seconds", type=float, default=120.0, help="give a line up after so long (120)")
+    words.add_argument("--mib", type=float, default=4096.0, help="give a line up at so much memory (4,096)")
+    words.add_argument("--write", metavar="FOLDER", help="write the scripts there, and run nothing")
     words.add_argument("program", nargs="?", default=os.environ.get(
         "COBRA_AUDIT", "crates/cobra_audit/out/cobra_audit"))
     asked = words.parse_args()

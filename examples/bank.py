@@ -1,13 +1,13 @@
 #!/usr/bin/python3
-"""A bank over PostgreSQL, in plain SQL, by four workers, while `zanteyard watch` audits it.
+"""A bank on PostgreSQL, in plain SQL, with four workers, audited by `zanteyard watch`.
 
     /usr/bin/python3 examples/bank.py --level repeatable     finds its bug: customers overdraw
     /usr/bin/python3 examples/bank.py --level serializable   has none
-    /usr/bin/python3 examples/bank.py --driver psycopg       the same by psycopg 3
+    /usr/bin/python3 examples/bank.py --driver psycopg       the same with psycopg 3
 
 Its rule: a customer's two accounts may not be below 0 together. Each withdrawal looks at both, and
-takes from one. It starts a server of its own, and ends with the audit's status: 0 if all is serial,
-1 if it was violated.
+takes from one. It starts a server of its own, and ends with the audit's status: 0 if everything is
+serial, 1 if it was violated.
 """
 
 from __future__ import annotations
@@ -47,7 +47,7 @@ class Overdrawn(Exception):
     """The rule forbids it."""
 
 
-# The application. It knows nothing of the audit.
+# The application. It knows nothing about the audit.
 
 
 def balances(cursor, customer):
@@ -89,7 +89,7 @@ def report(cursor, month):
 
 
 def in_transaction(connection, work, *values):
-    """Again, where the server asks for that."""
+    """Runs the transaction, again if the server asks for that."""
     while True:
         try:
             with whole(connection), connection.cursor() as cursor:
@@ -103,7 +103,7 @@ def in_transaction(connection, work, *values):
 
 
 def whole(connection):
-    """A transaction's block, by either driver: `with connection` closes one of psycopg 3's."""
+    """A transaction's block, for either driver: `with connection` closes one of psycopg 3's."""
     return connection.transaction() if hasattr(connection, "transaction") else connection
 
 
@@ -129,11 +129,11 @@ def open_bank(dsn):
     connection.close()
 
 
-# What is around it: a server, and the audit.
+# Around the application: a server, and the audit.
 
 
 def begin_server(cluster):
-    """With what a replication slot needs."""
+    """With the settings for a replication slot."""
     connection = psycopg2.connect(cluster.dsn)
     connection.autocommit = True
     connection.cursor().execute("ALTER SYSTEM SET wal_level = 'logical'")
@@ -143,8 +143,8 @@ def begin_server(cluster):
 
 
 class Watch:
-    """`zanteyard watch`, from `with` to `end`. What it prints is printed, without its log;
-    `has_found` says whether a violation was found."""
+    """`zanteyard watch`, from `with` to `end`. Its output is printed, without its log; `has_found`
+    says whether a violation was found."""
 
     def __init__(self, cluster):
         url = f"postgresql://postgres@/postgres?host={cluster.folder}"
@@ -170,7 +170,7 @@ class Watch:
                 self.has_found.set()
 
     def wait(self):
-        """Until it listens. Ends the program if it can't begin: it has said why."""
+        """Waits until it listens. Ends the program if it can't begin, after it has said why."""
         ends = time.monotonic() + LISTENING
         while not os.path.exists(self.socket):
             if self.process.poll() is not None or time.monotonic() > ends:
@@ -178,7 +178,7 @@ class Watch:
             time.sleep(0.05)
 
     def end(self):
-        """After a last round, which ends the proxy too; gives its status."""
+        """Ends it after a last round, and the proxy, too. Returns its status."""
         self.process.send_signal(signal.SIGTERM)
         status = self.process.wait(ENDING)
         self.printing.join()
@@ -190,7 +190,8 @@ class Watch:
 
 
 def connected(dsn, asked):
-    """By the proxy. The cursors add comments that say from which line a statement came."""
+    """A connection through the proxy. The cursors add comments that say from which line a statement
+    came."""
     if asked.driver == "psycopg":
         psycopg = importlib.import_module("psycopg")
         connection = psycopg.connect(dsn, cursor_factory=comments.psycopg_cursor())
@@ -202,7 +203,8 @@ def connected(dsn, asked):
 
 
 def run(cluster, asked):
-    """The four workers, until the time is up or a violation was found; gives the audit's status."""
+    """Runs the four workers until the time is up or a violation is found. Returns the audit's
+    status."""
     with Watch(cluster) as watch:
         watch.wait()
         dsn = f"{cluster.dsn} port={PORT} application_name=bank"

@@ -1,15 +1,18 @@
 #!/usr/bin/env python3
-"""Checks the reports of cobra_audit by itself, with nothing of the auditor: orders and refutations against the script.
+"""Checks reports of cobra_audit independently: orders and refutations against the script.
 
     python3 examples/check_reports.py SCRIPT REPLIES
 
-SCRIPT has the lines that the auditor was given, REPLIES its replies, line by line. Each report is checked against what had
-been accepted before its round began: the order of a serial or pending one has to explain all reads, and the refutation of a
-violated one has to leave no order, step by step, as docs/FORMATS.md says. A spent report claims nothing. A cut has to be a front of
-the order that was last told, up to a fence, and its last writers have to be those of that front; that every order has this front isn't
-checked. It prints a line a report and a line a cut, and ends with status 1 where one is wrong.
+SCRIPT has the lines that the auditor was given, REPLIES its replies, line by line. Each report is
+checked against what had been accepted before its round began: the order of a serial or pending one
+has to explain all reads, and the refutation of a violated one has to leave no order, step by step,
+as docs/FORMATS.md says. A spent report claims nothing. A cut has to be a prefix of the last
+reported order, up to a fence, and its last writers have to be those of that prefix; that every
+order has this prefix isn't checked. It prints a line per report and per cut, and ends with status 1
+if one is wrong.
 
-It is a second opinion: some 250 lines of plain Python, slow, to be read and believed by whoever doesn't trust the proofs.
+It is a second opinion: some 250 lines of plain Python, slow, for readers who don't trust the
+proofs.
 """
 import json
 import sys
@@ -22,9 +25,10 @@ class Wrong(Exception):
 
 
 class History:
-    """What was accepted: for each session its transactions, each with its reads and the keys that it writes; how many of them are
-    gone; and of each key the last gone writer. Where a script resumes another, what was gone before isn't known: of each session
-    the numbers below `known_from`."""
+    """What was accepted: for each session its transactions, each with its reads and the keys that
+    it writes, and how many of them are gone; and for each key its last writer that is gone. If a
+    script resumes another one, what was gone before is unknown: for each session the numbers below
+    `known_from`."""
 
     def __init__(self, known_from):
         self.sessions = [[] for _ in known_from]
@@ -32,7 +36,7 @@ class History:
 
     def offer(self, session, txns):
         for reads, writes, *more in txns:
-            if more == ["aborted"]:  # version 2: what it did is nothing
+            if more == ["aborted"]:  # version 2: what it did has no effect
                 reads, writes = [], []
             sources = [(read[0], INIT if read[1] == INIT else (read[1], read[2])) for read in reads]
             self.sessions[session].append((sources, set(writes)))
@@ -70,7 +74,7 @@ class History:
         return txn[0] < len(self.sessions) and txn[1] < self.gone[txn[0]]
 
     def reads_base(self, txn, key):
-        """Whether it reads the key as it was before everything that remains."""
+        """Whether it reads the version of the key from before everything that remains."""
         return self.reads(txn, key, self.last.get(key, INIT))
 
     def is_received(self, txn):
@@ -92,7 +96,8 @@ class History:
 
 
 def check_order(history, order):
-    """Every transaction that remains stands once, each session's in order; each read meets the last writer before it."""
+    """Every remaining transaction occurs once, each session's in order; each read sees the last
+    writer before it."""
     next_of = list(history.gone)
     last = dict(history.last)
     for session, number in order:
@@ -135,7 +140,7 @@ def check_arc(history, taken, arc):
 
 
 def check_cycle(history, taken, arcs):
-    """The arcs go round."""
+    """The arcs form a cycle."""
     if not arcs:
         raise Wrong("an empty cycle")
     for arc, following in zip(arcs, arcs[1:] + arcs[:1]):
@@ -145,7 +150,8 @@ def check_cycle(history, taken, arcs):
 
 
 def sides(history, choice):
-    """The arcs of the two sides of a choice: another writer stands before the writer that was read from, or behind the reader."""
+    """The arcs of the two sides of a choice: another writer comes before the writer that was read
+    from, or after the reader."""
     ts, tn, key, ws, wn, vs, vn = choice
     reader, writer, other = (ts, tn), (ws, wn), (vs, vn)
     right = history.reads(reader, key, writer) and history.writes(writer, key) and history.writes(other, key)
@@ -155,7 +161,7 @@ def sides(history, choice):
 
 
 def check_leaf(history, taken, item):
-    """An item that ends a branch: a cycle, or a read that nothing can answer."""
+    """An item that ends a branch: a cycle, or a read that no order allows."""
     if item[0] == "cycle" and len(item) == 2:
         check_cycle(history, taken, item[1])
     elif item[0] == "nowrite":
@@ -177,7 +183,8 @@ def check_leaf(history, taken, item):
 
 
 def check_tree(history, items):
-    """Each split has both its branches, each ended by a leaf; what is forced is forced by a cycle."""
+    """Each split has both its branches, each ended by a leaf; what is forced is forced by a
+    cycle."""
     waiting = [frozenset()]
     for item in items:
         if not waiting:
@@ -212,7 +219,7 @@ def check_report(history, reply):
 
 
 def check_cut(history, order, reply):
-    """What is gone is a front of the order that was last told, up to a fence; then it is taken out."""
+    """What is gone is a prefix of the last reported order, up to a fence; then it is removed."""
     _, fence, gone, last = reply
     front = [tuple(txn) for txn in order[: len(gone)]]
     if sorted(front) != [tuple(txn) for txn in gone] or not front or front[-1] != tuple(fence):
@@ -226,14 +233,14 @@ def check_cut(history, order, reply):
 
 
 def check_handed_in(command, reply):
-    """A report that was handed in is told as it was."""
+    """A report that was handed in is reported unchanged."""
     _, word, given = command
     if (reply[2] == "violated") != (word == "refuted") or reply[2] == "spent" or reply[4] != given:
         raise Wrong("it isn't what was handed in")
 
 
 def check_run(script, replies):
-    """Prints a line for each report and each cut; answers how many are wrong."""
+    """Prints a line for each report and each cut; returns how many are wrong."""
     history, begun, order, wrong = None, None, [], 0
     for line, text in zip(script, replies):
         reply = json.loads(text)

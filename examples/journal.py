@@ -1,11 +1,11 @@
 #!/usr/bin/env python3
-"""Audits a few transactions with a journal, and is killed in their midst.
+"""Audits a few transactions with a journal, and is killed in the middle.
 
     python3 examples/journal.py JOURNAL
 
-The first time it begins a journal, kills the auditor, and then ends as a program does that is
-killed. The second time it goes on by the journal, with what isn't in there yet. docs/JOURNAL.md
-shows what it prints.
+The first time it begins a journal, kills the auditor, and then ends as if it were killed itself.
+The second time it continues from the journal, with what isn't in there yet. docs/JOURNAL.md shows
+its output.
 """
 import logging
 import os
@@ -16,12 +16,12 @@ HERE = os.path.dirname(os.path.abspath(__file__))
 sys.path.insert(0, os.path.join(HERE, "../collectors/python"))
 from zanteyard import Auditor, Logged  # noqa: E402
 
-# What two clients did, which their collector has noted: session, number, reads and writes.
+# What two clients did, as their collector noted it: session, number, reads and writes.
 NOTED = [
     (0, 0, Logged([], ["rent"])),
     (0, 1, Logged([("rent", (0, 0))], ["rent"])),
     (1, 0, Logged([("rent", (0, 1))], [])),
-    (1, 1, Logged([("rent", (0, 0))], ["rent"])),  # this has read what 1.0 saw overwritten
+    (1, 1, Logged([("rent", (0, 0))], ["rent"])),  # this has read what 1.0 overwrote
 ]
 
 

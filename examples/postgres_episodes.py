@@ -1,11 +1,11 @@
-"""Audits clients of a PostgreSQL in episodes that are each audited by itself.
+"""Audits clients of a PostgreSQL in episodes, each of which is audited by itself.
 
     python3 examples/postgres_episodes.py [--level serializable|repeatable|committed]
         [--workload counter|skew|mixed] [--episodes N] [--transactions N] [--clients 2|4|8]
 
-It starts a server of its own in a folder that is thrown away. What is left of the first violated
-episode is told in words, and written as a script for cobra_audit and as a picture. The status is 0
-where every episode is serial, and 1 where one isn't.
+It starts a server of its own in a temporary folder. A small part of the first violated episode is
+explained, and written as a script for cobra_audit and as a picture. The status is 0 if every
+episode is serial, and 1 if one isn't.
 """
 import argparse
 import os
@@ -49,7 +49,7 @@ WORKLOADS = {"counter": counter, "skew": skew, "mixed": mixed}
 
 
 class OwnKeys:
-    """A store of which each episode uses keys of its own, so that each begins with none."""
+    """A store in which each episode uses keys of its own, so that each begins without any."""
 
     def __init__(self, store, prefix):
         self.store, self.prefix = store, prefix
@@ -75,7 +75,7 @@ def client_runs(session, client, workload, count, failures):
                 session.run(lambda transaction: workload(transaction, client), attempts=1)
             except AbortedError:
                 pass
-    except Exception as error:  # told by the main thread
+    except Exception as error:  # raised by the main thread
         failures.append(error)
 
 

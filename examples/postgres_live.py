@@ -1,16 +1,16 @@
-"""Audits a PostgreSQL while clients run on it: one line a round, and what can't be at a violation.
+"""Audits a PostgreSQL while clients run on it: a line per round, and why a violation is one.
 
     python3 examples/postgres_live.py [--level serializable|repeatable|committed]
         [--workload counter|skew|mixed|blind] [--seconds N] [--clients N] [--rate N] [--every N]
         [--unaudited N] [--processes] [--churn] [--rather-wait] [--dsn [DSN]] [--html FILE]
 
-It starts a server of its own in a folder that is thrown away, or uses the one that --dsn names. It
-first runs the clients without the auditor, to tell what that costs. A violation is told in words,
-and written as a script for cobra_audit and as a picture. By --churn clients live for two seconds,
-16 at a time, and others come: it tells what each did first. The status is 0 where all that was done
-was audited and is serial, and 1 where it wasn't or isn't.
+It starts a server of its own in a temporary folder, or uses the one that --dsn names. It first runs
+the clients without the auditor, for comparison. A violation is explained, and written as a script
+for cobra_audit and as a picture. With --churn clients live for two seconds, 16 at a time, and are
+replaced by others; it prints the first transaction of each. The status is 0 if everything that was
+done was audited and is serial, and else 1.
 
-This is `zanteyard audit postgres`, for who has no wheel installed; its statuses tell more.
+This is `zanteyard audit postgres` without an installed wheel; that command's statuses say more.
 """
 import argparse
 import os
@@ -22,7 +22,7 @@ from zanteyard import ProgramEndedError
 from zanteyard.cli.audit import CantAuditError, add_arguments, run
 from zanteyard.trial.workloads import WORKLOADS, ClientProcesses, Clients, Nothing
 
-__all__ = ["WORKLOADS", "ClientProcesses", "Clients", "Nothing"]  # what benches use
+__all__ = ["WORKLOADS", "ClientProcesses", "Clients", "Nothing"]  # used by benchmarks
 
 
 def main():

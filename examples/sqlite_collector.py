@@ -2,9 +2,8 @@
 
     python3 examples/sqlite_collector.py [FAULT] [PROGRAM]
 
-FAULT is honest (the default), stale, lost-update, dirty-read or lost-write, and PROGRAM the
-auditor, where it isn't the one that the repository builds. docs/COLLECTORS.md tells why each part
-is as it is.
+FAULT is honest (the default), stale, lost-update, dirty-read or lost-write. PROGRAM is the auditor,
+by default the repository's build. docs/COLLECTORS.md says why each part is as it is.
 """
 import json
 import os
@@ -30,13 +29,13 @@ if not os.path.isfile(PROGRAM):
 
 
 class Auditor:
-    """The program, with pipes on both ends: for each line that goes in, one comes out."""
+    """The program, with pipes on both ends: one reply per line."""
 
     def __init__(self, sessions, limit):
         pipes = {"stdin": subprocess.PIPE, "stdout": subprocess.PIPE}
         self.program = subprocess.Popen([PROGRAM], text=True, **pipes)
-        self.numbers = {}  # of each key, in one table for all sessions
-        self.ask("open", sessions, limit, 2)  # 2: attempts that aborted are told as such
+        self.numbers = {}  # a number for each key, in one table for all sessions
+        self.ask("open", sessions, limit, 2)  # 2: aborted attempts are marked as such
 
     def ask(self, *line):
         print(json.dumps(line), file=self.program.stdin, flush=True)
@@ -58,8 +57,8 @@ class Session:
 
     def begin(self):
         self.id, self.reads, self.writes = (self.name, self.begun), set(), {}
-        self.tried = []  # the keys that went to the store, whatever came of it
-        self.begun += 1  # an attempt that aborts keeps its number: a retry takes the next
+        self.tried = []  # the keys whose write was sent to the store, whatever came of it
+        self.begun += 1  # an aborted attempt keeps its number: a retry takes the next
         if FAULT != "lost-update":  # the fault: what was read may change before the commit
             self.store.execute("BEGIN")
 
@@ -73,20 +72,20 @@ class Session:
         return value
 
     def put(self, key, value):
-        # It goes to the store at the commit, once: no version is there to be read but the last.
+        # Sent to the store once, at the commit, so that others can only read the last version.
         self.writes[key] = value
 
     def commit(self):
         try:
             if not self.store.in_transaction:
                 self.store.execute("BEGIN")
-            for key, value in self.writes.items():  # beside the value the writer's name
+            for key, value in self.writes.items():  # next to the value the writer's name
                 self.tried.append(key)
                 row = (key, value, *self.id)
                 self.store.execute("INSERT INTO versions VALUES (?, ?, ?, ?)", row)
             is_lost = FAULT == "lost-write" and self.id == (1, 1)
             self.store.execute("ROLLBACK" if is_lost else "COMMIT")
-        except sqlite3.Error as error:  # a local store leaves no doubt that nothing was committed
+        except sqlite3.Error as error:  # a local store is certain that nothing was committed
             self.store.execute("COMMIT" if FAULT == "dirty-read" else "ROLLBACK")
             return self.offer(self.tried, f"aborted ({error})", "aborted")
         return self.offer(self.writes, "committed")
@@ -112,7 +111,7 @@ def work(alice, bob):
     for client in (bob, alice):
         client.put("rent", client.get("rent") - 10)
     alice.commit()
-    if not bob.commit():  # an honest store lets one of them commit; the other tries once more
+    if not bob.commit():  # an honest store lets one of them commit; the other tries again
         bob.begin(), bob.put("rent", bob.get("rent") - 10), bob.commit()
     put(alice, food=900, rent=-750)  # aborts: nothing may be below 0
     bob.begin(), bob.get("rent"), bob.get("food"), bob.commit()

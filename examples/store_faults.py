@@ -3,11 +3,10 @@
     python3 examples/store_faults.py mariadb|redis|sqlite [--journal wal|delete] [--dsn DSN]
         [--level LEVEL --fault FAULT | --at-once SECONDS | --promises]
 
-It starts a server of its own in a folder that is thrown away, or uses what --dsn names. With a
-level and a fault it tells that one in words; with --at-once four clients run each workload at the
-same time, for so many seconds or until it is violated; with --promises the table tells which
-promise each level kept (docs/PROMISES.md), also of PostgreSQL. The status is 0, or 2 where
-something is wanting.
+It starts a server of its own in a temporary folder, or uses the one that --dsn names. With a level
+and a fault it explains that one. With --at-once four clients run each workload at the same time,
+for SECONDS or until it is violated. With --promises the table shows which promise each level kept
+(docs/PROMISES.md), also for PostgreSQL. The status is 0, or 2 if something is missing.
 """
 import argparse
 import os

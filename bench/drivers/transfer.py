@@ -1,8 +1,8 @@
-"""Transfers by a driver of Python, for some seconds. Prints how many were committed.
+"""Transfers with a Python driver, for some seconds. Prints how many were committed.
 
     transfer.py DRIVER PORT CLIENTS SECONDS ROWS
 
-psycopg2 and psycopg have a process for each client, asyncpg a process for each four.
+psycopg2 and psycopg have a process per client, asyncpg a process per four clients.
 """
 
 from __future__ import annotations

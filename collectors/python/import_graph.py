@@ -1,12 +1,12 @@
 #!/usr/bin/env python3
-"""Draws which packages of `zanteyard` import which, and fails if they form a cycle.
+"""Shows which packages of `zanteyard` import which, and fails if they form a cycle.
 
     ./import_graph.py [--dot | --modules] [FOLDER]
 
-It prints a line for each package, lower ones first; `--dot` prints Graphviz text instead, with the
-number of imports on each arc, and `--modules` what each module is for, by its docstring's first
-sentence. All import statements count, those in functions included. The status is 1 if packages form
-a cycle: then the imports on it are printed.
+It prints a line for each package, lower ones first. `--dot` prints Graphviz text instead, with the
+number of imports on each arc, and `--modules` the first sentence of each module's docstring. All
+import statements count, including those in functions. The status is 1 if packages form a cycle;
+then its imports are printed.
 """
 
 from __future__ import annotations
@@ -20,11 +20,11 @@ from graphlib import CycleError, TopologicalSorter
 from typing import Dict, Iterator, List, NamedTuple, Optional, Sequence
 
 HERE = os.path.dirname(os.path.abspath(__file__))
-TOP = "(top)"  # the modules that are in no package
+TOP = "(top)"  # the modules outside of packages
 
 
 class Import(NamedTuple):
-    """One import statement of a module of `package`, from another package."""
+    """An import statement in a module of `package`, of something from another package."""
 
     package: str
     imported: str
@@ -43,7 +43,7 @@ class Graph(NamedTuple):
         return found
 
     def in_order(self) -> List[str]:
-        """All packages, each after those that it imports; raises CycleError."""
+        """All packages, each after those that it imports. Raises CycleError."""
         sorter = TopologicalSorter(self.below())
         sorter.prepare()
         ordered: List[str] = []
@@ -55,7 +55,7 @@ class Graph(NamedTuple):
 
 
 def graph_of(folder: str) -> Graph:
-    """Of the package in this folder."""
+    """The graph of the package in this folder."""
     name = os.path.basename(os.path.abspath(folder))
     modules: Dict[str, int] = defaultdict(int)
     imports: List[Import] = []
@@ -74,13 +74,13 @@ def graph_of(folder: str) -> Graph:
 
 
 def package_of(parts: Sequence[str]) -> str:
-    """Of a module's path, from below the whole package."""
+    """The package of a module, from its path within the whole package."""
     return parts[0] if len(parts) > 1 else TOP
 
 
 def imported_by(tree: ast.AST, home: Sequence[str], folder: str) -> Iterator[tuple[int, str]]:
     """The line and the package of each import from the same whole package, whose name is the first
-    of the packages that the module is in."""
+    component of the module's own."""
     for node in ast.walk(tree):
         if isinstance(node, ast.Import):
             for name in node.names:
@@ -101,7 +101,7 @@ def in_package(
 
 
 def told_cycle(graph: Graph, cycle: Sequence[str]) -> Iterator[str]:
-    """The packages of a cycle, each before one that imports it, and where they do."""
+    """The packages of a cycle, each before one that imports it, and where that is."""
     yield f"packages form a cycle: {' <- '.join(cycle)}"
     for imported, package in zip(cycle, cycle[1:]):
         for each in graph.imports:
@@ -129,7 +129,7 @@ def as_dot(graph: Graph) -> Iterator[str]:
 
 
 def as_modules(graph: Graph, folder: str) -> Iterator[str]:
-    """Each package with its modules, and the first sentence of each one's docstring."""
+    """Each package with its modules, and the first sentence of each module's docstring."""
     for package in graph.in_order():
         home = folder if package == TOP else os.path.join(folder, package)
         yield package

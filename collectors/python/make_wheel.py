@@ -1,10 +1,10 @@
 """Makes the wheel of the package, with the auditor inside; package.sh at the top calls this.
 
-It wants Python's setuptools and wheel, and asks no index. The auditor is what the prover built in
-this tree: it is built only where all is proved, and this asks it to see that nothing has changed
-since. `--built` takes what stands there, if it is newer than all sources: the gate has just made
-it. `--unproved` builds one without a proof for a first try, by the kit's `rt try`, or takes the
-one that is named; its version says so wherever it is told.
+It needs Python's setuptools and wheel, and uses no index. The auditor is the prover's build in this
+tree, which exists only if everything is proved; this asks the prover to check that nothing has
+changed since. `--built` takes the existing build if it is newer than all sources, for use right
+after the gate. `--unproved` builds one without proofs for a first try, with the kit's `rt try`, or
+takes the given one; its version says so everywhere.
 """
 
 from __future__ import annotations
@@ -29,8 +29,8 @@ TOP = os.path.normpath(os.path.join(HERE, "../.."))
 PROGRAMS = ("cobra_audit", "cobra_check")  # each a crate of this name
 PROXY = os.path.join(TOP, "proxy", "out", "zanteyard-proxy")  # where its build.sh puts it
 LGPL = "/usr/share/common-licenses/LGPL-2.1"  # of the C library, which is linked into the proxy
-SLOWER = 300  # times, as docs/PERFORMANCE.md has it
-PATIENCE = 1200  # seconds in which a build without proofs has to have come to its run
+SLOWER = 300  # factor, as in docs/PERFORMANCE.md
+PATIENCE = 1200  # seconds for a build without proofs to get to its run
 
 
 class CantPackError(Exception):
@@ -51,7 +51,7 @@ def sources() -> Iterator[str]:
 
 
 def said(*words: str) -> str:
-    """What a command writes, or an empty text where it isn't there or fails."""
+    """A command's output; empty if it doesn't exist or fails."""
     try:
         ended = subprocess.run(words, cwd=TOP, stdout=subprocess.PIPE, stderr=subprocess.DEVNULL)
     except OSError:
@@ -60,7 +60,7 @@ def said(*words: str) -> str:
 
 
 def proved(name: str, is_built: bool) -> str:
-    """The program, proved; raises CantPackError."""
+    """The proved program. Raises CantPackError."""
     path = built(name)
     if not is_built:
         print(f"{name}: asking the prover (this takes long where something has changed)")
@@ -82,8 +82,8 @@ def proved(name: str, is_built: bool) -> str:
 
 
 def unproved(name: str, folder: str) -> str:
-    """The program as `rt try` builds it. It keeps no file, so its own folder is looked into while
-    the program reads a script that takes it a while."""
+    """The program as `rt try` builds it. That keeps no file, so the folder is searched while the
+    program reads a script that takes it a while."""
     folder = os.path.join(folder, f"{name}.try")
     os.mkdir(folder)
     script = os.path.join(folder, "script")
@@ -120,7 +120,7 @@ def unproved(name: str, folder: str) -> str:
 
 
 def taken_from(trying: "subprocess.Popen[bytes]", name: str, folder: str) -> str:
-    """A copy of the program that is being tried, once it has written a reply."""
+    """A copy of the running program, once it has written a reply."""
     until = time.monotonic() + PATIENCE
     while time.monotonic() < until and trying.poll() is None:
         for at, _, names in os.walk(folder):
@@ -132,7 +132,7 @@ def taken_from(trying: "subprocess.Popen[bytes]", name: str, folder: str) -> str
 
 
 def all_unproved(names: Sequence[str], folder: str) -> List[str]:
-    """Side by side: each takes a minute of a processor, or two."""
+    """In parallel: each takes a minute or two of a processor."""
     print(f"building without proofs: {', '.join(names)} (a minute or two on an idle machine)")
     print(f"(checks are compiled in: some {SLOWER} times slower than what is proved)", flush=True)
     with ThreadPoolExecutor(len(names)) as building:
@@ -145,7 +145,7 @@ def sha256_of(path: str) -> str:
 
 
 def write_note(folder: str, is_proved: bool) -> None:
-    """What is known of the programs of this folder, for who asks the package for its version."""
+    """Writes what is known about the programs of this folder, for the package's version output."""
     has_changes = " with changes" if said("git", "status", "--porcelain") else ""
     note = {
         "proved": is_proved,
@@ -162,7 +162,7 @@ def write_note(folder: str, is_proved: bool) -> None:
 
 
 def stage(folder: str, programs: Sequence[str], is_proved: bool) -> None:
-    """Puts all that the wheel is made of into the folder."""
+    """Puts everything that the wheel contains into the folder."""
     package = os.path.join(folder, "zanteyard")
     hidden = shutil.ignore_patterns("__pycache__", "bin")
     shutil.copytree(os.path.join(HERE, "zanteyard"), package, ignore=hidden)
@@ -175,7 +175,7 @@ def stage(folder: str, programs: Sequence[str], is_proved: bool) -> None:
     os.mkdir(inside)
     for path in programs:
         os.chmod(shutil.copy(path, inside), 0o755)
-    write_note(inside, is_proved)  # of the proved programs, to which the proxy doesn't belong
+    write_note(inside, is_proved)  # about the proved programs, which don't include the proxy
     if os.path.isfile(PROXY):
         os.chmod(shutil.copy(PROXY, inside), 0o755)
         if os.path.isfile(LGPL):
@@ -185,12 +185,12 @@ def stage(folder: str, programs: Sequence[str], is_proved: bool) -> None:
     platform = sysconfig.get_platform().replace("-", "_").replace(".", "_")
     with open(os.path.join(folder, "setup.cfg"), "w", encoding="utf-8") as file:
         file.write(f"[bdist_wheel]\nplat_name = {platform}\npython_tag = py3\n")
-        if not is_proved:  # in the file's name and in what pip tells
+        if not is_proved:  # in the file's name and in pip's output
             file.write("[egg_info]\ntag_build = +unproved\n")
 
 
 def wheel_of(folder: str, output: str) -> str:
-    """Builds the wheel by its backend alone, and gives its path."""
+    """Builds the wheel with its backend only, and returns its path."""
     code = (
         "import sys; from setuptools import build_meta; print(build_meta.build_wheel(sys.argv[1]))"
     )
@@ -230,7 +230,7 @@ def main(words: Optional[Sequence[str]] = None) -> int:
         with tempfile.TemporaryDirectory() as made, tempfile.TemporaryDirectory() as staged:
             if asked.unproved is None:
                 programs = [proved(name, asked.built) for name in PROGRAMS]
-            elif asked.unproved:  # the auditor that is named, and no other program
+            elif asked.unproved:  # the given auditor, and no other program
                 programs = [shutil.copy(asked.unproved, os.path.join(made, PROGRAMS[0]))]
             else:
                 programs = all_unproved(PROGRAMS[: 1 if asked.auditor_alone else None], made)

@@ -1,12 +1,12 @@
 #!/usr/bin/env python3
-"""Runs the tests in a few processes side by side, since most of them wait for servers and clients.
+"""Runs the tests in several parallel processes, since most of them wait for servers and clients.
 
     ./run_tests.py [--processes N] [--seconds N] [--slowest N] [MODULE ...]
 
-Each process runs one module after the other, and has a folder of its own for what is temporary; a
-server that modules share is the process's. What a module has told is printed whole once it and
-those before it in the alphabet have ended. The status is 1 where a test fails, where a process ends
-by itself, and where the time is up: each thread that still runs is then told of.
+Each process runs one module after another, and has its own folder for temporary files and its own
+server, which its modules share. A module's output is printed as a whole, in alphabetical order. The
+status is 1 if a test fails, if a process ends by itself, or if the time is up; then each running
+thread is shown.
 """
 
 from __future__ import annotations
@@ -28,7 +28,7 @@ from collections import Counter
 from typing import Any, Dict, Iterator, List, NamedTuple, Optional, TextIO
 
 HERE = os.path.dirname(os.path.abspath(__file__))
-# These take longest, and are begun first.
+# These take longest, and are started first.
 LONG = [
     f"tests.test_{each}"
     for each in (
@@ -37,11 +37,11 @@ LONG = [
         *("rounds", "proxy_drivers", "watch_whole"),
     )
 ]
-ENDING = 10.0  # seconds for a process to tell where its threads stand
+ENDING = 10.0  # seconds for a process to show its threads
 
 
 class Ran(NamedTuple):
-    """What came of a module. `problem` is "" where all is well."""
+    """The result of a module. `problem` is empty if there is none."""
 
     tests: int
     skipped: List[str]  # why, for each that was skipped
@@ -53,7 +53,7 @@ class Ran(NamedTuple):
 LATE = Ran(0, [], "it hasn't ended in time", 0.0, [])
 
 
-# One of the processes: reads names of modules, a line each, and answers a line to each.
+# One of the processes: reads names of modules, a line each, and answers each with a line.
 
 
 class Timed(unittest.TextTestResult):
@@ -87,7 +87,7 @@ def run_modules(asked: TextIO, answers: TextIO) -> None:
 
 @contextlib.contextmanager
 def told_to(path: str) -> Iterator[None]:
-    """What this process, and those that it begins, tell meanwhile is written there."""
+    """Writes the output of this process and of its children there."""
     file = os.open(path, os.O_WRONLY | os.O_CREAT | os.O_APPEND, 0o600)
     for each in (1, 2):
         os.dup2(file, each)
@@ -99,11 +99,11 @@ def told_to(path: str) -> Iterator[None]:
         sys.stderr.flush()
 
 
-# The one that begins them.
+# The process that starts them.
 
 
 class Names:
-    """What is left to be run, for threads."""
+    """The modules that are left to run; safe for use by several threads."""
 
     def __init__(self, names: List[str]) -> None:
         self._left = sorted(names, key=lambda it: (LONG.index(it) if it in LONG else len(LONG), it))
@@ -115,7 +115,7 @@ class Names:
 
 
 class Worker(threading.Thread):
-    """Has a process, or another one where that has ended."""
+    """Has a process, replaced if it ends."""
 
     def __init__(self, folder: str, number: int, names: Names, results: Dict[str, Ran]) -> None:
         super().__init__(daemon=True)
@@ -138,7 +138,7 @@ class Worker(threading.Thread):
             self.end()
 
     def end(self) -> None:
-        """Its servers end with it."""
+        """Ends its servers, too."""
         assert self.process is not None and self.process.stdin is not None
         self.process.stdin.close()
         try:
@@ -163,8 +163,8 @@ class Worker(threading.Thread):
         return self.process.stdout.readline()
 
     def environment(self) -> Dict[str, str]:
-        """With a folder of its own. What is compiled once is kept for the hundreds of programs that
-        tests begin, wherever the tree may not be written to."""
+        """With a folder of its own. Compiled files are kept for the hundreds of programs that tests
+        start, even if the tree is read-only."""
         own, compiled = (os.path.join(self.folder, it) for it in (str(self.number), "compiled"))
         os.makedirs(own, mode=0o711, exist_ok=True)
         its = {**os.environ, "TMPDIR": own, "PYTHONPYCACHEPREFIX": compiled}
@@ -172,7 +172,7 @@ class Worker(threading.Thread):
         return its
 
     def stop(self) -> None:
-        """Tells where its threads stand."""
+        """Shows where its threads are."""
         self.is_stopped, process = True, self.process
         if process is not None and process.poll() is None:
             process.send_signal(signal.SIGABRT)
@@ -183,7 +183,7 @@ class Worker(threading.Thread):
 
 
 def run_all(names: List[str], count: int, seconds: float) -> Dict[str, Ran]:
-    """In so many processes, for at most so many seconds; prints what they tell."""
+    """Runs all in this many processes, for at most this many seconds; prints their output."""
     ends, waiting = time.monotonic() + seconds, Names(names)
     results: Dict[str, Ran] = {}
     told = 0
@@ -208,7 +208,7 @@ def run_all(names: List[str], count: int, seconds: float) -> Dict[str, Ran]:
 @contextlib.contextmanager
 def folder_of_its_own() -> Iterator[str]:
     folder = tempfile.mkdtemp()
-    os.chmod(folder, 0o711)  # servers in it run as another user, where this runs as root
+    os.chmod(folder, 0o711)  # if this runs as root, servers in it run as another user
     try:
         yield folder
     finally:
@@ -217,7 +217,7 @@ def folder_of_its_own() -> Iterator[str]:
 
 
 def end_servers(folder: str) -> None:
-    """Those that are left by tests that were killed."""
+    """Ends servers that were left by killed tests."""
     files = (("data/postmaster.pid", signal.SIGQUIT), ("own_server.pid", signal.SIGKILL))
     for name, number in files:
         for path in glob.glob(f"{folder}/**/{name}", recursive=True):

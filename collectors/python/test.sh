@@ -1,10 +1,9 @@
 #!/usr/bin/env bash
-# Tests the collectors: types and style, and the unit tests, in processes side by side, with servers of their own. It wants the auditor,
-# built (crates/cobra_audit/out/cobra_audit, or what COBRA_AUDIT names), and tells in one line what is skipped where something isn't
-# installed. It takes about ten minutes on two processors, and ends in any case: what hangs for long is killed after 2400 s, or
-# ZANTEYARD_SECONDS, and fails.
+# Tests the collectors: types, style, and the unit tests, in parallel processes that start their own servers. It needs a built auditor
+# (crates/cobra_audit/out/cobra_audit, or the one that COBRA_AUDIT names). If something isn't installed, one line says what is skipped. It
+# takes about ten minutes on two processors, and always ends: a test that hangs is killed after 2400 s, or ZANTEYARD_SECONDS, and fails.
 #
-#     collectors/python/test.sh [--install]      --install: as root, first installs the packages of Debian that it wants
+#     collectors/python/test.sh [--install]      --install: as root, first installs the Debian packages that it needs
 set -euo pipefail
 seconds=${ZANTEYARD_SECONDS:-2400}
 [ -z "${COBRA_AUDIT:-}" ] || COBRA_AUDIT=$(realpath "$COBRA_AUDIT")
@@ -20,22 +19,22 @@ for each in /usr/bin/python3 python3; do
 done
 
 folder=$(mktemp -d)
-chmod 711 "$folder" # servers in it run as another user, where this runs as root
+chmod 711 "$folder" # if this runs as root, servers in it run as another user
 export TMPDIR=$folder
 clean() {
     [ -z "$types" ] || kill "$types" 2> /dev/null || true
     rm -rf "$folder"
 }
-types= # of whom looks at types
+types= # the process id of mypy
 trap clean EXIT
 trap 'exit 1' INT TERM
-limited() { # a Python program, for at most so many seconds: at their end it says where each thread stands
+limited() { # runs a Python program for at most $1 seconds: then it prints each thread's stack
     local seconds=$1
     shift
     (ulimit -c 0; exec timeout --foreground -s ABRT -k 10 "$seconds" "$python" -X faulthandler "$@")
 }
 
-if command -v mypy > /dev/null; then # beside the tests; what it tells comes behind what they tell
+if command -v mypy > /dev/null; then # in parallel with the tests; its output comes after theirs
     MYPY_CACHE_DIR=$folder/mypy mypy > "$folder/types" 2>&1 &
     types=$!
 else

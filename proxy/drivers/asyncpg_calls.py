@@ -1,4 +1,4 @@
-"""Usual calls of asyncpg. Prints each answer."""
+"""Common calls of asyncpg. Prints each answer."""
 import asyncio
 import io
 

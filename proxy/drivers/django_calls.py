@@ -1,4 +1,4 @@
-"""Usual calls of Django's object-relational mapper. Prints each answer."""
+"""Common calls of Django's object-relational mapper. Prints each answer."""
 import os
 import sys
 import types
@@ -6,7 +6,7 @@ import types
 import django
 from django.conf import settings
 
-sys.modules["shop"] = types.ModuleType("shop")  # the models below are an application's
+sys.modules["shop"] = types.ModuleType("shop")  # the models below belong to an application
 sys.modules["shop"].__path__ = [os.path.dirname(os.path.abspath(__file__))]
 settings.configure(
     DATABASES={"default": {"ENGINE": "django.db.backends.postgresql", "NAME": "postgres", "HOST": os.environ["PGHOST"],

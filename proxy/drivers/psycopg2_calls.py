@@ -1,4 +1,4 @@
-"""Usual calls of psycopg2. Prints each answer."""
+"""Common calls of psycopg2. Prints each answer."""
 import io
 import threading
 
@@ -33,7 +33,7 @@ def tried(cursor, text, values=None):
 connection = psycopg2.connect("")
 cursor = connection.cursor()
 SAY(connection.encoding, connection.server_version, connection.get_parameter_status("TimeZone"))
-for i in range(6):  # the same statements again and again, so that they are tried
+for i in range(6):  # the same statements repeatedly, so that the proxy tries them
     tried(cursor, "SELECT balance, id FROM account WHERE id = %s", (i,))
     tried(cursor, "SELECT * FROM account WHERE id BETWEEN %s AND %s ORDER BY id", (i, i + 3))
     tried(cursor, "UPDATE account SET balance = balance + 1 WHERE id = %s", (i,))
@@ -68,7 +68,7 @@ SAY(cursor.statusmessage, cursor.rowcount)
 cursor.execute("UPDATE account SET balance = 1 WHERE id = 8; SELECT id, balance FROM account WHERE id < 5 ORDER BY id")
 SAY(cursor.statusmessage, cursor.fetchall())
 connection.commit()
-# Cursors of the server
+# Server-side cursors
 for hold in (False, True):
     for scroll in (None, True):
         with connection.cursor("named", withhold=hold, scrollable=scroll) as named:
@@ -102,7 +102,7 @@ for text in (
 ):
     tried(cursor, text)
 connection.commit()
-# Many at once
+# Batches
 psycopg2.extras.execute_values(cursor, "INSERT INTO journal (line) VALUES %s RETURNING id, line", [("v%d" % i,) for i in range(5)])
 SAY(cursor.rowcount)
 psycopg2.extras.execute_batch(cursor, "UPDATE account SET balance = %s WHERE id = %s", [(i, i) for i in range(20)], page_size=6)
@@ -140,7 +140,7 @@ tried(cursor, "SELECT tags, 'ü' FROM account WHERE id = %s AND 'ü' = tags[3]",
 connection.set_client_encoding("UTF8")
 tried(cursor, sql.SQL("SELECT {} FROM {} WHERE id = %s").format(sql.Identifier("balance"), sql.Identifier("psycopg2", "account")), (4,))
 connection.commit()
-# Two phases
+# Two-phase commit
 connection.tpc_begin(connection.xid(1, "first", "psycopg2"))
 tried(cursor, "UPDATE account SET balance = 11 WHERE id = 11")
 connection.tpc_prepare()
@@ -152,7 +152,7 @@ tried(cursor, "UPDATE account SET balance = 12 WHERE id = 11")
 connection.tpc_rollback()
 tried(cursor, "SELECT balance FROM account WHERE id = 11")
 connection.rollback()
-# By itself: LISTEN, cancel, advisory locks
+# In autocommit: LISTEN, cancel, advisory locks
 connection.autocommit = True
 tried(cursor, "SELECT pg_advisory_lock(11), pg_try_advisory_xact_lock(12)")
 tried(cursor, "SELECT pg_advisory_unlock(11)")
@@ -173,7 +173,7 @@ while True:
         break
 connection.cancel()
 asleep.join()
-# Two that conflict
+# A conflict
 first, second = psycopg2.connect(""), psycopg2.connect("")
 for each in (first, second):
     each.set_session(isolation_level="SERIALIZABLE")

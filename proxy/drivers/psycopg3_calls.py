@@ -1,4 +1,4 @@
-"""Usual calls of psycopg 3, with results as text and as binary. Prints each answer."""
+"""Common calls of psycopg 3, with results as text and as binary. Prints each answer."""
 import asyncio
 import logging
 import threading
@@ -7,7 +7,7 @@ import psycopg
 from psycopg import rows
 
 SAY = lambda *what: print(*(repr(each) for each in what))
-logging.disable(logging.WARNING)  # whether a pipeline's end is warned of depends on when its error was read
+logging.disable(logging.WARNING)  # of a pipeline's end: it depends on when its error was read
 
 
 def told(error):
@@ -107,7 +107,7 @@ connection.commit()
 with connection.cursor() as cursor:
     cursor.executemany("UPDATE account SET balance = %s WHERE id = %s", [(i, i) for i in range(30)])
     SAY(cursor.rowcount)
-# Cursors of the server, and streams
+# Server-side cursors, and streams
 for name, options in (("one", {}), ("two", {"scrollable": True}), ("three", {"withhold": True}), ("four", {"scrollable": False})):
     for binary in (False, True):
         with connection.cursor(name, **options) as cursor:
@@ -153,7 +153,7 @@ with connection.cursor() as cursor:
     except psycopg.Error as error:
         told(error)
 connection.rollback()
-# Prepared by number of uses, then definitions change
+# Prepared after several uses, followed by schema changes
 for text in ("", "ALTER TABLE account ADD COLUMN added int", "ALTER TABLE account DROP COLUMN added", "SET search_path TO public", "RESET search_path",
              "CREATE TEMP TABLE account AS SELECT 1 AS id, 2 AS balance", "DROP TABLE pg_temp.account", "DEALLOCATE ALL"):
     if text:
@@ -163,7 +163,7 @@ for text in ("", "ALTER TABLE account ADD COLUMN added int", "ALTER TABLE accoun
         tried(connection, "SELECT balance FROM account WHERE id = %s", (1,))
         tried(connection, "SELECT * FROM keyless WHERE a = %s", (1,))
     connection.commit()
-# Two phases, LISTEN, cancel
+# Two-phase commit, LISTEN, cancel
 connection.tpc_begin("psycopg3 two phases")
 tried(connection, "UPDATE account SET balance = 40 WHERE id = 40")
 connection.tpc_prepare()

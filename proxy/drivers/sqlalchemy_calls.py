@@ -1,4 +1,4 @@
-"""Usual calls of SQLAlchemy 1.4: its core and its object-relational mapper. Prints each answer."""
+"""Common calls of SQLAlchemy 1.4: its core and its object-relational mapper. Prints each answer."""
 import sqlalchemy as sa
 from sqlalchemy.dialects.postgresql import ARRAY, JSONB, insert
 from sqlalchemy.exc import DBAPIError

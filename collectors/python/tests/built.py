@@ -1,4 +1,4 @@
-"""The programs of this repository, where a test is about all of them."""
+"""The programs of this repository, for tests that need all of them."""
 import os
 
 from zanteyard.program._binaries import checker_path, program_path
@@ -8,7 +8,8 @@ WORKED = os.path.join(TOP, "crates/cobra_examples/data")
 
 
 def demo_path():
-    """The demonstration, which is in no wheel: the one that COBRA_DEMO names, or a clone's."""
+    """The demonstration, which isn't in the wheel: the one that COBRA_DEMO names, or the clone's
+    build."""
     return os.environ.get("COBRA_DEMO") or os.path.join(TOP, "crates/cobra_demo/out/cobra_demo")
 
 
@@ -20,7 +21,7 @@ PATHS = {
 
 
 def path_of(name):
-    """Where the program with this name is; None where it isn't built."""
+    """The path of the program with this name; None if it isn't built."""
     path = PATHS[name]()
     return path if os.access(path, os.X_OK) else None
 
@@ -31,6 +32,6 @@ def bytes_of(*names):
 
 
 def by_turns(script, replies):
-    """A script's lines and the replies by turns, as cobra_check reads them."""
+    """A script's lines and their replies alternately, as cobra_check reads them."""
     lines, told = script.split(b"\n"), replies.split(b"\n")
     return b"".join(line + b"\n" + reply + b"\n" for line, reply in zip(lines[:-1], told[:-1]))

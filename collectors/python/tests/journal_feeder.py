@@ -1,11 +1,11 @@
-"""Gives an auditor with a journal what a file has, from where the journal stands on, until it is
-killed, with a dot in front of each transaction; then tells what the auditor says of it. For
+"""Gives an auditor with a journal what a file contains, from the journal's state on, until it is
+killed, and prints a dot before each transaction. At the end it prints the auditor's outcome. For
 test_restarting_processes.
 
     python3 journal_feeder.py PROGRAM JOURNAL LOG [TOLD]
 
-Each round is noted in TOLD as soon as it is told: how many transactions of each session it was about,
-and its verdict.
+Each round is written to TOLD as soon as it is reported: how many transactions of each session it
+covered, and its verdict.
 """
 import json
 import os

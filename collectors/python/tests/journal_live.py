@@ -1,4 +1,5 @@
-"""Clients of a store in memory beside an auditor with a journal, until all of it is killed. For test_journal_kills.
+"""Clients of a store in memory with an auditor that has a journal, until the whole process is
+killed. For test_journal_kills.
 
     python3 journal_live.py PROGRAM JOURNAL SCRIPT FAULT SEED
 """

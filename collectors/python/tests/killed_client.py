@@ -1,4 +1,4 @@
-"""A process of clients that is killed where it is told: run by test_killed.py."""
+"""A process of clients that is killed at a chosen place; run by test_killed.py."""
 import logging
 import os
 import random
@@ -21,7 +21,7 @@ def die():
 
 
 def send_and_die(store):
-    """The commit is on its way as the client is gone; the server can see which one that is."""
+    """Sends the commit and dies; the server can see which commit that is."""
     with store.connection.cursor() as cursor:
         cursor.execute("SET LOCAL zanteyard.dies = 'yes'")
     text = b"COMMIT\0"
@@ -30,7 +30,7 @@ def send_and_die(store):
 
 
 class Dying:
-    """Has the process end at the so many'th time that it comes to a place."""
+    """Ends the process when it reaches a place for the n-th time."""
 
     def __init__(self, where, left):
         self.where, self.left = where, left
@@ -70,7 +70,8 @@ class Dying:
 
 
 def work(session, client, seed, pause, workload, took):
-    """Counts, or takes one of two that the other leaves; and each transaction has a row of its own."""
+    """Increments a counter, or takes one of two coins that the other leaves. Each transaction also
+    writes a row of its own."""
     chance, count = random.Random(seed), 0
     while True:
         count += 1
@@ -100,7 +101,7 @@ def work(session, client, seed, pause, workload, took):
 
 
 def patiently(deed, *arguments):
-    """The auditor's process may be being started, where other programs have the processors."""
+    """Retries, since the auditor's process may still be starting on a busy machine."""
     for _ in range(5):
         with suppress(ProgramEndedError):
             return deed(*arguments)

@@ -19,7 +19,7 @@ STOPPED = "stopped, and not killed"
 
 
 def auditor_that_saves():
-    """The one that is built, where it knows the lines; else the plain one."""
+    """The built program if it knows the lines for saving; else the plain one."""
     if os.path.isfile(PROGRAM):
         lines = b'["open",1,1]\n["save","marks"]\n'
         told = subprocess.run([PROGRAM], input=lines, stdout=subprocess.PIPE, check=False).stdout
@@ -29,8 +29,8 @@ def auditor_that_saves():
 
 
 class Killer:
-    """While it is on, kills programs as lines are given to them. `plan(lines)` gives the moment, or
-    None, for each time that lines are given."""
+    """A context that kills programs while they are given lines. Each time, `plan(lines)` returns
+    the moment, or None."""
 
     def __init__(self, plan, dice=None):
         self.plan, self.dice, self.kills = plan, dice or random.Random(1), 0
@@ -63,8 +63,8 @@ class Killer:
 
     @staticmethod
     def write(pipes):
-        """What fits; `wait` writes the rest."""
-        with suppress(BrokenPipeError):  # it was killed over lines before
+        """Writes what fits; `wait` writes the rest."""
+        with suppress(BrokenPipeError):  # it was killed over earlier lines
             if pipes.unsent:
                 pipes.write(time.monotonic())
 
@@ -75,7 +75,7 @@ class Killer:
 
 
 def once(at, moment):
-    """A plan: the lines that are given as the one of this number, from 0, and no others."""
+    """A plan that kills once, at the n-th time that lines are given, from 0."""
     count = iter(range(1 << 30))
     return lambda _: moment if next(count) == at else None
 
@@ -97,7 +97,7 @@ class Log:
         self.entries.append(entry)
 
     def run(self, steps):
-        """Pairs of transactions at the same time, of two sessions."""
+        """Runs pairs of concurrent transactions in two sessions."""
         for _ in range(steps):
             pair = self.dice.sample(self.sessions, 2)
             begun = [(session, session.begin()) for session in pair]

@@ -1,14 +1,14 @@
-"""How late threads are that only sleep: what a machine with other programs on it adds to a wait."""
+"""Measures how late threads are that only sleep: what a busy machine adds to each wait."""
 import threading
 import time
 
 BOUND = 0.25  # seconds that a client waits for the audit at most
-SLACK = 0.5  # seconds more, for what comes to who waits alone, as a page that isn't in memory
-OTHERS = 1.0  # seconds more, where it waits for other processes too, each of which may be late
+SLACK = 0.5  # more seconds, for delays of a single thread, such as a page that isn't in memory
+OTHERS = 1.0  # more seconds, if it also waits for other processes, each of which may be late
 
 
 class Lateness:
-    """Measures in a thread of its own from `with` to the end."""
+    """Measures, in a thread of its own, from `with` to its end."""
 
     def __enter__(self):
         self.most, self.ended = 0.0, threading.Event()
@@ -28,7 +28,8 @@ class Lateness:
 
     @property
     def allowed(self):
-        """Seconds: a wait of the audit's comes in a few steps, each of which may be as late."""
+        """The allowed seconds: a wait for the audit has a few steps, each of which may be as
+        late."""
         return BOUND + SLACK + 4 * self.most
 
     @property

@@ -1,5 +1,6 @@
-"""An audit of clients on several machines, as far as one machine can have them: the auditor is a daemon, clients are
-processes with folders of their own, and what they have in common is a Redis and a PostgreSQL."""
+"""An audit of clients on several machines, as far as one machine can imitate them: the auditor is a
+daemon, and clients are processes with folders of their own. They share only a Redis and a
+PostgreSQL."""
 import json
 import logging
 import os
@@ -36,10 +37,10 @@ except ImportError:
 
 PLACE = os.path.join(os.path.dirname(os.path.abspath(__file__)), "..")
 CLIENT = os.path.join(PLACE, "tests", "killed_client.py")
-SOON = 120.0  # seconds, where other programs have the processors
+SOON = 120.0  # seconds, on a busy machine
 MOST = 4096  # transactions that remain
 ROUND = ["round", 65536, 4, 2]
-BETWEEN_ROUNDS = 400  # transactions, where the log is given whole with cuts
+BETWEEN_ROUNDS = 400  # transactions, when the log is given as a whole with cuts
 SEED = int(os.environ.get("ZANTEYARD_SEED", "1"))
 
 
@@ -56,8 +57,8 @@ HAS_ALL = bool(redis and redis_server() and psycopg2 and program("initdb") and k
 @unittest.skipUnless(HAS_ALL, "Redis, redis-py, PostgreSQL, psycopg2 or an auditor that knows save isn't there (no machines)")
 class Machines(unittest.TestCase):
     level = "serializable"
-    silence = 60.0  # seconds: who lives is never taken for one that is dead
-    soon_silent = 8.0  # seconds, where one is killed; a client gives a sign of life every second
+    silence = 60.0  # seconds: a living process is never taken for a dead one
+    soon_silent = 8.0  # seconds, when a process is killed; a client gives a sign of life every second
 
     @classmethod
     def setUpClass(cls):
@@ -116,9 +117,9 @@ class Machines(unittest.TestCase):
         self.daemons[-1].wait()
 
     def stopped(self):
-        """The daemon's exit status."""
+        """Stops the daemon, and returns its exit status."""
         self.daemons[-1].send_signal(signal.SIGTERM)
-        self.wait_for(lambda: self.daemons[-1].poll() is not None, 3 * SOON)  # a last round is told
+        self.wait_for(lambda: self.daemons[-1].poll() is not None, 3 * SOON)  # after a last round
         return self.daemons[-1].returncode
 
     # clients
@@ -154,11 +155,11 @@ class Machines(unittest.TestCase):
         return self.sql("SELECT count(*) FROM zanteyard WHERE key LIKE 'row %'")[0][0]
 
     def run_for(self, more=30):
-        """Until clients have committed so many more."""
+        """Runs until clients have committed this many more transactions."""
         count = self.committed()
         self.wait_for(lambda: self.committed() >= count + more)
 
-    # what every run owes
+    # what must hold after every run
 
     def ended(self, status, is_left=True):
         if is_left:
@@ -178,7 +179,8 @@ class Machines(unittest.TestCase):
         return re.findall(r"round \d+: (\w+);", self.said())[-1]
 
     def log_is_whole(self):
-        """In the order in which the auditor was given it first; sessions join, and come back."""
+        """Checks that the log is complete. It is in the order in which the auditor was first given
+        it; sessions join, and return."""
         self.lines, self.joins, ends = {}, set(), {}
         for at in range(len(self.daemons)):
             with open(f"{self.folder}/script.{at}", "rb") as script:
@@ -199,7 +201,8 @@ class Machines(unittest.TestCase):
         self.txns = {its[1:]: txn for its, txn in self.lines.items() if its[0] == "offer"}
 
     def verdict(self):
-        """Of the same log, given whole; where no audit holds all of it at once, with cuts."""
+        """The verdict of a single auditor about the same log; with cuts if no audit can hold all of
+        it at once."""
         if len(self.txns) > MOST:
             return self.verdict_with_cuts(self.opened)
         sessions = 1 + max(session for session, _ in self.txns)
@@ -213,11 +216,11 @@ class Machines(unittest.TestCase):
         return kind
 
     def verdict_with_cuts(self, sessions):
-        """The same with cuts; and each report and cut has to be right."""
+        """The same with cuts. Each report and each cut has to be right."""
         lines, count = [["open", sessions, MOST, 2]], 0
         for (kind, session, number), its in self.lines.items():
             if kind == "offer" and (session, number) in self.joins:
-                if number:  # nothing remains of what it was
+                if number:  # nothing of the session's earlier use remains
                     lines += [ROUND, ["truncate"]]
                 lines.append(["join", session, number, [its]])
             else:
@@ -254,7 +257,8 @@ class Machines(unittest.TestCase):
         there = {(session, number, key) for key, session, number in self.sql(text)}
         logged = {(*id, names[key]) for id, txn in self.txns.items() if not txn[2:] for key in txn[1]}
         self.assertGreater(len(there), 0)
-        # A flag of a killed client that nobody reads any more is in no log (`killed.without_end`).
+        # A killed client's flag that nobody will read is in no log (`without_end` in
+        # remote/_crash_recovery.py).
         self.missed = {it for it in there if it not in logged and not it[2].startswith(FLAG)}
         if is_whole:
             self.assertEqual(self.missed, set())

@@ -1,12 +1,12 @@
-"""A program that is made up: `cobra_audit` as the plain model of bench/judge.py has it, for small
-histories, and for what the real one does at times alone.
+"""A made-up program: `cobra_audit` as the plain model of bench/judge.py defines it, for small
+histories and for behaviour that the real program shows only sometimes.
 
     python3 made_up_programs.py SETTINGS
 
-`settings` is JSON: "seed", by which a search ends between lines; "reports", of the rounds with
-these numbers, from 1, the kind "spent"; "wants_memory", how many collects have none, at first;
-"ends", the line at which it ends with status 1, the opening's being 0; "waits", a file until which
-no search ends.
+SETTINGS is JSON. "seed": searches end between lines, at random. "reports": the numbers of rounds,
+from 1, whose verdict is "spent". "wants_memory": how many of the first collects run out of memory.
+"ends": the line at which it ends with status 1, where the opening line is 0. "waits": a file until
+whose existence no search ends.
 """
 
 import json
@@ -36,7 +36,7 @@ def made_up(folder, **settings):
 class Program:
     def __init__(self, settings):
         self.dice = random.Random(settings.get("seed"))
-        self.goes_on = 0.5 if "seed" in settings else 0.0  # how likely a search does at a look
+        self.goes_on = 0.5 if "seed" in settings else 0.0  # the chance that a search goes on at a look
         self.reports = {int(at): kind for at, kind in settings.get("reports", {}).items()}
         self.wanting = settings.get("wants_memory", 0)
         self.ends, self.waits = settings.get("ends"), settings.get("waits")
@@ -72,7 +72,7 @@ class Program:
         return self.dice.random() < self.goes_on
 
     def report(self):
-        """The cut is held."""
+        """Reports, and keeps the cut."""
         model = self.model
         parts, model.snapshot, model.search = model.snapshot or model.parts, None, None
         self.rounds += 1

@@ -1,5 +1,5 @@
-"""Seeded mutations of an auditor's replies, on the level of their JSON: what a wrong report looks
-like where its text is still well formed."""
+"""Seeded mutations of an auditor's replies as JSON: wrong reports whose text is still well
+formed."""
 
 import copy
 import json
@@ -19,7 +19,7 @@ def changed_kind(draw: random.Random, reply: Reply, others: List[Reply]) -> Opti
 
 
 def changed_count(draw: random.Random, reply: Reply, others: List[Reply]) -> Optional[Reply]:
-    """One more or one less of a session, or one session less."""
+    """One transaction more or less in a session, or one session less."""
     counts = list(reply[3])
     at = draw.randrange(len(counts))
     if draw.randrange(4) == 0:
@@ -30,7 +30,7 @@ def changed_count(draw: random.Random, reply: Reply, others: List[Reply]) -> Opt
 
 
 def changed_list(draw: random.Random, items: List[Any]) -> None:
-    """An item dropped, doubled, or swapped: with its neighbour, or with any other one."""
+    """An item dropped, doubled, or swapped with its neighbour or with any other one."""
     at = draw.randrange(len(items))
     way = draw.randrange(4)
     if way == 0:
@@ -43,7 +43,7 @@ def changed_list(draw: random.Random, items: List[Any]) -> None:
 
 
 def places(part: Any) -> Iterator[Tuple[List[Any], int]]:
-    """Where the numbers stand in it."""
+    """The places of numbers in it."""
     for at, item in enumerate(part):
         if isinstance(item, list):
             yield from places(item)
@@ -52,7 +52,7 @@ def places(part: Any) -> Iterator[Tuple[List[Any], int]]:
 
 
 def lists_in(part: Any) -> Iterator[List[Any]]:
-    """The lists of lists in it, itself among them: orders, trees and cycles."""
+    """The lists of lists in it, itself included: orders, trees and cycles."""
     if part and isinstance(part[-1], list):
         yield part
     for item in part:
@@ -61,7 +61,7 @@ def lists_in(part: Any) -> Iterator[List[Any]]:
 
 
 def changed_number(draw: random.Random, part: Any) -> None:
-    """One of the numbers in it, by one or by a few."""
+    """One of its numbers, changed by one or by a few."""
     found = list(places(part))
     if found:
         items, at = draw.choice(found)
@@ -81,7 +81,7 @@ def changed_certificate(draw: random.Random, reply: Reply, others: List[Reply]) 
 
 
 def turned_cycle(draw: random.Random, reply: Reply, others: List[Reply]) -> Optional[Reply]:
-    """A cycle that begins with another of its arcs."""
+    """A cycle that begins with another one of its arcs."""
     if len(reply) < 5 or reply[2] != "violated":
         return None
     tree = copy.deepcopy(reply[4])
@@ -95,7 +95,7 @@ def turned_cycle(draw: random.Random, reply: Reply, others: List[Reply]) -> Opti
 
 
 def of_another_round(draw: random.Random, reply: Reply, others: List[Reply]) -> Optional[Reply]:
-    """Another report of the script, as it stands or under this one's number."""
+    """Another report of the script, unchanged or with this one's number."""
     found = [other for other in others if other[0] == "report" and other != reply]
     if not found:
         return None
@@ -104,7 +104,7 @@ def of_another_round(draw: random.Random, reply: Reply, others: List[Reply]) -> 
 
 
 def changed_cut(draw: random.Random, reply: Reply, others: List[Reply]) -> Optional[Reply]:
-    """A number of a cut, or one of its lists."""
+    """A number of a cut, or one of its lists, changed."""
     cut = copy.deepcopy(reply)
     if draw.randrange(2):
         changed_number(draw, cut)
@@ -135,7 +135,7 @@ CHANGES: Dict[str, List[Change]] = {
 
 
 def mutations(draw: random.Random, replies: List[bytes]) -> Iterator[Tuple[int, str, bytes]]:
-    """For each kind of change of each report and cut one, and some of the other replies: which
+    """One mutation for each kind of change of each report and cut, and some of other replies: which
     reply, the change's name, and the changed text."""
     read = [json.loads(reply) for reply in replies]
     for at, reply in enumerate(read):

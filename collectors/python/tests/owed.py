@@ -1,7 +1,9 @@
-"""What is owed of a log whose auditors were killed: what a program says that nobody kills, and to which the log is given whole.
+"""What must hold for a log whose auditors were killed: the verdicts of a program that nobody kills
+and that is given the whole log.
 
-A log is, of each session, its transactions as lines have them. What was told is a list of rounds, each as how many transactions of
-each session it was about, and its verdict."""
+A log is the transactions of each session in the form of lines. Reported rounds are a list: for
+each, how many transactions of each session it covered, and its verdict.
+"""
 import contextlib
 import io
 import json
@@ -19,7 +21,8 @@ ROUND = ["round", 65536, 0, 1]
 
 
 def log_of(entries, sessions, program):
-    """Of triples of session, number and what was logged; and the same by the keys' names that it gave them."""
+    """The log of triples of session, number and what was logged, and the numbers that it gave the
+    keys' names."""
     log = [[] for _ in range(sessions)]
     with Auditor(sessions, program=program) as auditor:
         for session, number, logged in entries:
@@ -29,7 +32,8 @@ def log_of(entries, sessions, program):
 
 
 def log_in(script, replies=None):
-    """Of a script's lines; of those alone that were answered ok, where the replies are given."""
+    """The log in a script's lines; only of lines that were answered ok, if the replies are
+    given."""
     lines = [json.loads(line) for line in script]
     log = [[] for _ in range(lines[0][1])]
     for at, line in enumerate(lines):
@@ -43,7 +47,8 @@ def log_in(script, replies=None):
 
 
 def verdicts(log, told, program):
-    """Of a fresh program, over the same numbers of transactions; each of them is checked by who doesn't believe it."""
+    """The verdicts of a new program about the same numbers of transactions; each is checked
+    independently."""
     given, script = [0] * len(log), [["open", len(log), 4096, 2]]
     for counts, _ in told:
         for session, count in enumerate(counts):
@@ -59,12 +64,12 @@ def verdicts(log, told, program):
     last = [script[0], *(line for line in script if line[0] == "offer"), ROUND]
     assert are_right(last, [*[b'["ok"]'] * (len(last) - 1), replies[-1]])
     assert len(reports) == len(told)
-    # Sessions that had not joined by then are there from the start, and have nothing yet.
+    # Sessions that joined later exist from the start here, and are still empty.
     return [(tuple(report[3][: len(counts)]), report[2]) for report, (counts, _) in zip(reports, told)]
 
 
 def are_right(script, replies):
-    """Whether examples/check_reports.py finds nothing wrong with what a program was given and has told."""
+    """Whether examples/check_reports.py finds nothing wrong with a program's lines and replies."""
     lines = [line if isinstance(line, bytes) else json.dumps(line).encode() for line in script]
     with contextlib.redirect_stdout(io.StringIO()) as printed:
         wrong = check_run(lines, replies)
@@ -74,7 +79,8 @@ def are_right(script, replies):
 
 
 class Heard:
-    """The lines that an auditor's program is given, and what is told of them, whichever programs die."""
+    """The lines that an auditor's program is given, and what is reported, whichever programs
+    die."""
 
     def __init__(self, auditor):
         program = auditor.program

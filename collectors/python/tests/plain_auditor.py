@@ -1,7 +1,7 @@
 #!/usr/bin/env python3
-"""A slow auditor in plain Python, over the model that the fuzzer judges cobra_audit by: it answers the
-lines of docs/FORMATS.md. Its refutations are those of a plain search, up to so many transactions,
-and empty beyond; its orders and cuts are those of the model."""
+"""A slow auditor in plain Python, on the model by which the fuzzer judges cobra_audit. It answers
+the lines of docs/FORMATS.md. Its refutations are those of a plain search for few transactions, and
+empty for more. Its orders and cuts are those of the model."""
 import copy
 import json
 import os
@@ -14,14 +14,14 @@ from plain_trees import refuted  # noqa: E402
 from plain_verdicts import Relation, cut_of  # noqa: E402
 
 MOST_REFUTED = 64  # transactions
-MOST_KEYS = 3  # so that tests see that there are more
+MOST_KEYS = 3  # few, so that tests need several replies
 
 
 class Plain(Model):
-    """Answers in place of judging."""
+    """The model, with answers in place of judgements."""
 
     def copy(self):
-        """As it stands."""
+        """A copy of its state."""
         return copy.deepcopy(self)
 
     def reply_to(self, line):
@@ -30,7 +30,7 @@ class Plain(Model):
         if owed is not None:
             return owed
         budget = self.search[0] if command[0] == "collect" else command[1]
-        self.search = None  # one that goes on is never told to
+        self.search = None  # a search never ends unless it is told to
         return self.report(budget)
 
     def save(self, what, *where):

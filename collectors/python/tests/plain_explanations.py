@@ -1,10 +1,9 @@
-"""Checks an Explanation against the history that it is of, and knows nothing of how it was made:
-each circle has to close over what holds there, by sessions, reads, times, and the cases above it.
-"""
+"""Checks an Explanation against its history without knowing how it was made: each cycle has to
+consist of arcs that hold there, by sessions, reads, times, and the cases above it."""
 
 
 class Wrong(Exception):
-    """Why it doesn't hold."""
+    """What doesn't hold."""
 
 
 def owed(holds, what):
@@ -13,7 +12,8 @@ def owed(holds, what):
 
 
 class Check:
-    """Of one history, whose transactions begin and commit apart, or are one event each."""
+    """Checks explanations of one history, whose transactions begin and commit separately, or are
+    one event each."""
 
     def __init__(self, history, is_split=False):
         self.is_split = is_split
@@ -22,10 +22,10 @@ class Check:
             for session, txns in enumerate(history)
             for number, logged in enumerate(txns)
         }
-        self.seen = {}  # arcs that hold, under which assumptions
+        self.seen = {}  # arcs that hold, and under which assumptions
 
     def explanation(self, it, assumed=()):
-        """Raises Wrong unless it refutes the history, where these facts are assumed."""
+        """Raises Wrong unless the explanation refutes the history under these assumptions."""
         if it.cases:
             first, second = (case.arc for case in it.cases)
             owed(first.choice == second.choice, "the cases are of two choices")
@@ -63,7 +63,7 @@ class Check:
         self.seen[id(arc)] = arc, assumed
 
     def holds(self, arc, start, end):
-        """By sessions, reads and times alone."""
+        """Whether the arc holds by sessions, reads and times only."""
         first, second = self.txns[txn_of(start)], self.txns[txn_of(end)]
         if arc.kind == "session":
             return txn_of(start)[0] == txn_of(end)[0] and self.when(start) < self.when(end)
@@ -85,15 +85,15 @@ class Check:
         return node[1], node[2:] == ("commit",)
 
     def forced(self, arc, assumed):
-        """One side of a choice, where a path rules the other side out."""
+        """Checks one side of a choice, of which a path rules the other side out."""
         sides = self.sides(arc.choice)
         start, end = plain(arc.ends)
         owed((start, end) in sides, f"{arc.told} is no side of its choice")
         other_start, other_end = sides[(start, end) == sides[0]]
         last = plain(arc.needs[-1].end)
         if start[2:] == ("commit",) and end[2:] == ("begin",) and last[2:] == ("commit",):
-            # of two writers one commits before the other begins: so it does if it begins before
-            # the other one commits
+            # of two writers one commits before the other begins: so it does if it begins before the
+            # other one commits
             other_start = (*other_start[:2], "commit")
         self.path(arc.needs, other_end, other_start, assumed)
 
@@ -114,7 +114,7 @@ class Check:
         return (other, writer), (reader, other)
 
     def has_wrong_read(self, said):
-        """Whether it names one, in any words."""
+        """Whether the explanation names a wrong read, in any words."""
         return any(
             all(f" {it} " in f" {said.replace(',', ' ')} " for it in (key, name(id), name(source)))
             for id, logged in self.txns.items()
@@ -128,7 +128,8 @@ def name(id):
 
 
 def plain(it):
-    """A node, or the ends of an arc, as plain tuples: session, number, and the event if any."""
+    """A node, or the ends of an arc, as plain tuples: session, number, and the event, if there is
+    one."""
     if hasattr(it, "what"):
         return (*it.id, it.what)
     return tuple(map(plain, it)) if isinstance(it[0], tuple) else tuple(it)

@@ -1,8 +1,8 @@
-"""The promises by their definitions, tried over all orders; for small histories.
+"""The promises by their definitions, checked by trying all orders; for small histories.
 
-A history is a list of sessions, each a list of transactions `(reads, writes, outcome)`: `reads` are
-pairs of a key and the id of its writer, or None for the initial state; an id that isn't there hasn't
-come. Times are of each id its begin and its end, None for an end that isn't known.
+A history is a list of sessions, each a list of transactions `(reads, writes, outcome)`. `reads` are
+pairs of a key and the id of its writer, or None for the initial state; an id that isn't in the
+history hasn't arrived. Times are the begin and the end of each id, None for an unknown end.
 """
 import random
 
@@ -14,7 +14,7 @@ def ids_of(history):
 
 
 def did(history, id):
-    """What a transaction did: nothing, where it aborted. A read that is pending makes no demand."""
+    """What a transaction did; nothing if it aborted. A pending read demands nothing."""
     reads, writes, outcome = history[id[0]][id[1]]
     if outcome == ABORTED:
         return (), frozenset()
@@ -38,7 +38,8 @@ def before_in_session(history, keeps_sessions):
 
 
 def ended_before(times, history):
-    """Of each transaction those whose end was told before its begin; none did that aborted."""
+    """For each transaction those that are known to have ended before its begin, without aborted
+    ones."""
     def has_order(id):
         return id in times and history[id[0]][id[1]][2] != ABORTED
 
@@ -54,8 +55,8 @@ def ended_before(times, history):
 
 
 def has_order(history, times=None, keeps_sessions=True):
-    """Serializability, and with times strict serializability: some order in which each read gives
-    the last version before it."""
+    """Serializability, or strict serializability if there are times: whether there is an order in
+    which each read gives the last version before it."""
     ids, earlier = ids_of(history), before_in_session(history, keeps_sessions)
     in_time = ended_before(times or {}, history)
     done_before = {id: {*earlier(id), *in_time[id]} for id in ids}
@@ -81,10 +82,10 @@ def has_order(history, times=None, keeps_sessions=True):
 
 
 def has_events(history, times=None, keeps_sessions=True, keeps_writers_apart=True):
-    """Snapshot isolation: some order of begins and commits in which each read gives the last version
-    that was committed before its begin, and of two writers of a key one commits before the other
-    begins. With times, who had ended commits before the other begins. Without the demand on writers
-    it is prefix consistency."""
+    """Snapshot isolation: whether there is an order of begins and commits in which each read gives
+    the last version committed before its begin, and of two writers of a key one commits before the
+    other begins. With times, a transaction that had ended commits before the other begins. Without
+    the rule for writers it is prefix consistency."""
     ids, earlier = ids_of(history), before_in_session(history, keeps_sessions)
     in_time = ended_before(times or {}, history)
     committed_before = {id: {*earlier(id), *in_time[id]} for id in ids}
@@ -126,7 +127,7 @@ DEFINITIONS = {
 
 
 def generated(seed, fences=True):
-    """A history as a store might have left it, at some level or other, and its times."""
+    """A history as a store at some isolation level might leave it, and its times."""
     rng = random.Random(seed)
     count = rng.randrange(2, 4)
     lengths = [rng.randrange(1, 4) for _ in range(count)]
@@ -157,7 +158,8 @@ def generated(seed, fences=True):
 
 
 def _run(rng, lengths):
-    """When each transaction begins and ends, and an order of their begins. Some ends are unknown."""
+    """When each transaction begins and ends, and an order of their begins. Some ends are
+    unknown."""
     times, order, clock = {}, [], 0
     at, open_since = [0] * len(lengths), [None] * len(lengths)
     while any(at[session] < lengths[session] for session in range(len(lengths))):
@@ -175,7 +177,7 @@ def _run(rng, lengths):
 
 
 def script_of(history):
-    """Its lines: an offer for each transaction, so that which line is refused can be told."""
+    """Its lines, with one offer for each transaction, so that it is clear which one is refused."""
     yield ["open", len(history), max(1, sum(map(len, history))), 2]
     for session, number in ids_of(history):
         reads, writes, outcome = history[session][number]

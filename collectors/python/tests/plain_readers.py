@@ -1,5 +1,5 @@
-"""Readers of each form that are nothing but short: what an import has read is compared to theirs.
-They take what is no history for one; that is what the import's own refusals are for."""
+"""Short readers of each format, with which the results of an import are compared. They also accept
+files that are no history; refusing those is the import's job."""
 import csv
 import json
 import re
@@ -12,7 +12,8 @@ OUTCOMES = {"ok": COMMITTED, "fail": ABORTED, "info": UNKNOWN}
 
 
 def json_of_edn(text):
-    """EDN without anything but maps, vectors, keywords, whole numbers, nil and plain strings."""
+    """EDN that consists only of maps, vectors, keywords, whole numbers, nil and plain strings, as
+    JSON."""
     text = re.sub(r"(?m);.*$", "", text.replace(",", " ")).replace("#{", "[")
     open_, parts = [], []
     for part in re.findall(r'"[^"\\]*"|[\[\]{}]|:[^\s\[\]{}"]+|[^\s\[\]{}"]+|\S', text):
@@ -42,7 +43,7 @@ def json_of_edn(text):
 
 
 def jepsen_of(operations, colon):
-    """The attempts of clients, each by its process, where `colon` stands in front of words."""
+    """The attempts of clients, by process, in a file in which `colon` precedes words."""
     found, open_ = [], {}
 
     def name(word):

@@ -1,4 +1,4 @@
-"""Statements at a PostgreSQL, each a transaction by itself."""
+"""Statements at a PostgreSQL server, each a transaction by itself."""
 
 
 def run_sql(dsn, text):

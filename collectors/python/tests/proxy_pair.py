@@ -1,5 +1,5 @@
-"""Two PostgreSQL servers that begin the same, one of them behind the proxy, for tests that run a
-program twice and compare what it prints."""
+"""Two PostgreSQL servers with the same initial state, one of them behind the proxy, for tests that
+run a program twice and compare its output."""
 
 from __future__ import annotations
 
@@ -18,7 +18,7 @@ from zanteyard.trial.postgres_server import trusted_plugins
 
 TOP = os.path.normpath(os.path.join(os.path.dirname(os.path.abspath(__file__)), "../../.."))
 DRIVERS = os.path.join(TOP, "proxy/drivers")
-LIMIT = 180.0  # seconds for whatever has to come
+LIMIT = 180.0  # seconds for whatever has to arrive
 SETTINGS = (
     *("fsync=off", "autovacuum=off", "wal_level=logical", "max_prepared_transactions=10"),
     *("shared_buffers=64MB", "jit=off", "max_parallel_workers_per_gather=0", "timezone=UTC"),
@@ -26,14 +26,14 @@ SETTINGS = (
 
 
 def postgres_program(name: str) -> Optional[str]:
-    """The path of PostgreSQL's program of this name, None if it isn't installed."""
+    """The path of PostgreSQL's program of this name; None if it isn't installed."""
     places = glob.glob(f"/usr/lib/postgresql/*/bin/{name}")
     places.sort(key=lambda path: int(path.split("/")[4]))
     return places[-1] if places else shutil.which(name)
 
 
 def proxy_program(folder: str) -> Optional[str]:
-    """The proxy that ZANTEYARD_PROXY names, or one built into the folder. None without Go or its
+    """The proxy that ZANTEYARD_PROXY names, or one built in the folder. None without Go or its
     libraries."""
     given = os.environ.get("ZANTEYARD_PROXY")
     if given:
@@ -79,7 +79,7 @@ class Server:
         subprocess.run(done, check=True, timeout=LIMIT, **self.user)
 
     def start(self, port: Optional[int] = None) -> None:
-        """At a port of its own, or at this one."""
+        """Starts it at this port, or at a free one."""
         if port is None:
             with socket.socket() as free:
                 free.bind(("127.0.0.1", 0))
@@ -157,7 +157,7 @@ class Proxy:
         self.process.stdin.flush()
 
     def until(self, event: str) -> Any:
-        """The last event of that name, waited for."""
+        """Waits for an event of this name, and returns the last one."""
         with self.changed:
             self.changed.wait_for(lambda: event in self.events or "ended" in self.events, LIMIT)
             if event not in self.events:
@@ -169,7 +169,7 @@ class Proxy:
             return log.read()[-3000:]
 
     def reads_by_user(self) -> Dict[str, int]:
-        """Ends the audit, and counts the reads that were offered of each user."""
+        """Ends the audit, and counts the offered reads of each user."""
         self.say(command="stop")
         self.until("stopped")
         self.say(command="describe", id=1, transactions=self.offers)
@@ -223,7 +223,7 @@ class Pair:
             each.sql(user, text)
 
     def prepare(self, user: str) -> None:
-        """A user with a schema, and the tables of setup.sql in it."""
+        """Creates a user with a schema, and the tables of setup.sql in it."""
         as_postgres = f"CREATE ROLE {user} LOGIN CREATEROLE;"
         as_postgres += f"CREATE SCHEMA {user} AUTHORIZATION {user};"
         with open(os.path.join(DRIVERS, "setup.sql"), encoding="utf-8") as file:
@@ -232,7 +232,7 @@ class Pair:
         self.sql(user, setup)
 
     def run(self, user: str, call: List[str], **environment: str) -> List[str]:
-        """What the program prints, direct and proxied; both runs at the same time."""
+        """What the program prints, directly and through the proxy; both runs at the same time."""
         assert self.proxy
         began = []
         for port in (self.servers[0].port, self.proxy.port):

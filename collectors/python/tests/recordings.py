@@ -1,5 +1,5 @@
-"""Histories by value for the tests of imports: made at random, written in each form, and judged by
-trying every order."""
+"""Histories by value for the tests of imports: made at random, written in each format, and judged
+by trying every order."""
 import json
 import random
 from dataclasses import dataclass, field
@@ -12,8 +12,8 @@ ENDS = {COMMITTED: "ok", ABORTED: "fail", UNKNOWN: "info"}
 
 @dataclass
 class Made:
-    """One attempt: ("r", key, value), ("w", key, value) or ("append", key, value), where values are
-    whole numbers, lists of them, or None."""
+    """One attempt: ("r", key, value), ("w", key, value) or ("append", key, value). Values are whole
+    numbers, lists of them, or None."""
 
     client: int
     outcome: str
@@ -21,7 +21,8 @@ class Made:
 
 
 def made(random_, is_of_lists):
-    """A few attempts of two to four clients on two keys; about half have an order."""
+    """A few attempts of two to four clients on two keys; about half of these histories have an
+    order."""
     keys, count = (1, 2), random_.randint(2, 6)
     value_of = {key: [] if is_of_lists else None for key in keys}
     versions = [dict(value_of)]
@@ -68,7 +69,7 @@ def made(random_, is_of_lists):
     return attempts
 
 
-# Written in each form.
+# Writing each format.
 
 
 def edn_of(micro):
@@ -81,7 +82,7 @@ def edn_of(micro):
 
 
 def operations(attempts, random_):
-    """Invocations and completions, where those of several clients overlap at random."""
+    """Invocations and completions; those of different clients overlap at random."""
     open_, lines = [], []
     for attempt in attempts:
         for other in [*open_]:
@@ -129,7 +130,7 @@ def by_client(attempts):
 
 
 def as_dbcop(attempts, random_):
-    """Without unknown outcomes, which it can't say."""
+    """Without unknown outcomes, which this format lacks."""
     clients = by_client(attempts)
     data = [
         [
@@ -149,7 +150,7 @@ def as_dbcop(attempts, random_):
 
 
 def as_polysi(attempts, _):
-    """Of committed ones alone."""
+    """The committed attempts."""
     return "".join(
         f"{f}({key},{value or 0},{one.client},{number})\n"
         for number, one in enumerate(attempts)
@@ -169,11 +170,11 @@ def as_csv(attempts, random_):
     return "\n".join(lines) + "\n"
 
 
-# Judged.
+# Judging.
 
 
 def attempts_of(attempts, is_of_lists):
-    """The same as the package has them."""
+    """The same in the package's form."""
     return [
         Attempt("", str(one.client), one.outcome, tuple(
             Access(
@@ -191,14 +192,14 @@ def attempts_of(attempts, is_of_lists):
 
 def is_explained(attempts, ignored=(), earlier=None):
     """Whether there is an order of what committed, and of some of what may have, each client's
-    kept, in which each read gives what it gave. What (key, value) a read of which is ignored counts
-    as whatever was there. What is in `earlier` has taken effect, behind those that stand there."""
+    order kept, in which each read gives what it gave. Reads of a (key, value) in `ignored` are
+    accepted. What is in `earlier` took effect after the attempts that precede it there."""
     clients = [*by_client(attempts).values()]
     seen = set()
     earlier = earlier or {}
 
     def is_due(one, places):
-        """Whether nothing is left that comes earlier."""
+        """Whether everything that has to come earlier has been placed."""
         left = (other for place, its in zip(places, clients) for other in its[place:])
         return not any(it in earlier.get(one, ()) for it in left)
 
@@ -248,7 +249,7 @@ def is_explained(attempts, ignored=(), earlier=None):
 
 
 def nobodys(attempts):
-    """The (key, value) that committed attempts have read and nobody wrote."""
+    """The (key, value) that committed attempts read and nobody wrote."""
     written = {(it.key, it.value) for one in attempts for it in one.accesses
                if it.kind in (WRITE, APPEND)}
     return {
@@ -263,7 +264,7 @@ def nobodys(attempts):
 
 
 def judged(attempts):
-    """The verdicts that are right."""
+    """The right verdicts."""
     ignored = nobodys(attempts)
     if not is_explained(attempts, ignored):
         return {"violated"}
@@ -275,13 +276,13 @@ def judged(attempts):
         Attempt("", f"somebody {at}", UNKNOWN, (Access(kind, key, value, ""),), 0)
         for at, (key, value) in enumerate(sorted(ignored))
     ]
-    # whoever wrote it, the rest of a list tells the order of its writers
+    # whoever wrote it, the rest of a list determines the order of its writers
     is_possible = is_explained([*attempts, *others])
     return {"pending"} if is_possible or not is_of_lists else {"pending", "violated"}
 
 
 def judged_script(lines):
-    """The verdict of a small script, by trying every order: FORMATS.md's definition."""
+    """The verdict about a small script, by trying every order: the definition in FORMATS.md."""
     sessions = {}
     for line in map(json.loads, lines):
         if line[0] == "offer":

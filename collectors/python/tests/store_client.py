@@ -1,9 +1,10 @@
 #!/usr/bin/env python3
-"""A client of another process: it counts once in a store, and tells what came of it.
+"""A client in another process: it increments a counter in a store once, and reports the result.
 
     python3 -m tests.store_client ADDRESS KIND ARGUMENT ..
 
-Arguments are JSON. `AuditClient` takes the address. It prints "done", or "refused: " and why.
+Arguments are JSON. The address is that of an `AuditClient`. It prints "done", or "refused: " and
+the reason.
 """
 import json
 import sys
@@ -12,7 +13,7 @@ from zanteyard import AuditClient, StoreUnfitError
 
 
 def store_of(kind, *arguments, **more):
-    """Over a connection of its own."""
+    """A store over a connection of its own."""
     if kind == "postgres":
         from zanteyard.stores.postgres import PostgresStore as store
     elif kind == "mariadb":

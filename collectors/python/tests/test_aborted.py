@@ -1,4 +1,4 @@
-"""What attempts did that were aborted: it is logged and told, and counts for nothing."""
+"""What aborted attempts did is logged and reported, and has no effect."""
 import io
 import json
 import os
@@ -60,7 +60,7 @@ class Lines(WithFolder):
     """What the auditor is given."""
 
     def test_an_attempt_is_told_with_what_it_did(self):
-        """And what did nothing is idle, as ever."""
+        """An attempt is sent with what it did; one that did nothing is idle, as before."""
         auditor = self.auditor()
         auditor.offer(0, 0, UNDONE, Logged((), (), "aborted"), Logged((), ("x",)))
         auditor.offer(1, 0, Logged([("x", (0, 2))], ()), Logged([("x", "init")], (), "aborted"))
@@ -74,8 +74,8 @@ class Lines(WithFolder):
         )
 
     def test_it_counts_for_nothing(self):
-        """Its writes are no versions, its reads wait for nobody, and what it only looked like isn't
-        there."""
+        """Its writes are no versions, its reads wait for nobody, and what only looks like a fence
+        is left out."""
         auditor = self.auditor()
         auditor.offer(0, 0, Logged((), (), "aborted", tried_reads=[("x", (1, 7))], tried_writes=["x"]))
         fence = Logged((), (), "aborted", tried_reads=[(FENCE, "init")], tried_writes=[FENCE])
@@ -96,7 +96,7 @@ class Lines(WithFolder):
             ([("x", (-1, 0)), ("y", (0, 1 << 48))], ["x"], ([], ["x"])),
             ([("x", "init")], ["x", "x"], ([("x", "init")], ["x"])),
             ([(FENCE, (1, 1))], [FENCE], ([(FENCE, (1, 1))], [FENCE])),
-            ([], [FENCE], ([], [])),  # of a fence that nobody knows what it has read
+            ([], [FENCE], ([], [])),  # a fence whose read nobody knows
             ([(FENCE, (0, 7))], [FENCE], ([], [])),
             ([(FENCE, (1, 1)), (FENCE, (1, 2))], [FENCE], ([], [])),
             ([(FENCE, (1, 1)), ("x", "init")], [FENCE], ([("x", "init")], [])),
@@ -117,7 +117,8 @@ class Lines(WithFolder):
         self.assertEqual(auditor.received, [64, 0, 0])
 
     def test_where_an_audit_begins_among_others(self):
-        """Its reads are moved, or left out, and aren't counted as unchecked."""
+        """When an audit begins among others, its reads are translated or left out, and don't count
+        as unchecked."""
         moves = Coverage([2, 0, 5], [3, 0, None], unknown=[((1, 2),), (), ()])
         tried = [("x", (0, 4)), ("x", (0, 1)), ("x", (0, 0)), ("y", (1, 2)), ("y", (2, 9)), ("z", "init")]
         moved, left_out = moves.moved(UNDONE._replace(tried_reads=tried))
@@ -130,7 +131,7 @@ class Lines(WithFolder):
 
 
 class Told(WithFolder):
-    """What is said of who has read it."""
+    """Explanations of reads from an aborted attempt."""
 
     HISTORY = [
         [Logged((), ("x",)), UNDONE._replace(statements=[(("x",), "UPDATE x")], values=[("wrote", "x", "2")])],
@@ -159,7 +160,7 @@ class Told(WithFolder):
         self.assertEqual(find_anomaly(history).name, "dirty read")
 
     def test_it_is_no_reason_where_nobody_has_read_it(self):
-        """Nor is it told, as it plays no part."""
+        """An attempt that nobody read from isn't mentioned, since it plays no part."""
         history = [[UNDONE, Logged([("x", "init")], ["x"])], [Logged([("x", "init")], ["x"])]]
         small = smaller(history)
         self.assertEqual(find_anomaly(small).name, "lost update")
@@ -194,11 +195,11 @@ class Told(WithFolder):
             page = file.read()
         self.assertEqual(page.count('<g class="transaction aborted">'), 1)
         self.assertEqual(page.count('<g class="arc other aborted">'), 1)
-        self.assertIn("What was aborted is dashed", page)
+        self.assertIn("Aborted attempts are dashed", page)
         self.assertIn('["open",2,2,2]', page.replace("&quot;", '"'))
 
     def test_of_a_script_of_the_first_version(self):
-        """Where the form is none, and nothing is drawn dashed."""
+        """Version 1 has no form for it, and nothing is drawn dashed."""
         with open(self.path, "w", encoding="utf-8") as file:
             file.write(self.SCRIPT.replace(",8,2]", ",8]"))
         status, text = self.told("check")
@@ -207,7 +208,7 @@ class Told(WithFolder):
 
 
 class Found(WithFolder):
-    """By clients of a store in memory that leaves in place what an aborted attempt has written."""
+    """Found by clients of a store in memory that keeps what an aborted attempt has written."""
 
     def dirty_read(self, sessions):
         a, b, c = sessions
@@ -260,7 +261,8 @@ class Found(WithFolder):
         self.assertEqual([one.did for one in its], [([("y", "init")], []), ([], [])])
 
     def test_a_store_that_aborts_in_the_midst_of_what_is_written(self):
-        """What it was given by then is told, and what it wasn't isn't."""
+        """If the store aborts in the middle of the writes, only the writes that it was given are
+        reported."""
         with self.auditor() as auditor:
             a, *_ = self.sessions(auditor)
             write = a.store.write
@@ -275,7 +277,7 @@ class Found(WithFolder):
             self.assertEqual(auditor.history[0][0].tried_writes, ["x", "y"])
 
     def test_fences_and_flags_that_were_aborted(self):
-        """What a fence has read that failed isn't known: it is idle. A flag is told."""
+        """The read of a fence that failed is unknown, so the fence is idle. A flag is reported."""
         with self.auditor() as auditor:
             a, *_ = self.sessions(auditor)
             for deed in (a.fence, a.flag):
@@ -287,8 +289,8 @@ class Found(WithFolder):
         self.assertEqual(told, [([(FENCE, "init")], [FENCE])] * 3 + [([(key, "init")], [key])] * 3)
 
     def test_over_sqlite(self):
-        """At its weakest level, where the fault shows each time; and at the strictest, where what is
-        aborted is told."""
+        """At SQLite's weakest level the fault shows every time; at the strictest level, aborted
+        attempts are reported."""
         path = os.path.join(self.folder, "store")
         prepare_sqlite(path, "delete")
         for level, kind in (("read uncommitted", "violated"), ("immediate", "serial")):
@@ -303,7 +305,7 @@ class Found(WithFolder):
 
 
 class NotKnown(WithFolder):
-    """What isn't known to be aborted isn't called so."""
+    """A transaction isn't called aborted unless that is known."""
 
     def outcome_of(self, store, *errors):
         auditor = self.auditor()
@@ -326,7 +328,7 @@ class NotKnown(WithFolder):
         return call
 
     def test_a_commit_that_was_not_answered(self):
-        """Whatever the store's rollback says then, and whatever comes in between."""
+        """Whatever the store's rollback says afterwards, and whatever happens in between."""
         failed = ValueError("of a handler of SIGALRM")
         for name, error in (
             ("rollback", AbortedError("so it says of the rollback")),
@@ -356,7 +358,7 @@ class NotKnown(WithFolder):
 
 
 class Kept(WithJournal):
-    """By a journal."""
+    """Aborted attempts in a journal."""
 
     def fences(self, auditor, numbers, source):
         for session in range(3):
@@ -366,7 +368,8 @@ class Kept(WithJournal):
         return source
 
     def test_what_was_aborted_is_still_told(self):
-        """Behind a cut, too, with which a checkpoint is written: no program gives it out."""
+        """Also after a cut, when a checkpoint is written, although no program's saved state has
+        them."""
         with self.auditor() as auditor:
             auditor.offer(0, 0, UNDONE, Logged((), ("z",)), UNDONE)
             numbers = [3, 0, 0]
@@ -378,7 +381,7 @@ class Kept(WithJournal):
             self.assertGreater(gone, 3)
             kept = auditor.history[0][-1]
             auditor.offer(0, 6, UNDONE, Logged([("z", (0, 1))], ()))
-        for _ in range(2):  # the second is of what the first has written
+        for _ in range(2):  # the second journal has what the first program wrote
             with self.resumed() as auditor:
                 its = auditor.history[0]
                 self.assertEqual([one.outcome for one in its[-3:]], ["aborted", "aborted", "committed"])
@@ -392,7 +395,7 @@ class Kept(WithJournal):
         self.assertEqual(told, ["of new, 1.2 read what 0.5 wrote, which had aborted"])
 
     def test_a_journal_of_an_earlier_version_is_gone_on_with(self):
-        """In which nothing is aborted; from then on it may be."""
+        """An earlier version's journal has no aborted attempts; from then on it may have some."""
         with self.auditor() as auditor:
             auditor.offer(0, 0, Logged((), ("x",)))
         texts = [text for text, _ in records(self.bytes(), len(FIRST_LINE))]
@@ -419,7 +422,7 @@ class Kept(WithJournal):
 
 
 class TooOld(WithFolder):
-    """A program that doesn't know version 2 is told of as what it is."""
+    """A program that doesn't know version 2 is reported as such."""
 
     def setUp(self):
         super().setUp()

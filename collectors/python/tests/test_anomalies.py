@@ -1,4 +1,4 @@
-"""The kind of anomaly is named where it has a name. No program is needed."""
+"""Kinds of anomalies get their names. No program is needed."""
 import unittest
 
 from zanteyard import Logged
@@ -13,7 +13,7 @@ def txn(*reads, writes="", outcome="committed"):
 
 FIRST = (0, 0)
 
-# Of each row: what it shows, the name that is wanted, and the history.
+# Each row: what it shows, the expected name, and the history.
 ROWS = (
     ("from the start", "lost update", [[txn(("x", "init"), writes="x")]] * 2),
     (
@@ -87,7 +87,7 @@ ROWS = (
 )
 
 
-# Of each row: what it shows, the name that is wanted, and the kinds of the arcs around.
+# Each row: what it shows, the expected name, and the kinds of the arcs in the cycle.
 CIRCLES = (
     ("reads alone", "circular information flow", [READ, IN_SESSION, READ]),
     ("writes alone", "dirty write", [WRITTEN, IN_SESSION, WRITTEN]),
@@ -136,7 +136,7 @@ class Anomalies(unittest.TestCase):
         self.assertIsNone(find_anomaly(skew, promise=SNAPSHOT))
 
     def test_a_read_that_its_clock_excludes(self):
-        """It is told only where the promise asks for time."""
+        """A read that the times exclude is reported only if the promise includes time."""
         for ended, began, told in (
             (2_000_000, 5_000_000, "1.0 began 3 ms after 0.0 had ended, and did not see it: it"),
             (None, 5_000_000, None),

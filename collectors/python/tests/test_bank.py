@@ -1,4 +1,4 @@
-"""The example of an application with SQL of its own, watched: its fault at one level, and none at
+"""The example of an application with its own SQL, watched: its fault shows at one level, and not at
 another."""
 import ast
 import os
@@ -22,8 +22,8 @@ except ImportError:
     psycopg = None
 TOP = os.path.normpath(os.path.join(os.path.dirname(os.path.abspath(__file__)), "../../.."))
 BANK = f"{TOP}/examples/bank.py"
-ENOUGH = "100"  # seconds: a run ends with the first violation, after some seconds
-LATE = 400  # seconds for the program, which starts a server, where others have the processors
+ENOUGH = "100"  # seconds: a run ends with the first violation, after a few seconds
+LATE = 400  # seconds for the program, which starts a server, on a busy machine
 STATEMENT = re.compile(r" {8}[\d:.]+ ([A-Z]+) (.*)  \[(.*):(\d+)\]")
 TABLE = re.compile(r"\b(?:FROM|INTO|UPDATE) (\w+)")
 # Each kind of statement, by its table, with the function whose line sends it.
@@ -36,7 +36,7 @@ SENDERS = {
 
 
 def function_at(line):
-    """The innermost of the example's functions that has this line."""
+    """The innermost of the example's functions that contains this line."""
     with open(BANK, encoding="utf-8") as file:
         functions = [it for it in ast.walk(ast.parse(file.read())) if isinstance(it, ast.FunctionDef)]
     its = [(it.lineno, it.name) for it in functions if it.lineno <= line <= it.end_lineno]
@@ -48,9 +48,9 @@ def function_at(line):
 @unittest.skipUnless(os.path.isfile(PROGRAM), f"{PROGRAM} is not built")
 class Bank(unittest.TestCase):
     def told(self, *arguments):
-        """What it prints, and its status."""
+        """Its output and its status."""
         with tempfile.TemporaryDirectory() as folder:
-            os.chmod(folder, 0o711)  # a server in it runs as another user, where this runs as root
+            os.chmod(folder, 0o711)  # if this runs as root, a server in it runs as another user
             ran = subprocess.run(
                 [sys.executable, BANK, *arguments],
                 cwd=TOP,
@@ -64,9 +64,9 @@ class Bank(unittest.TestCase):
         return ran.stdout, ran.returncode
 
     def overdraws(self, *how):
-        """Which part of the history is told differs from run to run: what holds for each is that a
-        withdrawal read what another overwrote, and that each statement stands there with the
-        application's own line that has sent it."""
+        """Which part of the history is shown differs from run to run. In each, a withdrawal reads
+        what another one overwrote, and each statement appears with the application's line that sent
+        it."""
         told, status = self.told("--level", "repeatable", "--seconds", ENOUGH, *how)
         self.assertEqual(status, 1, told)
         self.assertTrue(told.startswith("violated: no serial order"), told)
@@ -88,7 +88,7 @@ class Bank(unittest.TestCase):
         self.overdraws("--driver", "psycopg")
 
     def test_none_does_at_serializable(self):
-        for seconds in ("2", "60"):  # in which something was done, also beside other programs
+        for seconds in ("2", "60"):  # in which something was done, even on a busy machine
             told, status = self.told("--level", "serializable", "--seconds", seconds)
             if status != 4:  # nothing was checked yet
                 break

@@ -1,5 +1,5 @@
-"""Stored replies are checked by `cobra_check`: those of the worked scripts are right, and changed
-ones aren't; and of what was changed it says what a plain checker says."""
+"""`cobra_check` accepts stored replies of the worked scripts, refuses changed ones, and agrees with
+a plain checker about the changes."""
 
 import contextlib
 import glob
@@ -29,7 +29,13 @@ def resumes(path):
     return any(line.startswith(b'["resumed"') for line in lines_of(path))
 
 
-SCRIPTS = [path for path in sorted(glob.glob(os.path.join(DATA, "*.jsonl"))) if not resumes(path)]
+def asks_for_isolation(path):
+    return lines_of(path)[0].endswith(b',"snapshot"]')
+
+
+ALL = sorted(glob.glob(os.path.join(DATA, "*.jsonl")))
+ISOLATED = [path for path in ALL if asks_for_isolation(path)]
+SCRIPTS = [path for path in ALL if not resumes(path) and path not in ISOLATED]
 
 
 def checked(script, replies):
@@ -39,12 +45,12 @@ def checked(script, replies):
 
 
 def status_of(script, replies):
-    """How it ends."""
+    """Its exit status."""
     return checked(script, replies).returncode
 
 
 def changes(reply):
-    """The reply with a digit of it changed, each in turn, a byte left out, and a word changed."""
+    """The reply with each digit changed in turn, with a byte missing, and with a word changed."""
     for at, byte in enumerate(reply):
         if 48 <= byte <= 57:
             yield reply[:at] + bytes([48 + (byte - 47) % 10]) + reply[at + 1:]
@@ -53,7 +59,7 @@ def changes(reply):
 
 
 def plain_checker():
-    """examples/check_reports.py, as a module."""
+    """examples/check_reports.py as a module."""
     spec = importlib.util.spec_from_file_location("check_reports", PLAIN)
     module = importlib.util.module_from_spec(spec)
     spec.loader.exec_module(module)
@@ -61,8 +67,8 @@ def plain_checker():
 
 
 def plainly_right(plain, script, replies):
-    """What the plain checker says. It judges reports and cuts that are well formed: at any other
-    it may fail, which counts as wrong."""
+    """The plain checker's verdict. It judges well-formed reports and cuts; it may fail at anything
+    else, which counts as wrong."""
     with contextlib.redirect_stdout(io.StringIO()):
         try:
             return plain.check_run(script, replies) == 0
@@ -71,8 +77,8 @@ def plainly_right(plain, script, replies):
 
 
 def has_certificate(changed, reply):
-    """Whether the two checkers have to agree on the changed reply: both are reports of the same
-    round (the plain checker doesn't look at its number), of which a spent one claims nothing."""
+    """Whether the two checkers have to agree on the changed reply: both replies are reports of the
+    same round (the plain checker ignores its number), and a spent report claims nothing."""
     changed, reply = json.loads(changed), json.loads(reply)
     return changed[0] == reply[0] == "report" and changed[1] == reply[1]
 
@@ -92,6 +98,17 @@ class StoredReplies(unittest.TestCase):
         self.assertIn(b"reply 2 wrong: its script resumes another, and what had gone before isn't",
                       ended.stdout)
         self.assertTrue(plainly_right(plain_checker(), script, replies))
+
+    def test_a_script_that_asks_for_snapshot_isolation_is_refused(self):
+        self.assertTrue(ISOLATED)
+        for path in ISOLATED:
+            with self.subTest(os.path.basename(path)):
+                ended = checked(lines_of(path), lines_of(path[: -len("jsonl")] + "replies"))
+                self.assertEqual(ended.returncode, 3)
+                self.assertIn(
+                    b"reply 1 wrong: its script asks for snapshot isolation, which isn't checked",
+                    ended.stdout,
+                )
 
     def test_a_cut_from_before_a_join_is_wrong(self):
         name = os.path.join(DATA, "join_drops_the_cut.")

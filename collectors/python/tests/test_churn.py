@@ -1,4 +1,4 @@
-"""Clients that come and go leave nothing behind in the process of the audit."""
+"""Clients that come and go leave nothing behind in the audit's process."""
 import gc
 import os
 import time
@@ -12,14 +12,14 @@ from zanteyard.program._subprocess import AuditorApart
 from zanteyard.stores.memory import MemoryStore
 
 SOON = 300.0  # seconds
-CLIENTS, MOST = 1500, 150  # bytes of each that may stay
+CLIENTS, MOST = 1500, 150  # bytes that each client may leave
 
 
 @unittest.skipUnless(os.path.isfile(PROGRAM), f"{PROGRAM} is not built")
 class Churn(unittest.TestCase):
     def test_what_stays_of_a_client(self):
-        """All that was done is taken in and forgotten, and then again: what has come in between is
-        what stays of the clients. One of them stays, so that there are meetings."""
+        """Everything is taken in and forgotten, then again; the growth in between is what clients
+        leave behind. One client stays, so that there are meetings."""
         store = MemoryStore()
         with AuditorApart(8) as auditor:
             live = LiveAuditor(auditor, policy=RATHER_WAIT, every=200, seconds=0.2)
@@ -43,7 +43,7 @@ class Churn(unittest.TestCase):
             session.run(lambda its: its.put(f"k{at % 50}", its.get(f"k{at % 50}")))
             live.leave_session(session)
         cuts, until = live.cuts, time.monotonic() + SOON
-        while live.cuts < cuts + 2 and time.monotonic() < until:  # of which one is of all of these
+        while live.cuts < cuts + 2 and time.monotonic() < until:  # one of these cuts covers all of them
             self.stays.run(lambda its: its.put("x", its.get("x")))
             time.sleep(0.01)
         self.assertGreaterEqual(live.cuts, cuts + 2)

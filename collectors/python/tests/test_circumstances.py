@@ -1,6 +1,7 @@
-"""When and from where a transaction came, and what it read, is told of a violation."""
+"""When and where a transaction came from, and what it read, is shown with a violation."""
 import os
 import unittest
+from unittest import mock
 
 from zanteyard import Auditor, Session, tell_violation
 from zanteyard.program._auditor import PROGRAM
@@ -23,6 +24,17 @@ class Circumstances(unittest.TestCase):
         found, line = caller().rsplit(":", 1)
         self.assertEqual(os.path.basename(found), os.path.basename(__file__))
         self.assertGreater(int(line), 1)
+
+    def test_who_only_starts_a_program_isnt_the_caller(self):
+        for name, wanted in (
+            ("<frozen runpy>", ""), ("/usr/bin/zanteyard", ""), ("/srv/zanteyard/shop.py", "shop.py:1"),
+            ("<stdin>", "<stdin>:1"),
+        ):
+            its = {"caller": caller}
+            with mock.patch("zanteyard.core._circumstances.DEPTH", 1):  # not this file, too
+                exec(compile("found = caller()", name, "exec"), its)
+            self.assertTrue(its["found"].endswith(wanted), (name, its["found"]))
+            self.assertEqual(bool(its["found"]), bool(wanted))
 
     def test_what_is_not_known_is_not_told(self):
         self.assertEqual(clock_of(Logged((), ())), "")

@@ -1,4 +1,5 @@
-"""The command `zanteyard`: its five statuses over five scripts, and what it tells."""
+"""The command `zanteyard`: its five statuses with five scripts, and its output."""
+import importlib.util
 import io
 import os
 import re
@@ -19,6 +20,7 @@ from zanteyard.cli import audit
 from zanteyard.cli.audit import stopped_by_signals
 from zanteyard.cli._commands import COMMANDS, parser
 from zanteyard.cli._main import main
+from zanteyard.core._command_start import is_command
 from zanteyard.core._outcome import Outcome
 from zanteyard.program import _binaries
 from zanteyard.program._binaries import ProgramOrigin, find_program, program_path
@@ -61,7 +63,7 @@ class Commands(unittest.TestCase):
         return run(*command, self.script(*lines))
 
     def test_mistakes_are_told_in_words(self):
-        """Those that are made first: no file, one that is none, and one without a script."""
+        """The usual first mistakes: no file, a file that is none, and an empty script."""
         begins = 'a script begins with ["open",..], or by ["resume",..] up to ["resumed"]'
         not_open = f"mistake: the script opens no audit: {begins}\n"
         missing = os.path.join(self.folder, "missing.jsonl")
@@ -75,7 +77,8 @@ class Commands(unittest.TestCase):
                 self.assertEqual(run("check", path), (2, "", told))
 
     def test_output_that_nobody_reads_is_no_mistake(self):
-        """The status is that of the verdict, if there is one by then."""
+        """If standard output is closed, the status is that of the verdict, if there is one by
+        then."""
         a_round = '["round",32,0,1]'
         for lines, wanted, told in (
             ([*LOST, a_round], 1, b""),
@@ -99,7 +102,7 @@ class Commands(unittest.TestCase):
         )
 
     def test_a_page_is_written_whoever_reads_the_words(self):
-        """As by `zanteyard explain SCRIPT --html PAGE | head -1`."""
+        """For example by `zanteyard explain SCRIPT --html PAGE | head -1`."""
         page = os.path.join(self.folder, "page.html")
         for command in (
             ["explain", self.script(*LOST), "--html", page],
@@ -275,7 +278,7 @@ class Commands(unittest.TestCase):
         self.assertEqual(run("audit", "mysql")[0], 2)
 
     def test_a_page_that_can_not_be_written_is_no_verdict(self):
-        """A run that was violated ends so, wherever its page is to be."""
+        """A run that was violated ends with that status, even if its page can't be written."""
         try:
             from zanteyard.cli import audit as audit_command
         except ImportError:
@@ -315,7 +318,7 @@ class Help(unittest.TestCase):
             self.assertIn(f"\nexample:\n  zanteyard audit {kind.command} --seconds 5\n", out)
 
     def test_help_is_the_same_whichever_commands_are_filled(self):
-        """Only the command that is asked for has its arguments."""
+        """Only the requested command has its arguments filled in."""
         self.assertEqual(parser("").format_help(), parser().format_help())
 
     def test_help_alone(self):
@@ -329,8 +332,42 @@ class Help(unittest.TestCase):
         self.assertEqual((status, out), (2, ""))
         self.assertIn("invalid choice: 'nothing'", err)
 
+    def completed(self, line, **more):
+        """What a shell is told that has this line, by the functions of argcomplete."""
+        asks = {"_ARGCOMPLETE": "1", "_ARGCOMPLETE_IFS": "\n", "COMP_LINE": line, "COMP_POINT": str(len(line))}
+        code = f'exec "{sys.executable}" -m zanteyard 8>&1 9>&2'  # it writes there
+        return subprocess.run(
+            ["bash", "-c", code], env={**os.environ, **asks, **more}, capture_output=True, text=True
+        )
+
+    @unittest.skipUnless(importlib.util.find_spec("argcomplete"), "argcomplete isn't installed (python3-argcomplete)")
+    def test_what_a_shell_completes(self):
+        with tempfile.TemporaryDirectory() as folder:
+            open(f"{folder}/history.jsonl", "wb").close()
+            for line, wanted in (
+                ("che", ["check", "check-report"]),
+                ("explain --h", ["--help", "--html"]),
+                ("check --promise s", ["serializable", "snapshot", "strict"]),
+                ("audit p", ["postgres"]),
+                ("audit postgres --level r", ["repeatable"]),
+                (f"check {folder}/h", [f"{folder}/history.jsonl"]),
+            ):
+                with self.subTest(line=line):
+                    told = self.completed(f"zanteyard {line}")
+                    found = [each.strip() for each in told.stdout.splitlines()]
+                    self.assertEqual((sorted(found), told.returncode), (wanted, 0), told.stderr)
+
+    def test_a_shell_asks_in_vain(self):
+        """Without argcomplete nothing is told, and nothing is run."""
+        with tempfile.TemporaryDirectory() as folder:
+            with open(f"{folder}/argcomplete.py", "w", encoding="utf-8") as file:
+                file.write("raise ImportError\n")
+            path = os.pathsep.join((folder, os.environ.get("PYTHONPATH", "")))
+            told = self.completed("zanteyard demo ", PYTHONPATH=path)
+        self.assertEqual((told.returncode, told.stdout, told.stderr), (2, "", ""))
+
     def test_a_command_imports_only_its_own(self):
-        """So that it starts at once."""
+        """So that it starts fast."""
         code = (
             "import sys; from zanteyard.cli._main import main\n"
             "try:\n    main(['--version'])\nexcept SystemExit: pass\n"
@@ -342,7 +379,7 @@ class Help(unittest.TestCase):
         self.assertNotIn("zanteyard.watch._run ", out)
 
     def test_an_interrupt_while_it_is_imported(self):
-        """Ctrl-C in its first moments, at whichever module."""
+        """Ctrl-C in its first moments, during the import of any module."""
         code = """
 import sys
 class Interrupting:
@@ -365,8 +402,55 @@ sys.exit(main(sys.argv[2:]))
                 self.assertEqual(ended.stderr.splitlines(), ["interrupted"])
                 self.assertEqual((ended.returncode, ended.stdout), (4, ""))
 
+    def test_an_interrupt_before_it_has_begun(self):
+        """Ctrl-C while the package itself is imported: it ends at once, and says nothing."""
+        code = """
+import signal, sys
+sys.argv = sys.argv[1:]
+class Interrupting:
+    def find_spec(self, name, *_):
+        if name == "zanteyard.core._log_guard":
+            signal.raise_signal(signal.SIGINT)
+sys.meta_path.insert(0, Interrupting())
+import zanteyard
+"""
+        for name, wanted in (("/usr/bin/zanteyard", -signal.SIGINT), ("/usr/bin/shop", None)):
+            with self.subTest(name=name):
+                call = ["env", "--default-signal=INT", sys.executable, "-c", code, name]
+                ended = subprocess.run(call, capture_output=True, text=True)
+                if wanted is not None:
+                    self.assertEqual((ended.returncode, ended.stderr), (wanted, ""))
+                self.assertEqual("KeyboardInterrupt" in ended.stderr, wanted is None)
+
+    def test_which_program_is_the_command(self):
+        for words, all_words, wanted in (
+            (["/x/bin/zanteyard", "check"], [], True),
+            (["-m", "check"], ["python3", "-X", "dev", "-m", "zanteyard", "check"], True),
+            (["-m", "check"], ["python3", "-m", "zanteyard.trial.lockstep"], False),
+            (["-m"], ["python3", "-m", "shop"], False),
+            (["-m"], [], False),
+            (["/x/bin/shop"], ["python3", "/x/bin/shop"], False),
+            ([], [], False),
+        ):
+            with self.subTest(words=words, all_words=all_words):
+                self.assertEqual(is_command(words, all_words), wanted)
+
+    def test_its_main_takes_ctrl_c_over(self):
+        code = """
+import signal, sys
+sys.argv = ["/x/bin/zanteyard"]
+import zanteyard
+before = signal.getsignal(signal.SIGINT)
+from zanteyard.cli._main import main
+main([])
+print(before == signal.SIG_DFL, signal.getsignal(signal.SIGINT) == signal.default_int_handler)
+"""
+        call = ["env", "--default-signal=INT", sys.executable, "-c", code]
+        out = subprocess.run(call, capture_output=True, text=True).stdout
+        self.assertEqual(out.splitlines()[-1], "True True")
+
     def test_numbers_that_are_none(self):
-        """Python's names of functions are nobody's business."""
+        """Messages don't show names of Python functions."""
         for words, wanted in (
             (("check", "a", "--nodes", "abc"), "argument --nodes: 'abc' isn't a whole number from 1 to 16,777,216"),
             (("check", "a", "--nodes", "0"), "argument --nodes: '0' isn't a whole number from 1 to 16,777,216"),
@@ -390,7 +474,7 @@ sys.exit(main(sys.argv[2:]))
 
 
 class Signals(unittest.TestCase):
-    """`zanteyard audit` at Ctrl-C and the like."""
+    """`zanteyard audit` at signals such as Ctrl-C."""
 
     def test_the_first_one_is_noted_and_the_second_one_ends_the_program(self):
         seen = []
@@ -423,7 +507,7 @@ class Signals(unittest.TestCase):
                 with open(os.path.join(folder, name), "w", encoding="utf-8"):
                     pass
                 self.assertEqual(audit._unused(path), path + wanted)
-            os.symlink("/dev/full", os.path.join(folder, "other.jsonl"))  # nothing was kept there
+            os.symlink("/dev/full", os.path.join(folder, "other.jsonl"))  # nothing was written there
             self.assertEqual(audit._unused(os.path.join(folder, "other")), os.path.join(folder, "other"))
 
 
@@ -435,7 +519,7 @@ class Programs(unittest.TestCase):
             find_program({"COBRA_AUDIT": "/no/such"})
 
     def test_one_without_proofs_says_that_it_is_slow(self):
-        """In its version, and where clients wait for it."""
+        """In its version, and in the message when clients have to wait for it."""
         slow = "some 300 times slower than a proved one"
         self.assertIn(f"NOT PROVED, built for a trial; {slow}", ProgramOrigin("p", False).sentence())
         for is_proved, wanted in ((False, f" (it was built without proofs and is {slow})"), (True, ""), (None, "")):
@@ -448,7 +532,7 @@ class Programs(unittest.TestCase):
         self.assertEqual(ProgramOrigin("p", True, "kit", "abc").sentence(), "p: proved by kit, commit abc")
         self.assertIn("NOT PROVED", ProgramOrigin("p", False).sentence())
         self.assertIn("NOT THE FILE", ProgramOrigin("p", True, is_as_noted=False).sentence())
-        self.assertIn("not known whether", ProgramOrigin("p", None).sentence())
+        self.assertIn("unknown whether", ProgramOrigin("p", None).sentence())
 
     def test_the_version(self):
         with open(os.path.join(TOP, "VERSION"), encoding="utf-8") as file:

@@ -1,5 +1,5 @@
-"""The programs from outside, where their devices fail and memory is refused: the bounded part of
-what bench/failing_devices.py and bench/refused_memory.py try. They want a C compiler."""
+"""The programs from outside with failing devices and refused memory: the bounded part of what
+bench/failing_devices.py and bench/refused_memory.py try. Needs a C compiler."""
 import os
 import sys
 import tempfile
@@ -14,11 +14,11 @@ import refused_memory  # noqa: E402
 
 refused_memory.PROGRAMS.update((name, path_of(name)) for name in failing_devices.NAMES)
 
-# Allocations of each run that are refused, spread over all that the program makes for it; and those
-# from which on all are.
+# How many allocations of each run are refused, spread over all of them; and how many from which on
+# all are.
 REFUSALS, LASTING = 12, 3
-# Of this run each is refused. Each of these commands is then answered NoMemory, some of them while a
-# round is open, before it is answered as ever.
+# In this run each allocation is refused in turn. Each of these commands is then answered NoMemory,
+# some of them while a round is open, before it is answered as usual.
 WHOLE = "cobra_audit, first_cut by steps"
 COMMANDS = {"open", "offer", "begin", "finish", "round", "truncate", "rebuild"}
 

@@ -1,5 +1,5 @@
-"""The documents: every command that they show is run, and what it prints compared; no line is too
-long, and every file that they name is there."""
+"""The documents: every command in them is run, and its output compared; no line is too long, and
+every file that they name exists."""
 import glob
 import importlib
 import os
@@ -21,7 +21,7 @@ DOCUMENTS = sorted(
 )
 COLUMNS, WORDS = 120, 900
 
-# Commands that aren't run here, and what runs them.
+# Commands that aren't run here, and the tests that run them.
 ELSEWHERE = {
     r"python3 -m venv venv": "test_package",
     r"venv/bin/.*": "test_package",
@@ -42,20 +42,42 @@ ELSEWHERE = {
 }
 
 
+# Words of the contracts on which programs and reviewers rely: docs/DEFINITIONS.md has to say what they mean.
+PROMISED = {
+    "the headline": "EachReportIsTrue AreTrueReplies Accepted accepted_after TellsTrueOf reported_on IsVerdictWhole"
+    " ExplainsWhole HasPendingWhole History effects",
+    "what serve writes": "IsOutput StopsForMemory StopsReading StopsWriting IsAnswered Answers AnswersOpen AnswersBeside"
+    " Finishes IsCommand command_of line_of lines asked_by",
+    "what cobra_check says": "IsAllRight Checks IsRightReply IsUnchecked IsOwedReport Owes IsWrongReply HasWrongNext Tells"
+    " IsShownIn",
+    "steps and refusals": "StepsTo Legal Holds FragmentFault IntakeFault IsOfferRefusal IsCloseRefusal IsBeginRefusal"
+    " IsFinishRefusal IsTruncateRefusal IsRebuildRefusal number_of",
+    "cuts": "StandsFor KeepsStandsFor IsSettled IsLastSettled IsFound IsCutAt IsCutOf IsKeptFront IsTruncated Known",
+    "joins": "IsJoiningFragment IsReturningFragment IsAnchored IsAnchor MayJoin IsLetIn IsJoinRefusal JoinFault",
+    "marks": "IsNext AdmitFault CloseFault",
+    "hand-overs": "saved_told IsCheckpoint GivenOutIsTaken handed_parts AreGoodParts IsGood IsResumedRefusal",
+    "orders and refutations": "Explains Meets IsRefutation Refutes IsClosed IsArc IsCycle IsForced IsChoice IsNoWrite"
+    " IsGoneRead depth_of IsJoin",
+    "searches": "Scans IsPicked IsPlain MayComeTo IsLawful MayAnswer",
+    "snapshot isolation": "IsSnapshotOrder KeepsSnapshotIsolation IsSnapshotVerdict SeesLastCommit AnswersIsolated"
+    " OpensIsolated IsAskedFault OfferedFault LegalIsolation isolated_of",
+}
+
+
 def text_of(name):
     with open(os.path.join(TOP, name), encoding="utf-8") as file:
         return file.read()
 
 
 def blocks(name):
-    """The fenced blocks of a document, each as its word, its lines, and the text behind it."""
+    """The fenced blocks of a document: the word of each, its lines, and the text after it."""
     parts = re.split(r"^```(.*)$", text_of(name), flags=re.MULTILINE)
     for at in range(1, len(parts) - 1, 4):
         yield parts[at], parts[at + 1].strip("\n").splitlines(), parts[at + 3]
 
 
 def sessions(name):
-    """Each command that a document shows at a prompt, with what it prints."""
+    """Each command that a document shows after a prompt, and its output."""
     for _, lines, _ in blocks(name):
         command, printed = None, []
         for line in lines:
@@ -95,7 +117,7 @@ class Documents(unittest.TestCase):
                         self.assertTrue(os.path.exists(os.path.join(TOP, path)))
 
     def test_what_is_there_is_named(self):
-        """Benchmarks, packages, what each module is for, and how many edits there are."""
+        """Benchmarks, packages, the purpose of each module, and the number of edits."""
         text = text_of("CONTRIBUTING.md")
         for path in glob.glob(os.path.join(TOP, "bench/*.py")):
             with self.subTest(path=path):
@@ -138,7 +160,7 @@ class Documents(unittest.TestCase):
         self.assertGreater(count, 15)
 
     def test_every_command_is_run_somewhere(self):
-        """One without a prompt stands in a block of commands alone."""
+        """A command without a prompt is in a block that has only commands."""
         begins = ("rt ", "./", "python3 ", "/usr/bin/python3 ", "zanteyard ", "cd ", "apt-get ")
         for name in DOCUMENTS:
             for word, lines, _ in blocks(name):
@@ -149,7 +171,7 @@ class Documents(unittest.TestCase):
 
 
 class Licences(unittest.TestCase):
-    """LICENSES.md beside what is linked into the programs, and what the package's extras name."""
+    """Compares LICENSES.md with what is linked into the programs, and with the package's extras."""
 
     @classmethod
     def setUpClass(cls):
@@ -193,7 +215,7 @@ class Licences(unittest.TestCase):
 
 
 class Definitions(unittest.TestCase):
-    """docs/DEFINITIONS.md beside the files of definitions."""
+    """Compares docs/DEFINITIONS.md with the files of definitions."""
 
     @classmethod
     def setUpClass(cls):
@@ -203,39 +225,59 @@ class Definitions(unittest.TestCase):
             crate, name = path.split(os.sep)[-3], os.path.basename(path)[: -len(".antt")]
             if name != "Lib":
                 cls.files[crate, name] = text_of(os.path.relpath(path, TOP))
+        cls.listed, _, inner = cls.page.partition("\n## Words of inner crates\n")
+        cls.inner = set()  # crates whose words the page leaves to their specs
+        for crates in re.findall(r"^- ((?:`\w+`(?:, )?)+): \w", inner, re.MULTILINE):
+            cls.inner.update(re.findall(r"\w+", crates))
+        cls.told = set()  # the words before the sentences
+        for told in re.findall(r"^- (`(?:.*\n)(?:  .*\n)*)", cls.listed, re.MULTILINE):
+            for words in re.findall(r"`([^`]+)`", re.split(r":\s", told, maxsplit=1)[0]):
+                cls.told.add(words.split()[0])
 
-    def test_each_file_is_named_once_by_a_heading_or_among_those_left_out(self):
-        """Some headings share a file; none of these is left out."""
-        listed, _, left_out = self.page.partition("\n## Files that aren't listed\n")
+    def test_each_file_is_named_by_a_heading_or_says_that_it_is_private(self):
+        """Those of inner crates apart. Some headings share a file."""
         named = set()
-        for heading in re.findall(r"^## .*`.*$", listed, re.MULTILINE):
+        for heading in re.findall(r"^## .*`.*$", self.listed, re.MULTILINE):
             crate = None
             for word in re.findall(r"`([\w/]+)`", heading):
                 crate, name = word.split("/") if "/" in word else (crate, word)
                 named.add((crate, name))
-        left = set()
-        for crate, names in re.findall(r"^- `(\w+)`: ((?:`\w+`,?\s+)+)", left_out + "\n", re.MULTILINE):
-            left.update((crate, name) for name in re.findall(r"\w+", names))
-        self.assertEqual(named & left, set())
-        self.assertEqual(sorted(self.files.keys() - named - left), [], "not named")
-        self.assertEqual(sorted((named | left) - self.files.keys()), [], "not there")
+        private = {file for file, text in self.files.items() if text.startswith("-- For private ")}
+        inner = {file for file in self.files if file[0] in self.inner}
+        self.assertEqual(self.inner - {crate for crate, _ in inner}, set(), "no such crate")
+        self.assertGreater(len(inner), 5)
+        self.assertGreater(len(private), 5)
+        self.assertEqual(sorted(named & (inner | private)), [], "needn't be named")
+        self.assertEqual(sorted(self.files.keys() - named - private - inner), [], "not named")
+        self.assertEqual(sorted(named - self.files.keys()), [], "not there")
 
     def test_each_word_that_is_told_of_is_defined(self):
         whole = "\n".join(self.files.values())
         defined = set(re.findall(r"^(?:abbrev |record |data )?pub (?:record |data )?(\w+)", whole, re.MULTILINE))
-        structs = set()  # of which the definitions speak as they are declared
+        structs = set()  # that definitions use as they are declared
         for path in glob.glob(os.path.join(TOP, "crates/*/src/**/*.rt"), recursive=True):
             structs.update(re.findall(r"^pub (?:struct|enum) (\w+)", text_of(os.path.relpath(path, TOP)), re.MULTILINE))
-        names = {name for file in self.files for name in file}
-        count = 0
-        for told in re.findall(r"^- (`(?:.*\n)(?:  .*\n)*)", self.page, re.MULTILINE):
-            for words in re.findall(r"`([^`]+)`", re.split(r":\s", told, maxsplit=1)[0]):
-                word = words.split()[0]
-                if "/" not in word and word not in names:
-                    count += 1
-                    with self.subTest(word=word):
-                        self.assertIn(word, defined | structs)
-        self.assertGreater(count, 400)
+        for word in self.told:
+            with self.subTest(word=word):
+                self.assertIn(word, defined | structs)
+        self.assertGreater(len(self.told), 250)
+
+    def test_the_words_of_public_contracts_are_told_of(self):
+        for promise, words in PROMISED.items():
+            for word in words.split():
+                with self.subTest(promise=promise, word=word):
+                    self.assertIn(word, self.told)
+
+    def test_each_word_of_an_inner_crate_has_its_sentence(self):
+        """Above it in its file, but for a few that go with the one before."""
+        for crate in self.inner:
+            whole = "\n".join(text for (its, _), text in self.files.items() if its == crate)
+            word = r"(?:(?:abbrev|record|data) )?pub (?:(?:record|data) )?\w+"
+            words = len(re.findall(rf"^{word}", whole, re.MULTILINE))
+            sentences = len(re.findall(rf"^-- .*\n{word}", whole, re.MULTILINE))
+            with self.subTest(crate=crate):
+                self.assertGreater(words, 0)
+                self.assertGreaterEqual(sentences, words * 7 / 8)
 
 
 @unittest.skipUnless(os.path.isfile(PROGRAM), f"{PROGRAM} is not built")
@@ -280,7 +322,7 @@ class Shown(unittest.TestCase):
         return ended.stdout.splitlines()
 
     def save_scripts(self, name):
-        """The blocks of which the text behind them says under which name they are saved."""
+        """Saves the blocks for which the text after them gives a file name."""
         for _, lines, behind in blocks(name):
             saved = re.match(r"\s*Saved as `([\w.]+)`", behind)
             if saved:
@@ -302,7 +344,7 @@ class Shown(unittest.TestCase):
         return self.run_it("cobra_audit", "".join(f"{line}\n" for line in lines))
 
     def test_lines_and_replies(self):
-        """Blocks in which `>` goes in and `<` comes out."""
+        """Blocks with input lines after `>` and output lines after `<`."""
         count = 0
         for name in DOCUMENTS:
             for _, lines, _ in blocks(name):

@@ -1,5 +1,4 @@
-"""The examples at the top say what docs/COLLECTORS.md and README.md here say of them, and end
-well."""
+"""The examples at the top print what docs/COLLECTORS.md and this README.md say, and end well."""
 import glob
 import os
 import re
@@ -27,12 +26,12 @@ class Examples(unittest.TestCase):
         folder = tempfile.TemporaryDirectory()
         self.addCleanup(folder.cleanup)
         self.folder = folder.name
-        os.chmod(self.folder, 0o711)  # servers in it run as another user, where this runs as root
+        os.chmod(self.folder, 0o711)  # if this runs as root, servers in it run as another user
         os.makedirs(f"{self.folder}/work")
         os.makedirs(f"{self.folder}/tmp", mode=0o711)
 
     def begin(self, name, *arguments, **more):
-        """In a folder of its own, with servers in another one."""
+        """Starts it in a folder of its own, with servers in another one."""
         return subprocess.Popen(
             [sys.executable, f"{EXAMPLES}/{name}", *arguments],
             cwd=f"{self.folder}/work",
@@ -127,7 +126,7 @@ class Examples(unittest.TestCase):
         self.assertIn("No space left on device", text)
 
     def test_a_signal_ends_it_with_a_last_round(self):
-        """And nothing is left behind. The status is that of the verdict."""
+        """Nothing is left behind, and the status is that of the verdict."""
         self.postgres_is_there()
         for number, more in (
             (signal.SIGTERM, ()), (signal.SIGINT, ("--processes",)), (signal.SIGHUP, ("--churn",))
@@ -148,7 +147,7 @@ class Examples(unittest.TestCase):
                 self.assertEqual(self.of_folder(), [])
 
     def test_a_bench_that_is_ended_leaves_no_server_behind(self):
-        """At whatever moment, as while a server is made."""
+        """At any moment, even while a server is being made."""
         self.postgres_is_there()
         for is_made in (False, True):
             with self.subTest(is_made=is_made):
@@ -163,7 +162,7 @@ class Examples(unittest.TestCase):
                 self.assertEqual((os.listdir(f"{self.folder}/tmp"), self.of_folder()), ([], []), text)
 
     def is_served(self):
-        """A server takes connections at a socket in the folder."""
+        """Whether a server accepts connections at a socket in the folder."""
         return bool(glob.glob(f"{self.folder}/tmp/*/.s.PGSQL.*"))
 
     def of_folder(self):
@@ -179,7 +178,7 @@ class Examples(unittest.TestCase):
         return found
 
     def test_a_server_of_ones_own(self):
-        """Its user may make tables, and nothing else."""
+        """Its user may create tables, and nothing else."""
         self.postgres_is_there()
         import psycopg2
 

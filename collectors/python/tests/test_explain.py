@@ -1,4 +1,4 @@
-"""What is told of violated histories, by the refutations of a plain auditor. No built program is
+"""Explanations of violated histories, with the refutations of a plain auditor. No built program is
 needed."""
 import functools
 import unittest

@@ -1,5 +1,5 @@
-"""What is told of a violation is the refutation that the auditor has checked: each circle in it
-closes over what holds there, as a plain checker finds it, which refuses what is read wrongly."""
+"""An explanation is the refutation that the auditor has checked. A plain checker finds each cycle
+in it correct, and refuses explanations that were misread."""
 import functools
 import itertools
 import json
@@ -85,8 +85,8 @@ def hidden(seed):
 
 
 def hidden_behind(clause):
-    """Two pairs whose order is open, and readers that rule out all ways to order them where a third
-    pair has the order that the clause leaves it."""
+    """Two pairs whose order is open, and readers that rule out all ways to order them if a third
+    pair has the order that the clause leaves open."""
     ways = itertools.product((0, 1), repeat=2)
     return hiding(3, [clause, *([(0, one), (1, other), (2, 1)] for one, other in ways)])
 
@@ -103,7 +103,7 @@ FORK = [
     [txn(writes="x")], [txn(writes="y")],
     [txn(("x", (0, 0)), ("y", "init"))], [txn(("y", (1, 0)), ("x", "init"))],
 ]
-BOTH_ORDERS = [  # of two writers of one key, each of which is read as the last by somebody
+BOTH_ORDERS = [  # of two writers of one key, each of which somebody reads as the last
     [txn(writes="x a"), txn(("x", (1, 0)), ("b", (1, 0)))],
     [txn(writes="x b"), txn(("x", (0, 0)), ("a", (0, 0)))],
 ]
@@ -167,7 +167,7 @@ class Explanations(unittest.TestCase):
                 self.assertEqual("split" in str(case) or case in MADE, bool(explanation.cases))
 
     def test_it_is_the_tree_that_was_checked(self):
-        """Each end of it is told."""
+        """Each end of the tree appears."""
         for case, program in itertools.product(WORKED, PROGRAMS):
             with self.subTest(case=case, program=os.path.basename(program)):
                 items = [item[0] for item in audited(case, program).report.certificate]
@@ -176,7 +176,7 @@ class Explanations(unittest.TestCase):
                 self.assertEqual(len([it for it in ends if it.arcs]), items.count("cycle"))
 
     def test_each_number_stands_for_one_reason(self):
-        """What a circle rests on is told above it, or in the cases around."""
+        """What a cycle follows from appears above it, or in the cases around it."""
         for case in WORKED:
             told = set()
 
@@ -197,10 +197,10 @@ class Explanations(unittest.TestCase):
 
 
 class Mutants(unittest.TestCase):
-    """Refutations that are read wrongly, each of which the checker has to refuse somewhere."""
+    """Misread refutations; the checker has to refuse each kind somewhere."""
 
     def refused(self):
-        """How many the checker refuses; what can't be read isn't counted."""
+        """How many the checker refuses; unreadable ones don't count."""
         count = 0
         for case, (history, promise) in WORKED.items():
             its = audited(case)
@@ -265,7 +265,7 @@ class Words(unittest.TestCase):
     maxDiff = None
 
     def test_a_split(self):
-        """The worked script: two writers of key 1 and two of key 2, in whichever order."""
+        """The worked script: two writers of key 1 and two of key 2, in either order."""
         with open(os.path.join(DATA, "real_split.replies"), encoding="utf-8") as file:
             items = json.loads(file.read().splitlines()[-1])[4]
         with open(os.path.join(DATA, "real_split.jsonl"), encoding="utf-8") as file:
@@ -276,7 +276,8 @@ class Words(unittest.TestCase):
         self.assertEqual("\n".join(told.lines), REAL_SPLIT)
 
     def test_a_read_from_the_own_session_is_told_by_it(self):
-        """The tree of docs/FORMATS.md, of a lost update. Without sessions it's told by the read."""
+        """The tree of a lost update in docs/FORMATS.md. With sessions, a read from the reader's own
+        session is shown as session order, and without them as the read."""
         forced = [
             ["force", [0, 1, 1, 0, 0, 1, 0], 2, [["taken", 1, 0, 0, 0], ["read", 1, 0, 0, 1, 0]]],
             ["force", [1, 0, 1, 0, 0, 0, 1], 1, [["taken", 1, 0, 0, 1], ["taken", 0, 1, 1, 0]]],
@@ -306,7 +307,7 @@ class Words(unittest.TestCase):
     def test_too_many_cases(self):
         items = [["split", [0, 1, 1, 0, 0, 1, 0]]] * (MANY + 1)
         told = read_refutation(items, LOST, ["fence", "x"], name)
-        self.assertEqual(told.lines, (f"the auditor's refutation has {MANY + 2} cases, too many to tell",))
+        self.assertEqual(told.lines, (f"the auditor's refutation has {MANY + 2} cases, too many to show",))
 
     def test_what_is_no_refutation(self):
         for items in (

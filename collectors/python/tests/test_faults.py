@@ -1,6 +1,6 @@
-"""What goes wrong around an audit of a real server: what the application saw, what the audit said,
-and how long anybody waited for it. The table of README.md sums up what these tests print to the file
-that ZANTEYARD_FAULTS names, if it does."""
+"""Faults around an audit of a real server: what the application saw, what the audit reported, and
+how long anybody waited for it. If ZANTEYARD_FAULTS names a file, these tests write their results
+there; README.md sums them up."""
 import logging
 import os
 import signal
@@ -46,8 +46,8 @@ LACKING = [
 ]
 PLACE = os.path.join(os.path.dirname(os.path.abspath(__file__)), "..")
 CLIENTS = 4
-SOON = 120.0  # seconds, beside other programs
-PACE = 0.02  # seconds between two transactions, where the auditor is to keep up beside them
+SOON = 120.0  # seconds, on a busy machine
+PACE = 0.02  # seconds between two transactions, if the auditor is to keep up with them
 
 CLIENT = """
 import sys, time
@@ -77,9 +77,9 @@ def add_one(transaction):
 
 
 class Application:
-    """Clients that count, each in a thread, until it is ended. It tries again where the store says
-    that a transaction aborted, and where the store can't be reached; it counts what it was told is
-    done."""
+    """Clients that increment counters, each in a thread, until it is ended. A client tries again if
+    the store reports that a transaction aborted, and if the store can't be reached. It counts the
+    increments that it was told are done."""
 
     def __init__(self, sessions, pace=0.0):
         self.sessions, self.done, self.unknown, self.seen, self.pace = sessions, 0, 0, [], pace
@@ -169,7 +169,7 @@ class Faults(unittest.TestCase):
         return sum(int(self.sql(dsn, "SELECT value FROM zanteyard WHERE key = 'x'")) for dsn in self.counted_in)
 
     def sql(self, dsn, text):
-        """The first value of the first row, if there is one."""
+        """The first value of the first row; None if there is none."""
         connection = psycopg2.connect(dsn)
         try:
             connection.autocommit = True
@@ -180,7 +180,8 @@ class Faults(unittest.TestCase):
             connection.close()
 
     def ended(self, application, fault, kind="incomplete", saw="nothing"):
-        """What all of them owe: no count twice, no violation, nobody who waits."""
+        """Checks what must hold after every fault: nothing is counted twice, no violation is
+        reported, and nobody waits too long."""
         application.end()
         outcome = self.live.stop()
         self.assertEqual(outcome.kind, kind or self.owed(outcome), str(outcome))
@@ -194,8 +195,8 @@ class Faults(unittest.TestCase):
         return outcome
 
     def owed(self, outcome):
-        """Where it isn't known beforehand whether the audit went on. A fence whose outcome can't be
-        found out is the one thing that isn't handed in."""
+        """The same if it isn't known in advance whether the audit went on. Only a fence whose
+        outcome can't be found out isn't handed in."""
         if outcome.earlier or outcome.failure:
             return "incomplete"
         self.assertLessEqual({one.key for one in outcome.pending}, {FENCE})
@@ -252,7 +253,7 @@ class Faults(unittest.TestCase):
         self.ended(application, "the process between stands still")
 
     def test_a_client_hangs_in_a_transaction(self):
-        self.audit(limit=1000)  # so that there is no room soon
+        self.audit(limit=1000)  # so that there is soon no room
         self.live._pace.every = 400
         store = PostgresStore(self.cluster.dsn)
         self.addCleanup(store.close)
@@ -267,7 +268,7 @@ class Faults(unittest.TestCase):
         try:
             transaction.commit()
         except AbortedError:
-            pass  # the store's own
+            pass  # the store's own error
         hung.run(lambda t: t.get("y"))
         outcome = self.ended(application, "a client hangs in a transaction")
         self.assertIn("took longer", str(outcome.earlier[0].failure))
@@ -275,7 +276,7 @@ class Faults(unittest.TestCase):
             session.store.close()
 
     def test_the_server_of_one_connection_stands_still(self):
-        """As where the network to it is dead: what a meeting asks over it isn't answered."""
+        """As if the network to it were down: what a meeting asks over it isn't answered."""
         self.audit()
         store = PostgresStore(self.cluster.dsn)
         self.addCleanup(store.close)
@@ -304,7 +305,7 @@ class Faults(unittest.TestCase):
             pass
 
     def test_postgresql_is_restarted(self):
-        """Of a commit that was on its way the server can't always say what became of it."""
+        """The server can't always say what became of a commit that was on its way."""
         self.audit()
         application = self.application(patience=20.0)
         self.wait_for(self.is_audited)
@@ -312,7 +313,7 @@ class Faults(unittest.TestCase):
         time.sleep(0.5)
         begun = sum(session.begun for session in application.sessions)
         time.sleep(0.5)
-        # Attempts that never reached the store took no numbers; those of before had begun.
+        # Attempts that never reached the store took no numbers; earlier ones had begun.
         later = sum(session.begun for session in application.sessions)
         self.assertLessEqual(later, begun + CLIENTS)
         self.cluster.start()
@@ -331,7 +332,7 @@ class Faults(unittest.TestCase):
         self.assertIsInstance(self.auditor.script_failure, OSError)
         self.ended(application, "the disk with the script is full", "serial")
 
-    # stores that aren't the audit's, and who answers in a store's place
+    # stores other than the audit's, and other servers that answer for the store
 
     def test_a_client_of_another_database(self):
         self.sql(self.cluster.dsn, "DROP DATABASE IF EXISTS other")
@@ -370,7 +371,7 @@ class Faults(unittest.TestCase):
 
     @unittest.skipUnless(program("pg_basebackup"), "pg_basebackup isn't installed (no standby answered)")
     def test_a_standby_that_lags_answers(self):
-        """Where the primary's socket is away for a moment, as connections to it are lost."""
+        """The primary's socket is gone for a moment, just when connections to it are lost."""
         with tempfile.TemporaryDirectory() as folder, Standby(self.cluster) as standby:
             self.sql(standby.dsn, "SELECT pg_wal_replay_pause()::text")
             here = f"{folder}/primary"
@@ -408,7 +409,7 @@ class Faults(unittest.TestCase):
                 entries = stranger.xrevrange(up, count=3)
                 texts = [fields for _, fields in entries] + [{b"m": b'["lost","for a test"]', b"s": b"?" * 32}]
                 for at, fields in enumerate(texts if entries else ()):
-                    with suppress(redis.ResponseError):  # the client has told more by then
+                    with suppress(redis.ResponseError):  # the client has sent more by then
                         stranger.xadd(up, fields, id=b"%s-%d" % (entries[0][0].split(b"-")[0], 1 + at))
                 stranger.hset(streams.names.clients, f"{turn:016x}", "here")
                 stranger.xadd(streams.names.up(f"{turn:016x}"), {"m": b'["hello","host",1]', "s": b""})
@@ -433,7 +434,7 @@ class Faults(unittest.TestCase):
         return begun
 
     def client(self, folder, path, seconds, pace=0.0):
-        """Tells what it does in a file, so that it is there also where it is killed."""
+        """Reports in a file what it does, so that the report survives a kill."""
         call = [sys.executable, "-c", CLIENT, PLACE, path, self.cluster.dsn, str(seconds), str(pace)]
         with tempfile.NamedTemporaryFile(dir=folder, delete=False) as file:
             process = subprocess.Popen(call, stdout=file)
@@ -454,7 +455,7 @@ class Faults(unittest.TestCase):
         self.assertEqual(outcome.kind, kind or self.owed(outcome), str(outcome))
         told = sum(count for count, _ in ends)
         self.assertGreaterEqual(self.counted(), told)
-        # Who is killed may have one more committed than it could tell.
+        # A killed client may have one more commit than it could report.
         self.assertLessEqual(self.counted(), told + sum(waited is None for _, waited in ends))
         for _, waited in ends:
             if waited is not None:
@@ -465,8 +466,8 @@ class Faults(unittest.TestCase):
         return outcome
 
     def end_of(self, process):
-        """How many commits it told, and how long it waited at most, and might; or None in place of
-        these, where it was killed."""
+        """How many commits it reported, how long it waited at most, and how long it might have; or
+        None for these if it was killed."""
         process.wait(SOON)
         _, told, waited = f"{self.told_by(process)}\n".split("\n")[:3]
         return told.count("+"), tuple(map(float, waited.split())) or None
@@ -476,7 +477,7 @@ class Faults(unittest.TestCase):
         self.all_ended(self.processes(2, PACE), "none, in processes", "serial")
 
     def test_a_clients_process_is_killed(self):
-        """The audit goes on: what that did last is found in its notes."""
+        """The audit goes on: its last transactions are in its notes."""
         self.audit()
         killed, *others = self.processes(4, PACE)
         self.wait_for(lambda: "+" in self.told_by(killed))
@@ -485,7 +486,7 @@ class Faults(unittest.TestCase):
         self.all_ended([killed, *others], "a client's process is killed", "serial")
 
     def test_a_clients_process_stands_still(self):
-        """No meeting can be had, until there is no room; it isn't audited until it answers
+        """No meeting is possible until there is no room. The process isn't audited until it answers
         again."""
         self.audit()
         hung, *others = self.processes(8)
@@ -493,11 +494,11 @@ class Faults(unittest.TestCase):
         os.kill(hung.pid, signal.SIGSTOP)
         time.sleep(4.0)
         os.kill(hung.pid, signal.SIGCONT)
-        # whether there was no room meanwhile depends on how much the others got done
+        # whether there was no room meanwhile depends on how much the others did
         self.all_ended([hung, *others], "a client's process stands still for 4 s", kind=None)
 
     def test_the_auditors_process_is_killed(self):
-        """Clients go on, unaudited, and are told by their own `is_over`."""
+        """Clients go on, unaudited, and learn it from their own `is_over`."""
         program = """
 import sys, time
 sys.path.insert(0, sys.argv[1])

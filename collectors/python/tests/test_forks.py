@@ -13,7 +13,7 @@ from .test_live import WithProgram, add_one, set_to
 
 
 class InEachProcess:
-    """A store as behind a driver that connects anew in each process."""
+    """A store whose driver reconnects in each process."""
 
     def __init__(self, path):
         self.path, self.stores = path, {}
@@ -25,7 +25,7 @@ class InEachProcess:
 
 
 def in_child(do):
-    """Its status."""
+    """The child's exit status."""
     child = os.fork()
     if not child:
         status = 1
@@ -111,7 +111,7 @@ class Forks(WithProgram):
         self.assertEqual(self.audit.stop().kind, "incomplete")
 
     def test_a_child_waits_for_no_thread_of_its_parent(self):
-        """Who has a lock as the child is forked doesn't run in it."""
+        """A thread that holds a lock at the fork doesn't run in the child."""
         has, ends = threading.Event(), threading.Event()
 
         def hold():

@@ -1,4 +1,5 @@
-"""Reads of versions that were there before the audit count as the keys' first state, and the outcome says how many."""
+"""Reads of versions from before the audit count as reads of the keys' first state, and the outcome
+says how many there were."""
 import argparse
 import logging
 import os
@@ -58,7 +59,7 @@ class FromBefore(unittest.TestCase):
                 session = self.session(auditor)
                 session.run(read("x", "y", "z"))  # nobody has ever written z
                 session.run(read("x"))
-                session.fence()  # which reads an earlier run's
+                session.fence()  # reads an earlier run's fence
                 session.run(write(f"{kind} x"))
                 session.run(read(f"{kind} x"))
                 outcome = auditor.outcome()
@@ -103,7 +104,7 @@ class FromBefore(unittest.TestCase):
                 self.assertTrue(wait_until(lambda: live.taken_in == 3))
                 live.lose(AuditLostError("for a test"))
                 self.assertTrue(wait_until(lambda: live.name != name))
-                a.run(read("x", "z"))  # what the audit before this one has seen written
+                a.run(read("x", "z"))  # versions that the previous audit saw written
                 b.run(write("x"))
                 a.run(read("x"))
                 outcome = live.stop()
@@ -130,7 +131,7 @@ class FromBefore(unittest.TestCase):
                 session.run(read("x"))
                 auditor.close(1)
                 auditor.round()
-                auditor.truncate()  # what the checkpoint tells behind it
+                auditor.truncate()  # this also writes a checkpoint
                 auditor.end()
                 resumed = Auditor.resumed(path, PLAIN)
                 self.addCleanup(resumed.end)

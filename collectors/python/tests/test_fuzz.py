@@ -1,5 +1,5 @@
-"""The auditor beside a plain model of it: what bench/fuzz.py gives it, for a minute; and
-that what would be wrong is found, by lies that are told between the auditor and the model."""
+"""The auditor and a plain model of it, with the input of bench/fuzz.py, for a minute; and lies
+between the auditor and the model, each of which has to be found."""
 import json
 import multiprocessing
 import os
@@ -23,10 +23,10 @@ import judge  # noqa: E402
 from plain_proofs import check_tree  # noqa: E402
 from plain_verdicts import Wrong  # noqa: E402
 
-LINES, SECONDS = 300000, 60.0  # what is tried, at most; bench/fuzz.py tries more
+LINES, SECONDS = 300000, 60.0  # tried at most; bench/fuzz.py tries more
 SEED = 3
 FOUND = 1500  # lines within which each lie is found
-LEFT = 3  # lines, at most, that the script of a lie is made small to
+LEFT = 3  # lines, at most, to which a lie's script is reduced
 
 
 def told(reply):
@@ -38,7 +38,7 @@ def is_report(reply, *kinds):
 
 
 def changed(reply, kinds, change):
-    """The report with a change, where it is one of these kinds and the change changes it."""
+    """The report with a change, if it is of one of these kinds and the change applies."""
     if not is_report(reply, *kinds):
         return reply
     report = told(reply)
@@ -60,7 +60,7 @@ def exchange(report):
 
 
 def other_leaf(report):
-    """The last item with one of its numbers, or its arcs, otherwise."""
+    """The last item with one of its numbers or arcs changed."""
     leaf = report[4][-1]
     if leaf[0] == "cycle":
         leaf[1].pop()
@@ -136,7 +136,7 @@ def reports(kinds, change):
 
 
 def every(count, replies):
-    """Of each so many replies one becomes these."""
+    """Replaces every n-th of these replies."""
     seen = [0]
 
     def lie(_, reply):
@@ -154,7 +154,7 @@ def same(line):
 
 
 def swallowed(line):
-    """An offer that is answered ok, and isn't kept."""
+    """An offer that is answered ok but not kept."""
     return b'["show"]' if line.startswith(b'["offer"') else line
 
 
@@ -163,7 +163,7 @@ def told_ok(line, reply):
 
 
 def rebuilds(line):
-    """A refusal that changes the state: what is no command makes the auditor anew."""
+    """A refusal that changes the state: an unknown command resets the auditor."""
     return line if judge.command_of(line) else b'["rebuild"]'
 
 
@@ -194,7 +194,7 @@ def more_room(line):
 
 
 class LateBegin:
-    """A round that counts what came after its begin, and is otherwise told as it has to be."""
+    """A round that includes what arrived after its begin, but is otherwise reported correctly."""
 
     def __init__(self):
         self.is_open, self.told = False, {}
@@ -220,12 +220,12 @@ def replaced(old, new):
 
 
 def read_as(old, new):
-    """A line is read as another one."""
+    """A line that is read as another one."""
     return lambda line: line.replace(old, new)
 
 
 def as_version(old, new):
-    """An opening is read as one of another version."""
+    """An opening that is read as one of another version."""
     opening = re.compile(rb'(\["(?:open|resume)",\d+,\d+)' + old + rb"\]")
     return lambda line: opening.sub(rb"\1" + new + b"]", line)
 
@@ -234,8 +234,8 @@ def without_no_text(line):
     return line.decode("utf-8", errors="ignore").encode()
 
 
-# Of each lie: what of the generators shows it, what the program is given in place of a line, and
-# what is told in place of the reply.
+# For each lie: which part of the generators shows it, what the program is given in place of a line,
+# and what replaces the reply.
 LIES = {
     "another refusal": ("scripts", same, replaced(b'6,"Repeat"', b'5,"Gap"')),
     "another number": ("scripts", same, replaced(b'["no",6', b'["no",5')),
@@ -281,8 +281,9 @@ LIES = {
 }
 
 
-# 0.2 and 1.2 both read key 1 as it was at first, and wrote it. A round after an answer and a cut
-# may rule out a side of 0.3's read by an arc that is that side's fact, before it meets the circle.
+# 0.2 and 1.2 both read the initial version of key 1, and wrote it. A round after an answer and a
+# cut may rule out a side of 0.3's read by an arc that is that side's fact, before it reaches the
+# cycle.
 KNOWN_SIDE = (
     '["open",2,8]', '["offer",0,0,[[[[0,"init"]],[0]],[[[0,1,0]],[0]],[[[1,"init"]],[1]]]]',
     '["offer",1,0,[[[[0,0,0]],[0]],[[[0,0,1]],[0]]]]', '["begin"]',
@@ -296,7 +297,7 @@ KNOWN_SIDE_TREE = [
 
 
 class Recorded(fuzz.Program):
-    """The program, and all that it was given and told."""
+    """The program, with a record of its lines and replies."""
 
     def __init__(self, scripts):
         super().__init__(PROGRAM)
@@ -310,7 +311,7 @@ class Recorded(fuzz.Program):
 
 
 class Liar(fuzz.Program):
-    """The program, with a lie between it and who reads its replies."""
+    """The program, with a lie between it and whoever reads its replies."""
 
     def __init__(self, given, answer):
         super().__init__(PROGRAM)
@@ -325,8 +326,8 @@ class Liar(fuzz.Program):
 
 
 class Waiting(fuzz.Program):
-    """The program, which is asked for a search's report once it is there: else it may say that it
-    is searching still, and two runs aren't the same."""
+    """The program, which is asked for a search's report only once it is ready. Otherwise it may say
+    that it is still searching, and two runs would differ."""
 
     def __init__(self):
         super().__init__(PROGRAM)
@@ -356,24 +357,26 @@ def lying():
 
 
 def recorded(only):
-    """What the program was given and told in some scripts."""
+    """The program's lines and replies for some scripts."""
     scripts = []
     fuzz.fuzz(lambda: Recorded(scripts), fuzz.Run(SEED, FOUND, only=only))
     return scripts
 
 
 def worked():
-    """What the worked scripts give and are told; the last line may have no LF."""
+    """The lines and replies of the worked scripts; the last line may have no LF."""
     for name in sorted(os.listdir(WORKED)):
         if name.endswith(".jsonl"):
             with open(os.path.join(WORKED, name), "rb") as file:
                 lines = judge.lines_of(file.read())
+            if not judge.is_known(lines):
+                continue
             with open(os.path.join(WORKED, name[:-5] + "replies"), "rb") as file:
                 yield list(zip(lines, judge.lines_of(file.read())))
 
 
 def found_in(scripts, answer):
-    """How many lines it takes until the lie is found; None where it isn't."""
+    """After how many lines the lie is found; None if it isn't."""
     before = 0
     for pairs in scripts:
         lies = [lie for pair in pairs for lie in answer(*pair)]
@@ -429,7 +432,7 @@ class Fuzz(unittest.TestCase):
             self.assertGreaterEqual(beside.lines, run.lines)
 
     def test_what_one_process_finds_stops_all(self):
-        """The others have lines for days."""
+        """The other processes have lines for days."""
         first = multiprocessing.Value("i", 0)
 
         def lying_first():
@@ -456,13 +459,14 @@ class Fuzz(unittest.TestCase):
             running = subprocess.Popen([*words, program], stdout=subprocess.PIPE)
             self.assertTrue(wait_until(lambda: len(os.listdir(folder)) > 2))
             running.terminate()
-            told, _ = running.communicate()  # until nobody holds its end of the pipe any more
+            told, _ = running.communicate()  # returns when nobody holds its end of the pipe any more
             self.assertEqual(1, running.returncode)
             self.assertEqual(1, told.count(b"kind of line"))
             self.assertRegex(told.splitlines()[-1], rb"^seed 1 in 2 processes: .* STOPPED$")
 
     def test_a_side_is_ruled_out_by_a_circle_that_begins_with_its_fact(self):
-        """Which may be told by the reads; one that begins elsewhere is no tree of the auditor's."""
+        """Such a cycle may be reported by its reads. One that begins elsewhere is no tree of the
+        auditor's."""
         model, lines = judge.Model(), [line.encode() for line in KNOWN_SIDE]
         for line in lines[:-1]:
             owed = model.owed(judge.command_of(line))

@@ -1,4 +1,4 @@
-"""What somebody who can write to the audit's Redis, and has no key, can do: nothing to what is audited."""
+"""Someone who can write to the audit's Redis but has no key can't change what is audited."""
 import contextlib
 import os
 import random
@@ -36,7 +36,7 @@ except ImportError:
 
 
 class Texts(unittest.TestCase):
-    """Of messages."""
+    """The texts of messages."""
 
     LOGGED = Logged(
         [("x", (1, 2)), ("y\ud800\x1b", "init")], ("x",), "committed", ((("x", "init"), "SELECT é"),), (("read", "x", "1"),),
@@ -87,7 +87,7 @@ class Keys(unittest.TestCase):
         key = read_key(self.path)
         self.assertEqual(len(key), 64)
         with self.assertRaises(KeyFileError):
-            make_key(self.path)  # which is there
+            make_key(self.path)  # the file exists
         self.assertEqual(read_key(self.path), key)
 
     def test_a_file_that_is_no_key_is_refused(self):
@@ -148,7 +148,8 @@ class Hostile(WithRedis, WithProgram, unittest.TestCase):
         self.wait_for(lambda: self.live.taken_in == taken)
 
     def test_a_name_that_is_no_text_and_one_that_has_no_key_are_refused_and_the_rest_goes_on(self):
-        """The first had ended the thread that serves streams, and the daemon looked well."""
+        """An invalid name once ended the thread that serves streams, and the daemon still looked
+        healthy."""
         store = MemoryStore()
         self.still_audits(self.client(), store, 1)
         for field in (b"\xff\xfe", b"", b"a" * 100, b"../..", b"0" * 15):
@@ -175,7 +176,7 @@ class Hostile(WithRedis, WithProgram, unittest.TestCase):
         forged, added = text_of(("lose", "forged")), 0
         while added < 3:
             number, _, more = self.tells.xinfo_stream(up)["last-generated-id"].partition(b"-")
-            with suppress(ResponseError):  # the client has told more by then
+            with suppress(ResponseError):  # the client has sent more by then
                 self.tells.xadd(up, {"m": forged, "s": b"?" * 32}, id=f"{int(number)}-{int(more) + 1}")
                 added += 1
         self.wait_for(lambda: self.server.refused.total >= 3)
@@ -183,7 +184,7 @@ class Hostile(WithRedis, WithProgram, unittest.TestCase):
         self.assertIsNone(self.live.lost)
 
     def test_what_a_process_told_before_it_left_is_worth_nothing_again(self):
-        """It would give its sessions to others twice."""
+        """Replaying it would give the process's sessions to others twice."""
         store, client = MemoryStore(), self.client()
         name = client._messages.client
         with self.kept() as kept:
@@ -201,7 +202,7 @@ class Hostile(WithRedis, WithProgram, unittest.TestCase):
         self.assertEqual(self.live.taken_in, 2)
 
     def kept(self):
-        """All that appenders put."""
+        """Everything that appenders put."""
         @contextlib.contextmanager
         def keeps():
             kept, plain = [], Signer.sign
@@ -224,7 +225,7 @@ class Hostile(WithRedis, WithProgram, unittest.TestCase):
         self.strange(self.names.auditor)
 
     def strange(self, key):
-        self.wait_for(lambda: self.server._held_at > 0)  # it says that again a second later
+        self.wait_for(lambda: self.server._held_at > 0)  # it renews its hold a second later
         self.tells.pipeline().delete(key).lpush(key, "no hash and no text").execute()
         self.wait_for(lambda: self.server.failure is not None)
         self.assertIsInstance(self.server.failure, StrangeRedisError)
@@ -259,7 +260,7 @@ class Hostile(WithRedis, WithProgram, unittest.TestCase):
             key = getattr(self.names, name)
             key = key if isinstance(key, str) else key(client._messages.client)
             for _ in range(20):
-                with suppress(Exception):  # it may be made anew at any time
+                with suppress(Exception):  # it may be made again at any time
                     self.tells.delete(key)
                     self.strange_value(key, draws)
             stays.sessions[0].run(add_one("x"))
@@ -333,7 +334,7 @@ class Daemons(WithRedis, unittest.TestCase):
 @unittest.skipIf(SKIP, WHY)
 class Fuzzed(unittest.TestCase):
     def test_what_is_accepted_is_what_was_signed(self):
-        """As bench/fuzz_messages.py, which takes a million."""
+        """As bench/fuzz_messages.py, which tries a million."""
         bench = os.path.join(os.path.dirname(os.path.abspath(__file__)), "../../../bench")
         sys.path.insert(0, bench)
         try:

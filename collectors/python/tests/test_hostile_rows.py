@@ -1,4 +1,4 @@
-"""Malicious lines, bad parts, forged trees and spent budgets, row by row, over the programs."""
+"""Malicious lines, bad parts, forged trees and spent budgets, row by row, for all programs."""
 import json
 import os
 import subprocess
@@ -19,7 +19,7 @@ OK = b'["ok"]'
 BAD_LINE, BAD_SESSION = b'["no",1,"BadLine"]', b'["no",2,"BadSession"]'
 BAD_TXN, TOO_LONG, BAD_PARTS = b'["no",3,"BadTxn"]', b'["no",9,"TooLong"]', b'["no",14,"BadParts"]'
 NOTHING = b'["show",[0],[0],[false],[],0]'
-# Lines behind ["open",1,8], and what each is answered; behind each one nothing has changed.
+# Lines after ["open",1,8], and the reply to each; none of them changes anything.
 LINES = [
     (b'["open",1,2,3]', BAD_LINE),
     (b'["offer",256,0,[[[],[5]]]]', BAD_LINE),
@@ -58,8 +58,8 @@ LINES = [
     (b'["show"]', NOTHING),
     (b'["show"]' + b" " * 8388600, NOTHING),
 ]
-# Parts of one session: the limit, the mark, the flags, the last writers, and what remains; and what
-# the last line of their hand-over is answered that isn't ok.
+# Parts of one session: the limit, the mark, the flags, the last writers, and what remains; and the
+# refusal of the hand-over's last line.
 ALL = 2**48
 PARTS = [
     ("a flag too many", 8, 0, [False, False], [], [], BAD_PARTS),
@@ -81,7 +81,7 @@ PARTS = [
     ("a last writer that is gone", 8, 3, [False], [[5, 0, 2]], [], None),
     ("a closed session with a rest", 8, 3, [True], [[5, 0, 2]], [[[[5, 0, 2]], []]], None),
 ]
-# Write skew: 0.0 reads key 5 as it was at first and writes key 6; 1.0 the other way round.
+# Write skew: 0.0 reads the initial version of key 5 and writes key 6; 1.0 does the opposite.
 SKEW = [["open", 2, 8], ["offer", 0, 0, [[[[5, "init"]], [6]]]],
         ["offer", 1, 0, [[[[6, "init"]], [5]]]], ["round", 32, 0, 1]]
 BASE_5, BASE_6 = ["base", 5, 0, 0, 1, 0], ["base", 6, 1, 0, 0, 0]
@@ -101,12 +101,12 @@ FORGED = [
     [["cycle", [BASE_5, BASE_6]], ["cycle", [BASE_5, BASE_6]]],
     [["split", [0, 0, 5, 1, 0, 1, 0]], ["cycle", [BASE_5, BASE_6]], ["cycle", [BASE_5, BASE_6]]],
 ]
-# A lost update: 0.0 writes key 5; 0.1 and 1.0 both read that and write the key.
+# A lost update: 0.0 writes key 5; 0.1 and 1.0 both read that version and write the key.
 LOST = [["open", 2, 8], ["offer", 0, 0, [[[], [5]], [[[5, 0, 0]], [5]]]],
         ["offer", 1, 0, [[[[5, 0, 0]], [5]]]], ["round", 32, 0, 1]]
 EARLIER, LATER = [0, 1, 5, 0, 0, 1, 0], [1, 0, 5, 0, 0, 0, 1]
-DEEPEST = 4096  # levels of a tree that is looked at
-LEVELS = 2000  # of a search, each of which takes a side of a choice that no other one decides
+DEEPEST = 4096  # levels of a tree that are examined
+LEVELS = 2000  # of a search; each takes a side of a choice that no other one decides
 
 
 def compact(told):
@@ -120,7 +120,7 @@ def ended(name, text):
 
 
 def replies_to(*lines):
-    """What cobra_audit answers, line by line."""
+    """The replies of cobra_audit, line by line."""
     status, told, said = ended("cobra_audit", b"".join(line + b"\n" for line in lines))
     assert (status, said) == (0, b""), (status, said)
     return told.split(b"\n")[:-1]
@@ -132,13 +132,14 @@ def handed_over(limit, mark, flags, last, remain):
 
 
 def before(choice):
-    """A circle where the choice's other writer comes before the writer that was read from."""
+    """A cycle in which the choice's other writer comes before the writer that was read from."""
     _, _, key, ws, wn, os_, on = choice
     return ["cycle", [["taken", os_, on, ws, wn], ["read", key, ws, wn, os_, on]]]
 
 
 def ladder(splits):
-    """A right tree of the lost update with so many splits, two or more, one below another."""
+    """A correct tree of the lost update with this many splits, two or more, nested in each
+    other."""
     items = []
     for _ in range(splits - 1):
         items += [["split", EARLIER], before(EARLIER)]
@@ -147,7 +148,7 @@ def ladder(splits):
 
 
 def checked(script, tree, counts):
-    """How cobra_check ends where the script's round is answered by this tree."""
+    """The exit status of cobra_check if the script's round is answered with this tree."""
     lines = [compact(line) for line in script]
     replies = [OK] * (len(lines) - 1) + [compact(["report", 1, "violated", counts, tree])]
     return ended("cobra_check", by_turns(*(b"".join(each + b"\n" for each in its)
@@ -164,7 +165,7 @@ class Audited(unittest.TestCase):
             self.assertEqual(told, reply, line[:60])
 
     def test_bad_parts(self):
-        """They are refused by name, and the script may begin anew; good ones are gone on from."""
+        """Each is refused by name, and the script may begin again; good parts can be continued."""
         for name, limit, mark, flags, last, remain, refused in PARTS:
             with self.subTest(parts=name):
                 lines = handed_over(limit, mark, flags, last, remain)
@@ -180,8 +181,8 @@ class Audited(unittest.TestCase):
                     b"\n".join([*lines, b'["show"]', b""]), b"\n".join([*told[:6], b""])))
 
     def test_spent_budgets(self):
-        """Ten choices that no one else's reads decide. The first search is spent where the
-        definition says so, the second one may decide it, and neither changes what is kept."""
+        """Ten choices that no other reads decide. The first search is spent as the definition says,
+        the second one may decide, and neither changes the state."""
         writers = [[[], [10 + at]] for at in range(10)]
         readers = [[[[10 + at, 0, at]], []] for at in range(10)]
         lines = [compact(["open", 3, 64]), compact(["offer", 0, 0, writers]),
@@ -211,7 +212,7 @@ class Audited(unittest.TestCase):
             b"\n".join([*lines, b""]), b"\n".join([*replies_to(*lines), b""])))
 
     def test_a_round_that_is_spent_changes_nothing(self):
-        """Over a history that takes a search it is spent, and a greater budget does."""
+        """On a history that needs a search, the round is spent, and a larger budget decides it."""
         with open(os.path.join(TOP, "crates/cobra_examples/data/real_split.jsonl"), "rb") as file:
             *lines, _ = file.read().splitlines()
         asked = [b'["show"]', b'["round",1,0,1]', b'["show"]', b'["round",1,6,16]', b'["show"]',
@@ -224,8 +225,8 @@ class Audited(unittest.TestCase):
 
 
 class Deep(unittest.TestCase):
-    """One read of a key, and 2,000 others that write it, before or after: two workers take a side
-    of each, one below the other, in threads of their own."""
+    """One read of a key, and 2,000 other transactions that write it, before or after: two workers
+    take a side of each, nested in each other, in threads of their own."""
 
     def setUp(self):
         self.sessions = worst.one_reader(LEVELS + 2)
@@ -234,7 +235,7 @@ class Deep(unittest.TestCase):
         self.effort = [8 * LEVELS, 1, 2]
 
     def check(self, report):
-        """It is serial, by an order that is right."""
+        """Checks that it is serial, with a correct order."""
         self.assertEqual(report[2:4], ["serial", self.counts])
         txns = [list(map(txn_of, its)) for its in self.sessions]
         check_order(Parts([0] * 64, txns, [False] * 64), report[4])
@@ -260,14 +261,15 @@ class Forged(unittest.TestCase):
                                         b"spent 0 not-checked 0\n"))
 
     def test_mutated_bytes_of_stored_replies(self):
-        """As bench/fuzz_check.py has them: told right where the plain model finds them so."""
+        """As in bench/fuzz_check.py: accepted exactly if the plain model accepts them."""
         fuzz_check.PROGRAM = path_of("cobra_check")
         tried = fuzz_check.fuzz("rows", 150)
         self.assertGreater(sum(count for (_, told), count in tried.items() if told == "wrong"), 50)
         self.assertGreater(sum(count for (_, told), count in tried.items() if told == "right"), 20)
 
     def test_want_of_memory_is_believed_of_what_may_want_memory(self):
-        """By the checker, and by the model that bench/fuzz_check.py holds it against."""
+        """NoMemory is accepted only for lines that may run out of memory, by the checker and by the
+        model to which bench/fuzz_check.py compares it."""
         opening = b'["open",1,4]'
         rows = {
             True: (b'["offer",0,0,[[[],[5]]]]', b'["join",1,[[[[0,"init"]],[0]]]]', b'["begin"]',

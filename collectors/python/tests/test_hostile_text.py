@@ -1,5 +1,6 @@
-"""Whatever a key, a statement, a session, a store or a file is called: no command prints, logs or
-writes a character that moves a cursor, breaks a line or turns the direction of writing."""
+"""Whatever the names of keys, statements, sessions, stores and files contain: no command prints,
+logs or writes a character that moves a cursor, breaks a line or reverses the direction of
+writing."""
 import ast
 import contextlib
 import glob
@@ -35,7 +36,7 @@ from zanteyard.watch._run import Plan, Run
 HERE = os.path.dirname(os.path.abspath(__file__))
 PACKAGE = os.path.normpath(os.path.join(HERE, "../zanteyard"))
 FORGED = "line 9: serial, FORGED"
-# Clears a terminal, begins a line of its own in seven ways, turns the direction of writing around.
+# Clears a terminal, begins a new line in seven ways, and reverses the direction of writing.
 EVIL = f"x\x1b[2J\x1b]0;t\x07\r\n{FORGED}\x0b\x0c\x85\u2028\u2029\u202eevil\u2066\x9b31m\u200b\x7f"
 NAME = EVIL.replace("/", "")
 IS_BUILT = os.path.isfile(PROGRAM)
@@ -45,7 +46,7 @@ class Outputs(unittest.TestCase):
     def setUp(self):
         its = tempfile.TemporaryDirectory()
         self.addCleanup(its.cleanup)
-        self.folder = os.path.join(its.name, NAME)  # all files lie in a folder of such a name
+        self.folder = os.path.join(its.name, NAME)  # all files are in a folder with such a name
         os.mkdir(self.folder, 0o700)
         here = os.getcwd()
         self.addCleanup(os.chdir, here)
@@ -55,8 +56,8 @@ class Outputs(unittest.TestCase):
         return os.path.join(self.folder, name)
 
     def check(self, text, names_it=True, is_page=False):
-        """Each character can be seen, and no line is a forged one; a page shows statements with
-        their own lines, in boxes."""
+        """Each character is visible, and no line is forged. A page shows statements with their own
+        lines, in boxes."""
         if isinstance(text, bytes):
             text = text.decode("utf-8")
         bad = {sign for sign in text if sign != "\n" and not sign.isprintable()}
@@ -67,7 +68,7 @@ class Outputs(unittest.TestCase):
             self.assertIn("FORGED", text)  # else the test doesn't test it
 
     def run_command(self, *words, names_it=True):
-        """Its status; what it printed is looked at."""
+        """Runs the command, checks its output, and returns its status."""
         out, err = io.StringIO(), io.StringIO()
         with contextlib.redirect_stdout(out), contextlib.redirect_stderr(err):
             try:
@@ -107,7 +108,8 @@ class Functions(unittest.TestCase):
         self.assertTrue(all(shown(chr(it)).isprintable() for it in range(sys.maxunicode + 1)))
 
     def test_nothing_else_prints(self):
-        """`say` is the one that prints, and `html_text` and its like the ones that escape."""
+        """`say` is the only function that prints, and `html_text` and its like are the only ones
+        that escape."""
         found = []
         for path in glob.glob(f"{PACKAGE}/**/*.py", recursive=True):
             if path.endswith("core/_visible.py"):
@@ -128,7 +130,7 @@ class Functions(unittest.TestCase):
 
 
 class Values(Outputs):
-    """What users print themselves."""
+    """Values that users print themselves."""
 
     def test_an_outcome(self):
         pending = (Pending((0, 1), EVIL, (2, 3)),)
@@ -157,7 +159,7 @@ class Values(Outputs):
             self.assertRegex(line, "^(WARNING|ERROR|  )")
 
     def test_a_record_that_has_nothing_hidden_stays_as_it_is(self):
-        """Those who group messages do so by their form."""
+        """Log tools group messages by their format strings."""
         logger = logging.Logger("tried")
         guard(logger)
         seen = []
@@ -169,7 +171,7 @@ class Values(Outputs):
 
 
 class Calls(Outputs):
-    """Mistakes in the call quote it."""
+    """Error messages quote mistakes in a call."""
 
     def test_words_of_the_call(self):
         for words in (
@@ -196,8 +198,8 @@ class Scripts(Outputs):
     )
 
     def named(self, script):
-        """Beside the script, what its keys and transactions are called; as one that was written
-        by another program has it, with no escape."""
+        """Writes a file with the names of a script's keys and transactions as another program
+        would, without escapes."""
         named = [
             [NamedTransaction(f"{EVIL}{at}", "committed", (((5, "init"), EVIL), ((5,), EVIL)), EVIL)]
             for at in range(2)
@@ -257,7 +259,7 @@ class Scripts(Outputs):
         self.check_file(page, names_it=False)
 
     def test_a_report(self):
-        """The program that checks it says no byte of it again."""
+        """The program that checks it repeats no byte of it."""
         script, replies = self.write(self.LOST), self.write(f"{EVIL}\n" * 4, "replies")
         command = [sys.executable, "-m", "zanteyard", "check-report", script, replies]
         environment = {**os.environ, "PYTHONPATH": os.path.dirname(PACKAGE)}
@@ -268,7 +270,7 @@ class Scripts(Outputs):
 @unittest.skipUnless(IS_BUILT, f"{PROGRAM} is not built")
 class Audits(Outputs):
     def violated(self, journal=None):
-        """An auditor to whom two clients lost an update of such a key."""
+        """An auditor in which two clients lost an update of such a key."""
         self.audits = contextlib.ExitStack()
         self.addCleanup(self.audits.close)
         auditor = self.audits.enter_context(Auditor(2, journal=journal))
@@ -283,7 +285,7 @@ class Audits(Outputs):
         return auditor
 
     def story(self, history, before):
-        """Each name begins so."""
+        """A story in which each name begins like this."""
 
         def name(id):
             return f"{before}{id[0]}.{id[1]}"
@@ -337,7 +339,7 @@ class Audits(Outputs):
 
 @unittest.skipUnless(IS_BUILT, f"{PROGRAM} is not built")
 class Watched(Outputs):
-    """Statements, applications, reasons and errors of servers that the proxy writes."""
+    """Statements, applications, reasons and server errors that the proxy writes."""
 
     def test_a_run(self):
         feeds = [feed.started(database=EVIL, server=EVIL, warnings=[EVIL]), feed.OPEN,

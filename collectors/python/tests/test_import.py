@@ -1,4 +1,4 @@
-"""Imports of other tools' histories: their verdict is that of the values, in each form."""
+"""Imports of other tools' histories: the verdict is that of the values, in each format."""
 import contextlib
 import io
 import json
@@ -38,7 +38,7 @@ WRITERS = {
     "polysi": ("polysi", recordings.as_polysi),
     "csv": ("csv", recordings.as_csv),
 }
-SAID = {"dbcop": (COMMITTED, ABORTED), "polysi": (COMMITTED,)}  # else all outcomes
+SAID = {"dbcop": (COMMITTED, ABORTED), "polysi": (COMMITTED,)}  # other formats have all outcomes
 VERDICTS = ("serial", "violated", "pending")
 PLAIN = {
     "jepsen-registers as EDN": plain_readers.read_edn,
@@ -52,7 +52,7 @@ PLAIN = {
 
 
 def wanted(form, seed):
-    """A history that the form can say, and its random numbers."""
+    """A history that the format can express, and the random numbers used."""
     random_ = seeded(seed)
     attempts = recordings.made(random_, form == "jepsen-lists")
     said = SAID.get(form, (COMMITTED, ABORTED, UNKNOWN))
@@ -73,7 +73,7 @@ def run(*words):
 
 
 def verdict_of(form, text, **more):
-    """By every order of the script."""
+    """The verdict, from trying every order of the script."""
     return judged_script(import_text(form, text, **more).lines)
 
 
@@ -110,7 +110,7 @@ class Generated(unittest.TestCase):
                     self.assertEqual(verdict.kind, judged_script(imported.lines))
 
     def test_what_is_written_is_read(self):
-        """Of each form the values, whatever is made of them."""
+        """The values of each format are read back correctly, whatever the verdict."""
         for told, (form, written) in WRITERS.items():
             for seed in range(60):
                 attempts, random_ = wanted(form, seed)
@@ -122,7 +122,7 @@ class Generated(unittest.TestCase):
 
 
 def mutated(text, random_):
-    """With a small change or two."""
+    """The text with one or two small changes."""
     for _ in range(random_.randint(1, 2)):
         if not text.strip():
             break
@@ -185,7 +185,7 @@ class Refusals(unittest.TestCase):
         ok = "{:process 0 :type :%s :f :txn :value [%s]}\n"
 
         def edn(*micros):
-            """Operations of processes 0, 1 and so on, one behind another."""
+            """Operations of processes 0, 1 and so on, in this order."""
             return "".join(
                 (ok % ("invoke", it) + ok % ("ok", it)).replace(":process 0", f":process {at}")
                 for at, it in enumerate(micros)
@@ -279,7 +279,7 @@ class Refusals(unittest.TestCase):
 
 
 def deeds_of(attempts):
-    """Of each client, and nothing of names."""
+    """What each client did, without names."""
     found = {}
     for one in attempts:
         its = [(it.kind, it.key, it.value) for it in one.accesses
@@ -291,7 +291,7 @@ def deeds_of(attempts):
 
 class Samples(unittest.TestCase):
     def shown(self):
-        """The table of docs/IMPORT.md: form, file, verdict."""
+        """The table of docs/IMPORT.md: format, file, verdict."""
         with open(os.path.join(TOP, "docs/IMPORT.md"), encoding="utf-8") as file:
             rows = re.findall(r"^\| `([\w-]+)` \| .* \| (.*) \|$", file.read(), re.MULTILINE)
         for form, samples in rows:
@@ -318,7 +318,7 @@ class Samples(unittest.TestCase):
                     status, out, err = run("explain", script, "--html", f"{script}.html")
                     self.assertEqual((status, err), (statuses[verdict], ""))
                     self.assertIn(verdict, out)
-                    self.assertNotRegex(out, r"\b\d+\.\d+\b")  # all by the file's names
+                    self.assertNotRegex(out, r"\b\d+\.\d+\b")  # all names are the file's
 
 
 class Names(unittest.TestCase):
@@ -367,8 +367,8 @@ class Edn(unittest.TestCase):
 
 
 def in_time(imported):
-    """The lines of the script, rewritten so that some order explains them exactly where one does
-    that keeps the order of time."""
+    """The lines of the script, rewritten so that some order explains them exactly if some order
+    that respects time does."""
     lines = [*map(json.loads, imported.lines)]
     rewriting = Rewriting(STRICT, imported.times.timeline(lines))
     return [json.dumps(each) for line in lines for each in rewriting.asked(line)]
@@ -376,7 +376,7 @@ def in_time(imported):
 
 class Strict(unittest.TestCase):
     def test_the_verdict_is_by_the_order_of_time(self):
-        """Against every order of the attempts; an end that isn't known comes before nothing."""
+        """Compared with trying every order of the attempts; an unknown end comes before nothing."""
         told = Counter()
         for kind in ("jepsen-registers as EDN", "jepsen-lists as JSON"):
             form, written = WRITERS[kind]
@@ -452,8 +452,8 @@ class Strict(unittest.TestCase):
             import_text("jepsen-registers", text, asks_time=True)
 
     def long(self, count, every):
-        """Two processes, each of which appends to a list while the other one's last operation is
-        in flight; but before each so manieth, which begins when nothing is."""
+        """Two processes. Each appends to a list while the other one's last operation is in flight,
+        except that every n-th operation begins when nothing is in flight."""
         lists, lines, ended = {}, [], None
         for at in range(count):
             key, element = at // 140 * 7 + at % 7, at + 1
@@ -499,8 +499,8 @@ class Strict(unittest.TestCase):
 
     @unittest.skipUnless(os.path.isfile(PROGRAM), f"{PROGRAM} is not built")
     def test_what_time_alone_excludes_is_told_so(self):
-        """A read that is old, by another process: violated by the order of time, and serial
-        without; one that is torn is violated either way."""
+        """A stale read by another process is violated by real-time order, and serial without it. A
+        torn read is violated in both cases."""
         def one(process, *micros):
             asked = [[f, key, None if f == "r" else value] for f, key, value in micros]
             for type, value in (("invoke", asked), ("ok", micros)):
@@ -526,7 +526,8 @@ class Strict(unittest.TestCase):
                     self.assertIn(words, out)
 
     def test_times_of_the_file_are_told(self):
-        """In nanoseconds where each operation has one, which says how long one had ended."""
+        """In nanoseconds if each operation has a time: the explanation says how long before the
+        other one had ended."""
         lines = (
             "{:process 0 :type :invoke :f :txn :time 1000 :value [[:w :x 1]]}\n"
             "{:process 0 :type :ok :f :txn :time 2000000 :value [[:w :x 1]]}\n"
@@ -581,7 +582,7 @@ class Limits(unittest.TestCase):
         self.assertEqual(out.getvalue().splitlines()[-1], "    the rest of the file wasn't imported (--first)")
 
     def test_few_sessions_are_shared_by_who_comes_behind(self):
-        """Where there are too many clients; the verdict stays."""
+        """If there are too many clients; the verdict stays the same."""
         self.addCleanup(setattr, import_script, "SESSIONS", import_script.SESSIONS)
         import_script.SESSIONS = 2
         shared = Counter()
@@ -615,7 +616,7 @@ class Limits(unittest.TestCase):
         self.assertEqual(json.loads(import_text("csv", head + apart, 60).lines[0])[1], 60)
 
     def test_what_a_failed_attempt_wrote_is_in_the_script_where_it_was_read(self):
-        """With its keys, so that the read is told as what it is; else the script is of version 1."""
+        """With its keys, so that the read can be explained; otherwise the script has version 1."""
         text = sample("sessions.csv")
         imported = import_text("csv", text)
         opened, *_, undone, reader, _ = map(json.loads, imported.lines)
@@ -627,7 +628,7 @@ class Limits(unittest.TestCase):
         self.assertEqual(judged_script(imported.lines), "violated")
         head = "session,number,operation,key,value\n"
         wide = "".join(f"a,0,write,x{at},1\n" for at in range(257)) + "a,0,abort,,\nb,0,read,x7,1\n"
-        lines = import_text("csv", head + wide).lines  # more than a line may have: as ever
+        lines = import_text("csv", head + wide).lines  # more than a line may have: as before
         self.assertEqual(json.loads(lines[1])[3], [[[], []]])
 
     def test_many_transactions(self):

@@ -22,7 +22,7 @@ class ImportGraph(unittest.TestCase):
         return status, out.getvalue().splitlines(), err.getvalue().splitlines()
 
     def of(self, files, *words):
-        """What is drawn of a package of these files."""
+        """The output for a package of these files."""
         with tempfile.TemporaryDirectory() as folder:
             for path, text in files.items():
                 path = os.path.join(folder, "whole", path)

@@ -1,5 +1,5 @@
-"""Ctrl-C and the like before any line of what the collector runs: no answer is ever taken for that
-of another line, nobody's turn is lost, and who was interrupted can go on."""
+"""Ctrl-C and similar interrupts before any line that the collector runs: no answer is taken for
+that of another line, no turn is lost, and an interrupted client can go on."""
 import linecache
 import logging
 import os
@@ -16,14 +16,14 @@ from zanteyard.remote._session_requests import SessionRequests
 from .test_live import add_one, set_to
 
 FOLDER = os.path.dirname(os.path.abspath(sys.modules["zanteyard"].__file__))
-SHARE = int(os.environ.get("ZANTEYARD_INTERRUPTS", "7"))  # of the places each so many'th is tried
+SHARE = int(os.environ.get("ZANTEYARD_INTERRUPTS", "7"))  # every n-th place is tried
 KINDS = (KeyboardInterrupt, SystemExit, TimeoutError)  # the last is what handlers of SIGALRM raise
 
 TURN_IS_GIVEN_BACK = ("session.running = None", "if self.holds and session.current is self:", "session.current = None", "session.has_turn = []", "session.turn.release()")
 
 
 class Interrupted:
-    """Runs a call of the collector's, and raises before the line of this number that it runs."""
+    """Runs a call of the collector, and raises an exception before its n-th line."""
 
     def __init__(self, at):
         self.at, self.kind, self.count = at, KINDS[at % len(KINDS)], 0
@@ -40,14 +40,14 @@ class Interrupted:
 
     @staticmethod
     def is_safe(frame):
-        """No signal comes between two assignments, nor as a lock of `with` is given back, where
-        its line comes again; nor at a `try`, which runs nothing, and for which not even a `with`
-        around it counts."""
+        """Whether an interrupt can't come here: between two assignments, when a `with` releases its
+        lock and its line is repeated, or at a `try`, which runs nothing and isn't covered even by a
+        `with` around it."""
         line = linecache.getline(frame.f_code.co_filename, frame.f_lineno).strip()
         return line.startswith(("with ", "try:")) or (frame.f_code.co_name == "log" and line in TURN_IS_GIVEN_BACK)
 
     def run(self, call):
-        """Whether it was interrupted."""
+        """Runs the call, and returns whether it was interrupted."""
         sys.settrace(self.trace)
         try:
             call()
@@ -77,7 +77,7 @@ class Interrupts(unittest.TestCase):
                 b.run(add_one("x"))
                 interrupt = Interrupted(at)
                 is_interrupted = interrupt.run(lambda: deed(auditor, a))
-                if a.current is not None:  # it was the caller's by then
+                if a.current is not None:  # it had reached the caller by then
                     a.current.rollback()
                 self.assertFalse(a.turn.locked())
                 for session in (a, b) if a.is_open else (b,):
@@ -89,7 +89,7 @@ class Interrupts(unittest.TestCase):
         self.fail("it has no end")
 
     def have_kills_come_late(self, auditor):
-        """As on a busy machine, what is killed still answers for a while."""
+        """As on a busy machine, a killed program still answers for a while."""
         process = auditor.process if isinstance(auditor, AuditorApart) else auditor.program.process
         late, process.kill = [], lambda: late.append(True)
 
@@ -164,7 +164,7 @@ class Interrupts(unittest.TestCase):
         self.fail("it has no end")
 
     def interrupted_as_a_lock_is_taken(self, call):
-        """As soon as any code can be interrupted behind that."""
+        """Interrupts as soon as any code can be interrupted after taking the lock."""
 
         def profile(frame, event, called):
             if event == "c_return" and getattr(called, "__name__", "") in ("acquire", "extend"):
@@ -187,20 +187,20 @@ class Interrupts(unittest.TestCase):
             self.assertEqual(auditor.round().kind, "serial")
 
     def test_who_is_interrupted_as_it_leaves(self):
-        """No meeting waits for its turn for ever, and it can leave again."""
+        """No meeting waits for its turn forever, and it can leave again."""
         with Auditor(1) as auditor:
             live = LiveAuditor(auditor, policy=Policy(60.0, False))
             session = live.session(MemoryStore().connect())
             self.interrupted_as_a_lock_is_taken(session.close)
             self.assertFalse(session.turn.locked())
-            self.assertEqual(live._group.numbers(), [0])  # meetings have it still
+            self.assertEqual(live._group.numbers(), [0])  # meetings still have it
             session.run(add_one("x"))
             session.close()
             self.assertEqual((live._pool.taken, live._group.numbers()), (0, []))
             self.assertEqual(live.stop().kind, "serial")
 
     def test_who_is_interrupted_as_it_is_to_join(self):
-        """It is told of that, and another client has its place."""
+        """The client gets the interrupt, and another client gets its place."""
         with Auditor(1) as auditor:
             live, store = LiveAuditor(auditor, policy=Policy(2.0, False)), MemoryStore()
             stays = live.session(store.connect())
@@ -214,12 +214,12 @@ class Interrupts(unittest.TestCase):
             self.assertEqual((live._pool.taken, live._group.numbers()), (1, [0]))
             other = live.session(store.connect())
             other.run(add_one("x"))
-            self.assertEqual(other.number, 2)  # the fence of the second is there
+            self.assertEqual(other.number, 2)  # the second one's fence was written
             self.assertEqual(live.stop().kind, "serial")
 
     def test_who_is_interrupted_wherever_a_session_is_made(self):
-        """Another client has its place, and no meeting waits for who isn't there: in a session that
-        was there, and in one that is new."""
+        """Another client gets its place, and no meeting waits for a client that isn't there: in an
+        existing session, and in a new one."""
         for joins in (False, True):
             for at in range(1, 1000, 3 * SHARE):
                 with Auditor(1 if joins else 2) as auditor, self.subTest(at=at, joins=joins):
@@ -241,8 +241,8 @@ class Interrupts(unittest.TestCase):
         self.assertEqual((live._pool.taken, live._group.numbers()), (1, [0]))
         other = live.session(store.connect())
         other.run(add_one("x"))
-        # Of a fence that was interrupted as it was handed in nothing more is known: then the audit
-        # has ended, and there are no meetings any more.
+        # If a fence was interrupted while it was handed in, its outcome is unknown: the audit has
+        # ended, and there are no more meetings.
         may_end = joins and is_interrupted
         if not may_end:
             self.assertIsNone(live._coordinator.meet(60.0, 60.0).failure)

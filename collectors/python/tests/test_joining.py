@@ -1,4 +1,4 @@
-"""Sessions that join while an audit goes on, and such that come back for another client."""
+"""Sessions that join a running audit, and sessions that return for another client."""
 import json
 import logging
 import os
@@ -68,7 +68,7 @@ class Calls(WithProgram):
         return auditor
 
     def cut(self, auditor):
-        """Session 0 makes a fence, and all up to there is forgotten."""
+        """Session 0 makes a fence, and everything up to it is forgotten."""
         auditor.offer(0, 0, fence("init"), wrote("x"), fence((0, 0)))
         auditor.close(1)
         self.assertEqual(auditor.last_round().kind, "serial")
@@ -120,7 +120,7 @@ class CallsApart(Calls):
 
 
 class Journals(Calls):
-    """The same by a journal, with a program that is killed now and then."""
+    """The same with a journal, and a program that is killed now and then."""
 
     def auditor(self, sessions=2, **more):
         folder = tempfile.TemporaryDirectory()
@@ -169,7 +169,7 @@ class Journals(Calls):
 
 
 class TakenIn(WithProgram):
-    """An audit, which is handed what clients did in an order in which it can't be taken in."""
+    """An audit that is handed what clients did in an order in which it can't be taken in."""
 
     def setUp(self):
         super().setUp()
@@ -205,7 +205,7 @@ class TakenIn(WithProgram):
         self.audit.find_held()
 
     def test_one_waits_for_another(self):
-        """For a fence of its, and for its number."""
+        """For its fence, and for its number."""
         self.hand_in((0, 0, fence("init")), (3, 0, fence((2, 0))), (4, 0, fence((0, 0))))
         self.assertEqual(self.received(), [1, 0])
         self.hand_in((2, 0, fence((4, 0))))
@@ -229,7 +229,7 @@ class TakenIn(WithProgram):
             self.hand_in((1, 0, fence((0, 1))))
 
     def test_what_follows_a_missing_one_is_not_told_in_its_place(self):
-        """Else 1.0 would have read what 0.1 didn't write: a violation that never was."""
+        """Otherwise 1.0 would have read what 0.1 didn't write: a false violation."""
         with self.assertRaisesRegex(RefusedError, "Gap"):
             self.hand_in((0, 0, wrote("w")), (0, 2, wrote("y")), (1, 0, read("x", (0, 1))))
         self.audit.run_round()
@@ -253,7 +253,7 @@ class TakenIn(WithProgram):
 
 
 class GivenOut(unittest.TestCase):
-    """Places."""
+    """How the pool gives out places."""
 
     def test_a_new_one_is_the_next_number_and_the_only_one_until_it_has_joined(self):
         places = SessionPool(1)
@@ -380,10 +380,10 @@ class GivenOut(unittest.TestCase):
         self.assertEqual((new.number, new.must_join), (2, True))
         coverage = coverage_from_now(3, [], places, Backlog(8))
         self.assertEqual(coverage.first[0], 4)
-        self.assertEqual((coverage.first[1], kept.number), (None, 1))  # no group told of it here
+        self.assertEqual((coverage.first[1], kept.number), (None, 1))  # no group reported it here
         again = places.take(0.0)
         self.assertEqual((again.number, again.must_join, again.is_ended), (0, False, False))
-        self.assertIsNone(places.take(0.0))  # none joins before it has a fence
+        self.assertIsNone(places.take(0.0))  # none joins before there is a fence
 
     def test_who_waits_wants_a_meeting(self):
         places = SessionPool(1)
@@ -430,7 +430,7 @@ class Joins(WithProgram):
         self.assertEqual((outcome.kind, outcome.audited, self.auditor.sessions), ("serial", live.handed_in, 4))
 
     def until(self, condition, session):
-        """Meetings come by what a client does."""
+        """Until a condition holds; what a client does meanwhile leads to meetings."""
 
         def has_come():
             session.run(add_one("x"))
@@ -439,7 +439,7 @@ class Joins(WithProgram):
         self.wait_for(has_come)
 
     def test_one_client_behind_another(self):
-        """Each has its session to itself; what it does first is the fence."""
+        """Each has its session to itself; the first thing it does is the fence."""
         live, store = self.live(2, every=6), MemoryStore()
         stays, seen = live.session(store.connect()), []
         for _ in range(40):
@@ -463,7 +463,7 @@ class Joins(WithProgram):
         gather = live._group.begin_gather
 
         def left_before(*arguments):
-            leaves.close()  # what is lent to the meeting is known by now
+            leaves.close()  # what is lent to the meeting is fixed by now
             return gather(*arguments)
 
         with mock.patch.object(live._group, "begin_gather", left_before):
@@ -492,7 +492,7 @@ class Joins(WithProgram):
         self.assertEqual((self.auditor.closed, self.auditor.vacant), ([False, True], [1]))
 
     def test_who_comes_as_a_meeting_begins_is_waited_for(self):
-        """Where another client has left."""
+        """When another client has left."""
         live, store = self.live(2, every=1000), MemoryStore()
         stays, leaves = (live.session(store.connect()) for _ in range(2))
         stays.run(add_one("x")), leaves.run(add_one("y"))
@@ -536,7 +536,7 @@ class Joins(WithProgram):
         self.assertEqual(live.stop().kind, "violated")
         _, called = from_start(self.auditor)
         marks = self.auditor.marks
-        self.assertTrue(any(marks))  # so that each session begins with one that stands for what is forgotten
+        self.assertTrue(any(marks))  # so each session begins with one that stands for what is forgotten
         self.assertEqual(called((1, other.number - marks[1] + 1)), f"1.{other.number} (client 3)")
         self.assertEqual(called((0, one.number - marks[0] + 1)), f"0.{one.number}")
 
@@ -560,7 +560,8 @@ class Joins(WithProgram):
 
 @contextmanager
 def comes_later(live, group, *waiting):
-    """Whose session is added once a meeting waits for that; gives what says that it is about to be."""
+    """A client whose session is added only once a meeting waits for it; returns an event for the
+    moment just before."""
     add, coming, is_waited_for = group.add, threading.Event(), threading.Event()
     all_there = live._pool.coming
 
@@ -582,7 +583,7 @@ def comes_later(live, group, *waiting):
 
 
 class Behaves:
-    """A connection whose fences may fail, or what else is written under such a key."""
+    """A connection on which fences, or other writes to such a key, may fail."""
 
     def __init__(self, connection, *outcomes, key=FENCE):
         self._connection, self._outcomes, self._key = connection, [*outcomes], key
@@ -606,7 +607,7 @@ class Behaves:
 
 
 class Fences(WithProgram):
-    """What becomes of the fence with which a client joins."""
+    """Outcomes of the fence with which a client joins."""
 
     def setUp(self):
         super().setUp()
@@ -614,7 +615,7 @@ class Fences(WithProgram):
         self.addCleanup(logging.getLogger("zanteyard").setLevel, logging.NOTSET)
 
     def joining(self, *outcomes, **more):
-        """A live audit, and a session that is to join by these."""
+        """A live audit, and a session that is to join with these outcomes."""
         self.one, self.store = self.live(1, every=1000, **more), MemoryStore()
         self.stays = self.one.session(self.store.connect())
         self.stays.run(add_one("x"))
@@ -625,7 +626,7 @@ class Fences(WithProgram):
         return [sorted(one.writes) for one in self.auditor.history[session]]
 
     def test_an_attempt_that_aborts_leaves_its_number_to_the_next(self):
-        session = self.joining(*[(AbortedError("again"), None)] * 63)  # as where so many join at once
+        session = self.joining(*[(AbortedError("again"), None)] * 63)  # as if so many joined at once
         session.run(add_one("x"))
         self.assertEqual((session.number, session.begun), (1, 2))
         self.assertEqual(self.ended(self.one).kind, "serial")
@@ -665,11 +666,11 @@ class Fences(WithProgram):
                 self.assertIn(2, self.one._pool._ended)
                 self.assertIsNone(self.one._coordinator.meet(60.0, 60.0).failure)
                 outcome = self.one.stop()
-                # Who has read from a fence that nobody told of waits for it.
+                # A read from a fence that nobody reported waits for it.
                 self.assertEqual(outcome.kind, "serial" if is_there == "aborted" else "pending")
 
     def test_a_flag_that_may_not_be_there_keeps_no_cut_away(self):
-        """Once what its session did is known by what others did."""
+        """Once others' reads show what its session did."""
         for is_there in ("aborted", "committed"):
             with self.subTest(is_there):
                 live, store = self.live(2, every=1000), MemoryStore()
@@ -682,7 +683,8 @@ class Fences(WithProgram):
                 self.assertEqual((self.ended(live).kind, live.cuts), ("serial", 1))
 
     def test_what_an_ended_session_did_last_keeps_no_cut_away(self):
-        """Nobody else ever reads or overwrites it: the next meeting does, also where one failed before that."""
+        """Nobody else reads or overwrites it: the next meeting does, also after a meeting that
+        failed."""
         for is_there in ("aborted", "committed"):
             with self.subTest(is_there):
                 live, store = self.live(2, every=1000), MemoryStore()
@@ -698,14 +700,14 @@ class Fences(WithProgram):
                 self.assertEqual((self.ended(live).kind, live.cuts), ("serial", 1))
 
     def test_a_flag_of_a_meeting_that_failed_keeps_no_cut_away(self):
-        """Its session ends before there is another one."""
+        """Its session ends before the next meeting."""
         live, store = self.live(2, every=1000), MemoryStore()
         leads, other = (live.session(store.connect()) for _ in range(2))
         other.run(add_one("y")), leads.run(add_one("x"))
         with mock.patch.object(Session, "read_all", side_effect=ZeroDivisionError):
             self.assertIsNotNone(live._coordinator.meet(60.0, 60.0).failure)
         self.assertTrue(other.place.has_flag)
-        other.end()  # as of a process that isn't heard of any more
+        other.end()  # as for a process that can't be heard any more
         self.wait_until_closed(other.number)
         self.assertIsNone(live._coordinator.meet(60.0, 60.0).failure)
         self.assertEqual((self.ended(live).kind, live.cuts), ("serial", 1))
@@ -768,7 +770,7 @@ class Elsewhere(WithProgram):
         self.assertGreater(self.auditor.sessions, 3)
 
     def test_who_comes_as_a_meeting_begins_is_waited_for(self):
-        """Where another client has left."""
+        """When another client has left."""
         live, store = self.live(2, every=1000), MemoryStore()
         stays, comes = self.client(), self.client()
         first, leaves = stays.session(store.connect()), comes.session(store.connect())
@@ -791,7 +793,7 @@ class Elsewhere(WithProgram):
 
 @unittest.skipUnless(redis and redis_server(), "Redis or redis-py isn't installed")
 class GoneOnWith(WithProgram):
-    """By another process of the auditor's, behind streams."""
+    """Continued by another process of the auditor, behind streams."""
 
     def setUp(self):
         super().setUp()

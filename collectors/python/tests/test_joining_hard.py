@@ -1,4 +1,4 @@
-"""What might go wrong as clients join and come back."""
+"""Rare problems when clients join and return."""
 import logging
 import os
 import tempfile
@@ -29,9 +29,9 @@ from .test_live import WithProgram, add_one
 
 
 class Alone:
-    """A connection that has exchanges which are committed by themselves. Those of which the turn
-    comes are committed, and then `raises` comes in place of their answer; what became of them the
-    store `knows`, or doesn't."""
+    """A connection with exchanges that are transactions by themselves. The chosen ones are
+    committed, and then `raises` is raised in place of their answer. Whether the store `knows` the
+    outcome can be chosen."""
 
     knows = True
 
@@ -77,7 +77,7 @@ class Interrupted(WithProgram):
         self.assertEqual(len(names), len({*names}))
 
     def test_a_fence_that_is_there_has_its_name_for_itself(self):
-        """An interrupt comes behind the store's answer; the client is told of that, and goes on."""
+        """An interrupt comes after the store's answer; the client gets it, and goes on."""
         for error in (KeyboardInterrupt(), TimeoutError("of a handler of SIGALRM"), OutcomeUnknownError("it is late")):
             for knows in (True, False):
                 with self.subTest(type(error).__name__, knows=knows):
@@ -89,12 +89,12 @@ class Interrupted(WithProgram):
                     del comes.begin_alone
                     comes._raises.append(error)
                     comes.knows = knows
-                    if isinstance(error, OutcomeUnknownError):  # of the collector's own: none of the client's business
+                    if isinstance(error, OutcomeUnknownError):  # the collector's own: no concern of the client
                         session.run(add_one("x"))
                     else:
                         with self.assertRaises(type(error)):
                             session.run(add_one("x"))
-                    # Nobody says what the fence has read. Where it may be none at all, who reads from it waits.
+                    # Nobody says what the fence has read. If it may not exist, reads from it wait.
                     is_known = knows and isinstance(error, Exception)
                     if not is_known:  # else the audit ends
                         self.assertIsNone(live._coordinator.meet(60.0, 60.0).failure)
@@ -123,7 +123,7 @@ class Interrupted(WithProgram):
                     self.assertEqual(live.stop().kind, kind)
 
     def test_what_an_interrupt_leaves_of_a_fence_has_no_name_of_another(self):
-        """It comes as the fence has its number, and nobody has the fence."""
+        """It comes when the fence has its number, and nobody owns the fence."""
         live, store = self.met()
         start, comes = Session.start, Alone(store.connect())
 
@@ -144,7 +144,7 @@ class Interrupted(WithProgram):
 
 class Stuck(unittest.TestCase):
     def test_where_a_new_session_never_joins_others_are_to_come_back(self):
-        """Nobody knows whether its fence is there, so that there is no newer one."""
+        """It is unknown whether its fence was written, so no newer session can join."""
         places = SessionPool(2)
         places.let_join()
         new, left = places.take(0.0), places.lend()
@@ -168,7 +168,7 @@ class Harmless(WithProgram):
         self.addCleanup(logging.getLogger("zanteyard").setLevel, logging.NOTSET)
 
     def test_meetings_that_are_wanted_and_fail_hold_clients_up_ever_more_seldom(self):
-        """One client's transaction goes on for long, and few sessions are left."""
+        """One client's transaction takes long, and few sessions are left."""
         live, store = self.live(58, every=1000, policy=Policy(0.05, False)), MemoryStore()
         meet, began, ended_at = live._coordinator.meet, [], []
 
@@ -216,7 +216,7 @@ class Harmless(WithProgram):
         live, store = self.live(1, policy=Policy(60.0, True, 0.01)), MemoryStore()
         stays = live.session(store.connect())
         stays.run(add_one("x"))
-        live._hand_in(0.0, 5, 0, (), Logged([(FENCE, (4, 0))], [FENCE]))  # and 4.0 never comes
+        live._hand_in(0.0, 5, 0, (), Logged([(FENCE, (4, 0))], [FENCE]))  # and 4.0 never arrives
         until = time.monotonic() + 60
         while not live._audit._held and time.monotonic() < until:
             time.sleep(0.005)
@@ -227,13 +227,13 @@ class Harmless(WithProgram):
         live.stop()
 
     def test_a_session_of_which_a_process_is_told_as_it_leaves_is_closed(self):
-        """Else it would keep all cuts away."""
+        """Otherwise it would prevent all cuts."""
         live = self.live(2, every=1000)
         with tempfile.TemporaryDirectory() as folder:
             server, store = AuditServer(live, os.path.join(folder, "audit")), MemoryStore()
             client = AuditClient(server.path)
             client.session(store.connect()).run(add_one("x"))
-            client._deeds["left"] = lambda *_: None  # it comes too late
+            client._deeds["left"] = lambda *_: None  # it arrives too late
             client._messages.tell("join", 99, True)
             until = time.monotonic() + 60
             while live._pool.taken < 2 and time.monotonic() < until:
@@ -317,7 +317,7 @@ class Harmless(WithProgram):
                 with mock.patch.object(live._pool, "take", lambda *_: None):
                     comes = client.session(store.connect())
                 self.assertFalse(comes.place.is_audited)
-                running, until = stays.begin(), time.monotonic() + 60  # no meeting can be had
+                running, until = stays.begin(), time.monotonic() + 60  # no meeting is possible
                 while not (live.earlier and comes.place.is_audited) and time.monotonic() < until:
                     comes.run(add_one("y"))
                 running.commit()
@@ -329,7 +329,7 @@ class Harmless(WithProgram):
         self.assertEqual(live.report.kind, "serial")
 
     def test_who_comes_before_a_cut_has_a_session(self):
-        """A meeting closes what nobody has; that comes back when there is a cut, if there is one."""
+        """A meeting closes sessions without clients; these return after the next cut."""
         live, store = self.live(64, every=1000), MemoryStore()
         stays = live.session(store.connect())
         stays.run(add_one("x"))
@@ -342,11 +342,12 @@ class Harmless(WithProgram):
         self.assertEqual(self.ended(live).kind, "serial")
 
     def test_more_who_come_before_a_cut_than_there_is_room_for_go_on_unaudited(self):
-        """As many as can be at a time are none too many for the application; another audit has sessions for them."""
+        """The application may have as many as possible at a time; the next audit has sessions for
+        them."""
         live, store = self.live(64, every=1000, policy=Policy(0.05, True, 0.01)), MemoryStore()
         stays = live.session(store.connect())
         stays.run(add_one("x"))
-        live._crash_searches.__enter__()  # no other meeting comes
+        live._crash_searches.__enter__()  # no further meeting
         self.assertIsNone(live._coordinator.meet(60.0, 60.0).failure)
         others = [live.session(store.connect()) for _ in range(40)]
         without = [session for session in others if not session.place.is_audited]
@@ -368,8 +369,8 @@ class Harmless(WithProgram):
 @unittest.skipUnless(StreamProcess, "redis-py isn't installed")
 class HeardAgain(unittest.TestCase):
     def test_who_has_joined_by_the_journal_has_joined(self):
-        """Another process of the auditor's goes on by what was written down before that."""
-        for begun, must_join in ((4, False), (5, True)):  # the latter by a place of later
+        """Another process of the auditor continues from what was written before that."""
+        for begun, must_join in ((4, False), (5, True)):  # the latter from a later place
             backlog, ends = Backlog(8), mock.Mock()
             backlog.begin_behind(3, 5, 5)
             live = mock.Mock(next_number=backlog.next_number, is_taken=backlog.is_taken)
@@ -383,10 +384,11 @@ class HeardAgain(unittest.TestCase):
 
 
 class UsedAgain(WithProgram):
-    """What might give one name to two transactions."""
+    """Cases that could give one name to two transactions."""
 
     def test_a_second_attempt_that_was_on_its_way_as_its_process_was_killed(self):
-        """What the store says may be about the first, which has the same name; or others' fences have overwritten it."""
+        """The store's answer may be about the first attempt, which has the same name; or others'
+        fences have overwritten it."""
         logged = as_bytes(Logged([(FENCE, (0, 3))], [FENCE]))
         sent, aborted = CrashNote(4, 7, None, logged), CrashNote(4, 7, "aborted")
         for notes, begun, is_ended in (
@@ -402,7 +404,8 @@ class UsedAgain(WithProgram):
             self.assertEqual((place.begun, place.must_join, place.is_ended), (begun, True, is_ended))
 
     def test_a_flag_of_a_killed_process_that_nobody_reads_any_more_is_not_in_the_log(self):
-        """Though the store knows it: nothing would say where it stands, and no fence be settled."""
+        """Even if the store knows it: nothing would determine its place in the order, and no fence
+        would be settled."""
         flag, done = Logged([(f"{FLAG}4", "init")], [f"{FLAG}4"]), Logged([("x", (0, 1))], ["x"])
         for outcome in ("committed", "aborted", "unknown"):
             told = lambda how, ticket, *_: ("committed", None) if ticket == "its" else (outcome, [("run", 4, 1)])

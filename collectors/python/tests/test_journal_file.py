@@ -1,4 +1,4 @@
-"""A journal's file: what is cut off is dropped, and what is damaged is told."""
+"""A journal's file: an incomplete record is dropped, and damage is reported."""
 import os
 import resource
 import signal
@@ -55,7 +55,7 @@ class WithFolder(unittest.TestCase):
 
     @staticmethod
     def room(size):
-        """For files of so many bytes."""
+        """Limits files to this many bytes."""
         _, hard = resource.getrlimit(resource.RLIMIT_FSIZE)
         resource.setrlimit(resource.RLIMIT_FSIZE, (hard if size is None else size, hard))
 
@@ -146,7 +146,7 @@ class File(WithFolder):
                 Journal(path)
 
     def test_full_disk(self):
-        """Each number of bytes that there is room for: nothing half-written is left."""
+        """For each amount of free space: nothing half-written is left."""
         self.addCleanup(self.room, None)
         texts = [b"the first", b"the second", b"the third"]
         self.written(*texts)

@@ -1,7 +1,9 @@
-"""Auditors with a journal and their processes, killed at moments drawn by a seed, over a store in memory and over PostgreSQL: each
-verdict is that of the same log, given whole to a program that nobody kills, and to who checks it without believing it.
+"""Auditors with a journal and their processes, killed at seeded random moments, over a store in
+memory and over PostgreSQL: each verdict is that of a program that nobody kills on the whole log,
+and an independent checker accepts it.
 
-ZANTEYARD_KILLS is how many times as long they run; ZANTEYARD_SEED is what moments are drawn by."""
+ZANTEYARD_KILLS multiplies how long they run; ZANTEYARD_SEED is the seed.
+"""
 import json
 import os
 import pickle
@@ -37,9 +39,9 @@ except ImportError:
 
 TIMES = float(os.environ.get("ZANTEYARD_KILLS", "1"))
 SEED = os.environ.get("ZANTEYARD_SEED", "1")
-KILLS = 3  # at least: of who audits what is honest, and before a violation that is provoked
-MANY = 2000  # transactions, in which a fault shows
-ENOUGH = 120.0  # seconds for what is waited for, on the slowest machine
+KILLS = 3  # at least: of auditors of honest stores, and before a provoked violation
+MANY = 2000  # transactions within which a fault shows
+ENOUGH = 120.0  # seconds to wait, on the slowest machine
 ONE_OF = [Logged([("never written", "init")], [f"of {session}"]) for session in range(3)]
 LIVE = os.path.join(os.path.dirname(os.path.abspath(__file__)), "journal_live.py")
 LACKING = [
@@ -50,7 +52,8 @@ LACKING = [
 
 
 def shuffled(entries, dice):
-    """Each session's in their order, and the sessions in any, so that reads have to wait for what they name."""
+    """Sessions in any order, each in its own order, so that reads have to wait for what they
+    name."""
     waiting = {}
     for entry in entries:
         waiting.setdefault(entry[0], []).append(entry)
@@ -65,8 +68,8 @@ def shuffled(entries, dice):
 
 
 class Killing(threading.Thread):
-    """Kills what `pid()` gives, again and again, until it is left; twice at most while `done()` stays as it is, since of eight
-    programs that die over one line the last is the end."""
+    """Kills the process `pid()` repeatedly, until the context ends; at most twice while `done()`
+    doesn't change, since after eight programs that die over one line the audit ends."""
 
     def __init__(self, pid, done, dice, pause=(0.05, 0.5)):
         super().__init__(daemon=True)
@@ -96,11 +99,11 @@ class Killing(threading.Thread):
 
 @unittest.skipIf(PROGRAM == PLAIN, "no auditor is built that knows save and resume")
 class Live(WithJournal):
-    """The auditor of clients that run is killed."""
+    """The auditor of running clients is killed."""
 
     def audited(self, fault, seed, least):
-        """The outcome, how many were killed, and what the auditor was given and has told. It goes on until so many at least were,
-        and with a fault until that is found."""
+        """The outcome, how many programs were killed, and the auditor's lines and reports. Goes on
+        until at least that many were killed, and with a fault until it is found."""
         dice = random.Random(seed)
         auditor, store, most = self.auditor(limit=4096), MemoryStore(fault), 120 * TIMES
         heard = Heard(auditor)
@@ -119,7 +122,7 @@ class Live(WithJournal):
         return outcome, killing.kills, heard
 
     def test_over_a_store_in_memory(self):
-        """Where a fault hasn't shown in a run, in another one."""
+        """If a fault doesn't show in one run, it does in another."""
         for at, fault in enumerate((None, *FAULTS)):
             with self.subTest(fault=fault, seed=SEED):
                 wanted = "violated" if fault else "serial"
@@ -134,7 +137,7 @@ class Live(WithJournal):
                 self.assertGreaterEqual(killed, least)
 
     def test_threads(self):
-        """Each waits for replies of its own as the program is started again."""
+        """Each waits for its own replies while the program is started again."""
         auditor, failures = self.auditor(limit=4096), []
         heard = Heard(auditor)
 
@@ -177,10 +180,11 @@ class Live(WithJournal):
 
 
 class Fed(WithJournal):
-    """The process that has the journal is killed, and the auditor with it; what clients did is in a file."""
+    """The process with the journal is killed, and the auditor with it; what clients did is in a
+    file."""
 
     def fed(self, entries, dice, chance=1.0):
-        """What was told, of all processes that fed it."""
+        """What was reported by all processes that fed it."""
         path, told = os.path.join(self.folder, "log"), os.path.join(self.folder, "told")
         with open(path, "wb") as file:
             pickle.dump(entries, file)
@@ -218,7 +222,7 @@ class Fed(WithJournal):
         kills, kinds = 0, set()
         for at, fault in enumerate((None, *FAULTS, *[None] * 40)):
             if at > len(FAULTS) and kills > 8:
-                break  # else the others were through with it before they were killed
+                break  # else the others finished before they were killed
             with self.subTest(fault=fault, seed=f"{SEED} {at}"):
                 entries, wanted = log_with(fault, f"{SEED} {at}")
                 more, those = self.check(entries, random.Random(f"{SEED} {at}"), wanted)
@@ -228,7 +232,8 @@ class Fed(WithJournal):
 
     @unittest.skipIf(PROGRAM == PLAIN, "no auditor is built that knows save and resume")
     def test_a_process_with_clients(self):
-        """It is killed with its clients: what it had taken in is there, and no more is said than of that."""
+        """It is killed with its clients: what it had taken in is there, and the verdict covers only
+        that."""
         for at, fault in enumerate((None, "lost-update", "write-skew")):
             dice, script = random.Random(f"{SEED} {at}"), os.path.join(self.folder, f"script {at}")
             self.path = os.path.join(self.folder, f"journal {at}")
@@ -303,12 +308,13 @@ class Postgres(Fed):
                 self.check(log.entries, dice, wanted)
 
     def have_begun(self):
-        """Whether any of the clients has committed something."""
+        """Whether any client has committed something."""
         return run_sql(self.dsn, "SELECT EXISTS (SELECT FROM zanteyard WHERE key ~ '^(count|left|right) ')") == [(True,)]
 
     def test_eight_processes(self):
-        """The auditor of clients that run is killed again and again; they go on, in one audit. Beside them two sessions write in
-        lockstep what the other one has read: at the level where both may, that is the violation, and nothing else can be one."""
+        """The auditor of running clients is killed again and again; they go on, in one audit. In
+        addition, two sessions in lockstep each write what the other one has read. At a level where
+        both may commit, that is the only possible violation."""
         for level, workload, wanted in (("serializable", "skew", "serial"), ("repeatable read", "counter", "violated")):
             with self.subTest(level=level, seed=SEED):
                 self.setUp()
@@ -322,14 +328,14 @@ class Postgres(Fed):
                 with AuditServer(live, os.path.join(self.folder, f"audit {wanted}")) as server:
                     with Killing(lambda: child_of(auditor.process.pid, 0.5), lambda: live.taken_in + live.rounds, dice, (0.2, 1.0)) as killing:
                         pair = Lockstep(live, lambda level=level: PostgresStore(self.dsn, level), killing, self.have_begun)
-                        # a violation that is found ends it
+                        # a violation ends the run
                         seconds = 4.0 * TIMES if wanted == "serial" else 3 * ENOUGH
                         with pair:
                             make = MakeStore("postgres", self.dsn, level)
                             clients = ClientProcesses(server.path, make, 8, workload, seconds, 100.0)
                 outcome = live.stop()
                 self.assertEqual((clients.failures, pair.failure), ([], None))
-                # at the highest level the store may also abort both, for what it takes others to have read
+                # the highest level may also abort both, because of reads that it assumes
                 self.assertIn(pair.committed, (2,) if wanted == "violated" else (0, 1))
                 self.assertEqual((outcome.kind, outcome.earlier), (wanted, ()), str(outcome))
                 self.assertGreaterEqual(pair.kills, KILLS)
@@ -343,8 +349,9 @@ class Postgres(Fed):
 
 
 class Lockstep(threading.Thread):
-    """Once clients have begun, and the auditor has been killed a few times since, each of two sessions reads two keys and then
-    writes one of them, before the other has ended: it is told how many of the two transactions the store has committed."""
+    """Once clients have begun, and the auditor has been killed a few times since, each of two
+    sessions reads two keys and then writes one of them, before the other has ended. Records how
+    many of the two transactions the store has committed."""
 
     def __init__(self, live, connect, killing, have_begun):
         super().__init__(daemon=True)
@@ -369,11 +376,11 @@ class Lockstep(threading.Thread):
                 self.committed += 1
             for store in stores:
                 store.close()
-        except Exception as error:  # told by the main thread
+        except Exception as error:  # raised by the main thread
             self.failure = error
 
     def wait_for_kills(self, session):
-        """It is killed only where something is done meanwhile."""
+        """The auditor is killed only if something is done meanwhile."""
         until, before = time.monotonic() + ENOUGH, self.killing.kills
         while self.kills < KILLS and time.monotonic() < until:
             with suppress(AbortedError):

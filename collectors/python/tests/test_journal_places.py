@@ -1,4 +1,5 @@
-"""Auditors with a journal where something else happens to it: a fork, another run's file, a full disk, what can't be written."""
+"""Journals with other problems: a fork, another run's file, a full disk, and files that can't be
+written."""
 import os
 import signal
 import stat
@@ -26,7 +27,8 @@ def kill(auditor):
 
 class Forked(WithJournal):
     def test_a_child_has_no_part_in_it(self):
-        """It can't ask, nor write there; and where its parent ends, it keeps nobody from going on."""
+        """It can't ask the program or write to the journal, and when its parent ends, it doesn't
+        keep others from going on."""
         auditor = self.auditor()
         auditor.offer(0, 0, ONE)
         ends, told = os.pipe()
@@ -36,7 +38,7 @@ class Forked(WithJournal):
                 os.close(told)
                 auditor.offer(0, 1, ONE)
             except ProgramEndedError as error:
-                os.read(ends, 1)  # until its parent has done
+                os.read(ends, 1)  # until its parent is done
                 os._exit(0 if "forked" in str(error) and auditor.program.keeping.journal._file is None else 1)
             except BaseException:
                 pass
@@ -55,7 +57,7 @@ class Forked(WithJournal):
 
 class Cuts(WithJournal):
     def test_a_cut_is_the_last_round_s(self):
-        """Also where another program has found it, and more came since the round was told."""
+        """Also if another program found it, and more arrived after that round was reported."""
         for deaths in ((), (0,), (1,), (0, 1), (0, 1, 2)):
             self.fence, self.path = None, os.path.join(self.folder, f"journal {deaths}")
             with self.subTest(deaths=deaths), self.auditor() as auditor:
@@ -71,7 +73,7 @@ class Cuts(WithJournal):
                 self.assertEqual(auditor.round().kind, "serial")
                 if 0 in deaths:
                     kill(auditor)
-                for session in range(3):  # what would make the cut a later one
+                for session in range(3):  # would move the cut
                     auditor.offer(session, numbers[session], Logged([(FENCE, self.fence)], [FENCE]))
                     self.fence = (session, numbers[session])
                 if 1 in deaths:
@@ -88,7 +90,7 @@ class Cuts(WithJournal):
 
 class Places(WithJournal):
     def test_another_run_s(self):
-        """An audit of a run that begins anew takes the place of that run's journal alone."""
+        """An audit of a run that begins again replaces only that run's own journal."""
         with self.auditor() as auditor:
             auditor.offer(0, 0, ONE)
         with Auditor(3, 512, PROGRAM, "other", journal=f"{self.path}.other") as other:
@@ -138,7 +140,7 @@ class Places(WithJournal):
             self.assertEqual(auditor.received, [1, 0, 0])
 
     def test_not_allowed(self):
-        """A file that may be read alone, and one that may not."""
+        """A file that may only be read, and one that may not be read at all."""
         with self.auditor() as auditor:
             auditor.offer(0, 0, ONE)
         for mode, told in ((0o400, "can't be read"), (0o000, "can't be read")):
@@ -148,7 +150,7 @@ class Places(WithJournal):
         self.assertEqual(self.as_nobody("can't be locked"), 0)
 
     def as_nobody(self, told):
-        """The status of a child that is told so."""
+        """The status of a child that runs this as another user."""
         child = os.fork()
         if child == 0:
             try:
@@ -180,7 +182,8 @@ class Places(WithJournal):
 
 class Sessions(WithJournal):
     def test_of_a_live_audit(self):
-        """Its process is gone: what its clients did last isn't known, so that nothing is serial."""
+        """Its process is gone: its clients' last transactions are unknown, so the outcome can't be
+        serial."""
         for of in (Auditor, AuditorApart):
             self.path = os.path.join(self.folder, of.__name__)
             store = MemoryStore()
@@ -219,8 +222,8 @@ class Sessions(WithJournal):
                 self.assertEqual(auditor.received, [1, 0, 0])
 
     def test_left_out_reads(self):
-        """Those that a killed process had left out are told, too."""
-        read = Logged([("x", (0, 0))], ["x"])  # it isn't known whether 0.0 was there as the audit began
+        """Reads that a killed process left out are counted, too."""
+        read = Logged([("x", (0, 0))], ["x"])  # it is unknown whether 0.0 was there when the audit began
         for of in (Auditor, AuditorApart):
             self.path = os.path.join(self.folder, of.__name__)
             with of(3, 512, PROGRAM, "run", journal=self.path) as auditor:
@@ -237,14 +240,15 @@ class Sessions(WithJournal):
                 self.assertEqual(auditor.coverage.first, [1, 0, 0])
 
     def test_full_disk(self):
-        """Clients go on; the audit ends with its reason, and another begins when there is room."""
+        """Clients go on; the audit ends with its reason, and another one begins when there is
+        room."""
         self.addCleanup(self.room, None)
         auditor, store = self.auditor(), MemoryStore()
         with LiveAuditor(auditor, seconds=0.1, policy=Policy(pause=0.1)) as live:
             session = live.session(store.connect())
             session.run(add_one("x"))
             self.wait(lambda: live.taken_in == 1)
-            self.room(50)  # of any file
+            self.room(50)  # bytes of any file
             session.run(add_one("x"))
             self.wait(lambda: any("can't begin another audit" in it for it in self.told))
             session.run(add_one("x"))

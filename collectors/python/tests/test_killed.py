@@ -1,5 +1,5 @@
-"""Clients' processes that are killed, over PostgreSQL and SQLite: the audit goes on, each commit is
-in the log once, and its verdict is the log's."""
+"""Client processes that are killed, over PostgreSQL and SQLite: the audit goes on, each commit is
+in the log once, and the verdict is that of the log."""
 import itertools
 import json
 import logging
@@ -35,7 +35,7 @@ except ImportError:
 
 PLACE = os.path.join(os.path.dirname(os.path.abspath(__file__)), "..")
 CLIENT = os.path.join(PLACE, "tests", "killed_client.py")
-SOON = 120.0  # seconds, where other programs have the processors
+SOON = 120.0  # seconds, on a busy machine
 TOGETHER = 3  # clients that are killed in one audit
 SEED = int(os.environ.get("ZANTEYARD_SEED", "1"))
 
@@ -75,7 +75,7 @@ class Killed(unittest.TestCase):
         self.server = AuditServer(self.live, f"{self.folder}/audit")
 
     def client(self, where="-", left=0, pause=0.01, workload="counter", sessions=1):
-        """Another process of clients, which is killed as it comes to this place once more."""
+        """Another client process, which is killed when it reaches this place again."""
         seed = f"{SEED} {len(self.clients)}"
         call = [PLACE, self.server.path, self.kind, self.dsn, self.level, str(len(self.clients))]
         call += [seed, where, str(left), str(pause), workload, str(sessions)]
@@ -104,7 +104,7 @@ class Killed(unittest.TestCase):
         self.assertTrue(condition(), self.told[-5:])
 
     def ended(self, kind="serial"):
-        """What every run owes."""
+        """Checks what must hold after every run."""
         for client in self.clients:
             if client.poll() is None:
                 client.stdin.write("\n")
@@ -146,13 +146,13 @@ class Killed(unittest.TestCase):
         there = {(row[2], row[3], row[0]) for row in rows}
         for session, number, key in there:
             self.assertIn(key, log.get((session, number), ()), (session, number, key))
-        for id, keys in log.items():  # and the other way: of rows that are written once
+        for id, keys in log.items():  # and the other way: rows that are written once
             for key in keys:
                 if key.startswith("row ") and id not in self.unknown():
                     self.assertIn((*id, key), there)
 
     def unknown(self):
-        """Of which the store couldn't say what became of them."""
+        """Transactions whose outcome the store couldn't say."""
         history = self.auditor.history
         return {
             (session, self.auditor.marks[session] + at)
@@ -167,7 +167,7 @@ class Killed(unittest.TestCase):
     )
 
     def killed_at(self, places, left, **more):
-        """Clients that have come to these places, beside two that stay, in one audit."""
+        """Clients that were killed at these places, next to two that stay, in one audit."""
         self.setUp()
         self.audit(**more)
         others = [self.client() for _ in range(2)]
@@ -251,7 +251,7 @@ class KilledOverPostgres(Killed):
         return self.run_sql("SELECT key, run, session, number FROM zanteyard")
 
     def commits_take(self, seconds):
-        """At the server, for who is killed in it."""
+        """Makes commits slow at the server, for clients that are killed meanwhile."""
         self.run_sql(f"""
             CREATE OR REPLACE FUNCTION wait_a_while() RETURNS trigger LANGUAGE plpgsql AS
             'BEGIN IF current_setting(''zanteyard.dies'', true) = ''yes'' THEN PERFORM pg_sleep({seconds}); END IF;
@@ -260,7 +260,7 @@ class KilledOverPostgres(Killed):
             FOR EACH ROW EXECUTE FUNCTION wait_a_while()""")
 
     def test_a_commit_that_goes_on_behind_its_clients_end(self):
-        """It is waited for; what takes too long is ended."""
+        """It is waited for; one that takes too long is ended."""
         for seconds, is_there in ((1.0, True), (600.0, False)):
             with self.subTest(seconds=seconds):
                 self.setUp()
@@ -330,7 +330,7 @@ class AskedOfPostgres(unittest.TestCase):
         return find_out(("postgres", *self.how), ticket, seconds)
 
     def test_what_was_run_before_is_not_taken_for_what_is_on_its_way(self):
-        """The server's process is alive, and idle as far as anybody sees."""
+        """The server's process is alive, and looks idle."""
         for number in (3, 4):
             self.alone(self.FLAG, number)
             for key, other in ((self.FLAG, number + 1), (self.FLAG, 10 * number), (f"{self.FLAG}2", number), (self.FLAG[:-1], number)):
@@ -347,12 +347,13 @@ class AskedOfPostgres(unittest.TestCase):
         self.alone(self.FLAG, 4)
         self.assertEqual(self.asked(self.FLAG, 4), ("committed", (("run", 1, 3),)))
         self.store.begin_alone(5.0)
-        with self.assertRaises(psycopg2.Error):  # it fails behind its beginning
+        with self.assertRaises(psycopg2.Error):  # it fails after its beginning
             self.store.ask(postgres_store.OVERWRITE.replace("{value}", "(1 / (now.number - 4))::text"), ("run", 1, 5, self.FLAG))
         self.assertEqual(self.asked(self.FLAG, 5), ("aborted", None))
 
     def test_what_others_have_overwritten_by_then_was_there(self):
-        """Else it would be told as aborted, and the next one that joins might have its name."""
+        """Otherwise it would be reported as aborted, and the next client that joins could get its
+        name."""
         other = PostgresStore(self.cluster.dsn)
         self.addCleanup(other.close)
         most = postgres_store.LINES

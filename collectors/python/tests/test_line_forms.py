@@ -1,4 +1,4 @@
-"""What is said of a line that is none: the column, and what was expected there."""
+"""Messages about malformed lines: the column, and what was expected there."""
 import glob
 import io
 import json
@@ -16,7 +16,7 @@ from zanteyard.program._binaries import PROGRAM
 
 TOP = os.path.normpath(os.path.join(os.path.dirname(os.path.abspath(__file__)), "../../.."))
 WORKED = os.path.join(TOP, "crates/cobra_examples/data")
-PLACED = ("open", "resume", "marks", "last", "resumed")  # which open a script, and stand nowhere else
+PLACED = ("open", "resume", "marks", "last", "resumed")  # which open a script, and are allowed nowhere else
 WRONG = (
     ('["rouND",32,0,1]', 2, f"a command ({', '.join(COMMANDS)})", '"rouND"'),
     ('["round",32,0]', 14, '3 or 4 parts in "round" after its name', "2"),
@@ -33,6 +33,7 @@ WRONG = (
     ('["offer",0,0,[[[],[5],"abort"]]]', 23, '"aborted"', '"abort"'),
     ('["offer","0",0,[]]', 10, "a session (a whole number, 0 to 255)", '"0"'),
     ('["offer",0,0,[],7]', 17, '3 parts in "offer" after its name', "4"),
+    ('["open",2,8,2,"snap"]', 15, '"snapshot"', '"snap"'),
     ('["close",256]', 10, "a session (a whole number, 0 to 255)", "256"),
     ('{"a":1}', 1, 'a list, as ["round",4096,0,1]', '{"a":1}'),
     ('["begin"] x', 11, "the end of the line", "x"),
@@ -62,7 +63,8 @@ class Forms(unittest.TestCase):
         for line in (
             ' [ "open" , 2 , 8 , 2 ]\r', '["\\u0073how"]', '["join",2,[]]', '["join",2,0,[[[],[]]]]',
             '["save","remain",0,18446744073709551615]', '["answer","refuted",[["nowrite",1,0,5]]]',
-            '["collect","wait"]', '["last",[[0,0,1]]]', '["marks",[2,0],[false,true]]', '["rebuild"]',
+            '["open",2,8,2,"snapshot"]', '["collect","wait"]', '["last",[[0,0,1]]]',
+            '["marks",[2,0],[false,true]]', '["rebuild"]',
         ):
             with self.subTest(line=line):
                 self.assertEqual(mistake_of(line.encode()), "")
@@ -77,7 +79,7 @@ class AsTheAuditorSays(unittest.TestCase):
         return [json.loads(it) for it in ended.stdout.splitlines()[1:]]
 
     def test_it_finds_a_mistake_where_the_auditor_does(self):
-        """Of the forms above and of worked scripts, each changed in one place by chance."""
+        """In the forms above and in worked scripts, each changed at one random place."""
         chance = random.Random(7)
         lines = [line for line, *_ in WRONG if "\n" not in line]
         for path in sorted(glob.glob(f"{WORKED}/*.jsonl"))[:40]:
@@ -105,8 +107,8 @@ class AsTheAuditorSays(unittest.TestCase):
             ([opened, '["round",32,0]'], 2, WRONG[1][2] + ", found 2"),
             (['["round",32,0,1]'], 1, begins),
             ([opened, opened], 2, "the script is open already"),
-            ([version_1, aborted], 2, '"aborted" stands in a script of version 2'),
-            (['["resume",1,8]', '["round",32,0,1]'], 2, 'up to ["resumed"] there may only be what'),
+            ([version_1, aborted], 2, '"aborted" needs a script of version 2'),
+            (['["resume",1,8]', '["round",32,0,1]'], 2, 'up to ["resumed"] only the saved state'),
             ([opened, '["rouND"]'], 2, "column 2: expected a command (answer, begin, "),
         ):
             with self.subTest(lines=lines), tempfile.NamedTemporaryFile("w", suffix=".jsonl") as file:
@@ -122,7 +124,7 @@ class AsTheAuditorSays(unittest.TestCase):
 
 
 def changed(line, chance):
-    """One character is left out, put twice, or another one."""
+    """One character is left out, doubled or replaced."""
     at = chance.randrange(len(line))
     other = chance.choice('[],"0123456789-.e x')
     return line[:at] + chance.choice(("", line[at] * 2, other, other + line[at])) + line[at + 1 :]

@@ -1,4 +1,5 @@
-"""An auditor that goes along with clients: meetings, rounds and cuts, over the store in memory and over a program that is made up."""
+"""An auditor next to running clients: meetings, rounds and cuts, over the store in memory and with
+a made-up program."""
 import json
 import os
 import sys
@@ -44,7 +45,7 @@ class WithProgram(unittest.TestCase):
     def live(self, sessions, limit=4096, **more):
         self.auditor = self.AUDITOR(sessions, limit)
         self.addCleanup(self.auditor.end)
-        wait = {"policy": Policy(60.0, begins_anew=False), "patience": 60.0}  # other programs run, too
+        wait = {"policy": Policy(60.0, begins_anew=False), "patience": 60.0}  # a busy machine
         more = {"every": 20, "seconds": 600.0, "tell": self.told.append, **wait, **more}
         return LiveAuditor(self.auditor, **more)
 
@@ -85,10 +86,10 @@ class Meetings(WithProgram):
         self.assertRegex(self.told[0], r"^round 1: (serial|pending); \d+ transactions, \d+ a second, \d+\.\d\d s behind; \d+ remain; (no )?cut")
 
     def test_a_store_whose_commits_take_a_while(self):
-        """So that one client's begin comes between another one's commit and its answer."""
+        """So one client's begin comes between another one's commit and its answer."""
         live, store = self.live(4), MemoryStore(takes=0.004)
         sessions = run_clients(live, [store.connect() for _ in range(4)], 60, lambda t: (add_one("x")(t), set_to("y", 1)(t)))
-        # else they may all have done before the auditor's thread has had its turn
+        # else they may all have finished before the auditor's thread runs
         self.wait_for(lambda: live.cuts or sessions[0].run(add_one("x")))
         self.assertEqual(self.ended(live).kind, "serial")
         self.assertEqual((live.taken_in, len(live._backlog)), (live.handed_in, 0))
@@ -113,7 +114,7 @@ class Meetings(WithProgram):
 
     def test_each_session_has_a_fence_and_comes_behind_the_last(self):
         live, store = self.live(3, every=2), MemoryStore()
-        self.auditor.truncate = no_cut  # so that all remains to be looked at
+        self.auditor.truncate = no_cut  # so that everything stays to be examined
         a, b = (live.session(store.connect()) for _ in range(2))
         a.run(set_to("x", 1))
         b.run(set_to("x", 2))
@@ -162,7 +163,7 @@ class Meetings(WithProgram):
         self.assertEqual(live.cuts, live.meetings)
 
     def wait_for(self, condition):
-        until = time.monotonic() + 60  # where other programs have the processors
+        until = time.monotonic() + 60  # on a busy machine
         while not condition() and time.monotonic() < until:
             time.sleep(0.01)
         self.assertTrue(condition())
@@ -172,7 +173,7 @@ class Meetings(WithProgram):
         a, b = (live.session(store.connect()) for _ in range(2))
         long = b.begin()
 
-        def is_told():  # a, too, may take longer where other programs have the processors
+        def is_told():  # a, too, may take longer on a busy machine
             a.run(add_one("x"))
             return any("no cut: a transaction of session 1 took longer than 0.05 s" in line for line in self.told)
 
@@ -286,7 +287,7 @@ class Meetings(WithProgram):
 
         def wait_once():
             reads.append(1)
-            if len(reads) == 2:  # of the leader, which overwrites the mark twice
+            if len(reads) == 2:  # by the leader, which overwrites the mark twice
                 is_there.set()
                 may_go_on.wait(60)
 
@@ -301,7 +302,7 @@ class Meetings(WithProgram):
         may_go_on.set()
         comes.join()
         came[0].run(add_one("x"))
-        self.assertIn(came[0].number, (1, 2))  # the one that nobody had is closed, and comes back behind the cut
+        self.assertIn(came[0].number, (1, 2))  # the one without a client is closed, and returns after the cut
         self.assertEqual(self.ended(live).kind, "serial")
 
     def test_as_many_are_taken_in_as_there_is_room_for(self):
@@ -319,7 +320,7 @@ class Meetings(WithProgram):
         for _ in range(3):
             a.run(add_one("x"))
         self.wait_for(lambda: live.taken_in == 3)
-        for every, has_room in ((19, True), (20, False)):  # a quarter of it comes before the next meeting where one fails
+        for every, has_room in ((19, True), (20, False)):  # after a failed meeting, a quarter of it comes before the next one
             live._pace.every = every
             self.assertEqual(live._has_room(), has_room)
         self.assertEqual(self.ended(live).kind, "serial")
@@ -345,7 +346,7 @@ class Meetings(WithProgram):
         self.assertIn(" can come first", reasons(small, called)[-1])
 
     def failure_by_a_key(self):
-        """Of the audit, where it can't be made bytes; the client goes on."""
+        """The audit's failure about a key that can't be packed; the client goes on."""
 
         class Key(str):
             pass
@@ -371,7 +372,7 @@ class Meetings(WithProgram):
 
 
 class MeetingsApart(Meetings):
-    """The same over an auditor in a process of its own."""
+    """The same with an auditor in a process of its own."""
 
     AUDITOR = AuditorApart
 
@@ -424,7 +425,7 @@ class Fragments(unittest.TestCase):
 
 
 class MadeUp(unittest.TestCase):
-    """Over a program with these replies."""
+    """With a program that gives these replies."""
 
     def auditor(self, sessions, replies):
         folder = tempfile.TemporaryDirectory()

@@ -1,5 +1,5 @@
-"""A log that can't be written, as where its folder is gone or the disk is full, harms no application:
-what can't be told there is told on standard error."""
+"""A log that can't be written, for example because its folder is gone or the disk is full, harms no
+application: its messages go to standard error."""
 
 from __future__ import annotations
 
@@ -39,7 +39,7 @@ class Raising(logging.Handler):
 
 @contextlib.contextmanager
 def handled(handler: logging.Handler) -> Iterator[io.StringIO]:
-    """By this, too; gives what comes to standard error."""
+    """Logs with this additional handler; returns what arrives on standard error."""
     LOGGER.addHandler(handler)
     try:
         with contextlib.redirect_stderr(io.StringIO()) as told:
@@ -50,7 +50,7 @@ def handled(handler: logging.Handler) -> Iterator[io.StringIO]:
 
 @contextlib.contextmanager
 def without_folder() -> Iterator[io.StringIO]:
-    """The file of the log is gone while it is used, and can't be made again."""
+    """The log file's folder disappears while it is used, and can't be made again."""
     folder = tempfile.mkdtemp()
     handler = logging.handlers.WatchedFileHandler(os.path.join(folder, "the.log"))
     try:
@@ -135,7 +135,7 @@ class Audits(unittest.TestCase):
 
 
     def test_a_commit_that_isnt_audited_is_no_failure(self) -> None:
-        """The client's transactions go on, and the outcome says so."""
+        """The client's transactions go on, and the outcome reports it."""
         with without_folder() as told, Auditor(1) as auditor:
             session = Session(auditor, 0, MemoryStore().connect())
             lost = AuditLostError("there is no auditor that answers")

@@ -1,4 +1,5 @@
-"""Clients of several machines, behind streams of a Redis: processes of every kind are killed, and a Redis loses what it had."""
+"""Clients of several machines, behind streams of a Redis: processes of every kind are killed, and a
+Redis loses data."""
 import contextlib
 import dataclasses
 import os
@@ -14,12 +15,13 @@ from zanteyard.remote._live_state import StateFile
 from .machines import SOON, Machines, PostgresStore
 from .test_restarting_processes import child_of
 
-# Seconds between transactions: while a client that was killed keeps cuts away no more come than one audit holds.
+# Seconds between transactions, so that no more arrive than one audit holds while a killed client
+# prevents cuts.
 PAUSE = 0.01
 
 
 def end_if_there(pid):
-    """A stopped process whose parent has died may be ended by the kernel, and be gone."""
+    """Ends a stopped process; the kernel may have ended it already, if its parent has died."""
     with contextlib.suppress(ProcessLookupError):
         os.kill(pid, signal.SIGKILL)
 
@@ -47,7 +49,7 @@ class Kills(Machines):
         self.ended(0)
 
     def test_an_upgrade(self):
-        """The daemon is stopped, and another one takes the audit up where it stands."""
+        """The daemon is stopped, and another one continues the audit."""
         self.daemon()
         self.begun(*[self.client() for _ in range(2)])
         self.run_for(20)
@@ -87,11 +89,11 @@ class Kills(Machines):
         self.wait_for(lambda: "cut at" in self.said().rsplit("it sent nothing for", 1)[1], 3 * SOON)
         said = self.ended(3)
         self.assertIn("did is unknown: it sent nothing for 8 s", said)
-        self.assertEqual(self.missed, set())  # what was noted was asked of the store
+        self.assertEqual(self.missed, set())  # the store was asked about what was noted
 
 
     def test_the_daemon_is_killed_before_what_a_client_did_that_was_killed_is_taken_in(self):
-        """The next one hears it again, and asks the store again for its last commit."""
+        """The next daemon reads it again, and asks the store again about its last commit."""
         self.silence = self.soon_silent
         self.daemon()
         self.begun(self.client(), self.client("in its commit", 4, 0.02))
@@ -110,7 +112,8 @@ class Kills(Machines):
 
 class LostSeconds(Machines):
     def test_a_redis_that_comes_back_without_its_last_seconds(self):
-        """Who lives tells it again. Of a client that is killed meanwhile it is said what is missing."""
+        """Living clients send it again. For a client that is killed meanwhile, the outcome says
+        what is missing."""
         self.silence = self.soon_silent
         self.daemon()
         self.begun(*[self.client() for _ in range(2)])
@@ -147,7 +150,7 @@ class Faults(Machines):
         self.daemon()
         doomed = self.client(pause=PAUSE, workload="skew")
         self.begun(doomed)
-        for _ in range(2):  # who comes when the fault is found isn't let in
+        for _ in range(2):  # clients that come when the fault is found aren't admitted
             self.client(pause=PAUSE, workload="skew")
         self.run_for(1)
         self.kill_daemon()
@@ -155,15 +158,16 @@ class Faults(Machines):
         doomed.kill()
         self.daemon()
         self.wait_for(lambda: self.daemons[-1].poll() is not None)
-        self.ended(1, is_left=False)  # who leaves now waits for nobody's answer
+        self.ended(1, is_left=False)  # a client that leaves now waits for nobody's answer
         self.assertTrue(os.path.exists(f"{self.folder}/audit/violation.txt"))
-        self.daemon()  # it stays so
+        self.daemon()  # that doesn't change
         self.wait_for(lambda: self.daemons[-1].poll() is not None)
         self.assertEqual(self.daemons[-1].returncode, 1)
 
 
 class Asked(Machines):
-    """Of a client that isn't heard of the store is asked without harm, and no other server for this one."""
+    """About a client that can't be heard any more, the store is asked without harm, and no other
+    server answers for it."""
 
     def test_what_is_on_its_way_goes_on(self):
         store = PostgresStore(self.cluster.dsn)

@@ -1,5 +1,5 @@
-"""The auditor takes 256 reads and 256 writes of a transaction. As many are audited; with one more the
-audit says that it is incomplete, and why, whatever the store does."""
+"""The auditor takes 256 reads and 256 writes of a transaction. That many are audited. With one
+more, the audit reports that it is incomplete, and why, whatever the store does."""
 import os
 import unittest
 
@@ -27,8 +27,8 @@ class ManyReads(unittest.TestCase):
                 self.assertEqual(auditor.received, [0])
 
     def outcome(self, reads, writes, fault=None):
-        """Of clients that lose an update, if the store has that fault, and of one that does so
-        much."""
+        """The outcome with clients that lose an update, if the store has that fault, and one that
+        does this much."""
         with Auditor(4) as auditor:
             with LiveAuditor(auditor) as live:
                 store = MemoryStore(fault)

@@ -1,4 +1,4 @@
-"""What a meeting has the sessions of one process do, at moments that a run seldom comes to."""
+"""What a meeting makes the sessions of one process do, at moments that a run seldom reaches."""
 import logging
 import os
 import threading
@@ -13,7 +13,7 @@ from zanteyard.stores.memory import MemoryStore
 from zanteyard.session._place import Place
 
 SECONDS = 60.0
-SLOW = 20.0  # seconds in which anything is done that isn't waited for, beside other programs
+SLOW = 20.0  # seconds for anything that isn't waited for, on a busy machine
 
 
 @unittest.skipUnless(os.path.isfile(PROGRAM), f"{PROGRAM} is not built")
@@ -44,7 +44,7 @@ class Meetings(unittest.TestCase):
         self.assertEqual(seen, [])
 
     def test_who_is_let_go_as_its_time_is_up_keeps_its_place(self):
-        """The timer comes behind the flags, and the client begins a transaction at once."""
+        """The timer fires after the flags, and the client begins a transaction at once."""
         session, begun = self.session(0), []
         share = self.group.share
 
@@ -55,7 +55,7 @@ class Meetings(unittest.TestCase):
 
         self.group.share = shared_late
         with self.assertRaisesRegex(QuiesceMissed, "took too long"):
-            self.group.gather(1, SECONDS, False, (), -1.0)  # all are idle for so long
+            self.group.gather(1, SECONDS, False, (), -1.0)  # all count as idle
         begun[0].put("x", 1)
         begun[0].commit()
         self.assertEqual((session.number, session.is_open), (0, True))
@@ -94,7 +94,7 @@ class Meetings(unittest.TestCase):
         self.assertGreaterEqual(session.longest, 2 * session.wait - 0.01)
         self.answers.set()
         with session.turn:
-            self.assertFalse(session.is_open)  # since its flag may be there, or not
+            self.assertFalse(session.is_open)  # since its flag may or may not exist
 
     def test_what_the_store_does_not_answer_is_given_up_where_it_can_be(self):
         session = self.stuck(hang_up=lambda: self.answers.set())

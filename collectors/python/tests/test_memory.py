@@ -1,4 +1,4 @@
-"""Each fault of a store in memory is found, and nothing is made up where there is none."""
+"""Each fault of a store in memory is found, and no violation is reported without one."""
 import os
 import tempfile
 import unittest
@@ -191,6 +191,15 @@ class Recipes(WithAuditor):
             os.chmod(full, 0o755)
             with self.assertRaisesRegex(ProgramEndedError, "status 1: device failed"):
                 Auditor(1, program=full)
+
+    def test_a_program_that_ends_without_a_word(self):
+        with tempfile.TemporaryDirectory() as folder:
+            silent = os.path.join(folder, "silent")
+            with open(silent, "w") as file:
+                file.write("#!/bin/sh\nread line\nexit 3\n")
+            os.chmod(silent, 0o755)
+            with self.assertRaisesRegex(ProgramEndedError, "ended with status 3$"):
+                Auditor(1, program=silent)
 
     def test_a_program_that_is_not_there(self):
         with self.assertRaises(ProgramEndedError):

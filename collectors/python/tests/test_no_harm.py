@@ -1,5 +1,5 @@
-"""What a collector must never do: make up a violation, lose one in silence, or change what clients
-see."""
+"""What a collector must never do: report a false violation, lose one silently, or change what
+clients see."""
 import json
 import logging
 import os
@@ -25,7 +25,7 @@ from zanteyard.session._place import Place
 from .lateness import BOUND, Lateness
 from .test_live import add_one, set_to
 
-SOON = 120.0  # seconds, where other programs have the processors
+SOON = 120.0  # seconds, on a busy machine
 
 
 @unittest.skipUnless(os.path.isfile(PROGRAM), f"{PROGRAM} is not built")
@@ -50,8 +50,8 @@ class NoHarm(unittest.TestCase):
         self.assertTrue(condition(), self.told[-3:])
 
     def bounded(self, session, seconds):
-        """None of its calls takes longer than a client may wait, but for what threads that only
-        sleep are late meanwhile."""
+        """Checks that no call takes longer than a client may wait, plus the delays of threads that
+        only sleep meanwhile."""
         with Lateness() as lateness:
             ends, longest = time.monotonic() + seconds, 0.0
             while time.monotonic() < ends:
@@ -66,7 +66,7 @@ class NoHarm(unittest.TestCase):
 
 
 class Unreachable:
-    """In place of a store that is down."""
+    """Stands in for a store that is down."""
 
     def begin(self):
         raise ConnectionError("the store is down")
@@ -80,12 +80,12 @@ class Beginning(NoHarm):
         self.assertFalse(session.turn.locked())
 
     def test_a_meeting_keeps_the_turn_that_it_took_meanwhile(self):
-        """Whoever takes the turn as the store's error comes back has it."""
+        """Whoever takes the turn when the store raises its error keeps it."""
         session = Session(self.auditor(), 0, Unreachable())
         taken = []
 
         class Turn:
-            """A lock that a meeting takes as soon as it is given back."""
+            """A lock that a meeting takes as soon as it is released."""
 
             def __init__(self, lock):
                 self.lock = lock
@@ -117,7 +117,7 @@ class Beginning(NoHarm):
 
 class AfterTheCommit(NoHarm):
     def debit(self, auditor, break_it):
-        """An application that tries again where it is told that something went wrong."""
+        """An application that tries again when it is told that something went wrong."""
         store = MemoryStore()
         session = Session(auditor, 0, store.connect())
         session.run(set_to("balance", 100))
@@ -133,7 +133,7 @@ class AfterTheCommit(NoHarm):
         return session, store.versions["balance"][-1][0]
 
     def breaking(self):
-        """Each with how the auditor's end is brought about."""
+        """Several ways in which the auditor ends."""
 
         def kill(auditor):
             auditor.program.kill()
@@ -184,13 +184,13 @@ class AfterTheCommit(NoHarm):
         session = Session(auditor, 0, MemoryStore().connect())
         os.kill(auditor.program.process.pid, signal.SIGSTOP)
         self.bounded(session, 1.0)
-        self.assertGreater(session.begun, 10)  # who comes next doesn't wait
+        self.assertGreater(session.begun, 10)  # a client that comes next doesn't wait
         os.kill(auditor.program.process.pid, signal.SIGCONT)
         outcome = auditor.outcome()
         self.assertEqual((outcome.kind, outcome.audited), ("serial", session.begun))
 
     def test_more_than_one_that_stands_still_has_room_for(self):
-        """The transaction's statement alone doesn't fit on the way to it."""
+        """The transaction's statement alone is larger than the pipe."""
         auditor = self.auditor(of=AuditorApart)
         session = Session(auditor, 0, MemoryStore().connect())
         os.kill(auditor.process.pid, signal.SIGSTOP)
@@ -226,7 +226,7 @@ class AfterTheCommit(NoHarm):
 
 
 class Unspeakable:
-    """A value of the application's that can't be told."""
+    """A value of the application whose text can't be shown."""
 
     def __repr__(self):
         raise RuntimeError("no word for it")
@@ -236,8 +236,8 @@ FOLDER = os.path.dirname(os.path.abspath(zanteyard.__file__))
 
 
 class Interrupts(NoHarm):
-    """Ctrl-C and the like, wherever they come while a transaction is committed and handed in: as a
-    function is entered, or behind a call."""
+    """Ctrl-C and similar, wherever it comes while a transaction is committed and handed in: at the
+    entry of a function, or after a call."""
 
     KINDS = (KeyboardInterrupt, SystemExit, GeneratorExit)
     PLACES = {
@@ -254,7 +254,7 @@ class Interrupts(NoHarm):
         self.assertEqual([path for path in self.PLACES if not os.path.isfile(path)], [])
 
     def interrupted(self, transaction, at):
-        """Whether its commit was, at the place of this number."""
+        """Whether the commit was interrupted at the n-th place."""
         places, kind = [], self.KINDS[at % len(self.KINDS)]
 
         def profile(frame, event, _):
@@ -276,7 +276,7 @@ class Interrupts(NoHarm):
             return True
 
     def each_place(self, begin, step=1):
-        """`begin` gives two sessions, and what gives the outcome."""
+        """`begin` returns two sessions, and a function that returns the outcome."""
         for at in range(1, 1000, step):
             store = MemoryStore()
             a, b, end = begin(store)
@@ -297,7 +297,7 @@ class Interrupts(NoHarm):
                     self.assertIn("was interrupted", str(outcome))
             if not is_interrupted:
                 self.assertEqual(outcome.kind, "serial")
-                self.assertGreater(at, 20)  # else its functions are elsewhere by now
+                self.assertGreater(at, 20)  # else its functions have moved
                 return
         self.fail("it has no end")
 
@@ -429,7 +429,7 @@ class Outcomes(NoHarm):
 
     def test_fences_that_the_store_mixes_up_are_the_collectors_own(self):
         class Mixing:
-            """A store in which fences aren't atomic, and everything else is."""
+            """A store whose exchange isn't atomic for fences, and is for everything else."""
 
             def __init__(self, shared):
                 self.plain = shared.connect()
@@ -460,13 +460,13 @@ class Standing(NoHarm):
         hung = b.begin()
         hung.get("y")
 
-        def has_failed():  # the first meeting, so that it is known what stands in the way
+        def has_failed():  # the first meeting, so that the cause is known
             a.run(add_one("x"))
             return live._audit.why_no_cut
 
         self.wait_for(has_failed)
         self.bounded(a, 3.0)
-        self.wait_for(lambda: live.outcome.earlier)  # the audit ended full, and another one began
+        self.wait_for(lambda: live.outcome.earlier)  # the audit ended because it was full, and another one began
         hung.put("y", 1)
         hung.commit()
         b.run(add_one("y"))
@@ -490,7 +490,7 @@ class Standing(NoHarm):
         live.stop()
 
     def test_why_there_is_no_room(self):
-        """Who waits because the auditor is full isn't told that it is slow."""
+        """A client that waits because the auditor is full isn't told that it is slow."""
         auditor = self.auditor()
         live = self.live(auditor, most=100)
         live.stop()
@@ -567,7 +567,7 @@ class Standing(NoHarm):
         self.assertEqual((outcome.kind, len(outcome.earlier)), ("violated", 1))
 
     def test_audits_that_begin_while_clients_run_make_nothing_up(self):
-        """Ended as often as they can be, at whatever moment that comes."""
+        """Audits are ended as often as possible, at any moment."""
         for takes in (0.0, 0.004):
             with self.subTest(takes=takes):
                 self.begin_again_and_again(MemoryStore(takes=takes))
@@ -622,8 +622,8 @@ class Standing(NoHarm):
 
 
 class Late(NoHarm):
-    """What was on its way, and of which nobody knows whether it was written, is written when
-    another audit goes on."""
+    """What was in flight, and may or may not have been written, is written during the next
+    audit."""
 
     def setUp(self):
         super().setUp()
@@ -631,7 +631,7 @@ class Late(NoHarm):
         self.running = self.live(self.auditor_of_all, seconds=0.05)
 
     def lost(self, deed, key):
-        """Gives what has it written after all."""
+        """Returns a function that writes it after all."""
         a = self.running.session(self.store.connect())
         number = a.number
 
@@ -667,7 +667,7 @@ class Late(NoHarm):
                 again(b)
                 write_late()
                 again(b)
-                if key == FENCE:  # a fence has to have read another: the audit ends once more
+                if key == FENCE:  # a fence has to have read another one: the audit ends again
                     self.wait_for(lambda: len(self.running.earlier) == 2)
                 else:
                     self.wait_for(lambda: sum(self.running.outcome.counts or ()) >= 2)
@@ -676,7 +676,7 @@ class Late(NoHarm):
                 self.assertEqual(self.running.stop().kind, "incomplete")
 
     def test_what_a_process_did_that_is_lost(self):
-        """Nothing is known of its last ones."""
+        """Nothing is known about its last transactions."""
         places, backlog = SessionPool(2), Backlog(8)
         left, lost = places.take(0.0), places.take(0.0)
         places.give_back([left])
@@ -740,7 +740,7 @@ class Scripts(NoHarm):
                 self.wait_for(lambda: live.cuts or session.run(add_one("x")))
                 outcome = live.stop()
                 replies = self.given_again(path)
-                # the last round may come behind the last meeting
+                # the last round may come after the last meeting
                 self.assertEqual([it for it in replies if it[0] == "no" and it[2] != "NoCut"], [])
                 last = [it for it in replies if it[0] == "report"][-1]
                 self.assertEqual(last, ["report", *outcome.report])

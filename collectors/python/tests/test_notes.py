@@ -1,4 +1,4 @@
-"""What a client's process notes, as who finds it killed reads it."""
+"""What a client's process notes, and how its notes are read after it was killed."""
 import errno
 import logging
 import math
@@ -65,7 +65,7 @@ class Noted(unittest.TestCase):
                 self.assertLessEqual(len(self.numbers()), 1, at)
 
     def test_what_is_older_is_not_read(self):
-        """A file that is used again has older records behind the new ones."""
+        """A file that is used again has older records after the new ones."""
         packed = b"x" * 4000
         for number in range(500):
             self.notes.write(0, number, None, packed, None, True)
@@ -135,7 +135,7 @@ class Noted(unittest.TestCase):
         self.assertEqual((place.is_ended, place.unknown), (True, ((0, 1),)))
 
     def test_behind_what_could_not_be_found_out_nobody_goes_on(self):
-        """It was handed over, and that it was the last of its session wasn't."""
+        """It was handed over, but not that it was the last of its session."""
         self.before(0)
         self.notes.write(0, 0, "unknown", None, None, True, True)
         found, place = self.told(come=1)
@@ -154,7 +154,7 @@ class Noted(unittest.TestCase):
         self.assertEqual(self.told()[0], [(0, NOTHING), (1, NOTHING)])
 
     def test_what_is_missing_is_not_guessed_at(self):
-        self.notes.write(0, 0, "committed", None)  # and what it did isn't there
+        self.notes.write(0, 0, "committed", None)  # and what it did is missing
         with self.assertRaises(LostError):
             self.told()
         self.notes.remove()
@@ -164,13 +164,14 @@ class Noted(unittest.TestCase):
     UNCLEAR = "it read what a forked child wrote"
 
     def unclear(self, outcome, is_last=False):
-        """A transaction of which its client didn't know itself what it had done."""
+        """A transaction whose client itself didn't know what it had done."""
         self.notes.write(0, 0, None, as_bytes(DID), ("x",), True, False, self.UNCLEAR)
         if outcome is not None:
             self.notes.write(0, 0, outcome, None, None, True, is_last, self.UNCLEAR)
 
     def test_who_was_to_join_and_was_not_answered_has_its_number_for_good(self):
-        """The store may have been asked of an attempt before; one that was answered left nothing."""
+        """The store's answer may be about an earlier attempt; one that was answered left
+        nothing."""
         self.before(0, Logged([("x", "init")], ()))
         found, place = self.told(Place(0, must_join=True))
         self.assertEqual((found, place.begun, place.is_ended, place.unknown), ([], 1, True, ((0, 1),)))
@@ -179,7 +180,7 @@ class Noted(unittest.TestCase):
         self.assertEqual((found, place.begun, place.is_ended, place.unknown), ([], 0, False, ()))
 
     def told_of_the_living(self, come=0):
-        """Of a process that isn't heard of, and may go on."""
+        """What is recovered from a process that can't be heard, and may go on."""
         backlog, place = Backlog(8), Place(0)
         if come:
             backlog.count(0, come - 1)
@@ -248,7 +249,7 @@ class Noted(unittest.TestCase):
         self.assertEqual(self.told()[0], [(0, NOTHING), (1, NOTHING)])
 
     def test_what_an_aborted_attempt_had_written_is_told(self):
-        """As it was noted when that was known; and not where the name is to be used again."""
+        """As it was noted when that became known; but not if the name is to be used again."""
         self.before(0)
         undone = Logged((), (), "aborted", tried_reads=[("x", (3, 4))], tried_writes=["x", "y"])
         self.notes.write(0, 0, "aborted", as_bytes(undone))
@@ -272,7 +273,7 @@ class Noted(unittest.TestCase):
 
 
 def written_by_a_child(run_name):
-    """A store that has a value that a forked child of a client wrote."""
+    """A store with a value that a client's forked child wrote."""
     store = MemoryStore()
     child = store.connect()
     child.begin()
@@ -282,7 +283,7 @@ def written_by_a_child(run_name):
 
 
 class WhatIsNoted(unittest.TestCase):
-    """By a session that may have read what isn't audited."""
+    """Notes of a session that may have read something unaudited."""
 
     setUp, UNCLEAR = Noted.setUp, Noted.UNCLEAR
 
@@ -318,7 +319,7 @@ class WhatIsNoted(unittest.TestCase):
 
 class Lost(unittest.TestCase):
     def test_why_is_sent_before_what_was_missed(self):
-        """Else who is killed in between is taken for one that has told all."""
+        """Otherwise a process killed in between would seem to have reported everything."""
         messages, sent = mock.Mock(), []
         messages.send = lambda kind, *_: sent.append(kind)
         outbox = Outbox(messages, 8)
@@ -354,8 +355,8 @@ os.kill(os.getpid(), signal.SIGKILL)
 """
 
     def test_a_child_keeps_nothing_of_its_parents(self):
-        """Its end is seen while a child lives that was forked; and as that may go on in its
-        sessions, which nobody sees, nobody else gets them."""
+        """The end of the parent is noticed although a forked child lives. Nobody else gets its
+        sessions, since the child may go on in them unseen."""
         logging.getLogger("zanteyard").setLevel(logging.CRITICAL)
         self.addCleanup(logging.getLogger("zanteyard").setLevel, logging.NOTSET)
         from zanteyard.stores.sqlite import prepare
@@ -442,7 +443,7 @@ os.kill(os.getpid(), signal.SIGKILL)
         self.assertEqual((live.stop().kind, live.stop().audited), ("serial", 20))
 
     def test_nothing_is_noted_any_more_where_nobody_reads_it(self):
-        """Neither is there any room taken."""
+        """They take no space either."""
         live, server, client = self.audited()
         session, idle = (client.session(MemoryStore().connect()) for _ in range(2))
         session.run(add_one("x"))
@@ -460,7 +461,7 @@ os.kill(os.getpid(), signal.SIGKILL)
         self.assertEqual(live.stop().kind, "incomplete")
 
     def test_who_is_in_a_transaction_as_its_process_leaves_keeps_its_descriptors(self):
-        """Else it might write to what another has opened since."""
+        """Otherwise it might write to a file that another thread has opened since."""
         _, server, client = self.audited()
         session, other = (client.session(MemoryStore().connect()) for _ in range(2))
         notes, others = session.notes, other.notes
@@ -473,7 +474,7 @@ os.kill(os.getpid(), signal.SIGKILL)
         self.assertEqual(notes.halves, [])
 
     def test_a_session_that_ends_unclear_is_not_closed(self):
-        """What nobody hands in may have been read by others."""
+        """Others may have read what nobody hands in."""
         live, _, client = self.audited()
         store = written_by_a_child(client.run_name)
         one, other = client.session(store.connect(), 0.1), live.session(store.connect())

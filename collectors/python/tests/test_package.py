@@ -1,4 +1,4 @@
-"""The wheel: made of this tree, installed into an environment of its own from no index, tried."""
+"""The wheel: built from this tree, installed into a new environment without an index, and tried."""
 import os
 import re
 import shutil
@@ -17,7 +17,7 @@ from zanteyard.core._version import VERSION
 TOP = os.path.normpath(os.path.join(os.path.dirname(os.path.abspath(__file__)), "../../.."))
 LOST = '["open",2,8]\n["offer",0,0,[[[[5,"init"]],[5]]]]\n["offer",1,0,[[[[5,"init"]],[5]]]]\n'
 SERIAL = '["open",1,8]\n["offer",0,0,[[[],[5]]]]\n'
-# A script for each status of `zanteyard check`; the last one is given no more than one node.
+# A script for each status of `zanteyard check`; the last one is given only one node.
 SCRIPTS = {
     0: SERIAL,
     1: LOST,
@@ -28,7 +28,7 @@ SCRIPTS = {
 
 
 def python_for(modules):
-    """A Python that has them, as package.sh looks for it; or None."""
+    """A Python that has these modules, as package.sh looks for one; or None."""
     for python in ("/usr/bin/python3", "python3"):
         if shutil.which(python):
             words = [python, "-c", f"import {modules}"]
@@ -38,7 +38,7 @@ def python_for(modules):
 
 
 def commands_of_the_readme():
-    """From the environment to a violation on a page."""
+    """From the new environment to a violation on a page."""
     with open(f"{TOP}/README.md", encoding="utf-8") as file:
         found = re.search(r"```\n((?:\$ .*venv.*\n)+)```", file.read())
     return [line[2:] for line in found[1].splitlines()]
@@ -82,7 +82,7 @@ class Package(unittest.TestCase):
 
     @classmethod
     def shell(cls, command):
-        """As it stands in a document."""
+        """Runs it as it is in a document."""
         return cls.run_it("sh", "-c", command)
 
     def zanteyard(self, *words):
@@ -139,10 +139,10 @@ class Package(unittest.TestCase):
                 self.assertTrue(os.path.isfile(f"{folder}/{name}"), name)
 
     def test_a_first_try(self):
-        """./try.sh, with the auditor that these tests have."""
+        """./try.sh, with these tests' auditor."""
         folder = os.path.join(self.folder, "try")
         its = {**self.environment, "COBRA_AUDIT": os.path.abspath(PROGRAM)}
-        for _ in range(2):  # a second one makes its folder anew
+        for _ in range(2):  # the second one makes its folder again
             ended = subprocess.run(
                 [f"{TOP}/try.sh", folder], env=its, capture_output=True, text=True, timeout=900
             )

@@ -1,4 +1,4 @@
-"""No session is ever given to two clients, in whatever order those that have it give it back."""
+"""No session is ever given to two clients, in whatever order it is given back."""
 import os
 import tempfile
 import threading
@@ -33,7 +33,8 @@ class Nowhere:
 
 class Told(unittest.TestCase):
     def test_what_processes_tell_of_a_place(self):
-        """Who changes that gives its form another number, too: a process of before wouldn't understand it."""
+        """Whoever changes a place's fields must change FORM, too: an older process wouldn't
+        understand them."""
         names = "number begun is_due has_flag is_audited is_ended is_lent unknown must_join client"
         self.assertEqual((FORM, [field.name for field in fields(Place)]), (5, names.split()))
 
@@ -41,10 +42,10 @@ class Told(unittest.TestCase):
 @unittest.skipUnless(os.path.isfile(PROGRAM), f"{PROGRAM} is not built")
 class Meetings(unittest.TestCase):
     def test_a_meeting_after_which_nothing_could_be_forgotten_says_so(self):
-        """Unless it has failed itself: then the next one comes sooner for that reason."""
+        """Unless the meeting itself failed: then the next one comes sooner for that reason."""
         with Auditor(2) as auditor:
             live = LiveAuditor(auditor, seconds=3600.0)
-            live.stop()  # its thread meets no more
+            live.stop()  # its thread holds no further meetings
             for failure, is_cut, why in (
                 *((None, False, "no fence was settled"), (None, True, None)),
                 *(("a client hung", False, "a client hung"), ("a client hung", True, "a client hung")),
@@ -72,7 +73,8 @@ class Meetings(unittest.TestCase):
             self.assertEqual(names, [name, f"{name}, audit 2", f"{name}, audit 3"])
 
     def test_room_is_kept_for_the_meetings_of_open_sessions(self):
-        """Four transactions for each, and for one if all are closed: another one may come."""
+        """Four transactions for each open session, and for one if all are closed, since another one
+        may come."""
         with Auditor(3) as auditor:
             live = LiveAuditor(auditor, seconds=3600.0)
             live.stop()
@@ -94,7 +96,7 @@ class Added(unittest.TestCase):
             live.stop()
 
     def test_an_audit_of_other_processes_notes_its_own_first_session(self):
-        """What that did last nobody knows, if this process ends."""
+        """If this process ends, that session's last transactions are unknown."""
         with Auditor(2) as auditor:
             live, noted = LiveAuditor(auditor, seconds=3600.0, elsewhere=True), []
             self.assertFalse(auditor.has_sessions)
@@ -131,7 +133,8 @@ class Added(unittest.TestCase):
 
 
 class LentPlaces(unittest.TestCase):
-    """A place that was lent to a process for a meeting, which answers when that is over."""
+    """A place that was lent to a process for a meeting, and the answer arrives after the meeting is
+    over."""
 
     def setUp(self):
         self.places = SessionPool(2)
@@ -167,7 +170,7 @@ class LentPlaces(unittest.TestCase):
         self.assertEqual(self.taken(), [0])
 
     def test_the_answer_comes_while_the_meeting_takes_its_places_back(self):
-        """It has been noted in the place, and what is late isn't given back yet."""
+        """The answer is already in the place, but the late call hasn't given it back yet."""
         self.late()
         give_back, taken = self.group._give_back, []
 
@@ -193,7 +196,7 @@ class LentPlaces(unittest.TestCase):
         self.assertEqual(coverage.number(0, new.begun), 0)
 
     def test_the_answer_comes_and_nobody_looks_at_it(self):
-        """Since another process has left, which ends the meeting."""
+        """Another process has left, which ends the meeting."""
         self.answer()
         self.group.release()
         self.places.take_back(self.lent)
@@ -225,7 +228,7 @@ class LentPlaces(unittest.TestCase):
 
 class Leaving(unittest.TestCase):
     def test_a_client_leaves_while_it_is_asked_who_has_what(self):
-        """Behind the places that are left, and before the sessions of its process."""
+        """After the free places were asked, and before the sessions of its process."""
         places = SessionPool(2)
         place = places.take(0.0)
 
@@ -249,7 +252,7 @@ class Leaving(unittest.TestCase):
         self.assertEqual(sorted(one.number for one in found if one), [0, 1])
 
     def test_who_is_just_being_given_one_has_it_alone(self):
-        """Taken, and in no process's list yet."""
+        """Taken, and not in any process's list yet."""
         places = SessionPool(2)
         taken = places.take(0.0)
         coverage_from_now(2, [], places, Backlog(8))
@@ -274,7 +277,7 @@ class Leaving(unittest.TestCase):
 @unittest.skipUnless(os.path.isfile(PROGRAM), f"{PROGRAM} is not built")
 class Clients(unittest.TestCase):
     def test_clients_that_come_and_go_while_audits_begin_anew(self):
-        """No two of them have one session at a time."""
+        """No two of them have the same session at a time."""
         store, held, errors, ended = MemoryStore(), {}, [], threading.Event()
         with Auditor(4) as auditor:
             live = LiveAuditor(auditor, every=20, seconds=0.05)

@@ -1,4 +1,4 @@
-"""The same against a real PostgreSQL, where it is installed."""
+"""The same with a real PostgreSQL, if it is installed."""
 import logging
 import os
 import signal
@@ -72,7 +72,7 @@ class Postgres(unittest.TestCase):
         return self.committed(one, other)
 
     def committed(self, one, other):
-        """The second, if the store lets it."""
+        """Commits the second one, if the store allows it."""
         one.commit()
         try:
             other.commit()
@@ -101,8 +101,8 @@ class Postgres(unittest.TestCase):
                 self.assertEqual(self.count_at_once(level), wanted)
 
     def test_what_an_interrupt_left_open_is_not_gone_on_with(self):
-        """It comes before the rollback is sent: what follows would have the snapshot of before, and
-        be committed with it, or fail with it."""
+        """It comes before the rollback is sent. Otherwise the next statements would use the old
+        snapshot, and be committed with it, or fail with it."""
         for breaks in ("", "SELECT 1 / 0"):
             with self.subTest(breaks=breaks):
                 self.setUp()
@@ -142,7 +142,7 @@ class Postgres(unittest.TestCase):
         self.assertEqual(self.kind(), "serial")
 
     def all_at_once(self, auditor, level, deed, times=25):
-        """Six clients do it so many times each."""
+        """Six clients each do it this many times."""
         sessions, failures = [], []
         for number in range(6):
             sessions.append(Session(auditor, number, PostgresStore(self.dsn, level), patience=60))
@@ -163,8 +163,8 @@ class Postgres(unittest.TestCase):
         self.assertEqual(failures, [])
 
     def test_fences_at_once_are_in_one_row(self):
-        """At each level none overwrites another one than it has read, by a statement of its own or in
-        a client's transaction."""
+        """At each level each one overwrites the version that it has read, in a statement by itself
+        and in a client's transaction."""
         deeds = {
             "fence": lambda session: session.fence(),
             "exchange": lambda session: session.run(lambda t: t.exchange("x", "1"), attempts=1000),
@@ -224,7 +224,7 @@ class Postgres(unittest.TestCase):
         scans = "SELECT seq_scan, idx_scan FROM pg_stat_user_tables WHERE relname = 'zanteyard'"
         others = "SELECT count(*) FROM pg_stat_activity WHERE datname = current_database() AND pid <> pg_backend_pid()"
 
-        def is_alone():  # by then the others have told what they did
+        def is_alone():  # by then the others have reported what they did
             admin.execute(others)
             return admin.fetchone() == (0,)
 
@@ -233,7 +233,7 @@ class Postgres(unittest.TestCase):
         before = admin.fetchone()
         store = PostgresStore(self.dsn)
         store.claim("run", "token", 60)
-        store.close()  # it tells what it did
+        store.close()  # it reports what it did
         until = time.monotonic() + 60
         while True:
             admin.execute(scans)
@@ -244,7 +244,7 @@ class Postgres(unittest.TestCase):
         self.assertEqual((after[0], after[1] > before[1]), (before[0], True))
 
     def claiming(self):
-        """A session of a run with a name, over a connection that is there."""
+        """A session of a run with this name, over an existing connection."""
         auditor = Auditor(1)
         self.addCleanup(auditor.end)
         store = PostgresStore(self.dsn)
@@ -253,9 +253,9 @@ class Postgres(unittest.TestCase):
         return auditor, Session(auditor, 0, store, "run")
 
     def claimed_late(self, stand_still, go_on):
-        """At least once of three times the client waits for the name no longer than the bound, and
-        a while more: less than for what it asks for itself; nothing is audited until it can be
-        claimed, and then all is."""
+        """In at least one of three attempts the client waits for the name no longer than the bound
+        plus a small extra, which is less than its own limit. Nothing is audited until the name can
+        be claimed, and then everything is."""
         logging.getLogger("zanteyard").setLevel(logging.CRITICAL)
         self.addCleanup(logging.getLogger("zanteyard").setLevel, logging.NOTSET)
         least = float("inf")
@@ -328,12 +328,12 @@ class Postgres(unittest.TestCase):
             found()
             self.assertFalse(session.is_open)
         self.assertEqual(self.auditor.history[0], [])  # a flag that nobody reads any more
-        self.assertEqual(self.auditor.history[1], [])  # a fence of which nobody knows what it read
+        self.assertEqual(self.auditor.history[1], [])  # a fence whose read nobody knows
         outcome = self.auditor.outcome()
         self.assertEqual((outcome.kind, outcome.pending), ("pending", (((2, 1), FENCE, (1, 0)),)))
 
     def test_what_others_have_overwritten_of_a_killed_process_was_done(self):
-        """Of a row that is everybody's, as a mark is: its own name isn't there any more."""
+        """In a row that everybody writes, such as a mark: its own name is no longer there."""
         a, b = PostgresStore(self.dsn), PostgresStore(self.dsn)
         _, *how = a.asks()
         for store, name in ((b, ("run", 1, 0)), (a, ("run", 0, 0)), (b, ("run", 1, 1))):
@@ -342,7 +342,7 @@ class Postgres(unittest.TestCase):
         done, never = (a.ticket(("mark", "run", 0, number)) for number in (0, 1))
         a.close(), b.close()
         self.assertEqual(asked(*how, ticket=done, seconds=60.0), ("committed", (("run", 1, 0),)))
-        # Of one that isn't among the last names nobody knows.
+        # About a name that isn't among the last ones, nobody knows.
         self.assertEqual(asked(*how, ticket=never, seconds=60.0)[0], "unknown")
 
     def test_the_answer_to_a_fence_is_lost(self):
@@ -380,8 +380,8 @@ class Postgres(unittest.TestCase):
         self.assertEqual(self.kind(), "serial")
 
     def test_what_aborted_attempts_did_is_logged(self):
-        """Under the names that the store has seen; and the audit stays serial, since the server
-        shows nobody what it took back."""
+        """With the names that the store has seen. The audit stays serial, since the server shows
+        nobody what it rolled back."""
         a, b, c = self.sessions()
         a.run(lambda t: (t.put("x", "1"), t.put("y", "1")))
         one, other = a.begin(), b.begin()
@@ -411,8 +411,8 @@ class Postgres(unittest.TestCase):
         self.assertEqual(self.kind(), "serial")
 
     def test_what_a_meeting_reads_is_read_at_the_clients_level(self):
-        """Of a batch that is closed, a deposit into it, and a report: the report alone makes that no
-        order (Fekete and others, 2004), so that the store has to know of it."""
+        """A batch that is closed, a deposit into it, and a report: only the report makes this
+        non-serializable (Fekete and others, 2004), so the store has to know about the report."""
         for level, wanted in (("serializable", "serial"), ("repeatable read", "violated")):
             with self.subTest(level=level):
                 self.setUp()
@@ -430,8 +430,8 @@ class Postgres(unittest.TestCase):
                 self.assertEqual(self.kind(), wanted)
 
     def took(self, seconds, error, call):
-        """At least one of three tries fails so in so many seconds, and a little more: beside other
-        programs the others may take longer."""
+        """At least one of three attempts fails with this error within this many seconds, plus a
+        little; on a busy machine the others may take longer."""
         least = float("inf")
         for _ in range(3):
             began = time.monotonic()
@@ -441,7 +441,7 @@ class Postgres(unittest.TestCase):
         self.assertLess(least, seconds + 2.0)
 
     def test_a_server_that_stands_still_is_waited_for_no_longer_than_was_said(self):
-        """It takes connections, and answers nothing to them; those of before go on."""
+        """It accepts connections but doesn't answer them; existing ones go on."""
         with PostgresServer() as cluster:
             prepare(cluster.dsn)
             auditor = Auditor(8)

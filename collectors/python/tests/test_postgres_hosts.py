@@ -1,4 +1,4 @@
-"""What became of a commit is asked of the server that the client was connected to."""
+"""The outcome of a commit is asked of exactly the server that the client was connected to."""
 import os
 import tempfile
 import time
@@ -20,8 +20,8 @@ from .waiting import SOON
 @unittest.skipUnless(psycopg2 and program("initdb"), "PostgreSQL or psycopg2 isn't installed (no server was asked)")
 class Hosts(unittest.TestCase):
     def test_another_host_of_the_same_name_is_not_asked(self):
-        """The first of two can't be reached as the client connects, and can be a moment later: its numbers of transactions
-        are others."""
+        """The first of two hosts can't be reached when the client connects, but a moment later it
+        can: its transaction numbers are different."""
         with tempfile.TemporaryDirectory() as folder, PostgresServer() as first, PostgresServer() as second:
             prepare(first.dsn)
             prepare(second.dsn)

@@ -1,4 +1,5 @@
-"""Audits of a PostgreSQL while clients run on it: each workload at the strictest level, and the faults of the other ones."""
+"""Audits of PostgreSQL while clients run on it: each workload at the strictest level, and the
+faults of the other levels."""
 import functools
 import itertools
 import json
@@ -27,9 +28,9 @@ OVERLAPPING = (
     *((workload, "serializable", by_processes) for workload in WORKLOADS for by_processes in (False, True)),
     *(("skew", "repeatable read", by_processes) for by_processes in (False, True)),
 )
-OVERLAPPED, RATE = 3.0, 250.0  # seconds, and transactions a second, so that a round may be about all
-PATIENCE = 120  # seconds to find a fault in: a run ends with the first one
-LATE = 200.0  # seconds for a program, where others have the processors
+OVERLAPPED, RATE = 3.0, 250.0  # seconds, and transactions per second, so that a round may cover everything
+PATIENCE = 120  # seconds to find a fault: a run ends with the first one
+LATE = 200.0  # seconds for a program, on a busy machine
 
 
 @unittest.skipUnless(os.path.isfile(PROGRAM), f"{PROGRAM} is not built")
@@ -42,7 +43,7 @@ class PostgresLive(unittest.TestCase):
         cls.addClassCleanup(cls.cluster.__exit__)
 
     def outcome(self, seconds, *words):
-        """Which verdict there was, and after how many cuts; the run has a schema of its own."""
+        """The verdict, and after how many cuts; the run has a schema of its own."""
         call = [sys.executable, f"{TOP}/examples/postgres_live.py", "--dsn", self.cluster.dsn, "--unaudited", "0"]
         with tempfile.TemporaryDirectory() as folder:
             ran = subprocess.run(
@@ -60,7 +61,7 @@ class PostgresLive(unittest.TestCase):
         return found[1], int(found[2])
 
     def serial_with_cuts(self, *words):
-        """Where others have the processors it runs longer until there is one."""
+        """On a busy machine it runs longer, until there is a cut."""
         for seconds in (1.5, 6, 24, 96):
             kind, cuts = self.outcome(seconds, "--rather-wait", "--every", "128", *words)
             self.assertEqual(kind, "serial")
@@ -81,11 +82,12 @@ class PostgresLive(unittest.TestCase):
         self.assertEqual(self.outcome(6, "--rather-wait", *words)[0], "serial")
 
     def test_each_round_is_right_of_the_whole_history(self):
-        """One is searched at each moment, while clients are taken in: what it told is what a program says that is given
-        all that had come by its begin, of which nothing was forgotten; and the script is right line by line."""
+        """A round is being searched at any moment while transactions are taken in. Each report is
+        that of a program that is given everything that had arrived by the round's beginning, and
+        forgets nothing; and each line of the script is right."""
         from zanteyard.stores.postgres import PostgresStore, prepare
 
-        beside = 0  # offers, in all: an audit that is soon violated may have none
+        beside = 0  # offers, in total: an audit that is soon violated may have none
         for workload, level, by_processes in OVERLAPPING:
             with self.subTest(workload=workload, level=level, by_processes=by_processes):
                 table = f"{workload}_{level.replace(' ', '_')}_{by_processes}"
@@ -104,7 +106,7 @@ class PostgresLive(unittest.TestCase):
 
     @staticmethod
     def searched(folder, store, workload, by_processes):
-        """The outcome, and of each round how many transactions it was about, and its verdict."""
+        """The outcome, and for each round how many transactions it covered, and its verdict."""
         told = []
         note = lambda it: told.append((tuple(it.report.counts), it.report.kind))
         its = {"every": 64, "seconds": 0.0, "patience": 60.0, "policy": Policy(60.0, begins_anew=False)}
@@ -125,7 +127,7 @@ class PostgresLive(unittest.TestCase):
 
     @staticmethod
     def played(path):
-        """A script's lines, and what a program says to them."""
+        """A script's lines, and a program's replies to them."""
         with open(path, "rb") as script:
             text = script.read()
         replies = subprocess.run([PROGRAM], input=text, stdout=subprocess.PIPE, check=True, timeout=LATE).stdout
@@ -133,7 +135,7 @@ class PostgresLive(unittest.TestCase):
 
     @staticmethod
     def came_beside(lines):
-        """How many offers and joins stand between the begin of a round and its end."""
+        """How many offers and joins came between the beginning of a round and its end."""
         count, is_open = 0, False
         for line in lines:
             is_open = line == b'["begin"]' or is_open and not line.startswith((b'["collect"', b'["skip"'))

@@ -17,7 +17,7 @@ PLACE = os.path.join(os.path.dirname(os.path.abspath(__file__)), "..")
 
 
 class TwoProcesses:
-    """What two processes of clients do, however they reach the auditor's."""
+    """What two processes of clients do, whatever connects them to the auditor's process."""
 
     def test_two_processes_meet(self):
         live, store, other = self.live(4), MemoryStore(), self.another()
@@ -47,7 +47,7 @@ class TwoProcesses:
 
 
 class Elsewhere(TwoProcesses, test_live.Meetings):
-    """All that meetings do over sessions of this process, over sessions that are behind a socket."""
+    """Everything that meetings do with sessions of this process, with sessions behind a socket."""
 
     def live(self, sessions, *arguments, **more):
         live = super().live(sessions, *arguments, **more)
@@ -73,7 +73,7 @@ class Elsewhere(TwoProcesses, test_live.Meetings):
         return client
 
     def cut_off(self, client):
-        """As where its process is killed."""
+        """As if its process were killed."""
         with socket.socket(fileno=os.dup(client._messages._connection.fileno())) as same:
             same.shutdown(socket.SHUT_RDWR)
 
@@ -146,7 +146,7 @@ class Elsewhere(TwoProcesses, test_live.Meetings):
 
         self.client._group.pass_on, RemoteGroup.patience = later, 0.2
 
-        def is_late():  # one that fails otherwise, since all is slow, is followed by another one
+        def is_late():  # after a meeting that fails only because everything is slow, there is another one
             a.run(add_one("x"))
             return any("didn't answer" in line for line in self.told)
 
@@ -203,14 +203,14 @@ class Elsewhere(TwoProcesses, test_live.Meetings):
         live, store, other = self.live(2, every=1, patience=0.05), MemoryStore(), self.another()
         a, b = self.client.session(store.connect()), other.session(store.connect())
         (stuck,) = [it.messages for it in self.server._processes if b.number in it.group.numbers()]
-        plain, stuck.tell = stuck.tell, lambda *_, **__: True  # calls don't get there
+        plain, stuck.tell = stuck.tell, lambda *_, **__: True  # calls don't arrive
 
         def is_missed():  # a's process may be late, too
             a.run(add_one("x"))
             return any(f"sessions {b.number} didn't answer" in line for line in self.told)
 
         self.wait_for(is_missed)
-        RemoteGroup.patience, live._pace.patience, stuck.tell = 60.0, 60.0, plain  # where other programs have the processors
+        RemoteGroup.patience, live._pace.patience, stuck.tell = 60.0, 60.0, plain  # on a busy machine
         self.wait_for(lambda: self.is_cut(live, a))
         other.leave()
         self.assertEqual(self.ended(live).kind, "serial")

@@ -1,5 +1,5 @@
-"""Other promises than serializability, asked by rewriting what the auditor is given: against their
-definitions, tried over all orders."""
+"""Promises other than serializability, checked by rewriting the auditor's input, and compared with
+their definitions by trying all orders."""
 import json
 import os
 import re
@@ -31,7 +31,7 @@ def is_fence(transaction):
 
 
 def asked_times(history, times):
-    """Those that count: a fence does nothing else, so that nothing can be added to it."""
+    """The times that count. A fence does nothing else, so nothing can be added to it."""
     return {id: times[id] for id in times if not is_fence(history[id[0]][id[1]])}
 
 
@@ -48,7 +48,7 @@ def kind_told(lines, promise, times=None):
 
 
 def as_logged(history, times):
-    """As an explanation has it."""
+    """The transaction in the form that explanations use."""
     def key_name(key):
         return FENCE if key == 0 else f"key {key}"
 
@@ -65,7 +65,7 @@ def as_logged(history, times):
 
 
 def read_back(lines):
-    """Lines of a script as the plain definitions have a history."""
+    """The lines of a script as a history for the plain definitions."""
     sessions = [[] for _ in range(lines[0][1])]
     for line in lines[1:]:
         for reads, keys, *more in line[3]:
@@ -75,7 +75,7 @@ def read_back(lines):
 
 
 class Rules(unittest.TestCase):
-    """Of the split, as the crate `snapshot_histories` states it."""
+    """The rules of the split, as the crate `snapshot_histories` states them."""
 
     def test_halves(self):
         """Worked by hand from specs/Split.antt."""
@@ -117,7 +117,7 @@ class Rules(unittest.TestCase):
         many = rewriting.asked(["offer", 0, 2, [[[], []]] * 200])
         self.assertEqual([(line[2], len(line[3])) for line in many], [(4, 256), (260, 144)])
         for line in (["round", 1, 0, 1], ["offer", 0, 0, "x"], ["offer", 0, 0, [[[[5]], []]]], []):
-            self.assertEqual(rewriting.asked(line), [line])  # which the auditor judges
+            self.assertEqual(rewriting.asked(line), [line])  # the auditor judges it
         for line in (
             ["resume", 2, 16], ["save", "marks"], ["answer", "order", []],
             ["offer", 0, 0, [[[], [KEYS]]]], ["offer", 0, 0, [[[[5, 0, 0]], []]]],
@@ -127,7 +127,7 @@ class Rules(unittest.TestCase):
                 rewriting.asked(line)
 
     def test_split_histories_have_an_order_where_snapshot_isolation_is_kept(self):
-        """Without the auditor: the split by itself, and the times."""
+        """Without the auditor: tests the split itself, and the times."""
         kinds = Counter()
         for seed in range(HISTORIES):
             history, times = generated(seed)
@@ -149,7 +149,7 @@ class Rules(unittest.TestCase):
                     self.assertGreater(kinds[promise.name, is_kept], HISTORIES // 50)
 
     def test_what_implies_what(self):
-        """And that nothing more does: of each other pair some history keeps the one alone."""
+        """And nothing else: for each other pair, some history keeps only the one."""
         found = set()
         skew = [[([(1, None)], {2}, COMMITTED)], [([(2, None)], {1}, COMMITTED)]]
         tried = [(skew, {(0, 0): (1, 3), (1, 0): (2, 4)})]
@@ -205,7 +205,7 @@ class ByTheAuditor(unittest.TestCase):
                 self.assertGreater(told[name, kind], HISTORIES // 50, told)
 
     def check_order(self, history, promise, verdict):
-        """The order of begins and commits names each once, begin before commit."""
+        """The order of begins and commits has each once, and begins before commits."""
         if verdict.kind != "violated" and promise == SNAPSHOT:
             events = [*map(tuple, verdict.certificate)]
             owed = [(*id, event) for id in ids_of(history) for event in ("begin", "commit")]
@@ -214,7 +214,7 @@ class ByTheAuditor(unittest.TestCase):
                 self.assertLess(events.index((*id, "begin")), events.index((*id, "commit")))
 
     def test_small_histories_are_asked_about_each_promise(self):
-        """As an explanation asks what a violation breaks."""
+        """As explanations ask what a violation breaks."""
         for seed in range(HISTORIES // 10):
             history, times = generated(seed, fences=False)
             for promise in ALL:
@@ -223,7 +223,7 @@ class ByTheAuditor(unittest.TestCase):
                     self.assertEqual(report.kind, kind_owed(history, times, promise.name))
 
     def test_the_table_of_the_crate_that_is_proved(self):
-        """Its histories, split by this module, get the verdicts that they have there."""
+        """Its histories, split by this module, get their verdicts."""
         rows = [*crate_rows()]
         self.assertGreaterEqual(len(rows), 8)
         for sessions, by_order, by_snapshot in rows:
@@ -234,7 +234,7 @@ class ByTheAuditor(unittest.TestCase):
                 self.assertEqual(kind_told([*lines, ROUND], SNAPSHOT).kind, by_snapshot)
 
     def test_the_worked_histories_of_the_document(self):
-        """Each row of docs/PROMISES.md, and of no script is there none."""
+        """Each row of docs/PROMISES.md; every script has a row."""
         with open(os.path.join(TOP, "docs/PROMISES.md"), encoding="utf-8") as file:
             rows = re.findall(r"^\| `(\w+)` \| .* \| (\w+) \| (\w+) \|$", file.read(), re.MULTILINE)
         folder = os.path.join(TOP, "examples/promises")
@@ -252,6 +252,8 @@ class ByTheAuditor(unittest.TestCase):
         opened = ["open", 2, 4096]
         rows = (
             (SNAPSHOT, [["resume", 1, 4]], "continues another one"),
+            (SNAPSHOT, [["open", 2, 8, 2, "snapshot"]], "ask by --promise snapshot"),
+            (SERIALIZABLE, [["open", 2, 8, 2, "snapshot"]], "ask by --promise snapshot"),
             (SNAPSHOT, [opened, ["save", "marks"]], "split in two"),
             (SNAPSHOT, [opened, ["begin"], ["answer", "order", []]], "from elsewhere"),
             (SNAPSHOT, [opened, ["offer", 0, 0, [[[], [KEYS]]]]], "below 9223372036854775808"),
@@ -278,12 +280,13 @@ def lines_of(folder, name):
 
 
 def too_many():
-    """Offers of 256 each that do nothing."""
+    """Offers of 256 transactions each that do nothing."""
     return [["offer", 0, 256 * at, [[[], []]] * 256] for at in range(9)]
 
 
 def crate_rows():
-    """Of crates/snapshot_tests: the sessions of each row as lines have them, and its two verdicts."""
+    """The rows of crates/snapshot_tests: each row's sessions in the form of lines, and its two
+    verdicts."""
     path = os.path.join(TOP, "crates/snapshot_tests/src/histories.rt")
     with open(path, encoding="utf-8") as file:
         text = file.read()
@@ -291,7 +294,7 @@ def crate_rows():
     form = r"remain: (&\[.*?\]),\n\s+(?:marks|\.\.EMPTY).*?by_order: Kind::(\w+),\s+by_snapshot: Kind::(\w+)"
     for remain, by_order, by_snapshot in re.findall(form, text, re.DOTALL):
         plain = re.sub(r"By\(ID_(\d+)_(\d+)\)", r"(\1, \2)", remain.replace("&", ""))
-        sessions = eval(plain, {"Init": ("init",)})  # of the repository's own source
+        sessions = eval(plain, {"Init": ("init",)})  # from the repository's own source
         lines = [
             [[[[key, *source] for key, source in reads], [*keys]] for reads, keys in its]
             for its in sessions

@@ -1,4 +1,5 @@
-"""Audits that ask for snapshot isolation and have a journal: the history is kept as it was offered, with the promise."""
+"""Audits for snapshot isolation with a journal: the history is kept as it was offered, with the
+promise."""
 import contextlib
 import os
 import random
@@ -14,7 +15,7 @@ from zanteyard.promises._kinds import SNAPSHOT
 from .killing import MOMENTS, PLAIN, Killer, Log, once
 from .test_restarting import PROGRAM, WithJournal, kinds, steps
 
-SKEW = "write-skew"  # the fault of a store in memory that keeps snapshot isolation, and no more
+SKEW = "write-skew"  # the fault of a store in memory that is allowed by snapshot isolation
 
 
 def log_of(fault, seed, rounds=3):
@@ -26,7 +27,7 @@ def log_of(fault, seed, rounds=3):
 
 
 def plain(auditor):
-    """What remains, as lines have it."""
+    """What remains, in the form of lines."""
     return [[*map(auditor.txn, txns)] for txns in auditor.history]
 
 
@@ -37,7 +38,7 @@ class OfSnapshots(WithJournal):
 
 class Killed(OfSnapshots):
     def test_each_line_at_each_moment(self):
-        """All is told as without a journal, and the journal leads to the same."""
+        """Everything is reported as without a journal, and the journal leads to the same state."""
         entries = log_of(SKEW, 4, 2)
         with Auditor(3, 512, PROGRAM, promise="snapshot") as whole:
             wanted = [*steps(whole, entries, 12)]
@@ -61,7 +62,8 @@ class Killed(OfSnapshots):
         self.assertGreater(at, len(entries))
 
     def test_verdicts(self):
-        """Those of the same log, given whole to a program that nobody kills and that has no journal."""
+        """They are those of the same whole log, in a program without a journal that nobody
+        kills."""
         dice = random.Random(7)
         told = []
         for seed in range(12):
@@ -86,7 +88,7 @@ class Killed(OfSnapshots):
         self.assertNotIn((SKEW, "violated"), [each[:2] for each in told])
 
     def test_in_a_process_apart(self):
-        """Which is killed, and another one goes on for the same promise."""
+        """It is killed, and another one goes on with the same promise."""
         entries = log_of(SKEW, 4, 2)
         with AuditorApart(3, 512, PROGRAM, "run", journal=self.path, promise="snapshot") as auditor:
             for at, entry in enumerate(entries):
@@ -101,7 +103,8 @@ class Killed(OfSnapshots):
             self.assertEqual(auditor.outcome().kind, "serial")
 
     def test_what_has_begun(self):
-        """A cut that forgets a begin and not the commit: the transaction remains, without its reads."""
+        """A cut that forgets a begin and not the commit: the transaction remains, without its
+        reads."""
         rewriting = KeptRewriting(SNAPSHOT)
         begun = ["marks", [3, 2], [False, True]]
         self.assertEqual(
@@ -149,12 +152,12 @@ class Promises(OfSnapshots):
                 auditor.offer(0, 0, Logged((), ["x"]))
             with self.assertRaisesRegex(JournalError, "asks for .*, so it can't continue with "):
                 self.resumed(promise=others)
-            with self.resumed() as auditor:  # whatever was asked for
+            with self.resumed() as auditor:  # with any promise
                 self.assertEqual(auditor.promise.name, ours)
                 self.assertEqual(auditor.received, [1, 0, 0])
 
     def test_earlier_journals(self):
-        """Which don't say what they ask for ask for serializability; what isn't known is refused."""
+        """Journals without a promise are for serializability; an unknown promise is refused."""
         with self.auditor(promise="serializable"):
             pass
         with open(self.path, "rb") as file:

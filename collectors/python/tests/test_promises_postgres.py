@@ -1,5 +1,5 @@
-"""Runs of PostgreSQL at repeatable read, recorded anew: they keep snapshot isolation, and those that aren't serializable are
-told so."""
+"""New runs of PostgreSQL at repeatable read: they keep snapshot isolation, and those that aren't
+serializable are reported."""
 import os
 import random
 import threading
@@ -26,7 +26,7 @@ EXPLAINED = 2  # of the runs that aren't serializable
 
 
 class Recorder:
-    """Takes what sessions did, in the place of an auditor."""
+    """Takes what sessions did, in place of an auditor."""
 
     is_named = True
 
@@ -45,7 +45,7 @@ class Recorder:
 if psycopg2:
 
     class Stale(PostgresStore):
-        """The fault: some transactions read by a snapshot that is older than they are."""
+        """The fault: some transactions use a snapshot that is older than they are."""
 
         old, dice, reads_old = None, None, False
 
@@ -112,7 +112,7 @@ class OfRepeatableRead(unittest.TestCase):
             self.assertIn(SERIALIZABLE, found.broken)
 
     def live(self, kinds, seconds, every=100):
-        """The outcome of clients of these stores, beside an audit that asks for snapshot isolation."""
+        """The outcome of clients of these stores with a live audit for snapshot isolation."""
         with AuditorApart(len(kinds), program=PROGRAM, promise="snapshot") as auditor:
             live = LiveAuditor(auditor, every=every)
             stores = [kind(self.server.dsn, "repeatable read") for kind in kinds]

@@ -1,5 +1,5 @@
-"""What is told of promises: by `zanteyard check`, `explain` and `levels`, and by audits of clients
-that run."""
+"""What is printed about promises: by `zanteyard check`, `explain` and `levels`, and by audits of
+running clients."""
 import contextlib
 import io
 import os
@@ -29,7 +29,7 @@ from .killing import PLAIN
 TOP = os.path.normpath(os.path.join(os.path.dirname(os.path.abspath(__file__)), "../../.."))
 WORKED = os.path.join(TOP, "examples/promises")
 ROUND = '["round",4096,0,1]'
-APART = [  # a lost update, a read that misses its session's write, and another one of another session
+APART = [  # a lost update, a read that misses its session's write, and one that misses another session's
     '["open",4,16]',
     '["offer",0,0,[[[[5,"init"]],[5]]]]',
     '["offer",1,0,[[[[5,"init"]],[5]]]]',
@@ -62,7 +62,7 @@ class Reasons(unittest.TestCase):
     """No built program is needed."""
 
     def test_a_small_part_among_thousands_has_its_name(self):
-        """It stands where it stood, with all the others in front of it as if they had done nothing."""
+        """It keeps its place, and the others are in front of it as if they had done nothing."""
         idle, lost = [txn()] * 10000, txn(("x", "init"), writes="x")
         for promise in (SERIALIZABLE, SNAPSHOT):
             history = [[*idle, lost], [*idle, lost]]
@@ -70,7 +70,7 @@ class Reasons(unittest.TestCase):
             self.assertEqual((story.anomaly.name, story.unnamed), ("lost update", 0))
 
     def test_what_is_too_much_is_said(self):
-        """No name is looked for among many, and it isn't asked which promises they break."""
+        """Among many transactions no name is looked for, and no broken promises."""
         many = [[txn(("x", "init"), writes="x")] for _ in range(65)]
         told = "\n".join(story_lines(story_of(many, plain_name, Explanation("so"))))
         self.assertIn("it wasn't made smaller than 65 transactions, and a name is looked for among at", told)
@@ -131,7 +131,7 @@ class Told(unittest.TestCase):
             ("lost_update", "snapshot", 1),
             ("stale_read", "serializable", 0),
             ("stale_read", "strict", 1),
-            ("write_skew", "strict", 2),  # which has no times
+            ("write_skew", "strict", 2),  # has no times
         ):
             with self.subTest(name=name, promise=promise):
                 self.assertEqual(run("check", "--promise", promise, worked(name))[0], status)
@@ -168,14 +168,15 @@ class Told(unittest.TestCase):
 
     def test_violations_that_lie_apart(self):
         told = run("check", "--seconds", "60", self.path(APART))[1]
-        self.assertIn("2 other violations lie apart from this one (--all tells each whole)", told)
+        self.assertIn("2 more independent violations (--all explains each in full)", told)
         self.assertEqual(told.count("    stale read: "), 2)
         whole = run("check", "--all", "--seconds", "60", self.path(APART))[1]
         self.assertEqual(whole.count("  because"), 2)
         self.assertIn("violation 3:", whole)
 
     def test_a_violation_is_found_once(self):
-        """Of three that overwrote one version each two would do, and it's one violation."""
+        """Of three transactions that overwrote one version any two would do, and it is one
+        violation."""
         history = [[txn(("x", "init"), writes="x")]] * 3
         apart = Apart(history, PROGRAM)
         self.assertEqual([*apart.others(smaller(history), 60.0)], [])
@@ -195,7 +196,7 @@ class Told(unittest.TestCase):
         self.assertEqual(run("levels", self.path(['["open",1,4]', "[]"]))[0], 2)
 
     def test_levels_of_a_script_that_forgets(self):
-        """What isn't whole isn't asked about what takes the whole."""
+        """An incomplete history isn't checked for promises that need all of it."""
         lines = [
             '["open",2,16]',
             '["offer",0,0,[[[],[5]],[[[0,"init"]],[0]]]]',
@@ -207,11 +208,11 @@ class Told(unittest.TestCase):
         ]
         told = run("levels", self.path(lines))[1]
         self.assertIn("serializability     no", told)
-        self.assertIn("prefix consistency                    not known", told)
+        self.assertIn("prefix consistency                    unknown", told)
         self.assertIn("the script forgets", told)
 
     def test_a_cut_under_snapshot_isolation(self):
-        """Behind it the rest is told in its own numbers."""
+        """After it, the rest is reported with its own numbers."""
         lines = [
             '["open",2,16]',
             '["offer",0,0,[[[],[5]],[[[0,"init"]],[0]]]]',
@@ -285,7 +286,7 @@ class Live(unittest.TestCase):
 @unittest.skipUnless(os.path.isfile(PROGRAM), f"{PROGRAM} is not built")
 class OfPostgres(unittest.TestCase):
     def test_which_promise_each_level_keeps(self):
-        """As docs/STORES.md has it."""
+        """As in docs/STORES.md."""
         if not postgres_server.program("initdb"):
             self.skipTest("PostgreSQL isn't installed")
         example = os.path.join(TOP, "examples/store_faults.py")

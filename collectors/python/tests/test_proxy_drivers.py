@@ -1,4 +1,4 @@
-"""Programs over usual drivers print the same with and without the proxy."""
+"""Programs with common drivers print the same with and without the proxy."""
 
 from __future__ import annotations
 
@@ -14,22 +14,22 @@ from concurrent.futures import ThreadPoolExecutor
 from tests.proxy_pair import DRIVERS, LIMIT, TOP, Pair, postgres_program, proxy_program
 
 PAIR = Pair()
-READERS = set()  # users of whose programs reads have to be seen
+READERS = set()  # users whose programs' reads have to be seen
 JDBC = "/usr/share/java/postgresql.jar"
 GO = {"pgx": "jackc/pgx/v4", "pq": "lib/pq"}
 PYTHON = {
     "psycopg2": ["psycopg2"],
     "psycopg3": ["psycopg"],
-    "psycopg3_c": ["psycopg", "psycopg_c"],  # its part in C, where that is installed
+    "psycopg3_c": ["psycopg", "psycopg_c"],  # the part in C, if it is installed
     "asyncpg": ["asyncpg"],
     "sqlalchemy": ["sqlalchemy", "psycopg2"],
     "django": ["django", "psycopg2"],
 }
-SCRIPTS = {"psycopg3_c": "psycopg3"}  # where it isn't called as the driver is
+SCRIPTS = {"psycopg3_c": "psycopg3"}  # if it differs from the driver's name
 MORE = {"psycopg3_c": {"PSYCOPG_IMPL": "c"}}  # in the environment
-SLOW = ("jdbc", "django", "sqlalchemy")  # these begin first
+SLOW = ("jdbc", "django", "sqlalchemy")  # these start first
 BUILDS = {}  # processes that build what the tests run
-RUNS = {}  # what the programs print, once they have ended
+RUNS = {}  # the programs' output, once they have ended
 
 
 def setUpModule():
@@ -48,7 +48,7 @@ def setUpModule():
 
 
 def begin_builds():
-    """Builds go on while servers start and other tests run."""
+    """Builds run while servers start and other tests run."""
     settings = dict(os.environ, GO111MODULE="off", GOPATH="/usr/share/gocode", GOFLAGS="")
     settings.setdefault("GOCACHE", os.path.join(TOP, "proxy/out/cache"))
     calls = {}
@@ -78,7 +78,7 @@ def difference(direct, proxied):
 
 
 def both(user, call, environment):
-    """What a program prints, direct and proxied. Programs run beside each other: each has a schema
+    """A program's output, direct and through the proxy. Programs run in parallel, each in a schema
     of its own."""
     if user in BUILDS and BUILDS[user].wait(LIMIT):
         raise AssertionError(f"{user} wasn't built")
@@ -116,7 +116,7 @@ def begin_runs():
 
 class TestDrivers(unittest.TestCase):
     def same(self, user, lines, reads=True):
-        """What was printed is the same, and at least so many lines."""
+        """The outputs are equal, and have at least this many lines."""
         if user not in RUNS:
             self.skipTest(f"what {user} needs isn't installed")
         direct, proxied = RUNS[user].result(3 * LIMIT)
@@ -167,8 +167,8 @@ class TestDrivers(unittest.TestCase):
         self.same("psql_errors", 3000, reads=False)
 
     def test_zz_reads_were_seen(self):
-        """The last one, by its name: ends the audit. Statements are tried while a connection is
-        idle, and each program repeats some."""
+        """The last test, because of its name: it ends the audit. The proxy tries statements while a
+        connection is idle, and each program repeats some."""
         if not READERS:
             self.skipTest("no driver ran")
         self.assertNotIn("ended", PAIR.proxy.events, PAIR.proxy.told())

@@ -1,5 +1,5 @@
-"""With `redacts` nothing that an application had in its statements and values is told, handed over
-or noted: keys and the form of statements are."""
+"""With `redacts` no value and no constant of a statement is reported, handed over or noted. Keys
+and the form of statements are."""
 import glob
 import os
 import tempfile
@@ -71,7 +71,7 @@ class Audits(unittest.TestCase):
             transaction.commit()
 
     def told(self, auditor, lines):
-        """All that is told of a violation, printed, logged and written."""
+        """Everything that is printed, logged and written about a violation."""
         history, names = from_start(auditor)
         path = os.path.join(self.folder, "violation")
         tell_violation(history, path, names, lines.append)
@@ -100,11 +100,11 @@ class Audits(unittest.TestCase):
                     self.check(self.told(auditor, lines), redacts)
 
     def test_a_process_that_doesnt_ask_for_it(self):
-        """The auditor's process leaves it out as it comes in."""
+        """The auditor's process leaves it out when it arrives."""
         self.over_a_socket(True, False)
 
     def test_a_process_that_asks_for_it(self):
-        """Nothing of it is sent, nor in its notes."""
+        """Nothing of it is sent, or in its notes."""
         self.over_a_socket(False, True)
 
     def over_a_socket(self, redacts, asks):

@@ -1,4 +1,4 @@
-"""Auditors with a journal, whose programs are killed: nobody sees more of it than a pause."""
+"""Auditors with a journal whose programs are killed: others notice only a pause."""
 import logging
 import os
 import random
@@ -49,7 +49,7 @@ class WithJournal(WithFolder):
 
 
 def steps(auditor, entries, every=20):
-    """Gives it what was logged, with rounds and cuts; what each of these and the end tell."""
+    """Hands in the log, with rounds and cuts; returns what each of these and the end report."""
     for count, entry in enumerate(entries, 1):
         auditor.offer(*entry)
         if count % every == 0:
@@ -64,12 +64,12 @@ def steps(auditor, entries, every=20):
 
 
 def kinds(told):
-    """Of rounds."""
+    """The verdicts of rounds."""
     return [each.kind for each in told if hasattr(each, "kind")]
 
 
 def log_with(fault, seed):
-    """A log in which the fault shows, and the verdict of a fresh auditor that is given it whole."""
+    """A log in which the fault shows, and a new auditor's verdict about the whole log."""
     wanted = "violated" if fault else "serial"
     for more in range(50):
         log = Log(random.Random(f"{seed} {more}"), fault)
@@ -86,7 +86,8 @@ def log_with(fault, seed):
 
 class Killed(WithJournal):
     def test_each_line_at_each_moment(self):
-        """All is told as if nobody had been killed, and the journal leads to the same."""
+        """Everything is reported as if nothing had been killed, and the journal leads to the same
+        state."""
         log = Log(random.Random(3), None, 2, 2)
         log.run(2)
         log.meet()
@@ -102,7 +103,7 @@ class Killed(WithJournal):
                         found = [*steps(auditor, log.entries, 8)]
                         kills = killer.kills
                         restarts = auditor.program.restarts
-                        # nobody sees that it was killed behind the last line
+                        # a kill after the last line isn't noticed
                         self.assertIn(restarts, (kills,) if moment == BEFORE else (kills - 1, kills))
                     self.assertEqual(found, wanted)
                     with self.resumed() as auditor:
@@ -114,8 +115,8 @@ class Killed(WithJournal):
         self.assertGreater(at, len(log.entries))
 
     def test_a_hundred_kills(self):
-        """With and without a fault the verdict is that of the same log, given whole to a fresh
-        auditor, and each fault is found."""
+        """With and without a fault the verdict is that of a new auditor about the same whole log,
+        and each fault is found."""
         dice, kills, seed = random.Random(20), 0, 0
         faults = [None, *FAULTS]
         while kills < 100 or seed < len(faults):
@@ -138,7 +139,8 @@ class Killed(WithJournal):
             seed += 1
 
     def test_over_and_over(self):
-        """Where each program dies over a line, that is told; the journal stands where it stood."""
+        """If each program dies over a line, that is reported; the journal's state stays the
+        same."""
         with self.auditor() as auditor:
             auditor.offer(0, 0, ONE)
             with Killer(lambda _: BEFORE) as killer:
@@ -154,7 +156,7 @@ class Killed(WithJournal):
             self.assertEqual(str(auditor.outcome()), "serial: 2 of 2 transactions were audited")
 
     def test_several_fragments(self):
-        """Some of the lines were answered as it died."""
+        """Some of the lines were answered when it died."""
         with self.auditor() as auditor, Killer(once(1, LATER)):
             sent = [(session, 0, [ONE] * 20) for session in range(3)]
             self.assertEqual(auditor.offer_all(sent), [])
@@ -162,7 +164,8 @@ class Killed(WithJournal):
             self.assertEqual(auditor.ask(["show"])[2], [20, 20, 20])
 
     def test_written_anew(self):
-        """While lines are on their way, some of them answered, and whoever is killed then."""
+        """While lines are on their way, some of them answered, and whichever program is killed
+        then."""
         self.addCleanup(setattr, journal_writer, "GROWS", journal_writer.GROWS)
         self.addCleanup(setattr, os, "read", read := os.read)
         os.read = lambda file, most: read(file, min(most, 100))
@@ -187,7 +190,7 @@ class Killed(WithJournal):
                 self.assertEqual(auditor.received, [120] * 3)
 
     def test_sessions(self):
-        """They hand in what they did, and don't see that programs are killed."""
+        """They hand in what they did, and don't notice that programs are killed."""
         with self.auditor(policy=RATHER_WAIT) as auditor:
             store = MemoryStore()
             sessions = [Session(auditor, at, store.connect()) for at in range(3)]
@@ -206,7 +209,7 @@ class Killed(WithJournal):
                     made()
 
     def test_programs_that_answer_nothing(self):
-        """They are replaced, whatever they were asked, and each round is made."""
+        """They are replaced, whatever they were asked, and every round takes place."""
         self.addCleanup(setattr, supervised, "SILENT", supervised.SILENT)
         supervised.SILENT = 3.0
         for at in range(5):
@@ -222,7 +225,7 @@ class Killed(WithJournal):
 
 class Interrupted(WithJournal):
     def test_at_each_place(self):
-        """No answer is taken for another line's; and what the journal has is gone on with."""
+        """No answer is taken for another line's, and the journal can be continued."""
         paths = iter(range(10000))
 
         def auditor(sessions):
@@ -271,7 +274,7 @@ class Shown(WithJournal):
 
 class Resumed(WithJournal):
     def test_a_violation_stays_told(self):
-        """Also where a round can't tell it any more, and in the run's next audit's journal."""
+        """Even if a round can't report it any more, and in the journal of the run's next audit."""
         entries, _ = log_with("lost-update", 1)
         with self.auditor() as auditor:
             *_, report, _ = steps(auditor, entries)
@@ -295,8 +298,8 @@ class Resumed(WithJournal):
             self.assertEqual([it.audit for it in auditor.program.keeping.violations], [1])
 
     def test_half_written(self):
-        """A last record that was cut off is dropped with a word; what is damaged is believed
-        nowhere."""
+        """An incomplete last record is dropped with a message; a damaged record makes the whole
+        journal unusable."""
         with self.auditor() as auditor:
             for at in range(3):
                 auditor.offer(0, at, Logged((), (f"key {at}",)))
@@ -336,7 +339,7 @@ class Resumed(WithJournal):
             self.assertEqual(auditor.outcome().kind, "incomplete")
 
     def test_lines_that_lead_elsewhere(self):
-        """Records that are whole and yet not what was written."""
+        """Records that are complete, and yet not what was written."""
         with self.auditor() as auditor:
             auditor.offer(0, 0, ONE)
         journal = Journal(self.path)
@@ -374,7 +377,7 @@ class Resumed(WithJournal):
         self.auditor()
 
     def old_program(self):
-        """Which answers ok, and doesn't know the lines."""
+        """It answers ok, and doesn't know the lines."""
         path = os.path.join(self.folder, "old")
         with open(path, "w") as file:
             file.write("#!/bin/sh\nread line; echo '[\"ok\"]'; read line; echo '[\"no\",1,\"BadLine\"]'\n")
@@ -383,8 +386,8 @@ class Resumed(WithJournal):
         return path
 
     def test_full_disk(self):
-        """What isn't noted isn't told; what is noted is gone on with when there is room. A
-        violation is told in any case."""
+        """What isn't noted isn't reported; what is noted can be continued when there is room. A
+        violation is reported in any case."""
         self.addCleanup(self.room, None)
         with self.auditor() as auditor:
             auditor.offer(0, 0, ONE)

@@ -1,4 +1,4 @@
-"""Audits with a journal go on where whole processes of theirs are killed."""
+"""Audits with a journal continue after whole processes of theirs are killed."""
 import os
 import random
 import signal
@@ -74,7 +74,7 @@ class Apart(WithJournal):
             return 0
 
     def test_done_and_not_told(self):
-        """It is killed as it has done what it was asked, and nobody was told."""
+        """It is killed after it has done what it was asked, and before it answers."""
         with self.auditor() as auditor:
             for session in range(3):
                 auditor.offer(session, 0, ONE)
@@ -100,7 +100,7 @@ class Apart(WithJournal):
             self.assertIsNone(self.dies_behind)
 
     def test_live(self):
-        """One audit, of all that clients did, whatever is killed."""
+        """One audit, of everything that clients did, whatever is killed."""
         auditor, store = self.auditor(), MemoryStore()
         with auditor:
             with LiveAuditor(auditor, every=30, seconds=0.2) as live:
@@ -123,7 +123,7 @@ class Apart(WithJournal):
             self.assertIn("can't reach", told)
 
     def test_another_audit(self):
-        """Its journal takes the place of the last one's."""
+        """Its journal replaces the last one's."""
         with self.auditor() as auditor:
             auditor.offer(0, 0, ONE)
             auditor.start_anew(Coverage.of_all(3))

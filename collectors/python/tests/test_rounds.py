@@ -1,6 +1,6 @@
-"""Rounds that are searched beside what comes meanwhile: what a report is about, who waits for one,
-and what becomes of a search that takes too long, finds no memory, or dies with its program. Over a
-program that is made up, whose searches end anywhere between lines, and over the real one."""
+"""Rounds that are searched while more arrives: what a report covers, who waits for it, and what
+becomes of a search that takes too long, runs out of memory, or dies with its program. With a
+made-up program, whose searches end anywhere between lines, and with the real one."""
 
 import itertools
 import json
@@ -36,7 +36,7 @@ from judge import effect_of  # noqa: E402
 RUNS = int(os.environ.get("ZANTEYARD_RUNS", "40"))
 SECONDS = 60.0
 WRITES, READS = Logged([], ["x"]), Logged([("x", (0, 0))], [])
-STALE = Logged([("x", "init")], ["x"])  # two such have no order
+STALE = Logged([("x", "init")], ["x"])  # two of these have no order
 FIRST_FENCE, NEXT_FENCE = Logged([(FENCE, "init")], [FENCE]), Logged([(FENCE, (0, 0))], [FENCE])
 
 
@@ -49,18 +49,19 @@ def logged(txn):
 
 
 class Run:
-    """What a small store does goes to an auditor, before a round and while it is searched. Of each
-    report the definition says the same, over all that had been taken in as the round began."""
+    """What a small store does is given to an auditor, before a round and while it is searched. Each
+    report has to be what the definition says about everything that had been taken in when the round
+    began."""
 
     def __init__(self, test, dice, auditor):
         self.test, self.dice, self.auditor = test, dice, auditor
         sessions = auditor.sessions
         self.store, self.sent, self.closed = Store(dice, sessions), [0] * sessions, set()
-        self.history = [[] for _ in range(sessions)]  # all that was taken in
+        self.history = [[] for _ in range(sessions)]  # everything taken in
         self.kinds, self.cuts, self.joins, self.refused, self.overlapped = [], 0, 0, 0, 0
 
     def offer(self):
-        """Some of what the store has done; in one call, and each session's in its order."""
+        """Offers some of what the store has done, in one call, each session's in its order."""
         found, lines = [], {}
         for session in self.dice.sample(range(len(self.sent)), len(self.sent)):
             txns = self.store.waiting[session][self.sent[session]:]
@@ -77,7 +78,7 @@ class Run:
         return len(lines) - len(refused)
 
     def join(self):
-        """A session that is new, by a fence that reads the last one, if that is taken in."""
+        """Lets a new session join with a fence that reads the last one, if that is taken in."""
         fence = self.store.last.get(0)
         if fence is None or fence[1] >= self.sent[fence[0]] or len(self.sent) > 9:
             return
@@ -103,7 +104,7 @@ class Run:
             self.store.execute()
 
     def go_on(self):
-        """While a round is searched."""
+        """Continues while a round is searched."""
         self.execute()
         self.overlapped += self.offer()
         if self.dice.random() < 0.1:
@@ -131,9 +132,9 @@ class Run:
 
 
 class Overlapping(unittest.TestCase):
-    """Searches and what comes meanwhile, of generated histories."""
+    """Searches of generated histories, and what arrives meanwhile."""
 
-    RUNS, AT_LEAST = RUNS, 5  # cuts, joins, fragments without room, and some that came while a round went on
+    RUNS, AT_LEAST = RUNS, 5  # cuts, joins, fragments without room, and some during a round
 
     def program(self, folder, seed):
         return made_up(folder, seed=seed)
@@ -189,7 +190,7 @@ class OverlappingByTheProgram(Overlapping):
 
 
 class OverlappingWhereProgramsDie(Overlapping):
-    """By a journal: a round that another program goes on with is about what it was begun with."""
+    """With a journal: a round that another program continues covers what it was begun with."""
 
     RUNS, AT_LEAST, kills = RUNS // 2, 0, 0
 
@@ -197,7 +198,7 @@ class OverlappingWhereProgramsDie(Overlapping):
         logging.getLogger("zanteyard").setLevel(logging.ERROR)
         self.addCleanup(logging.getLogger("zanteyard").setLevel, logging.NOTSET)
         self.addCleanup(setattr, journal_writer, "GROWS", journal_writer.GROWS)
-        journal_writer.GROWS = 150  # bytes, after which the journal is written anew
+        journal_writer.GROWS = 150  # bytes after which the journal is rewritten
 
     def auditor(self, folder, sessions, limit, seed):
         more = {"journal": f"{folder}/journal"}
@@ -241,7 +242,7 @@ class WithMadeUp(unittest.TestCase):
         self.addCleanup(folder.cleanup)
         self.folder = folder.name
         self.script = os.path.join(self.folder, "script")
-        self.ended = os.path.join(self.folder, "ended")  # a file: searches end once it is there
+        self.ended = os.path.join(self.folder, "ended")  # a file: searches end once it exists
 
     def auditor(self, sessions=2, limit=64, kind=Auditor, more=(), **settings):
         program = made_up(self.folder, **settings)
@@ -264,7 +265,7 @@ class WithMadeUp(unittest.TestCase):
             time.sleep(0.01)
 
     def beside(self, call):
-        """A thread that makes this call; gives what waits for its result."""
+        """A thread that makes this call; returns a function that waits for its result."""
         results = []
         thread = threading.Thread(target=lambda: results.append(call()), daemon=True)
         thread.start()
@@ -301,7 +302,7 @@ class WhileARoundIsSearched(WithMadeUp):
         self.assertEqual(self.lines()[-1], ["collect", "wait"])
 
     def test_sessions_hand_in_meanwhile(self):
-        """Those of another thread, though a third one waits for the round."""
+        """From another thread, while a third one waits for the round."""
         for kind in (Auditor, AuditorApart):
             with self.subTest(kind=kind):
                 self.ended = os.path.join(self.folder, f"ended {kind.__name__}")
@@ -354,7 +355,7 @@ class WhileARoundIsSearched(WithMadeUp):
             auditor.join(3, 0, WRITES)
 
     def test_who_waits_for_it_begins_none(self):
-        """Though somebody else has its report by then."""
+        """Even if somebody else has its report by then."""
         auditor = self.auditor(waits=self.ended)
         auditor.offer(0, 0, FIRST_FENCE)
         report = self.beside(auditor.round)
@@ -375,7 +376,7 @@ class WhileARoundIsSearched(WithMadeUp):
         self.assertEqual(auditor.last_round()[:3], (1, "serial", [1, 1]))
 
     def test_an_interrupt_leaves_it_to_nobody(self):
-        """The next round is about all that is there."""
+        """The next round covers everything that is there."""
         auditor = self.auditor(waits=self.ended)
         auditor.offer(0, 0, WRITES)
         await_report = auditor._await_report
@@ -396,7 +397,7 @@ class WhileARoundIsSearched(WithMadeUp):
 
 class SearchesThatDoNotEnd(WithMadeUp):
     def test_one_that_takes_too_long_is_skipped(self):
-        """The program goes on, the round is undecided, and the next one is made as ever."""
+        """The program goes on, the round is undecided, and the next one runs as usual."""
         for kind in (Auditor, AuditorApart):
             for journal in (None, os.path.join(self.folder, f"journal {kind.__name__}")):
                 with self.subTest(kind=kind, journal=journal):
@@ -410,7 +411,7 @@ class SearchesThatDoNotEnd(WithMadeUp):
                     self.assertEqual((outcome.kind, outcome.failure), ("undecided", None))
                     self.assertIsNone(process.poll())
                     if journal and kind == Auditor:
-                        auditor.program.process.kill()  # another one goes on, without that round
+                        auditor.program.process.kill()  # another program goes on, without that round
                     auditor.take(1, 0, READS)
                     self.end_searches()
                     self.assertEqual(auditor.round()[:3], (3, "serial", [1, 1]))
@@ -442,7 +443,7 @@ class SearchesThatDoNotEnd(WithMadeUp):
                 auditor.end()
 
     def test_one_that_never_finds_memory(self):
-        """It is told, and the round is over."""
+        """That is reported, and the round is over."""
         auditor = self.auditor(wants_memory=3)
         auditor.offer(0, 0, WRITES)
         with self.assertRaises(NoMemoryError):
@@ -451,7 +452,7 @@ class SearchesThatDoNotEnd(WithMadeUp):
         self.assertEqual(auditor.round()[:3], (1, "serial", [2, 0]))
 
     def test_a_program_that_dies_over_each_search(self):
-        """With a journal: not for ever, also where it has answered that it searches."""
+        """With a journal: not forever, even if it has answered that it searches."""
         for every in (1, 2):
             with self.subTest(every=every):
                 more = {"journal": os.path.join(self.folder, f"journal {every}")}
@@ -506,7 +507,8 @@ class BelowALiveAudit(WithMadeUp):
         self.assertEqual((outcome.kind, outcome.audited, outcome.failure), ("serial", 21, None))
 
     def test_who_joins_waits_and_holds_up_nobody(self):
-        """A session that a client has joined is taken in behind the report, with all it did."""
+        """A session that a client has joined is taken in after the report, with everything it
+        did."""
         for kind in (Auditor, AuditorApart):
             with self.subTest(kind=kind):
                 self.ended = os.path.join(self.folder, f"ended {kind.__name__}")
@@ -594,7 +596,7 @@ class BelowALiveAudit(WithMadeUp):
 
 @unittest.skipUnless(all(map(path_of, ("cobra_audit", "cobra_check"))), "not built")
 class LiveByTheProgram(unittest.TestCase):
-    """A live audit of clients that come and go; its script leads there again."""
+    """A live audit of clients that come and go; its script leads to the same result."""
 
     def setUp(self):
         folder = tempfile.TemporaryDirectory()
@@ -620,7 +622,7 @@ class LiveByTheProgram(unittest.TestCase):
             return outcome, [*auditor.marks]
 
     def told(self):
-        """By cobra_audit, of the script; nothing is refused there, and all is right."""
+        """What cobra_audit answers to the script; nothing is refused, and everything is right."""
         with open(self.script, "rb") as lines, open(self.replies, "wb") as replies:
             subprocess.run([PROGRAM], stdin=lines, stdout=replies, timeout=SECONDS, check=True)
         with open(self.script, "rb") as lines, open(self.replies, "rb") as replies:

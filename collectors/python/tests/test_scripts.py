@@ -1,5 +1,5 @@
-"""What `zanteyard check` and `explain` say of scripts: the worked ones, those in which sessions join
-or come back, and those that resume another."""
+"""What `zanteyard check` and `explain` print about scripts: the worked ones, those in which
+sessions join or return, and those that resume another one."""
 import glob
 import io
 import json
@@ -17,7 +17,7 @@ from zanteyard.core.errors import ScriptMistakeError
 from zanteyard.explain._scripts import ScriptRun
 from zanteyard.explain._shrinking import from_start, is_violated
 
-from .plain_auditor import Plain  # with which what is in bench is found
+from .plain_auditor import Plain  # this import also makes bench importable
 from fuzz_lines import Scripts as Generator  # noqa: E402
 
 TOP = os.path.normpath(os.path.join(os.path.dirname(os.path.abspath(__file__)), "../../.."))
@@ -51,7 +51,7 @@ def run(*words):
 
 
 def worked():
-    """Of each worked script its name, its lines, and what they are answered."""
+    """The name, the lines and the replies of each worked script."""
     for path in sorted(glob.glob(f"{WORKED}/*.jsonl")):
         with open(path, "rb") as script, open(path[: -len("jsonl")] + "replies", "rb") as replies:
             lines, told = script.read().split(b"\n"), replies.read().splitlines()
@@ -72,7 +72,7 @@ def generated(seed):
             before = plain
             if word in ("round", "finish", "search"):
                 line, before = json.dumps([word, 256, 0, 1]).encode(), plain.copy()
-            elif word == "collect":  # which is told at any moment that the search goes on
+            elif word == "collect":  # may be answered at any moment that the search goes on
                 line, before = b'["collect","wait"]', plain.copy()
             reply = json.loads(plain.reply_to(line))
             if reply[0] == "report" and reply[2] == "spent":
@@ -80,6 +80,10 @@ def generated(seed):
             if not is_refusal(reply):
                 lines.append(line)
     return lines, plain
+
+
+def asks_for_snapshots(lines):
+    return any(line.startswith((b'["open"', b'["resume"')) and b'"snapshot"' in line for line in lines)
 
 
 def is_refusal(reply):
@@ -106,14 +110,14 @@ class Scripts(unittest.TestCase):
         return path
 
     def told(self, lines, command="check", seconds="100"):
-        """The status of the command, and what it prints, where making a violation small may take so
-        many seconds: by default more than it ever does."""
+        """The command's status and output. Reducing a violation may take this many seconds, by
+        default more than it ever does."""
         status, out, err = run(command, self.path(lines), "--seconds", seconds)
         self.assertEqual(err, "")
         return status, out
 
     def verdicts(self, lines):
-        with ScriptRun(PROGRAM, most_nodes=1) as asked:  # so that a spent round isn't given again
+        with ScriptRun(PROGRAM, most_nodes=1) as asked:  # so that a spent round isn't repeated
             found = [*asked.verdicts(lines)]
             return found, asked.history
 
@@ -122,7 +126,7 @@ class Scripts(unittest.TestCase):
         words = set()
         for name, lines, replies in worked():
             kept = [(line, reply) for line, reply in zip(lines, replies) if not is_refusal(reply)]
-            if not kept:
+            if not kept or asks_for_snapshots(line for line, _ in kept):
                 continue
             words.update(json.loads(line)[0] for line, _ in kept)
             wanted = reports(reply for _, reply in kept)
@@ -142,10 +146,12 @@ class Scripts(unittest.TestCase):
             kept = [(line, reply) for line, reply in zip(lines, replies) if not is_refusal(reply)]
             kinds = [kind for kind, _, _ in reports(reply for _, reply in kept)]
             if not kinds or "spent" in kinds:
-                continue  # a spent round is given again
+                continue  # a spent round is repeated
             lines = [line for line, _ in kept]
+            if asks_for_snapshots(lines):
+                continue
             while not lines[-1].strip().startswith(ENDS):
-                lines.pop()  # so that no round is put at the end
+                lines.pop()  # so that no round is added at the end
             with self.subTest(script=name):
                 status, out = self.told(lines, "check", "0.5")
                 self.assertEqual(status, STATUSES[kinds[-1]], out)
@@ -154,9 +160,22 @@ class Scripts(unittest.TestCase):
                     status, out = self.told(lines, "explain", "0.5")
                     self.assertEqual((status, "because" in out), (1, True), out)
 
+    def test_worked_scripts_that_ask_for_snapshots_themselves(self):
+        """`zanteyard check` has an option to ask for it, and its error says so."""
+        count = 0
+        for name, lines, replies in worked():
+            kept = [line for line, reply in zip(lines, replies) if not is_refusal(reply)]
+            if asks_for_snapshots(kept):
+                count += 1
+                with self.subTest(script=name):
+                    status, out, err = run("check", self.path(kept))
+                    self.assertEqual((status, out), (2, ""))
+                    self.assertIn('leave "snapshot" out of its first line', err)
+        self.assertGreater(count, 5)
+
     def test_generated_scripts(self):
-        """What is kept of each is what the plain auditor keeps; and what is made of that, without a
-        cut, is violated exactly where the last round is."""
+        """The same history is kept as by the plain auditor; without its cut, that history is
+        violated exactly if the last round is."""
         count, kinds, words = 0, set(), set()
         for seed in range(60):
             lines, plain = generated(seed)
@@ -198,7 +217,7 @@ class Scripts(unittest.TestCase):
     def test_a_violation_by_a_session_that_joined(self):
         stale = '["join",2,[[[[0,1,0]],[0]],[[[5,"init"]],[]]]]'
         for lines in (
-            [*CUT, stale],  # the round is put at the end
+            [*CUT, stale],  # the round is added at the end
             [*CUT, stale, ROUND],
             [*CUT, '["join",2,[[[[0,1,0]],[0]]]]', '["offer",2,1,[[[[5,"init"]],[]]]]', ROUND],
         ):
@@ -217,7 +236,7 @@ class Scripts(unittest.TestCase):
                 kind = "violated" if "init" in lines[-1] else "pending"
                 self.assertEqual(status, STATUSES[kind], out)
                 told = {"violated": (r"    0\.3 .*wrote key 7", r"    0\.4 .*read key 7 as it was at first"),
-                        "pending": (r"    0\.4 .*read key 5 from 0\.9\b.*, which hasn't come",)}[kind]
+                        "pending": (r"    0\.4 .*read key 5 from 0\.9\b.*, which hasn't arrived",)}[kind]
                 for line in told:
                     self.assertRegex(out, f"(?m)^{line}$")
 
@@ -227,7 +246,7 @@ class Scripts(unittest.TestCase):
         self.assertTrue(out.endswith("one such order: 1.0 2.0 2.1\n"), out)
 
     def test_what_a_session_that_is_not_there_yet_wrote(self):
-        """It is pending; a violation beside it is told, also behind a cut."""
+        """It is pending; a violation next to it is reported, also after a cut."""
         lines = [*CUT, '["offer",1,1,[[[[5,"init"],[7,2,1]],[]]]]', ROUND]
         status, out = self.told(lines)
         self.assertEqual(status, 1, out)
@@ -246,7 +265,7 @@ class Scripts(unittest.TestCase):
                 self.assertIn(advice, err)
 
     def test_a_script_that_resumes_another(self):
-        """It is as if the lines before had been there, and that they aren't is told."""
+        """As if the earlier lines had been there; the output says that they aren't."""
         for more in (
             [],
             ['["offer",1,1,[[[[5,0,0]],[]]]]'],
@@ -287,7 +306,7 @@ def _read(read):
 
 
 def _without_places(lines):
-    """Without the numbers of lines at which verdicts stand."""
+    """Without the line numbers of verdicts."""
     return [line.partition(": ")[2] if line.startswith("line ") else line for line in lines]
 
 

@@ -1,4 +1,4 @@
-"""A search beside a script of `cobra_audit`: lines are answered while it goes on, and it ends when
+"""A search during a script of `cobra_audit`: lines are answered while it goes on, and it ends when
 it is told to. No proof says how long anything takes (docs/PROVED.md)."""
 import json
 import os
@@ -14,15 +14,15 @@ sys.path.append(os.path.join(os.path.dirname(os.path.abspath(__file__)), "../../
 import hard  # noqa: E402
 from judge import Model  # noqa: E402
 
-# Each search here takes hours, so these tell a wait for its end on a busy machine, too.
-SOON = 60.0  # seconds for a search to be given up, which looks up at each node
+# Each search here takes hours, so these limits distinguish it from a delay, even on a busy machine.
+SOON = 60.0  # seconds for a search to end when it is given up: it checks at each node
 AT_ONCE = 20.0  # seconds for a line that waits for no search
 LIMIT = 300.0  # seconds after which a script is killed
 EFFORTS = ([1 << 32, 0, 1], [1 << 32, 6, 4])  # in one thread and in four
 
 
 class Script:
-    """A script under way, each of whose replies is held against the plain model."""
+    """A running script; each of its replies is compared with the plain model."""
 
     def __init__(self):
         self.model = Model()
@@ -51,7 +51,7 @@ class Script:
         return json.loads(reply), took
 
     def end(self):
-        """The status, what else was written, and how many seconds the end took."""
+        """The status, further output, and how many seconds the end took."""
         begin = time.monotonic()
         told, error = self.running.communicate(timeout=LIMIT)
         return (self.running.returncode, told, error), time.monotonic() - begin
@@ -60,7 +60,7 @@ class Script:
 @unittest.skipUnless(path_of("cobra_audit"), "cobra_audit is not built")
 class Searches(unittest.TestCase):
     def begun(self, effort):
-        """A script that searches for hours; gives it, and the number of its last session."""
+        """A script that searches for hours, and the number of its last session."""
         log = hard.contradiction(2, hard.all_ways(2), 40)
         *offers, _ = [json.loads(line) for line in log.lines(*effort)]
         script = Script()
@@ -91,14 +91,14 @@ class Searches(unittest.TestCase):
                 self.assertLess(took, SOON)
 
     def test_a_skipped_round_is_made_again(self):
-        """All that was accepted is there, and the next report has the first number."""
+        """Everything that was accepted is still there, and the next report has the first number."""
         script, _ = self.begun(EFFORTS[0])
         script.ask("skip")
         self.assertEqual(script.ask("round", 1, 0, 1)[0][:3], ["report", 1, "spent"])
         self.assertEqual(script.end()[0], (0, b"", b""))
 
     def test_an_answer_from_elsewhere_ends_it(self):
-        """A wrong one leaves it, and a right one gives it up."""
+        """A wrong answer doesn't end it; a right one does."""
         script, session = self.begun(EFFORTS[0])
         self.assertEqual(script.ask("answer", "order", [])[0][2], "BadCertificate")
         self.assertEqual(script.ask("collect")[0], ["searching"])
@@ -126,7 +126,7 @@ class Searches(unittest.TestCase):
         self.assertEqual(script.running.stderr.read(), b"device failed\n")
 
     def test_collect_tells_it_once_it_has_ended(self):
-        """A search that uses its budget up is told as spent, by a collect that doesn't wait."""
+        """A search that uses up its budget is reported as spent, by a collect that doesn't wait."""
         script, session = self.begun([200, 0, 1])
         told, until = ["searching"], time.monotonic() + LIMIT
         while told == ["searching"]:

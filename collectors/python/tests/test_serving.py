@@ -1,4 +1,4 @@
-"""`zanteyard serve` on one machine, its exit statuses, and what it tells Prometheus."""
+"""`zanteyard serve` on one machine: its exit statuses and its metrics."""
 import os
 import re
 import shutil
@@ -169,7 +169,7 @@ class Serving(unittest.TestCase):
                 self.assertIn(f"{place}", self.said())
 
     def test_a_violation_that_can_not_be_explained_ends_it_with_its_status(self):
-        """As where there is no memory for another program."""
+        """For example if there is no memory for another program."""
         failing = f"{self.folder}/failing"
         os.makedirs(failing)
         with open(f"{failing}/sitecustomize.py", "w", encoding="utf-8") as file:

@@ -1,5 +1,5 @@
-"""What is told of a violation is small, whole and there in time, at as many transactions as
-remain."""
+"""The explanation of a violation is small, complete and ready in time, with as many transactions as
+may remain."""
 import os
 import random
 import sys
@@ -18,7 +18,7 @@ from .test_examples import EXAMPLES
 
 FEW, MOST = 1024, 4096  # transactions
 SECONDS = 5.0
-SLOW = 12.0  # times as long, where other programs have the processors
+SLOW = 12.0  # factor for a busy machine
 
 
 def workloads():
@@ -31,7 +31,7 @@ def workloads():
 
 
 class Records:
-    """In place of an auditor."""
+    """Stands in for an auditor."""
 
     run_name = "run"
     is_named = False
@@ -44,7 +44,8 @@ class Records:
 
 
 def history_of(workload, fault, honest, count=MOST, clients=8):
-    """So many transactions over a store in memory, several of them open at once; honest at first."""
+    """This many transactions over a store in memory, several of them concurrent; without a fault at
+    first."""
     random.seed(1)
     store, records = MemoryStore(), Records(clients)
     sessions = [Session(records, number, store.connect()) for number in range(clients)]
@@ -100,7 +101,7 @@ class Shrinking(unittest.TestCase):
         self.assertEqual(picture.count("color=red"), len(explanation.arcs))
 
     def check_least(self, small):
-        """Violated, and nothing that has one transaction less is."""
+        """Violated, and not violated without any one of its transactions."""
         self.assertEqual(audited(small)[0].kind, "violated")
         part = Part.of(small)
         for id in part.txns:
@@ -122,11 +123,11 @@ class Shrinking(unittest.TestCase):
         self.assertEqual(smaller(history, seconds=60.0, known=known), wanted)
         self.assertLess(max(sizes), whole // 4)
         sizes.clear()
-        self.assertEqual(smaller(history, seconds=60.0, known={(0, 0)}), wanted)  # which isn't violated by itself
+        self.assertEqual(smaller(history, seconds=60.0, known={(0, 0)}), wanted)  # these aren't violated by themselves
         self.assertEqual(sizes[1], whole)
 
     def test_what_a_refutation_names_behind_a_cut(self):
-        """Of each session a first transaction stands for what was forgotten of it."""
+        """In each session a first transaction stands for what was forgotten."""
 
         class Cut:
             marks = [3, 5]
@@ -181,6 +182,41 @@ class Shrinking(unittest.TestCase):
         self.assertTrue(line.startswith("wrote x: UPDATE t SET x = 1 y"), line)
         self.assertTrue(line.endswith(f" -- {place}"), line)
         self.assertLess(len(line), 320)
+
+    def test_a_lost_update_among_equals(self):
+        """It is told in place of another cycle, if it has no more transactions and is violated by
+        itself."""
+        def did(reads, *writes):
+            return Logged(tuple((key, source) for key, source in reads), writes)
+
+        skew = [[did([("x", "init")], "y")], [did([("y", "init")], "x")]]
+        lost = [[did([("z", "init"), ("x", "init")], "z")], [did([("z", "init")], "z", "w")]]
+        alone = [[did([("z", "init")], "z")], [did([("z", "init")], "z")]]
+        later = [[did([], "z"), did([("z", (2, 0))], "z")], [did([("z", (2, 0))], "z")]]
+        dirty = [[Logged((), (), "aborted")], [did([("x", (0, 0))])]]
+        wrong = [[did([], "v"), did([("z", (2, 0))], "z")], [did([("z", (2, 0))], "z")]]
+        nothing = [[], []]
+        for name, history, wanted in (
+            ("as many", skew + lost, nothing + alone),
+            ("more", skew + later, skew + nothing),
+            ("none", skew + [[did([("z", "init")], "z")]], skew + [[]]),
+            ("no cycle", dirty + lost, dirty + nothing),
+            ("a read of what its source didn't write", dirty + wrong, None),
+        ):
+            with self.subTest(name=name):
+                small = smaller(history, PROGRAM, SECONDS * SLOW, {(0, 0), (1, 0)})
+                plain = [
+                    [(tuple(it.reads), tuple(it.writes)) for it in txns if it.reads or it.writes]
+                    for txns in small
+                ]
+                if wanted is None:  # whichever, it isn't made up
+                    self.assertNotIn(((("z", (2, 0)),), ("z",)), sum(plain, []))
+                    continue
+                self.assertEqual(
+                    plain,
+                    [[(tuple(it.reads), tuple(it.writes)) for it in txns if it.reads or it.writes]
+                     for txns in wanted],
+                )
 
     def test_the_names_of_a_refutation(self):
         report = audited([[Logged((("x", "init"),), ("x",))], [Logged((("x", "init"),), ("x",))]])[0]

@@ -1,4 +1,5 @@
-"""A PostgreSQL with a standby that lags: who asks there what became of a commit is told nothing, whichever way led there."""
+"""A PostgreSQL with a standby that lags: whoever asks the standby about a commit gets no answer,
+whatever led there."""
 import logging
 import os
 import tempfile
@@ -23,7 +24,7 @@ PLAIN = os.path.join(os.path.dirname(os.path.abspath(__file__)), "plain_auditor.
 
 
 class Standby(PostgresServer):
-    """Of this server."""
+    """A standby of this server."""
 
     def __init__(self, primary):
         super().__init__()
@@ -86,7 +87,7 @@ class Lagging(unittest.TestCase):
             self.assertEqual(find_out(asks, ticket, SOON, is_dead), UNKNOWN)
 
     def test_nor_is_a_flag_of_the_collectors_own(self):
-        """At the standby there is no process of the client's, and the row isn't there yet: that says nothing."""
+        """The standby has no process of the client, and no row yet: that says nothing."""
         key = f"{FLAG}1"
         store = self.store(self.primary.dsn)
         store.begin_alone(SOON)
@@ -96,7 +97,7 @@ class Lagging(unittest.TestCase):
         self.assertEqual(find_out(("postgres", self.words(self.standby.dsn), {}, "zanteyard"), ticket, SOON), UNKNOWN)
 
     def test_whichever_host_of_a_dsn_is_there(self):
-        """The client came by the first of two, which is away as it is asked about."""
+        """The client came through the first of two hosts, which is gone when it is asked about."""
         with tempfile.TemporaryDirectory() as folder:
             here = f"{folder}/primary"
             os.symlink(self.primary.folder, here)
@@ -110,7 +111,8 @@ class Lagging(unittest.TestCase):
             self.assertEqual(store.outcome_within(SOON), "unknown")
 
     def test_one_that_took_the_primarys_place(self):
-        """It is the same store to go on with; what was done at the other one it doesn't know, by whatever number."""
+        """It counts as the same store to go on with. About what was done on the other one it knows
+        nothing, whatever its transaction numbers."""
         store = self.store(self.primary.dsn)
         auditor = Auditor(2, program=PLAIN)
         self.addCleanup(auditor.end)

@@ -1,4 +1,4 @@
-"""How each program ends, and what it says: a row for each way to start it and to cut it off."""
+"""How each program ends and what it prints: a row for each way to start it and to cut it off."""
 import os
 import subprocess
 import tempfile
@@ -7,7 +7,7 @@ import unittest
 from .built import PATHS, TOP, bytes_of, by_turns, path_of
 
 SECONDS = 60.0
-ASKED = ("cobra_audit", "cobra_check")  # those that look at their arguments
+ASKED = ("cobra_audit", "cobra_check")  # programs that look at their arguments
 FAILED = b"device failed\n"
 USAGE = {
     "cobra_audit": b"usage: cobra_audit [--help | --version] < SCRIPT\n",
@@ -26,10 +26,10 @@ wrong: replies 4 reports 1 spent 0 not-checked 0
 """
 HONEST = b"".join([b"fault none\n", *(b"collector %d submitted 11 taken 11\n" % each
                                       for each in range(4)), b"last serial\nlatest serial\n"])
-# What each is given where it has something to write.
+# Input with which each program has something to write.
 WORK = {"cobra_audit": SCRIPT, "cobra_check": by_turns(SCRIPT, REPLIES),
         "cobra_demo": b"none 16\n"}
-# A program and its input; the status, what it writes, and what it says.
+# A program and its input; its status, its output, and its messages.
 ROWS = [
     ("cobra_audit", b"", 0, b"", b""),
     ("cobra_audit", b"\n", 0, b'["no",1,"BadLine"]\n', b""),
@@ -54,7 +54,7 @@ UNKNOWN = (["script.jsonl"], ["--help", "--version"], ["--version", "--version"]
 
 
 def ended(name, *arguments, given=b"", **devices):
-    """The status, what was written and what was said."""
+    """The status, the output and the messages."""
     devices = {"stdout": subprocess.PIPE, "stderr": subprocess.PIPE, **devices}
     if "stdin" not in devices:
         devices["input"] = given
@@ -117,7 +117,7 @@ class Statuses(unittest.TestCase):
         self.for_each(check)
 
     def test_nobody_reads_what_it_writes(self):
-        """Its reader is gone before it begins to write: it is told so, and no signal ends it."""
+        """Its reader is gone before it writes: it notices that, and isn't ended by a signal."""
         def check(name):
             reader, writer = os.pipe()
             os.close(reader)
@@ -127,7 +127,7 @@ class Statuses(unittest.TestCase):
         self.for_each(check)
 
     def test_nobody_hears_what_it_says(self):
-        """The status is the same where its words can't be written."""
+        """The status is the same if its messages can't be written."""
         def check(name):
             status = 2 if name == "cobra_demo" else 0
             nothing = {"stdin": subprocess.DEVNULL, "stdout": subprocess.DEVNULL}

@@ -1,5 +1,5 @@
-"""Sessions over MariaDB, Redis and SQLite, where they are installed: which level has which fault,
-and what becomes of a transaction where something goes wrong."""
+"""Sessions over MariaDB, Redis and SQLite, if they are installed: which level has which fault, and
+what becomes of a transaction when something goes wrong."""
 import argparse
 import contextlib
 import glob
@@ -63,8 +63,8 @@ def eventually(condition, seconds=120.0):
 
 
 class Each:
-    """What is tested over each store: `store(level, **more)` makes one that doesn't wait for locks,
-    unless it is told to, and `levels` are all, the strictest first."""
+    """Tests for each store: `store(level, **more)` makes one that doesn't wait for locks by
+    default, and `levels` are all levels, the strictest first."""
 
     faults = {}  # by name of those that show, the levels at which they do
     by_load = ()  # a workload, the levels at which it is serial, and those at which it is violated
@@ -88,7 +88,7 @@ class Each:
         return store
 
     def value(self, key):
-        """As it was committed."""
+        """The committed value."""
         store = self.made()
         store.begin()
         found = store.read(key)
@@ -173,8 +173,9 @@ class Each:
                 self.assertEqual(auditor.round().kind, "serial")
 
     def test_a_run_without_an_end(self):
-        """At the strictest level and at the weakest: meetings succeed, and what is settled is
-        forgotten. Each client counts in a row of its own, and writes one of all without reading."""
+        """At the strictest and at the weakest level: meetings succeed, and what is settled is
+        forgotten. Each client increments a row of its own, and writes a common one without reading
+        it."""
         for level in (self.levels[0], self.levels[-1]):
             with self.subTest(level=level):
                 told = []
@@ -195,7 +196,7 @@ class Each:
                 self.assertEqual((outcome.kind, live.cuts >= wanted), ("serial", True), (str(outcome), told[-3:]))
 
     def command(self, *words):
-        """Its status, and what it told; in a folder of its own, since it writes files."""
+        """Its status and its output; in a folder of its own, since it writes files."""
         folder = tempfile.mkdtemp()
         self.addCleanup(shutil.rmtree, folder, ignore_errors=True)
         environment = {**os.environ, "PYTHONPATH": PLACE, "COBRA_AUDIT": os.path.abspath(PROGRAM)}
@@ -208,7 +209,7 @@ class Each:
         return self.command("-m", "zanteyard", "audit", *self.command_words, *few, *words)
 
     def test_the_command(self):
-        """The same of each store as of a PostgreSQL: a violation ends it, and else it goes on."""
+        """As with PostgreSQL: a violation ends it, and otherwise it goes on."""
         level, workload = self.audited
         status, told = self.audit("--level", level, "--workload", workload, "--seconds", "120", "--html", "page.html")
         self.assertEqual(status, 1, told)
@@ -219,7 +220,7 @@ class Each:
         self.assertEqual(status, 0, told)
 
     def test_nothing_is_left_where_it_is_killed(self):
-        """Neither a server nor a folder; SIGHUP comes as a terminal is closed."""
+        """Neither a server nor a folder; SIGHUP comes when a terminal is closed."""
         environment = {**os.environ, "PYTHONPATH": PLACE, "COBRA_AUDIT": os.path.abspath(PROGRAM)}
         words = ["--workload", "counter", "--clients", "2", "--rate", "50", "--seconds", "100", "--unaudited", "0", "--rather-wait"]
         call = [sys.executable, "-m", "zanteyard", "audit", *self.command_words, *words]
@@ -243,7 +244,7 @@ class Each:
                 self.assertTrue(eventually(lambda: not self.left_in(own)), self.left_in(own))
 
     def left_in(self, own):
-        """The folders, and the processes that work in them, whose path begins so."""
+        """The folders whose path begins like this, and the processes that work in them."""
         found = glob.glob(f"{own}*")
         for each in glob.glob("/proc/[0-9]*/cwd"):
             with contextlib.suppress(OSError):
@@ -260,7 +261,7 @@ class Each:
         self.assertIn("0.1 and 1.0 both read x from 0.0 and both overwrote it", told)
 
     def test_a_store_that_is_there(self):
-        """Nothing is left of what an audit has made in it."""
+        """Nothing that an audit created is left in it."""
         before = self.everything()
         words = ["--dsn", self.dsn_words()]
         asked = argparse.ArgumentParser()
@@ -278,8 +279,9 @@ class Each:
         self.assertRegex(told.getvalue(), "zanteyard_[0-9a-f]+")
 
     def killed_under_load(self, server, make_store):
-        """Clients count while their server is killed and started again: what they were told is done
-        is there, what they were told is aborted isn't, and one order explains it."""
+        """Clients increment counters while their server is killed and started again. What they were
+        told is committed is there, what they were told is aborted isn't, and one order explains
+        everything."""
         stores = [make_store() for _ in range(3)]
         auditor = self.auditor(3, 4000)
         sessions = [Session(auditor, number, store, patience=60) for number, store in enumerate(stores)]
@@ -358,7 +360,7 @@ class MariaDB(Each, unittest.TestCase):
         return (of or mariadb_store.MariaDBStore)(self.server.dsn, level, **{"lock_wait": 0, **more})
 
     def test_a_lock_wait_that_is_too_long_ends_the_transaction(self):
-        """MariaDB rolls back the statement alone: what was written before it must not be
+        """MariaDB rolls back only the statement: what was written before it must not be
         committed."""
         self.admin.execute("SELECT @@innodb_rollback_on_timeout")
         self.assertEqual(self.admin.fetchone(), (0,))
@@ -374,8 +376,8 @@ class MariaDB(Each, unittest.TestCase):
             self.assertEqual([self.value(key) for key in "abx"], [None] * 3)
 
     def test_reads_that_lock(self):
-        """What is there is locked at every level; a key that isn't there only at those that lock
-        what lies between two keys."""
+        """Existing rows are locked at every level; missing keys only at levels that lock the gaps
+        between keys."""
         levels = ("repeatable read", "read committed")
         wanted = {
             "torn read": "serial, serial",
@@ -487,23 +489,23 @@ class MariaDB(Each, unittest.TestCase):
         self.assertRaises(OutcomeUnknownError, other.exchange, "x", "2", NAME)
         self.assertLess(time.monotonic() - began, 10.0)
         hangs_up.join()
-        one.rollback()  # now the server may go on with it, or find that nobody waits
+        one.rollback()  # now the server may go on with it, or notice that nobody waits
         outcome = other.outcome_within(60.0)
         self.assertEqual(self.value("x"), {"committed": "2", "aborted": None}[outcome])
         other.begin(), other.rollback()  # over another connection
 
     def begin_to_wait(self):
-        """Whether somebody has come to wait for another one's lock."""
+        """Waits until somebody waits for another one's lock."""
 
         def is_waiting():
-            time.sleep(0.2)  # asked more often than ten times a second the server says what it said before
+            time.sleep(0.2)  # if asked more than ten times a second, the server repeats its last answer
             self.admin.execute("SELECT count(*) FROM information_schema.innodb_trx WHERE trx_state = 'LOCK WAIT'")
             return self.admin.fetchone()[0] > 0
 
         return eventually(is_waiting)
 
     def end_connection(self, store):
-        """Once it has ended: the server takes its time."""
+        """Waits until the connection has ended, for which the server takes its time."""
         its = store.connection.thread_id()
         self.admin.execute(f"KILL {its}")
 
@@ -515,7 +517,7 @@ class MariaDB(Each, unittest.TestCase):
 
     @contextlib.contextmanager
     def commits_that_wait(self):
-        """As mariabackup has them wait."""
+        """Makes commits wait, as mariabackup does."""
         for stage in ("START", "FLUSH", "BLOCK_DDL", "BLOCK_COMMIT"):
             self.admin.execute(f"BACKUP STAGE {stage}")
         try:
@@ -524,7 +526,7 @@ class MariaDB(Each, unittest.TestCase):
             self.admin.execute("BACKUP STAGE END")
 
     def test_a_statement_that_waits_at_its_own_commit(self):
-        """The server doesn't end it: it isn't waited for any longer, and is decided later."""
+        """The server doesn't end it. The client stops waiting for it, and finds out later."""
         store = mariadb_store.MariaDBStore({**self.server.dsn, "read_timeout": 70})
         self.addCleanup(store.close)
         store.begin_alone(5.0), store.exchange("x", "1", NAME)
@@ -563,7 +565,8 @@ class MariaDB(Each, unittest.TestCase):
                 self.lost(store, outcome)
 
     def test_who_asks_early_decides(self):
-        """While a transaction is open nothing is said; and what was called aborted stays so."""
+        """While a transaction is open there is no answer; and what was called aborted stays
+        aborted."""
         store = self.made()
         store.begin(), store.write("x", "1", NAME)
         self.assertEqual(store.outcome_within(0.3), "unknown")
@@ -784,14 +787,14 @@ class Redis(Each, unittest.TestCase):
                 store = self.made(of=Lossy)
                 store.sends = sends
                 self.lost(store, outcome)
-                if not sends:  # it was on its way all the time, and comes now
+                if not sends:  # it had been in flight, and arrives now
                     late = redis_store.replies(store.kept, store.commands)
                     self.assertIsNone(late[-1])
                 store.kept.disconnect()
                 self.assertEqual(self.value("lost"), "1" if sends else None)
 
     def test_answers_to_single_commands_that_are_lost(self):
-        """Whether it was done nobody can say, and so nobody says that it was aborted."""
+        """Nobody can say whether it was done, so nobody says that it was aborted."""
 
         class Lossy(redis_store.RedisStore):
             def send(self, *commands):
@@ -840,7 +843,8 @@ class Redis(Each, unittest.TestCase):
             self.assertEqual((a.begun, auditor.handed_in), (0, 0))
 
     def test_a_server_that_stands_still(self):
-        """What the collector asks is waited for no longer than was said, and is found out later."""
+        """The collector's own statements have their time limits, and their outcomes are found out
+        later."""
         with RedisServer() as server:
             stores = [redis_store.RedisStore(server.dsn) for _ in range(2)]
             auditor, (a, b) = self.sessions(*stores)
@@ -859,7 +863,8 @@ class Redis(Each, unittest.TestCase):
             [store.close() for store in stores]
 
     def test_how_long_the_application_waits_is_its_own(self):
-        """As its URL says, also after what the collector has asked; and where it says nothing."""
+        """Its own limit, from its URL, applies again after the collector's statements; without one
+        there is none."""
         for url, wanted in ((f"{self.server.dsn}&socket_timeout=7.5", 7.5), (self.server.dsn, None)):
             store = redis_store.RedisStore(url)
             self.addCleanup(store.close)
@@ -889,7 +894,7 @@ class Redis(Each, unittest.TestCase):
 
                     thread = threading.Thread(target=run, daemon=True)
                     thread.start()
-                    thread.join(60.0)  # else it waits for ever
+                    thread.join(60.0)  # else it waits forever
                     self.assertEqual(ended, [True])
             finally:
                 os.kill(server.process.pid, signal.SIGCONT)
@@ -937,7 +942,7 @@ class SQLite(Each, unittest.TestCase):
 
     def setUp(self):
         super().setUp()
-        in_memory = "/dev/shm"  # disks that others use would make waits long
+        in_memory = "/dev/shm"  # shared disks would make waits long
         self.folder = tempfile.mkdtemp(dir=in_memory if os.path.isdir(in_memory) else None)
         self.addCleanup(shutil.rmtree, self.folder, ignore_errors=True)
         self.path = f"{self.folder}/a store?"
@@ -989,8 +994,8 @@ class SQLite(Each, unittest.TestCase):
         self.assertEqual(auditor.round().kind, "serial")
 
     def test_what_has_changed_since_it_was_read_cant_be_overwritten(self):
-        """With WAL (BUSY_SNAPSHOT): waiting is in vain, so that nobody waits. With a journal that is
-        deleted the other one can't commit."""
+        """In WAL mode (BUSY_SNAPSHOT) waiting is useless, so nobody waits. With a rollback journal
+        the other one can't commit."""
         auditor, (a, b) = self.sessions(self.made("deferred", patience=20.0), self.made("deferred"))
         transaction = a.begin()
         transaction.get("x")
@@ -1070,13 +1075,13 @@ class SQLite(Each, unittest.TestCase):
                 self.lost(store, outcome)
 
     def test_a_commit_that_failed_isnt_there_once_the_file_is_opened_anew(self):
-        """Where the log couldn't be synced, the frames of the commit are in it, and its index knows
-        nothing of them: who opens the file next, as the first one, would find them."""
+        """If the log couldn't be synced, it contains the frames of the commit, but its index
+        doesn't: the next one to open the file would find them."""
         if self.journal != "wal":
             self.skipTest("only WAL keeps commits in a log")
         keeps = self.made()
         keeps.begin(), keeps.read("x"), keeps.commit()
-        index = open(f"{self.path}-shm", "r+b", buffering=0)  # to close it would end SQLite's locks
+        index = open(f"{self.path}-shm", "r+b", buffering=0)  # closing it would release SQLite's locks
         self.addCleanup(index.close)
 
         class Fails(SQLiteStore):
@@ -1114,7 +1119,7 @@ class SQLite(Each, unittest.TestCase):
             self.assertIsNone(self.value("x"))
 
     def test_processes_that_are_killed(self):
-        """In the middle of a transaction that has written, and as its commit waits."""
+        """In the middle of a transaction that has written, and while its commit waits."""
         program = (
             "import sys, time; sys.path.insert(0, sys.argv[1])\n"
             "from zanteyard.stores.sqlite import SQLiteStore\n"

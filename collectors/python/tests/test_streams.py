@@ -57,7 +57,7 @@ class WithRedis:
 
 @unittest.skipIf(SKIP, WHY)
 class Behind(WithRedis, TwoProcesses, test_live.Meetings):
-    """All that meetings do over sessions of this process, over sessions that are behind streams."""
+    """Everything that meetings do with sessions of this process, with sessions behind streams."""
 
     def live(self, sessions, *arguments, **more):
         live = super().live(sessions, *arguments, **more)
@@ -83,7 +83,7 @@ class Behind(WithRedis, TwoProcesses, test_live.Meetings):
         self.assertIn("can't hand over transaction 0 of session 0", str(self.failure_by_a_key()))
 
     def test_two_processes_meet(self):
-        """And the Redis, and they themselves, keep little of it."""
+        """And neither the Redis nor the processes keep much of it."""
         self.looks_at_streams = True
         super().test_two_processes_meet()
         self.assertEqual([*self.tells.scan_iter("*:up:*")], [])
@@ -109,7 +109,7 @@ class Behind(WithRedis, TwoProcesses, test_live.Meetings):
 
     def test_an_audit_has_one_auditor(self):
         self.live(1)
-        self.server._held_at = time.monotonic() + SOON  # else it might say meanwhile that it has it for half a second
+        self.server._held_at = time.monotonic() + SOON  # else it might renew its hold meanwhile
         with Auditor(1) as auditor, mock.patch("zanteyard.remote.streams.HELD", 0.5):
             live = LiveAuditor(auditor)
             with self.assertRaisesRegex(AuditTakenError, "another auditor has the audit"):
@@ -169,7 +169,7 @@ class Behind(WithRedis, TwoProcesses, test_live.Meetings):
         self.assertEqual(self.ended(live).kind, "serial")
 
     def test_a_place_that_is_told_late_is_nobody_elses(self):
-        """The Redis is away as it is given, and takes what is told a little later."""
+        """The Redis is away when the place is given out, and accepts the message a little later."""
         live, store = self.live(1), MemoryStore()
         process, found = self.server._processes[self.client._messages.client], []
         asking = threading.Thread(target=lambda: found.append(self.client.session(store.connect())))
@@ -184,7 +184,7 @@ class Behind(WithRedis, TwoProcesses, test_live.Meetings):
 
     @contextlib.contextmanager
     def nobody_answers(self, client):
-        """Who asks for a session is told that soon."""
+        """A process that asks for a session is told so soon."""
         with mock.patch("zanteyard.remote._client.ANSWERING", 0.3), mock.patch.object(client, "policy", Policy(0.0)):
             with self.assertRaisesRegex(ProgramLateError, "didn't answer"):
                 yield
@@ -247,7 +247,7 @@ class Behind(WithRedis, TwoProcesses, test_live.Meetings):
         self.assertEqual([*self.tells.scan_iter("*another*")], [])
 
     def test_a_process_that_can_not_be_confirmed_is_heard(self):
-        """As that of a client whose last attempt aborted, and which does nothing for long."""
+        """For example a client whose last attempt aborted, and which does nothing for long."""
         with mock.patch.multiple("zanteyard.remote._stream_messages", UNHEARD=3, BEAT=0.1):
             live, store = self.live(1), MemoryStore()
             a = self.client.session(store.connect())
@@ -275,14 +275,14 @@ class Behind(WithRedis, TwoProcesses, test_live.Meetings):
         stuck._silence = 0.5
         self.wait_for(lambda: stuck.is_over)
         other._messages.appender._link = type(link)(self.redis.dsn)
-        b.run(add_one("x"))  # it lives, and what it does isn't audited any more
+        b.run(add_one("x"))  # it lives, and is no longer audited
         self.wait_for(lambda: other.is_over)
         a.run(add_one("x"))
         other.leave()
         outcome = live.stop()
         self.assertEqual((outcome.kind, live.report.kind), ("pending", "pending"))
         names, given_up = self.server.names, other._messages.client
-        self.assertEqual(self.tells.hkeys(names.clients), [])  # what is read ten times a second
+        self.assertEqual(self.tells.hkeys(names.clients), [])  # it is read ten times a second
         self.assertGreater(self.tells.ttl(names.buried(given_up)), 0)
         self.assertIn(f"sessions {b.number} (from transaction 1 on) did is unknown", str(outcome.failure))
         self.assertEqual([one.source for one in outcome.pending], [(b.number, 1)])
@@ -290,9 +290,10 @@ class Behind(WithRedis, TwoProcesses, test_live.Meetings):
 
 @unittest.skipIf(SKIP or not knows_save(), f"{WHY}, or no auditor that knows save is built")
 class GoneOnWith(WithRedis, unittest.TestCase):
-    """The auditor's process is killed, which here means that it does nothing more, and that another one has its folder."""
+    """The auditor's process is killed, which here means that it does nothing more, and that another
+    one has its folder."""
 
-    silence = 60.0  # seconds: who lives is never given up
+    silence = 60.0  # seconds: a living process is never given up
 
     def begun(self, auditor, **more):
         live = LiveAuditor(auditor, policy=Policy(60.0, False), elsewhere=True, **more)
@@ -350,7 +351,7 @@ class GoneOnWith(WithRedis, unittest.TestCase):
 
 
     def test_what_is_not_taken_in_of_who_was_given_up_is_heard_again(self):
-        """And what it had noted is found out again."""
+        """And its notes are evaluated again."""
         self.silence = 8.0  # a sign of life comes every second
         with tempfile.TemporaryDirectory() as folder:
             live, server = self.begun(Auditor(2, journal=f"{folder}/journal"))
@@ -361,10 +362,10 @@ class GoneOnWith(WithRedis, unittest.TestCase):
                 session = client.session(store.connect())
                 for _ in range(5):
                     session.run(add_one("x"))
-                session.begin().rollback()  # which did nothing, so that nobody needs it
+                session.begin().rollback()  # it did nothing, so nobody needs it
                 (process,) = server._processes.values()
                 self.wait_for(lambda: live.handed_in == 5 and process._held)
-                client._messages._has_ended.set()  # no sign of life comes any more
+                client._messages._has_ended.set()  # no more signs of life
                 self.wait_for(lambda: process.is_over)
                 self.assertEqual((live.taken_in, self.tells.exists(server.names.rest(client._messages.client))), (0, 1))
                 again, server = self.killed(server, folder)
@@ -372,7 +373,7 @@ class GoneOnWith(WithRedis, unittest.TestCase):
             self.wait_for(lambda: again.taken_in == 5 and not server._processes)
             self.assertEqual([*self.tells.scan_iter("*:rest:*")], [])
             with self.assertRaises(OSError):
-                client._messages.send("beat", 0)  # it lives, and sees it
+                client._messages.send("beat", 0)  # it lives, and notices
             server.close()
             self.assertEqual((again.stop().kind, again.auditor.closed), ("pending", [True, False]))
 
@@ -409,7 +410,8 @@ class GoneOnWith(WithRedis, unittest.TestCase):
             self.assertEqual(again.stop().kind, "serial")
 
     def test_what_can_not_be_gone_on_with_is_left_as_it_is(self):
-        """An older copy of the folder, which would give sessions to two clients; and another version's."""
+        """An older copy of the folder, which would give sessions to two clients; and another
+        version's folder."""
         with tempfile.TemporaryDirectory() as folder:
             live, server = self.begun(Auditor(2, journal=f"{folder}/journal"))
             older, names = self.copied(folder, "older"), server.names
@@ -434,7 +436,7 @@ class GoneOnWith(WithRedis, unittest.TestCase):
 
 class States(unittest.TestCase):
     def test_no_older_one_comes_back_behind_a_machine_that_went_down(self):
-        """It would give a place to somebody else once more."""
+        """It would give a place away a second time."""
         with tempfile.TemporaryDirectory() as folder, mock.patch("zanteyard.remote._live_state.flush_folder") as flush:
             file = StateFile(f"{folder}/journal")
             state = LiveState("bank", "run", False, "token", 1, 0)
@@ -455,7 +457,7 @@ class Ends(WithRedis, unittest.TestCase):
         return appender, reader
 
     def heard(self, reader, count):
-        """So many messages, and all that come besides."""
+        """This many messages, and any that arrive in addition."""
         found, until = [], time.monotonic() + SOON
         while True:
             received = reader.receive(0.2)
@@ -518,7 +520,7 @@ class Ends(WithRedis, unittest.TestCase):
             self.assertEqual(its, sorted(its))
 
     def test_one_that_is_closed_says_nothing_of_the_redis(self):
-        """Also where a thread of its own is waiting for the next message."""
+        """Even if another of its threads is waiting for the next message."""
         logging.getLogger("zanteyard").setLevel(logging.NOTSET)
         with self.assertLogs("zanteyard") as told:
             logging.getLogger("zanteyard").warning("nothing else")
@@ -544,10 +546,10 @@ class Ends(WithRedis, unittest.TestCase):
         self.assertLess(time.monotonic() - began, 10.0)  # else it takes 20 s
 
     def test_a_redis_that_hangs_is_waited_for_by_nobody_twice(self):
-        """It takes connections, and answers nothing."""
+        """It accepts connections, and answers nothing."""
         client = ClientsEnd(self.redis.dsn, "bank", "a client", shared_key.KEY)
         self.addCleanup(client.close)
-        client.begin()  # which tries it again and again
+        client.begin()  # this tries it again and again
         self.assertTrue(client.appender.flush(client.put("note"), 5.0))
         process = self.redis.process
         process.send_signal(signal.SIGSTOP)

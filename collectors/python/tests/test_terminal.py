@@ -1,7 +1,8 @@
-"""What a terminal shows besides: colours of verdicts, and how far a command is."""
+"""What a terminal shows in addition: colours of verdicts, and progress."""
 import os
 import pty
 import select
+import shutil
 import subprocess
 import sys
 import tempfile
@@ -12,14 +13,14 @@ from zanteyard.program._binaries import PROGRAM
 
 LOST = '["open",2,8]\n["offer",0,0,[[[[5,"init"]],[5]]]]\n["offer",1,0,[[[[5,"init"]],[5]]]]\n'
 SERIAL = '["open",1,8]\n["offer",0,0,[[[],[5]]]]\n'
-SECONDS = 300.0  # for a program to say something
+SECONDS = 300.0  # for a program to print something
 RED, GREEN, PLAIN = "\x1b[1;31m", "\x1b[1;32m", "\x1b[0m"
 
 
 @unittest.skipUnless(os.path.isfile(PROGRAM), f"{PROGRAM} is not built")
 class OnATerminal(unittest.TestCase):
     def begin(self, *words, **more):
-        """The command on a terminal of its own, which `seen` reads."""
+        """The command on a terminal of its own; `seen` reads that."""
         self.seen, theirs = pty.openpty()
         self.addCleanup(os.close, self.seen)
         its = {**os.environ, "TERM": "xterm", "COBRA_AUDIT": os.path.abspath(PROGRAM), **more}
@@ -35,7 +36,7 @@ class OnATerminal(unittest.TestCase):
         return running
 
     def read(self, wanted=None):
-        """Up to the text, or to its end."""
+        """Reads up to the text, or to the end."""
         found, ends = "", time.monotonic() + SECONDS
         while wanted is None or wanted not in found:
             self.assertLess(time.monotonic(), ends, found)
@@ -80,7 +81,7 @@ class OnATerminal(unittest.TestCase):
         self.assertNotIn("\x1b", ended.stdout + ended.stderr)
 
     def test_how_far_it_is(self):
-        """While it waits for the rest of a script; what is shown then is gone from the line."""
+        """While it waits for the rest of a script; afterwards the line is cleared."""
         running = self.begin("check", "-")
         first, second, third = LOST.splitlines(True)
         running.stdin.write((first + second).encode())
@@ -94,6 +95,37 @@ class OnATerminal(unittest.TestCase):
         self.assertTrue(after.startswith(f"{RED}violated"), after)
         self.assertNotIn("(line", after)
         self.assertEqual(running.wait(SECONDS), 1)
+
+    def test_that_it_is_at_work(self):
+        """Commands that count nothing; a slow file or program has each of them wait."""
+        folder = tempfile.mkdtemp()
+        self.addCleanup(shutil.rmtree, folder)
+        history, script, slow = (f"{folder}/{name}" for name in ("history", "script", "slow"))
+        os.mkfifo(history)
+        with open(slow, "w", encoding="utf-8", opener=as_program) as file:
+            file.write(f'#!/bin/sh\nsleep 2\nexec {os.path.abspath(PROGRAM)} "$@"\n')
+        for words, shown, goes_on, wanted in (
+            (("import", "csv", history, "-o", script), "(importing, ", "session,number,operation,key,value\na,0,write,x,1\n", f"{script}: "),
+            (("levels", "-"), "(checking, ", LOST, "serializab"),
+            (("demo", "lost-update", "--no-html"), "(checking, ", "", "violated"),
+        ):
+            with self.subTest(words=words):
+                running = self.begin(*words, COBRA_AUDIT=slow)
+                before = self.read(shown)
+                if words[0] == "import":
+                    with open(history, "w", encoding="utf-8") as file:
+                        file.write(goes_on)
+                else:
+                    running.stdin.write(goes_on.encode())
+                running.stdin.close()
+                text = before + self.read()
+                self.assertIn(wanted, text)
+                self.assertNotIn(shown, text.rsplit("\r\x1b[K", 1)[1])
+                running.wait(SECONDS)
+
+
+def as_program(path, flags):
+    return os.open(path, flags, 0o700)
 
 
 if __name__ == "__main__":

@@ -1,4 +1,5 @@
-"""Transactions that are ended twice, or by a signal: nothing is written, counted or logged twice."""
+"""Transactions that are ended twice, or by a signal: nothing is written, counted or logged
+twice."""
 import os
 import unittest
 
@@ -8,7 +9,7 @@ from zanteyard.stores.memory import MemoryStore
 
 
 class Interrupted:
-    """A connection that is interrupted, as by Ctrl-C, right behind its commit."""
+    """A connection that is interrupted, as by Ctrl-C, right after its commit."""
 
     def __init__(self, connection):
         self.connection = connection
@@ -22,7 +23,7 @@ class Interrupted:
 
 
 class Unanswered(Interrupted):
-    """One that is lost behind its commit, and of which the store knows nothing."""
+    """A connection that is lost after its commit; the store doesn't know the outcome."""
 
     def commit(self):
         self.connection.commit()
@@ -33,7 +34,8 @@ class Unanswered(Interrupted):
 
 
 class TwiceInterrupted(Interrupted):
-    """By a handler behind the commit, and by Ctrl-C as it is rolled back."""
+    """A connection that is interrupted by a handler after the commit, and by Ctrl-C during its
+    rollback."""
 
     rollbacks = 0
 

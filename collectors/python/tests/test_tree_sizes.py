@@ -1,5 +1,5 @@
-"""How large the trees of twelve known histories are: each has the size to which a plain minimiser
-brings it, and what plays no part makes none larger (bench/plain_trees.py)."""
+"""The sizes of the trees of twelve known histories: each is as small as a plain minimiser can make
+it, and irrelevant transactions don't make it larger (bench/plain_trees.py)."""
 import json
 import os
 import sys
@@ -31,16 +31,16 @@ def made(log):
 
 
 def contradiction(pairs, wrong, spare=0, behind=0):
-    """Pairs whose order is open, and readers that rule out each way to order them; so many pairs in
-    front and behind that play no part."""
+    """Pairs whose order is open, and readers that rule out each way to order them; before and after
+    them, irrelevant pairs."""
     log = hard.contradiction(pairs, wrong, spare)
     hard.idle(log, behind)
     return made(log)
 
 
 def settled_beside_a_lost_update(count):
-    """A lost update behind a chain in which each transaction overwrites what it has read: all of
-    the chain's choices are forced, and play no part."""
+    """A lost update after a chain in which each transaction overwrites what it has read: all
+    choices of the chain are forced, and irrelevant."""
     log = hard.Log()
     last = log.add([], [1], 0)
     for number in range(count):
@@ -76,16 +76,16 @@ HISTORIES = {
     "three pairs": contradiction(3, THREE),
     "a chain of pairs behind idle ones": contradiction(4, hard.chain(4), 2),
 }
-# Trees of one size: what is beside the contradiction in the others plays no part.
+# Trees of the same size: what the others have besides the contradiction is irrelevant.
 ALIKE = [("a lost update", "two lost updates", "a lost update beside what is forced"),
          ("two pairs", "two pairs behind idle ones", "two pairs between idle ones")]
-# Budget, depth and workers: the whole search, what is joined of cubes, and what the second search
-# finds where the first is spent.
+# Budget, depth and workers: the whole search, the trees joined from cubes, and what the second
+# search finds if the first is spent.
 EFFORTS = [(4096, 0, 1), (4096, 1, 1), (65536, 6, 4), (1, 0, 1), (3, 0, 1)]
 
 
 def parts_of(lines):
-    """What is kept behind these lines, as the plain model follows the auditor."""
+    """What is kept after these lines, according to the plain model."""
     model = Model()
     for line, reply in zip(lines, replies_to(*lines)):
         model.judge(line, reply)
@@ -95,7 +95,7 @@ def parts_of(lines):
 @unittest.skipUnless(path_of("cobra_audit"), "cobra_audit is not built")
 class Sizes(unittest.TestCase):
     def trees(self, lines):
-        """The tree that each effort comes to, where it isn't spent."""
+        """The tree that each effort finds, unless it is spent."""
         asked = [compact(["round", *effort]) for effort in EFFORTS]
         told = list(map(json.loads, replies_to(*lines, *asked)[len(lines):]))
         self.assertEqual(told[0][2], "violated")
@@ -103,7 +103,7 @@ class Sizes(unittest.TestCase):
                 if report[2] == "violated"]
 
     def test_nothing_can_be_left_out(self):
-        """Each tree, whichever search has found it, is as large as the minimiser leaves it."""
+        """Each tree, whichever search found it, is as small as the minimiser can make it."""
         for name, lines in HISTORIES.items():
             parts = parts_of(lines)
             for effort, tree in self.trees(lines):
@@ -123,7 +123,8 @@ class Sizes(unittest.TestCase):
                 self.assertLessEqual(len(self.trees(lines)[0][1]), 2 * len(plain))
 
     def test_the_minimiser_leaves_out_what_plays_no_part(self):
-        """Of a plain search's own trees, with all that it tried, it leaves these sizes."""
+        """It reduces a plain search's own trees, which contain everything that was tried, to these
+        sizes."""
         for name, tried, left in (("two pairs", 11, 10), ("two pairs behind idle ones", 95, 10),
                                   ("a chain of pairs behind idle ones", 75, 18),
                                   ("a lost update beside what is forced", 3, 3)):

@@ -1,5 +1,5 @@
-"""Two stores behind one auditor would be taken for one that has faults: the second one is refused, wherever its client
-is, and one store by two ways is let in."""
+"""Two stores with one auditor would look like one faulty store: the second store is refused,
+wherever its client is, and one store that is reached in two ways is accepted."""
 import json
 import logging
 import os
@@ -47,7 +47,7 @@ except ImportError:
     pymysql = None
 
 HERE = os.path.dirname(os.path.abspath(__file__))
-PLAIN = os.path.join(HERE, "plain_auditor.py")  # which answers as cobra_audit does
+PLAIN = os.path.join(HERE, "plain_auditor.py")  # it answers as cobra_audit does
 PATIENT = Policy(SOON, begins_anew=False)
 
 
@@ -79,7 +79,8 @@ class Quiet(unittest.TestCase):
 
 
 class Pairs:
-    """`pairs` gives by name two stores, each as the words by which `store_of` makes it, and `same` two ways to one."""
+    """`pairs` has, by name, two stores each, as arguments of `store_of`; `same` has two ways to one
+    store."""
 
     def opened(self, words):
         store = store_of(*words)
@@ -265,7 +266,7 @@ class Postgres(Pairs, Quiet):
         self.assertEqual(len(sent), 3 * 3, sent)  # a read, a write and a commit
 
     def test_a_table_that_is_not_there_yet_is_none(self):
-        """What is told of it first would be the audit's."""
+        """Its first identity would become the audit's."""
         session = Session(self.auditor(), 0, store_of("postgres", self.server.dsn, "serializable", "late"))
         self.addCleanup(session.store.close)
         with self.assertRaises(psycopg2.errors.UndefinedTable):
@@ -275,7 +276,7 @@ class Postgres(Pairs, Quiet):
         self.assertIn("table late of database postgres", session.met.shown)
 
     def test_a_role_that_may_not_know_which_server_it_is(self):
-        """It is let in alone, and not beside one that may."""
+        """It is admitted alone, but not next to one that may."""
         with self.admin() as cursor:
             cursor.execute("REVOKE EXECUTE ON FUNCTION pg_control_system() FROM PUBLIC")
             try:
@@ -328,7 +329,7 @@ class Redis(Pairs, Quiet):
         self.assertEqual((outcome.kind, outcome.audited), ("serial", 3), outcome)
 
     def test_what_it_lost_as_it_was_started_again_is_told(self):
-        """It is no other store for who knows it."""
+        """For a client that knows it, it isn't another store."""
         auditor = self.auditor(2)
         store = self.opened(("redis", self.other.dsn))
         alice = Session(auditor, 0, store)
@@ -369,7 +370,7 @@ class Redis(Pairs, Quiet):
         store = self.opened(("redis", self.one.dsn))
         self.assertEqual(store.identity(), UNSURE)
         admin.config_set("maxmemory", "0")
-        self.assertEqual(store.identity(), UNSURE)  # of the connection that is still there
+        self.assertEqual(store.identity(), UNSURE)  # of the connection that still exists
         store.hang_up()
         self.assertRegex(store.identity().known, "^redis [0-9a-f]{16} 0 zanteyard:$")
 
@@ -445,7 +446,7 @@ class MariaDB(Pairs, Quiet):
                 Session(auditor, 2, self.opened(("mariadb", server.dsn))).run(count)
 
     def test_a_copy_that_was_made_later(self):
-        """As by a dump that is read into another server, under the same names."""
+        """For example by loading a dump into another server, with the same names."""
         store = self.opened(("mariadb", self.server.dsn))
         before = store.identity()
         store.close()
@@ -477,7 +478,7 @@ class MariaDB(Pairs, Quiet):
 
 
 class NoWord:
-    """A store of the user's own, which tells nothing."""
+    """A store of the user's own that doesn't identify itself."""
 
     def __init__(self, connection):
         for name in ("begin", "read", "write", "commit", "rollback", "outcome"):
@@ -494,7 +495,7 @@ class Told(NoWord):
 
 
 class InMemory(Quiet):
-    """What is the same whichever store it is."""
+    """What is the same for all stores."""
 
     def stores(self):
         return MemoryStore().connect(), MemoryStore().connect()
@@ -541,7 +542,8 @@ class InMemory(Quiet):
         self.assertEqual((len(came), auditor.outcome().kind), (1, "serial"))
 
     def test_a_client_that_is_led_elsewhere_as_it_runs_goes_on_unaudited(self):
-        """As behind a connection that was lost: it is the application's, and its audit has ended."""
+        """After a lost connection, for example: that is the application's choice, and its audit has
+        ended."""
         first, second = self.stores()
         auditor = self.auditor()
         session, other = Session(auditor, 0, first), Session(auditor, 1, first.shared.connect())
@@ -643,7 +645,8 @@ class InMemory(Quiet):
             live.stop()
 
     def test_one_that_can_not_tell_it_now_is_asked_again(self):
-        """As a Redis whose memory is full. Nothing is audited by then, and the application goes on."""
+        """For example a Redis whose memory is full. Nothing is audited until then, and the
+        application goes on."""
         first, _ = self.stores()
         store = Told(first, UNSURE)
         asked = []
@@ -692,10 +695,11 @@ class InMemory(Quiet):
         session.run(count)
         self.assertEqual((auditor.outcome().kind, session.met), ("serial", first.shared.identity))
 
-    # where the auditor's process doesn't answer
+    # the auditor's process doesn't answer
 
     def late(self, second):
-        """What came of two clients, of which the second has a store before it is told whether it may."""
+        """The result with two clients, of which the second uses a store before it is told whether
+        it may."""
         first = MemoryStore()
         live = self.live(self.auditor(3), policy=Policy(0.05, pause=0.01))
         with AuditServer(live, f"{self.folder}/audit") as server:
@@ -774,7 +778,7 @@ class OverJournals(Quiet):
 
     @unittest.skipUnless(redis and redis_server(), "Redis or redis-py isn't installed (no auditor went on)")
     def test_a_process_that_goes_on_refuses_another_store(self):
-        """Also where nothing of the first one's was taken in yet."""
+        """Even if nothing of the first one's was taken in yet."""
         for takes in (False, True):
             path = f"{self.folder}/journal {takes}"
             with self.subTest(takes=takes), RedisServer(keeps=True) as server:

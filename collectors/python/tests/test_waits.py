@@ -1,17 +1,18 @@
-"""Calls that may wait end all the same: runs in threads over queues of every size, each within a
-time limit. No proof says this (docs/PROVED.md); searches are in test_searching.py."""
+"""Calls that may wait do end: runs in threads over queues of every size, each within a time limit.
+No proof says this (docs/PROVED.md); searches are in test_searching.py."""
 import subprocess
 import unittest
 
 from .built import path_of
 
-SECONDS = 60.0  # for what takes some milliseconds
+SECONDS = 60.0  # for something that takes a few milliseconds
 FAULTS = ("none", "stale-read", "lost-update", "split-read", "session-back", "dirty-read")
 PLACES = (1, 2, 3, 16, 1024)  # of the desk, which four collectors fill
 
 
 def shown(fault):
-    """What the demonstration owes: all that was submitted is taken, and the fault is found."""
+    """What the demonstration has to print: everything submitted is taken, and the fault is
+    found."""
     collectors = "".join(f"collector {at} submitted 11 taken 11\n" for at in range(4))
     kind = "serial" if fault == "none" else "violated"
     return f"fault {fault}\n{collectors}last {kind}\nlatest {kind}\n".encode()

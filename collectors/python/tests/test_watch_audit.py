@@ -1,4 +1,4 @@
-"""An audit by a feed that is made up: the real auditor, and no proxy."""
+"""An audit with a made-up feed: the real auditor, and no proxy."""
 import io
 import json
 import os
@@ -19,7 +19,7 @@ from zanteyard.watch._watching import OK, Watching
 
 
 class Output(io.StringIO):
-    """Of a fake proxy: what it writes goes into the intake."""
+    """A fake proxy's output, which goes into the intake."""
 
     def __init__(self, intake):
         super().__init__()
@@ -33,7 +33,7 @@ class Output(io.StringIO):
 
 
 class Commands:
-    """Lines for a fake proxy, as they come; they end with None."""
+    """Lines for a fake proxy, as they arrive; they end with None."""
 
     def __init__(self):
         self.lines, self.change = [], threading.Condition()
@@ -58,7 +58,7 @@ class Commands:
 @unittest.skipUnless(os.path.isfile(PROGRAM), f"{PROGRAM} is not built")
 class Audits(unittest.TestCase):
     def begin(self, parts, **more):
-        """A Watching over a fake proxy of these parts."""
+        """A Watching with a fake proxy of these parts."""
         self.board, intake, self.commands = Board("shop"), Intake(), Commands()
         self.changed = threading.Condition()
         self.told = []
@@ -80,7 +80,7 @@ class Audits(unittest.TestCase):
         self.watching.end()
 
     def stop(self):
-        """Gives the status after the last round."""
+        """Stops, and returns the status after the last round."""
         self.watching.stop()
         self.watching.stopped.wait()
         self.explaining.wait(60)
@@ -148,7 +148,7 @@ class Audits(unittest.TestCase):
         self.assertEqual([sorted(its["transactions"]) for its in asked], [[[0, 0], [1, 0], [2, 0]]])
 
     def until(self, is_so):
-        """Waits for it, for two minutes at most."""
+        """Waits for it, two minutes at most."""
         pause = threading.Event()
         for _ in range(12000):
             if is_so():
@@ -157,7 +157,7 @@ class Audits(unittest.TestCase):
         self.fail("it hasn't come to that in two minutes")
 
     def fake_has(self, name):
-        """Waits until the fake proxy was told this."""
+        """Waits until the fake proxy has received this."""
         self.until(lambda: self.told_of(name))
 
     def test_a_line_that_is_refused_ends_the_audit(self):
@@ -185,7 +185,7 @@ class Audits(unittest.TestCase):
         self.assertEqual((status.ended[0].kind, status.whole_kind), ("serial", "incomplete"))
 
     def test_a_proxy_that_gave_up_isnt_waited_for(self):
-        """It doesn't answer to `stop` then."""
+        """It doesn't answer `stop` then."""
         ended = feed.event("ended", at=feed.AT, reason="the slot was lost")
         self.begin([feed.started(), feed.OPEN, *feed.ROUND, ended])
         self.until(lambda: self.board.status().is_over)
@@ -225,7 +225,7 @@ class SearchesThatDoNotEnd(unittest.TestCase):
                     self.assertEqual(auditing.ask(b'["round",64,0,1]'), wanted)
                     self.assertEqual(auditing.restarts, 0)
                     os.remove(ended)
-                    refused = b'["no",10,"RoundOpen"]'  # by whatever began one
+                    refused = b'["no",10,"RoundOpen"]'  # whatever opened one
                     self.assertEqual(auditing.ask(b'["begin"]'), OK)
                     self.assertEqual(auditing.ask(b'["round",64,0,1]'), refused)
 

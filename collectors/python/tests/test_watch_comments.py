@@ -1,4 +1,4 @@
-"""Comments that say where a statement came from, and how they are read again."""
+"""Comments that say where a statement came from, and how they are read."""
 import inspect
 import os
 import sys
@@ -24,7 +24,7 @@ HERE = os.path.relpath(os.path.abspath(__file__), os.getcwd())
 
 
 def line():
-    """Of the caller."""
+    """The caller's line."""
     return inspect.currentframe().f_back.f_lineno
 
 
@@ -65,7 +65,7 @@ class Comments(unittest.TestCase):
     def test_a_file_without_a_name_isnt_told(self):
         its = {"commented": comments.commented}
         exec(compile("found = commented('SELECT 1')", "<typed>", "exec"), its)
-        self.assertIn(HERE, its["found"])  # the caller of what was typed
+        self.assertIn(HERE, its["found"])  # the caller of what was typed in
 
 
 class Origins(unittest.TestCase):
@@ -92,7 +92,7 @@ class Origins(unittest.TestCase):
 
 
 class Recording:
-    """In the place of a driver's cursor."""
+    """In place of a driver's cursor."""
 
     def __init__(self):
         self.run = []

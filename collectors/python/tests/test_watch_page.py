@@ -1,5 +1,5 @@
-"""The pages of a watched audit: what they say, that nothing in them is from outside or unsafe, and
-how they look in a real browser."""
+"""The pages of a watched audit: what they show, that they load nothing from outside and contain
+nothing unsafe, and how they look in a real browser."""
 import os
 import re
 import shutil
@@ -106,7 +106,7 @@ class Live(unittest.TestCase):
             self.assertEqual({"link", "img", "iframe", "object"} & {*tags.seen}, set())
             self.assertEqual(tags.seen.count("script"), 1)
             self.assertNotIn("http", text.replace('http-equiv="refresh"', ""))
-            self.assertNotIn(" style=", text)  # which the policy forbids
+            self.assertNotIn(" style=", text)  # the policy forbids it
 
     def test_what_it_says(self):
         for one, wanted in (
@@ -264,11 +264,11 @@ class Feeds(unittest.TestCase):
 
 @unittest.skipUnless(BROWSER, "chromium is not installed")
 class InABrowser(unittest.TestCase):
-    """A page of the state that `now` gives, once more for each time that the browser asks."""
+    """A page of the state that `now` returns, each time that the browser asks."""
 
     def setUp(self):
         self.folder = tempfile.mkdtemp()
-        self.addCleanup(shutil.rmtree, self.folder, ignore_errors=True)  # the browser may linger
+        self.addCleanup(shutil.rmtree, self.folder, ignore_errors=True)  # the browser may still be running
 
         class Board:
             status = staticmethod(lambda: self.one)
@@ -300,11 +300,11 @@ class InABrowser(unittest.TestCase):
             with self.subTest(path=path, width=width):
                 seen = self.seen(path, width)
                 red = sum(pixel == (179, 38, 30) for pixel in seen)
-                self.assertGreater(red, 300)  # the edge of the box that says it
+                self.assertGreater(red, 300)  # the edge of the box with the verdict
                 self.assertGreater(sum(pixel == (251, 236, 235) for pixel in seen), 20000)
 
     def test_nothing_is_wider_than_a_narrow_screen(self):
-        """What doesn't fit scrolls by itself: the page as a whole stays as wide as the screen."""
+        """Wide contents scroll by themselves: the page as a whole is as wide as the screen."""
         page = live_page.whole_page(status(violations=(violation(EVIL * 9),), violations_count=1))
         for text in (page, violation_page(violation(EVIL * 9), "shop", "proved")):
             wide = "document.title = document.documentElement.scrollWidth"
@@ -317,7 +317,7 @@ class InABrowser(unittest.TestCase):
             self.assertEqual(re.findall("<title>(.*?)</title>", found)[0], "500")
 
     def test_it_refreshes_itself(self):
-        """The page says what it was as it was asked for; the part that changes says more."""
+        """The page shows the state when it was requested; its changing part shows later states."""
         first = Pages(type("Board", (), {"status": staticmethod(lambda: status())}))
         later = Pages(type("Board", (), {"status": staticmethod(lambda: self.one)}))
         asked = []
@@ -335,7 +335,7 @@ class InABrowser(unittest.TestCase):
         self.assertNotIn("No violation so far</h1>", found)
 
     def test_the_policy_fits_the_page(self):
-        """Else the browser wouldn't run the script, or use the style."""
+        """Otherwise the browser wouldn't run the script, or use the style."""
         text = live_page.whole_page(status())
         self.assertIn(f"<style>{STYLE}</style>", text)
         self.assertIn(f"<script>{SCRIPT}</script>", text)

@@ -1,6 +1,7 @@
-"""What `zanteyard prepare` finds of a server and its tables."""
+"""What `zanteyard prepare` finds out about a server and its tables."""
 import argparse
 import contextlib
+import glob
 import io
 import os
 import sys
@@ -101,7 +102,7 @@ class Hosts(unittest.TestCase):
 
 class Patterns(unittest.TestCase):
     def test_which_tables_they_mean(self):
-        """By the same rows as the proxy's own test has."""
+        """The same rows as in the proxy's own test."""
         for text, has, has_not in (
             ("public.*, shop.orders", "public.t shop.orders", "shop.order shop.orders2 Public.t"),
             ("orders", "shop.orders public.orders", "public.order"),
@@ -150,8 +151,8 @@ class Reports(unittest.TestCase):
         self.assertEqual([*report(self.server, found[:1], [])][-1], "ready: an audit can begin")
 
     def test_a_plugin_that_may_not_be_used(self):
-        """It is told along with what keeps a slot from being made, and not only afterwards. A server
-        before 15.19 has no such list."""
+        """It is reported together with what prevents a slot, not only afterwards. A server before
+        15.19 has no such list."""
         told = f"wal2json isn't in the server's {facts.TRUSTED}: otherwise test_decoding is used; "
         for names, wanted in (
             (None, None),
@@ -170,6 +171,10 @@ class Reports(unittest.TestCase):
                 for one in found:
                     self.assertTrue(one.sentence.startswith(told), one)
                     self.assertIn(f"SET {facts.TRUSTED} = {wanted};", one.remedy)
+
+
+def plugin_is_installed():
+    return bool(glob.glob("/usr/lib/postgresql/*/lib/wal2json.so"))
 
 
 @unittest.skipUnless(psycopg2 and program("initdb"), "PostgreSQL or psycopg2 is not installed")
@@ -199,6 +204,19 @@ class OverAServer(unittest.TestCase):
             "2 things are missing",
         ):
             self.assertIn(wanted, whole)
+        self.assertEqual("wal2json isn't installed" in whole, not plugin_is_installed())
+
+    def test_1_a_plugin_that_is_missing(self):
+        """It is told before the restart that wal_level needs, if a superuser asks."""
+        with mock.patch.object(facts, "PLUGIN", "no_such_plugin"):
+            lines = self.prepare()[1]
+            at = lines.index("  note    no_such_plugin isn't installed: otherwise test_decoding is "
+                             f"used; {facts.BEHIND_SAVEPOINTS}")
+            self.assertTrue(lines[at + 1].strip().startswith("install it on the server"))
+            with Database(self.url) as database:
+                database.run("CREATE ROLE carol LOGIN")
+            url = self.url.replace("postgres@", "carol@")
+            self.assertNotIn("no_such_plugin", "\n".join(self.prepare(url=url)[1]))
 
     def test_2_what_can_be_created(self):
         with Database(self.url) as database:
@@ -212,7 +230,7 @@ class OverAServer(unittest.TestCase):
         with Database(self.url) as database:
             self.assertEqual(database.run(f"SELECT id, n FROM {facts.FENCE}"), [(0, 0)])
             slots = database.one("SELECT count(*) FROM pg_replication_slots")
-        self.assertEqual(slots, 0)  # what was tried is gone
+        self.assertEqual(slots, 0)  # the slots that were tried are gone
 
     def test_3_a_tables(self):
         with Database(self.url) as database:
@@ -250,7 +268,7 @@ class OverAServer(unittest.TestCase):
         self.assertNotIn("public.temporary", found)
 
     def test_3_b_those_that_are_asked_for(self):
-        """A partition is asked for by its topmost table's name as well as by its own."""
+        """A partition matches by its topmost table's name as well as by its own."""
         for words, wanted in (
             ("public.p*,by_enum,shop.*", ["  no table matches shop.* of --tables"]),
             ("parts", []),
@@ -293,7 +311,7 @@ class OverAServer(unittest.TestCase):
 @unittest.skipUnless(program("initdb"), "PostgreSQL is not installed")
 class OverEitherDriver(unittest.TestCase):
     def test_both_give_the_same(self):
-        """Each is taken if the other one isn't there."""
+        """Each is used if the other one isn't installed."""
         found = {}
         with PostgresServer() as cluster:
             url = f"postgresql://postgres@/postgres?host={cluster.folder}"

@@ -1,4 +1,5 @@
-"""`zanteyard watch` for snapshot isolation: by a feed that is made up, and over a real server and the real proxy."""
+"""`zanteyard watch` for snapshot isolation: with a made-up feed, and with a real server and the
+real proxy."""
 import os
 import shutil
 import tempfile
@@ -48,14 +49,14 @@ class Words(unittest.TestCase):
         self.assertFalse([it for it in call_of("proxy", asked)[0] if it.startswith("--promise")])
 
     def test_keys_of_a_refutation(self):
-        """Which names begins and commits."""
+        """One that names begins and commits."""
         choice = [0, 1, "begin", 5, 1, 0, "commit", 2, 0, "commit"]
         arc = ["read", 7, 1, 0, "commit", 0, 1, "begin"]
         self.assertEqual(keys_of([["nowrite", 0, 1, "begin", 3]]), {3})
         self.assertEqual(keys_of([["force", choice, 1, [arc]], ["cycle", [arc]]]), {5, 7})
 
     def test_what_has_begun_has_no_reads(self):
-        """Of a transaction whose begin is forgotten, and its commit isn't."""
+        """A transaction whose begin is forgotten, and whose commit isn't."""
         retained = Retained()
         retained.note(b'["open",2,8,2]')
         retained.note(b'["offer",0,0,[[[[5,"init"]],[6]],[[[6,0,0]],[]]]]')
@@ -108,7 +109,7 @@ class ByAFeed(test_watch_audit.Audits):
         self.assertIn(((("promise", "snapshot"),), 1.0), figures["zanteyard_promise_broken"])
 
     def test_a_violation_says_what_it_leaves_standing(self):
-        """Asked for serializability."""
+        """In an audit for serializability."""
         parts = [feed.started(), OPEN, *WRITE_SKEW, *feed.ROUND, ("await", "restart")]
         self.begin(parts, test_watch_audit.Board("").status().promise)
         self.fake_has("restart")
@@ -121,7 +122,7 @@ class ByAFeed(test_watch_audit.Audits):
 
 
 for _name in [name for name in dir(test_watch_audit.Audits) if name.startswith("test_")]:
-    setattr(ByAFeed, _name, None)  # those have their place in the module that they are of
+    setattr(ByAFeed, _name, None)  # these run in their own module
 
 
 class WithAJournal(test_watch_run.InAFolder):
@@ -134,7 +135,7 @@ class WithAJournal(test_watch_run.InAFolder):
         told = [reply for _, reply in auditing.give(lines)]
         self.assertIn(b'"serial"', told[-2])
         auditing._program.process.kill()
-        last = [["offer", 0, 1, [[[[5, "init"]], [5]]]], *feed.ROUND]  # which misses 1.0's
+        last = [["offer", 0, 1, [[[[5, "init"]], [5]]]], *feed.ROUND]  # this misses 1.0's
         told = [reply for _, reply in auditing.give([*map(feed_line, last)])]
         self.assertIn(b'"violated"', told[-2])
         self.assertIn(b'"begin"', told[-2])
@@ -162,7 +163,8 @@ class OverAServer(test_watch_whole.Whole):
         self.addCleanup(self.end, running)
 
     def test_repeatable_read_keeps_it(self):
-        """Write skews, and rows that are inserted again by who has an older snapshot."""
+        """With write skews, and with rows that a transaction with an older snapshot inserts
+        again."""
         with psycopg2.connect(self.cluster.dsn) as beside, beside.cursor() as cursor:
             cursor.execute("CREATE TABLE IF NOT EXISTS again (id int PRIMARY KEY)")
         one, other = self.connect("REPEATABLE READ"), self.connect("REPEATABLE READ")

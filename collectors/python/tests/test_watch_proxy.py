@@ -1,4 +1,4 @@
-"""The proxy's program as a child process: read, told, ended, replaced."""
+"""The proxy's program as a child process: read, given commands, ended, replaced."""
 import json
 import os
 import shutil
@@ -24,7 +24,7 @@ class InAFolder(unittest.TestCase):
         self.addCleanup(shutil.rmtree, self.folder, ignore_errors=True)
 
     def shell(self, text):
-        """A program in the shell's words."""
+        """A program as a shell script."""
         path = os.path.join(self.folder, "program")
         with open(path, "w", encoding="utf-8") as file:
             file.write(f"#!/bin/sh\n{text}\n")
@@ -74,7 +74,7 @@ class OneRun(InAFolder):
         self.assertEqual(
             self.items, [b'["open",1,2]', {"event": "told", "line": {"command": "stop"}}]
         )
-        self.assertIn(proxy.end(), (0, -15))  # by the end of its input, or by the signal behind it
+        self.assertIn(proxy.end(), (0, -15))  # by the end of its input, or by the signal after it
         self.assertTrue(self.is_over.is_set())
         self.assertEqual(proxy.last_words, ["listening"])
         self.assertFalse(proxy.tell(command("stop")))
@@ -110,7 +110,7 @@ class Supervised(InAFolder):
         return found
 
     def look(self, found, is_done):
-        """Until it is done, for two minutes at most."""
+        """Looks until it is done, two minutes at most."""
         pause = threading.Event()
         for _ in range(12000):
             found.look()

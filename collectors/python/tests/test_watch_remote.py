@@ -1,5 +1,5 @@
-"""Two proxies feed one audit over a Redis: `zanteyard watch` with one of its own, `zanteyard proxy`
-as another one. Over a real PostgreSQL and a real Redis."""
+"""Two proxies feed one audit over a Redis: that of `zanteyard watch`, and `zanteyard proxy`. With a
+real PostgreSQL and a real Redis."""
 import contextlib
 import io
 import os
@@ -30,7 +30,7 @@ try:
     import psycopg2
 except ImportError:
     psycopg2 = None
-LIMIT = 240.0  # seconds in which what is owed has to be found
+LIMIT = 240.0  # seconds within which the result has to be found
 REMOTE = {
     "proxies": [{"name": "web-2", "feeds": False, "transactions": 7, "connections": 0, "silent": 9}],
     "refused": 3,
@@ -39,7 +39,7 @@ REMOTE = {
 
 
 class Words(unittest.TestCase):
-    """What is wrong in a call is told before anything begins."""
+    """Mistakes in a call are reported before anything begins."""
 
     def setUp(self):
         self.folder = tempfile.mkdtemp()
@@ -114,7 +114,7 @@ class OneAudit(unittest.TestCase):
     def setUp(self):
         self.folder = tempfile.mkdtemp()
         self.addCleanup(shutil.rmtree, self.folder, ignore_errors=True)
-        made = "(umask 077; head -c 32 /dev/urandom | base64 > audit.key)"  # as docs/WATCH.md has it
+        made = "(umask 077; head -c 32 /dev/urandom | base64 > audit.key)"  # as in docs/WATCH.md
         subprocess.run(made, shell=True, check=True, cwd=self.folder)
         self.key = os.path.join(self.folder, "audit.key")
         self.environment = {**os.environ, "ZANTEYARD_REDIS": self.redis.dsn}
@@ -152,7 +152,7 @@ class OneAudit(unittest.TestCase):
         return other
 
     def connect(self, port, level=None):
-        """Through a proxy, as soon as it listens."""
+        """Connects through a proxy, as soon as it listens."""
         ends = time.monotonic() + LIMIT
         while True:
             try:
@@ -171,7 +171,7 @@ class OneAudit(unittest.TestCase):
 
     @staticmethod
     def take(connection, item):
-        """Reads a row, and gives what writes it, one less."""
+        """Reads a row, and returns a function that writes one less."""
         with connection.cursor() as cursor:
             cursor.execute("SELECT qty FROM stock WHERE id = %s", (item,))
             left = cursor.fetchone()[0] - 1
@@ -201,7 +201,7 @@ class OneAudit(unittest.TestCase):
         return "\n".join(self.told)
 
     def test_a_lost_update_between_clients_of_two_proxies(self):
-        """Somebody who may write to the Redis adds messages of his own: they are refused."""
+        """Someone who can write to the Redis adds messages of their own; these are refused."""
         here, there = self.connect(6432), self.connect(6433)
         self.until(lambda: time.sleep(0.1), self.feeds)
         for field in ("m", "x"):
@@ -219,6 +219,7 @@ class OneAudit(unittest.TestCase):
         self.assertEqual(self.status, 1, told)
         for wanted in ("lost update", "stock(id=7)", "shop-6432", "through the proxy web-2"):
             self.assertIn(wanted, told)
+        self.assertRegex(told, feed.READ_BELOW)
 
     def redis_call(self, *words):
         subprocess.run(
@@ -227,7 +228,7 @@ class OneAudit(unittest.TestCase):
         )
 
     def test_serializable_stays_serial(self):
-        """While the Redis is killed, and has lost all; and a proxy is killed, and replaced."""
+        """While the Redis is killed and loses everything, and a proxy is killed and replaced."""
         here, there = self.connect(6432, "SERIALIZABLE"), self.connect(6433, "SERIALIZABLE")
         self.until(lambda: time.sleep(0.1), self.feeds)
 

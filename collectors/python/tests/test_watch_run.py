@@ -1,4 +1,4 @@
-"""A whole run of `zanteyard watch`, over a proxy that isn't one and the real auditor."""
+"""A whole run of `zanteyard watch`, with a fake proxy and the real auditor."""
 import json
 import os
 import shutil
@@ -42,7 +42,7 @@ class InAFolder(unittest.TestCase):
         self.addCleanup(shutil.rmtree, self.folder, ignore_errors=True)
 
     def until(self, is_so):
-        """Waits for it, for two minutes at most."""
+        """Waits for it, two minutes at most."""
         pause = threading.Event()
         for _ in range(12000):
             if is_so():
@@ -54,8 +54,8 @@ class InAFolder(unittest.TestCase):
 @unittest.skipUnless(os.path.isfile(PROGRAM), f"{PROGRAM} is not built")
 class Runs(InAFolder):
     def run_of(self, *runs, is_done=None, **more):
-        """What a run tells, and its status, once it was stopped: after the first round, or once
-        `is_done` says so of the board's status."""
+        """A run's output and status. It is stopped after the first round, or once `is_done` returns
+        true for the board's status."""
         told = []
         plan = Plan([feed.program(self.folder, *runs)], PROGRAM, "shop", "proved", **more)
         run = Run(plan, told.append)
@@ -104,7 +104,7 @@ class Runs(InAFolder):
         )
 
     def test_a_promise_that_is_kept(self):
-        """Which says nothing of a serial order."""
+        """It says nothing about a serial order."""
         with self.assertLogs("zanteyard", "INFO") as logged:
             told, status = self.run_of(SERIAL, promise=SNAPSHOT)
         self.assertEqual(status, 0)
@@ -239,7 +239,7 @@ class Programs(InAFolder):
 @unittest.skipUnless(psycopg2 and program("initdb"), "PostgreSQL or psycopg2 is not installed")
 @unittest.skipUnless(os.path.isfile(PROGRAM), f"{PROGRAM} is not built")
 class Command(InAFolder):
-    """The command itself, over a server that is real and a proxy that isn't."""
+    """The command itself, with a real server and a fake proxy."""
 
     @classmethod
     def setUpClass(cls):
@@ -261,7 +261,7 @@ class Command(InAFolder):
         ended = self.begin(self.url)
         out, errors = ended.communicate(timeout=120)
         self.assertEqual((ended.returncode, out), (2, ""))
-        first, second, *_ = errors.splitlines()  # a line for each thing that it lacks
+        first, second, *_ = errors.splitlines()  # a line for each thing that is missing
         self.assertEqual(
             first, "mistake: the server isn't ready; `zanteyard prepare URL` shows everything that is missing"
         )

@@ -1,4 +1,4 @@
-"""From a round's refutation to the statements: what is kept of lines, made small, and named."""
+"""From a round's refutation to the statements: retained lines, reduction, and names."""
 import json
 import os
 import subprocess
@@ -15,6 +15,8 @@ from zanteyard.watch._pending import waiting_reads
 from zanteyard.watch._redacting import without_constants, without_values
 from zanteyard.watch._retained import Retained
 from zanteyard.watch._sql_anomalies import LostUpdate, both_replaced
+from zanteyard.watch._statement_reads import as_shown, by_statement
+from zanteyard.watch._violation_page import violation_page
 from zanteyard.watch._violations import (
     NOTHING, Held, compact, explained, keys_of, last_writers, key_text,
 )
@@ -98,7 +100,7 @@ class Refutations(unittest.TestCase):
 @unittest.skipUnless(os.path.isfile(PROGRAM), f"{PROGRAM} is not built")
 class Explained(unittest.TestCase):
     def of(self, *lines, answered=NOTHING):
-        """The violation that a round behind these lines finds."""
+        """The violation that a round after these lines finds."""
         script = [["open", 3, 64, 2], *lines, ["round", 4096, 0, 1], ["show"]]
         told = subprocess.run(
             [PROGRAM], input=b"".join(text(line) + b"\n" for line in script), capture_output=True
@@ -115,7 +117,7 @@ class Explained(unittest.TestCase):
         self.involved = held.involved()
         return explained(1, report, held, answered, PROGRAM, feed.AT)
 
-    CUT = (  # 0.0 and 1.0 are forgotten, with the fences behind them
+    CUT = (  # 0.0 and 1.0 are forgotten, with the fences after them
         feed.offer(0, 0, [[], [5, 6]], FENCE),
         feed.offer(1, 0, [[[5, 0, 0]], [5]], [[[0, 0, 1]], [0]]),
         feed.offer(2, 0, [[[0, 1, 1]], [0]]),
@@ -140,6 +142,36 @@ class Explained(unittest.TestCase):
         self.assertIn("T1 and T2 both read stock(7) from the cut and both overwrote it", whole)
         self.assertEqual(found.title, "lost update")
 
+    def test_which_statement_made_which_read(self):
+        """0.3 selected the forgotten version; 1.3 selected it, and replaced that of 0.3. 2.1's read
+        of it has no statement."""
+        its = [
+            feed.described(0, 3, reads=[[5, 1, 0]], read_by=[0]),
+            feed.described(1, 3, reads=[[5, 0, 3], [5, 1, 0]], read_by=[None, 0]),
+            feed.described(2, 1, reads=[[5, 1, 0]], read_by=[None]),
+        ]
+        found = self.of(
+            *self.CUT,
+            feed.offer(0, 3, [[[5, 1, 0]], [5]]),
+            feed.offer(1, 3, [[[5, 0, 3], [5, 1, 0]], [5]]),
+            answered=answered_of(feed.event("transactions", id=1, transactions=its)),
+        )
+        read = "read stock(7) from the cut"
+        self.assertEqual([one.reads for one in found.told], [((read,), ()), ((read,), ())])
+        lines = [line.strip() for line in found.lines()]
+        first = next(at for at, line in enumerate(lines) if "SELECT qty FROM stock" in line)
+        self.assertEqual(lines[first + 1], read)
+        self.assertIn(f'<span class="read">{read}</span>', violation_page(found, "shop", "proved"))
+
+    def test_a_feed_without_statements_of_reads(self):
+        its = [feed.described(0, 0, reads=[[5, "init"]]), feed.described(1, 0)]
+        found = self.of(
+            *feed.LOST_UPDATE,
+            answered=answered_of(feed.event("transactions", id=1, transactions=its)),
+        )
+        self.assertEqual({read for one in found.told for reads in one.reads for read in reads}, set())
+        self.assertNotIn('class="read"', violation_page(found, "shop", "proved"))
+
     def test_a_read_of_an_older_version(self):
         found = self.of(*self.CUT, feed.offer(2, 1, [[[5, 0, 0]], []]))
         whole = "\n".join(found.lines())
@@ -156,7 +188,7 @@ class Explained(unittest.TestCase):
         self.assertEqual([one.id for one in found.told], [(0, 0), (1, 0)])
 
     def test_a_lost_update_where_each_write_reads_what_it_replaces(self):
-        """As the proxy has it at read committed: 1.0 selected the first version, and then replaced
+        """As the proxy sees it at read committed: 1.0 selected the first version, and then replaced
         0.0's."""
         found = self.of(
             feed.offer(0, 0, [[[5, "init"]], [5]]),
@@ -204,8 +236,8 @@ class Explained(unittest.TestCase):
             self.assertIn("both read key 8 as it was at first", found.sentence)
 
     def test_which_lost_update(self):
-        """One of the round's, of the keys that its refutation names if it can be; none of fences,
-        of what was aborted, nor of one that only read."""
+        """One in the round, on a key that its refutation names, if possible; not of fences, of
+        aborted transactions, or of a transaction that only read."""
         init = "init"
         both = {(0, 0): [[[5, init]], [5]], (1, 0): [[[5, init]], [5]]}
         later = {(0, 1): [[[6, init]], [6]], (2, 0): [[[6, init]], [6]]}
@@ -255,6 +287,48 @@ class Explained(unittest.TestCase):
         self.assertIn("T1 (0.0): no details are known", "\n".join(found.lines()))
 
 
+class ReadsByStatement(unittest.TestCase):
+    def test_reads_and_their_statements(self):
+        for reads, by, wanted in (
+            ([[5, "init"], [6, 2, 11], [7, "init"]], [1, 0, None], [((6, (2, 11)),), ((5, "init"),)]),
+            ([[5, "init"], [6, "init"]], [0], [((5, "init"),), ()]),
+            ([[5, "init"]], [2], [(), ()]),
+            ([[5, "init"]], [-1], [(), ()]),
+            ([[5, "init"]], [True], [(), ()]),
+            ([[5], 7, [], ["a", "init"], [5, 1, "x"], [5, 1, 2, 3]], [0] * 6, [(), ()]),
+            (7, [0], [(), ()]),
+            ([[5, "init"]], None, [(), ()]),
+        ):
+            with self.subTest(reads=reads, by=by):
+                its = feed.described(1, 2, reads=reads, read_by=by)
+                answered = answered_of(feed.event("transactions", id=1, transactions=[its]))
+                statements = answered.transactions[(1, 2)].statements
+                self.assertEqual([one.reads for one in statements], wanted)
+
+    def test_what_isnt_certain_is_left_out(self):
+        def made(reads, raw, *by):
+            its = Described((0, 9), statements=tuple(Statement("", reads=one) for one in by))
+            shown = as_shown({(2, 4): (1, 0)}, (0, 0), {"key 5": (2, 1)})
+            return [[*one] for one in by_statement(its, reads, raw, shown, key_text)]
+
+        init, gone, here = ("key 5", "init"), ("key 5", (0, 0)), ("key 5", (1, 0))
+        forgotten, there, older = ("key 5", (2, 1)), ("key 5", (2, 4)), ("key 5", (2, 0))
+        self.assertEqual(made([here], [there], [(5, (2, 4))], []), [[here], []])
+        self.assertEqual(made([gone], [forgotten], [], [(5, (2, 1))]), [[], [gone]])
+        self.assertEqual(made([init], [older], [(5, (2, 0))]), [[init]])
+        self.assertEqual(made([init], [init], [(5, "init")]), [[init]])
+        for reads, raw, *by in (
+            ([here], [there], [(5, (2, 3))], [(6, (2, 4))]),  # nobody says who made it
+            ([here], [there], [(5, (2, 4))], [(5, (2, 4))]),  # two may have made it
+            ([init], [init, older], [(5, "init")], []),  # it stands for two
+            ([gone], [forgotten, there], [], [(5, (2, 4))]),  # another version was selected
+            ([init], [], [(5, "init")], []),
+        ):
+            with self.subTest(reads=reads, raw=raw, by=by):
+                self.assertEqual(made(reads, raw, *by), [[], []])
+        self.assertEqual(by_statement(None, [here], [there], lambda key, source: source, key_text), ())
+
+
 class Described_(unittest.TestCase):
     def test_in_the_order_of_time(self):
         known = {(0, 0): Described((0, 0), began=9.0), (1, 0): Described((1, 0), began=3.0)}
@@ -273,6 +347,7 @@ class Described_(unittest.TestCase):
                 "        not seen: an aggregate",
             ],
         )
+        self.assertEqual([*lines_of("T1", its, [("read a\x1b",)])][2], "        read a\\x1b")
         self.assertEqual([*lines_of("T2", None)], ["T2: no details are known"])
         fence = Described((0, 1), is_fence=True)
         self.assertEqual([*lines_of("T3", fence)], ["T3: a fence of the proxy's own"])

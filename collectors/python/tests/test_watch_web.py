@@ -1,4 +1,4 @@
-"""The server of pages: who may ask, and what is answered to anything else."""
+"""The server of pages: who may ask, and the answers to anything else."""
 import http.client
 import socket
 import sys
@@ -97,7 +97,8 @@ class Served(unittest.TestCase):
                 self.assertEqual(self.ask(path, method, host)[0], wanted)
 
     def test_more_than_there_are_places_for(self):
-        """All places are taken by who has asked for nothing yet: the next one is sent away."""
+        """All places are taken by clients that haven't asked for anything yet: the next one is sent
+        away."""
         taken = [socket.create_connection(("127.0.0.1", self.server.port))]
         self.addCleanup(lambda: [each.close() for each in taken])
         places = self.server._server.places
@@ -112,7 +113,7 @@ class Served(unittest.TestCase):
         self.assertEqual(self.ask()[0], 200)
 
     def wait_for(self, is_so):
-        """As long as it takes; the test's own time limit ends a wait that is in vain."""
+        """As long as it takes; the test's own time limit ends a wait in vain."""
         pause = threading.Event()
         for _ in range(6000):
             if is_so():

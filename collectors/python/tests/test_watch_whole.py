@@ -1,4 +1,4 @@
-"""`zanteyard watch` over a real server, the real proxy and the real auditor."""
+"""`zanteyard watch` with a real server, the real proxy and the real auditor."""
 import os
 import random
 import shutil
@@ -9,6 +9,7 @@ import threading
 import time
 import unittest
 
+from tests import watch_feed as feed
 from zanteyard import comments
 from zanteyard.program._binaries import PROGRAM
 from zanteyard.trial.postgres_server import PostgresServer, program
@@ -22,9 +23,9 @@ try:
 except ImportError:
     psycopg2 = None
 HERE = os.path.basename(__file__)
-LIMIT = 300.0  # seconds in which what is owed has to be found
+LIMIT = 300.0  # seconds within which the result has to be found
 ROWS = (100, 108)  # of the clients that are disturbed
-# A client that connects again where its connection is lost, and says how many commits were answered.
+# A client that reconnects after a lost connection, and reports how many commits were answered.
 DISTURBED = f"""
 import random, sys
 import psycopg2
@@ -102,7 +103,7 @@ class Whole(unittest.TestCase):
         running.join()
 
     def connect(self, level=None):
-        """Through the proxy, as soon as it listens."""
+        """Connects through the proxy, as soon as it listens."""
         ends = time.monotonic() + LIMIT
         its = {"cursor_factory": comments.psycopg2_cursor(), "application_name": "shop"}
         while True:
@@ -138,7 +139,7 @@ class Whole(unittest.TestCase):
             go_on()
 
     def finish(self):
-        """Stops it, and gives what it told."""
+        """Stops it, and returns its output."""
         self.watch.stop.set()
         ends = time.monotonic() + LIMIT
         while self.status is None and time.monotonic() < ends:
@@ -146,7 +147,7 @@ class Whole(unittest.TestCase):
         return "\n".join(self.told)
 
     def test_a_lost_update(self):
-        """Both read, and then both write: again and again, since statements are seen only once the
+        """Both read, and then both write, repeatedly, since statements are seen only after the
         proxy has tried them on their connection."""
         one, other = self.connect(), self.connect()
 
@@ -166,9 +167,10 @@ class Whole(unittest.TestCase):
         self.assertIn("shop from ", told)
         self.assertIn(f"{HERE}:", told)
         self.assertIn("UPDATE stock SET qty = ", told)
+        self.assertRegex(told, feed.READ_BELOW)
 
     def test_nothing_is_made_up(self):
-        """Serializable, with a writer that isn't proxied, and statements that aren't seen."""
+        """Serializable, with a writer that bypasses the proxy, and statements that aren't seen."""
         one, other = self.connect("SERIALIZABLE"), self.connect("SERIALIZABLE")
         beside = psycopg2.connect(self.cluster.dsn)
         self.addCleanup(beside.close)
@@ -203,8 +205,8 @@ class Whole(unittest.TestCase):
         self.assertIn("an aggregate", told)
 
     def test_what_disturbs_it_makes_nothing_up(self):
-        """Clients that are killed wherever they are, connections that the server ends, statements
-        that a savepoint undoes, and definitions that change meanwhile. What was answered is there."""
+        """Clients that are killed at any point, connections that the server ends, statements that a
+        savepoint undoes, and schema changes meanwhile. What was answered is there."""
         admin = psycopg2.connect(self.cluster.dsn)
         self.addCleanup(admin.close)
         admin.autocommit = True
@@ -267,7 +269,7 @@ NO_DRIVER = "raise ImportError('no driver here')\n"
 @unittest.skipUnless(os.path.isfile(proxy_path()), "the proxy is not built")
 @unittest.skipUnless(os.path.isfile(PROGRAM), f"{PROGRAM} is not built")
 class WithoutDriver(unittest.TestCase):
-    """The command with no driver of Python's for PostgreSQL: then the proxy alone asks the server."""
+    """The command without a PostgreSQL driver for Python: then only the proxy asks the server."""
 
     def setUp(self):
         self.folder = tempfile.mkdtemp()
@@ -300,13 +302,16 @@ class WithoutDriver(unittest.TestCase):
             words = ("--listen", f"{self.folder}/socket", "--seconds", "1")
             status, out, errors = self.watch(url, *words)
             self.assertEqual((status, out), (2, ""), errors)
-            self.assertRegex(errors[-1], "^mistake: the audit can't begin: .*wal_level")
-            with Database(url) as database:
-                database.run("ALTER SYSTEM SET wal_level = 'logical'")
-            cluster.stop()
-            cluster.start()
+            wanted = f"the table {facts.FENCE} doesn't exist (zanteyard prepare --create)"
+            self.assertEqual(errors[-1], f"mistake: the audit can't begin: {wanted}")
             with Database(url) as database:
                 facts.create(database)
+                database.run("ALTER SYSTEM SET wal_level = 'logical'")
+            status, out, errors = self.watch(url, *words)
+            self.assertEqual((status, out), (2, ""), errors)
+            self.assertRegex(errors[-1], "^mistake: the audit can't begin: .*wal_level")
+            cluster.stop()
+            cluster.start()
             status, out, errors = self.watch(url, *words)
             self.assertEqual(status, 4, errors)
             self.assertTrue(out.startswith("nothing was checked"), out)

@@ -1,5 +1,5 @@
-"""The statuses and the words of `cobra_audit` and of `zanteyard`, as docs/FORMATS.md and
-docs/HISTORIES.md have them, where devices and arguments are not as they should be."""
+"""The statuses and messages of `cobra_audit` and of `zanteyard`, as in docs/FORMATS.md and
+docs/HISTORIES.md, with failing devices and wrong arguments."""
 import os
 import re
 import subprocess
@@ -15,18 +15,18 @@ TOP = os.path.normpath(os.path.join(HERE, "../../.."))
 SCRIPT = os.path.join(TOP, "crates/cobra_examples/data/first_cut.jsonl")
 REPLIES = SCRIPT[:-5] + "replies"
 SECONDS = 120
-NO_TEXT = b"\xff\xfe"  # an argument that is no UTF-8
+NO_TEXT = b"\xff\xfe"  # an argument that isn't UTF-8
 USAGE = re.compile(rb"usage: cobra_audit \[--help \| --version\] < SCRIPT\n")
 FAILED = re.compile(rb"device failed\n")
 NOTHING = re.compile(b"")
 TEXT = re.compile(rb"cobra_audit is the auditor of Zanteyard: (?s:.*)\n")
-# A shell's words for the ends of a program.
+# Shell redirections of a program's streams.
 FULL, CLOSED, FOLDER, NO_INPUT, EMPTY = ">/dev/full", ">&-", "< /", "<&-", "< /dev/null"
 
 
 def run(words, ends="", text=b""):
-    """Status, standard output and standard error, with these ends, which a shell makes; what it
-    isn't given by them it reads from `text`."""
+    """Status, standard output and standard error, with these redirections by a shell; otherwise it
+    reads `text`."""
     command = ["/bin/sh", "-c", f'exec "$@" {ends}', "sh", *words]
     environment = {**os.environ, "PYTHONPATH": os.path.join(HERE, "..")}
     ended = subprocess.run(command, input=text, stdout=subprocess.PIPE, stderr=subprocess.PIPE,
@@ -44,7 +44,7 @@ class AuditorWords(unittest.TestCase):
     def test_ends_and_arguments(self):
         version = re.compile(re.escape(f"cobra_audit {VERSION}\n".encode()))
         owed = re.compile(re.escape(bytes_of(REPLIES)))
-        rows = [  # arguments, ends, input; status, standard output, standard error
+        rows = [  # arguments, redirections, input; status, standard output, standard error
             (["--version"], "", b"", 0, version, NOTHING),
             (["--version"], FOLDER, b"", 0, version, NOTHING),  # it isn't read
             (["--help"], NO_INPUT, b"", 0, TEXT, NOTHING),
@@ -87,7 +87,7 @@ class AuditorWords(unittest.TestCase):
                 self.assertRegex(error, re.compile(rb"\A(?:%b)\Z" % wanted[2].pattern))
 
     def test_a_reader_that_is_gone(self):
-        """Also where a signal would tell of it."""
+        """Even if a signal would report it."""
         for handling in ("", "trap '' PIPE; "):
             with self.subTest(handling=handling):
                 read, write = os.pipe()
@@ -114,7 +114,7 @@ class CommandWords(unittest.TestCase):
         told = rb"line 4: serial: (?s:.*)\n"
         mistake = rb"(?s:.*)\n"
         versions = rf"zanteyard {re.escape(VERSION)}\nauditor .*\nchecker .*\nproxy .*\n".encode()
-        rows = [  # arguments, ends, input; status, standard output, standard error
+        rows = [  # arguments, redirections, input; status, standard output, standard error
             (["--version"], "", b"", 0, versions, b""),
             (["--help"], NO_INPUT, b"", 0, rb"usage: zanteyard (?s:.*)\n", b""),
             ([], "", b"", 2, b"", rb"usage: zanteyard " + mistake),

@@ -1,4 +1,4 @@
-"""What is written for people to read: files that only their owner can read, figures that are whole."""
+"""Files that are written for people: only their owner can read them, and numbers are exact."""
 import contextlib
 import io
 import os
@@ -55,7 +55,7 @@ class PrivateFiles(unittest.TestCase):
 
 class Pictures(unittest.TestCase):
     def test_they_are_their_owners_alone(self):
-        """The one that `dot` makes as well."""
+        """Including the one that `dot` makes."""
         before = os.umask(0)
         self.addCleanup(os.umask, before)
         with tempfile.TemporaryDirectory() as folder:
@@ -67,7 +67,7 @@ class Pictures(unittest.TestCase):
 
 
 class Folders(unittest.TestCase):
-    """Where keys and values of an application stand that nobody is to read or to put there."""
+    """Folders with keys and values of an application, which nobody else may read or add to."""
 
     def setUp(self):
         its = tempfile.TemporaryDirectory()
@@ -88,7 +88,7 @@ class Folders(unittest.TestCase):
                     continue
                 with self.assertRaisesRegex(FolderUnfitError, f"other users may {deed} .*chmod go-rw"):
                     check_folder(self.folder)
-                subprocess.run(["chmod", "go-rw", self.folder], check=True)  # as it says
+                subprocess.run(["chmod", "go-rw", self.folder], check=True)  # as the message says
                 check_folder(self.folder)
 
     def test_who_else_has_it(self):
@@ -127,11 +127,12 @@ class Folders(unittest.TestCase):
         return AuditServer(live, os.path.join(self.folder, "socket"))
 
     def test_notes_that_are_anothers(self):
-        """As where the socket is in a folder that all may write, and one of them was first."""
+        """For example if the socket is in a folder that all may write, and somebody else made the
+        notes' folder first."""
         notes = os.path.join(self.folder, "socket.notes")
         os.mkdir(notes, 0o777)
         os.chmod(notes, 0o777)
-        with mock.patch("shutil.rmtree"):  # as it fails on what is another user's
+        with mock.patch("shutil.rmtree"):  # it fails for another user's files
             with self.assertRaisesRegex(FolderUnfitError, "other users may write"):
                 self.server()
         os.chmod(notes, 0o700)
@@ -140,7 +141,7 @@ class Folders(unittest.TestCase):
         server.close(0.0)
 
     def door(self, notes):
-        """A client's, whose server says that notes are there."""
+        """The client's end; its server says that its notes are there."""
         with mock.patch.multiple("zanteyard.remote._connecting", Client=mock.Mock(), Messages=mock.Mock()):
             door = SocketDoor("a socket")
         with mock.patch(

@@ -1,5 +1,5 @@
-"""A proxy that isn't one: it writes a feed from a list, and answers commands. Run as a program it
-is given a file of Python values; tests import its lists."""
+"""A fake proxy: it writes a feed from a list, and answers commands. Run as a program it is given a
+file of Python values; tests import its lists."""
 import json
 import os
 import sys
@@ -7,7 +7,7 @@ import threading
 import time
 
 SESSIONS, LIMIT = 64, 4096
-MORE = os.environ.get("ZANTEYARD_FEED_TEXT", "")  # at the end of every text of `described`
+MORE = os.environ.get("ZANTEYARD_FEED_TEXT", "")  # appended to every text of `described`
 AT = 1764220800.25
 
 
@@ -65,7 +65,10 @@ def coverage(**more):
     return event("coverage", **{**its, **more})
 
 
-# A lost update: both read row 7 of stock as it was at first, and both wrote it.
+# A statement, followed by its read.
+READ_BELOW = r"SELECT qty FROM stock WHERE id = .*\n +read stock\(id=7\) (from|as it was)"
+
+# A lost update: both read the initial row 7 of stock, and both wrote it.
 BOTH = [[[[5, "init"]], [5]], [[[5, 0, 0]], [5]]]
 LOST_UPDATE = [
     offer(0, 0, [[[5, "init"]], [5]]),
@@ -112,10 +115,10 @@ def described(session, number, **more):
 
 
 class Fake:
-    """Writes its parts one after another. A part is a line, an event, ("await", command): then it
-    goes on once that command has come, ("file", path): then it goes on once the file exists, or
-    ("exit", status), which ends the program. Each `describe` is answered by `describes`, and
-    `stop` and `restart` in the way of the real one."""
+    """Writes its parts one after another. A part is a line, an event, ("await", command) to wait
+    for that command, ("file", path) to wait for that file, or ("exit", status), which ends the
+    program. Each `describe` is answered by `describes`, and `stop` and `restart` as the real proxy
+    answers them."""
 
     def __init__(self, parts, output=sys.stdout, describes=described, holds=False):
         self.parts, self.output, self.describes, self.holds = parts, output, describes, holds
@@ -172,11 +175,11 @@ class Fake:
 
 
 def program(folder, *runs):
-    """Writes a program into the folder that is a fake proxy of these parts; with several lists of
-    parts each start of it takes the next one, and the last list again and again. Gives its path."""
+    """Writes a program into the folder that is a fake proxy with these parts. With several lists of
+    parts each start takes the next one, and then the last one again and again. Returns its path."""
     path = os.path.join(folder, "zanteyard-proxy")
     with open(f"{path}.json", "w", encoding="utf-8") as file:
-        json.dump(runs, file)  # which makes lists of tuples
+        json.dump(runs, file)  # makes lists of tuples
     here = os.path.abspath(__file__)
     with open(path, "w", encoding="utf-8") as file:
         file.write(f'#!/bin/sh\nexec "{sys.executable}" "{here}" "{path}" "$@"\n')
@@ -185,7 +188,7 @@ def program(folder, *runs):
 
 
 def parts_of(path):
-    """Of this start of the program, with tuples as they were."""
+    """The parts of this start of the program, with tuples again."""
     with open(f"{path}.json", encoding="utf-8") as file:
         runs = json.load(file)
     with open(f"{path}.starts", "a+", encoding="utf-8") as file:

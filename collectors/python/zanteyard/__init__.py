@@ -1,4 +1,4 @@
-"""Audits a transactional store's clients for serializability, by the program cobra_audit.
+"""Audits the clients of a transactional store for serializability, with the program cobra_audit.
 
     from zanteyard import Auditor, Session
     from zanteyard.stores.postgres import PostgresStore, prepare
@@ -9,25 +9,30 @@
         alice.run(lambda t: t.put("rent", str(int(t.get("rent") or 0) + 10)))
         print(auditor.outcome())
 
-- What runs: an Auditor, or an AuditorApart, which holds clients up less; a Session for each client,
-  over a Store; each of its transactions is a Transaction.
-- While clients run without an end: a LiveAuditor, which gives out sessions; for clients of other
-  processes an AuditServer, and an AuditClient there. A Policy says what gives way.
-- Where its program is killed an auditor with a journal goes on; Auditor.resumed where all was.
-- What came of it: an Outcome, with the Report of its last round and what is Pending.
-- What is told of a violation: tell_violation does all of it; from_start, smaller, words,
-  explain_history, reasons, audited, dot_text and draw are its parts.
-- What is raised is a ZanteyardError. What fails after a commit is never raised to the client that
-  runs transactions: outcomes report it, and the log `zanteyard`.
+- To run: an Auditor, or an AuditorApart, which holds clients up less; a Session for each client,
+  over a Store. Each transaction of a session is a Transaction.
+- For clients that run without end: a LiveAuditor, which gives out sessions. For clients in other
+  processes: an AuditServer here, and an AuditClient there. A Policy says what gives way.
+- An auditor with a journal survives the end of its program. Auditor.resumed continues an audit
+  after the end of its process.
+- The result is an Outcome, with the Report of the last round and what is Pending.
+- To explain a violation: tell_violation does everything. Its parts are from_start, smaller, words,
+  explain_history, reasons, audited, dot_text and draw.
+- All errors are ZanteyardErrors. An error after a commit is never raised in the client's calls:
+  outcomes report it, and so does the log `zanteyard`.
 
 docs/COLLECTORS.md says what is logged, and why.
 """
-import logging as _logging
-from importlib import import_module as _import_module
-from typing import TYPE_CHECKING, Any, List
+from .core._command_start import begin as _begin
 
-from .core._log_guard import guard as _guard
-from .core._version import VERSION as __version__
+_begin()
+
+import logging as _logging  # noqa: E402
+from importlib import import_module as _import_module  # noqa: E402
+from typing import TYPE_CHECKING, Any, List  # noqa: E402
+
+from .core._log_guard import guard as _guard  # noqa: E402
+from .core._version import VERSION as __version__  # noqa: E402
 
 if TYPE_CHECKING:
     from .core._outcome import RATHER_LOSE_THE_AUDIT, RATHER_WAIT, Outcome, Policy
@@ -74,8 +79,8 @@ if TYPE_CHECKING:
 
 _guard(_logging.getLogger("zanteyard"))
 
-# Where each name is. A module is imported when a name of it is first
-# used, so that the command, which needs few of them, starts at once.
+# Where each name is defined. A module is imported when one of its names is first used, so that the
+# command, which needs few of them, starts fast.
 _PLACES = {
     "core._outcome": "RATHER_LOSE_THE_AUDIT RATHER_WAIT Outcome Policy",
     "core._own_keys": "FENCE",
@@ -118,16 +123,16 @@ def __dir__() -> List[str]:
 
 
 __all__ = [
-    # what runs
+    # running
     *("Auditor", "AuditorApart", "Session", "Store", "Transaction", "Logged", "FENCE", "Cut"),
     *("LiveAuditor", "AuditServer", "AuditClient"),
     *("Policy", "RATHER_LOSE_THE_AUDIT", "RATHER_WAIT"),
-    # what came of it
+    # outcomes
     *("Outcome", "Pending", "Report", "RoundTold", "ClientTold"),
-    # what is told of a violation
+    # explanations of violations
     *("Explanation", "audited", "dot_text", "draw", "explain_history", "from_start", "reasons"),
     *("smaller", "tell_violation", "words"),
-    # what is raised
+    # errors
     *("AbortedError", "AuditLostError", "FolderUnfitError", "FullError", "NameTakenError"),
     *("JournalError", "JournalDamagedError", "JournalInUseError", "JournalVersionError"),
     *("NoCutError", "NoMemoryError", "OtherVersionError", "OutcomeUnknownError"),

@@ -2,15 +2,16 @@
 
 `zanteyard watch` shows the file and line of each statement of a violation if the statement has a
 comment in the form of sqlcommenter, such as /*file='shop/orders.py',line='45'*/. Many frameworks
-can write such comments. For others a line of this module does:
+can write such comments. For others, one line with this module is enough:
 
     psycopg2.connect(dsn, cursor_factory=psycopg2_cursor())
-    psycopg.connect(dsn, cursor_factory=psycopg_cursor())  # psycopg 3; or of an AsyncCursor
+    psycopg.connect(dsn, cursor_factory=psycopg_cursor())  # psycopg 3; also for an AsyncCursor
     add_to(engine)  # SQLAlchemy
     with django.db.connection.execute_wrapper(comments.django): ..
 
-The file is that of the first caller outside of the driver, the framework and installed packages. A
-statement that has a comment already, or isn't a text, is left as it is. Safe for several threads.
+The file is that of the nearest caller outside of the driver, the framework and installed packages.
+Statements that have a comment already, or aren't texts, are left unchanged. Safe for use by several
+threads.
 """
 
 from __future__ import annotations
@@ -20,8 +21,8 @@ import sys
 from typing import Any, Callable, Dict, Mapping, Tuple, Type
 from urllib.parse import quote
 
-DEPTH = 80  # calls that are looked through, at most
-# Packages whose code calls nothing by itself.
+DEPTH = 80  # stack frames to look through, at most
+# Packages whose code isn't the caller itself.
 PASSED_OVER = ("psycopg2", "psycopg", "psycopg_pool", "sqlalchemy", "django", "zanteyard")
 INSTALLED = (f"{os.sep}site-packages{os.sep}", f"{os.sep}dist-packages{os.sep}")
 LIBRARY = os.path.dirname(os.__file__) + os.sep  # Python's own modules
@@ -39,8 +40,8 @@ def _quoted(text: str) -> str:
 
 
 def where() -> Dict[str, object]:
-    """The file and line from which this was called, as values of a comment; empty if there is no
-    such file. A file below the working directory is named from there on."""
+    """The file and line of the caller, as values of a comment; empty if there is no such file. A
+    file below the working directory is named by its relative path."""
     frame: Any = sys._getframe(1)
     installed: Dict[str, object] = {}
     passed_over = _folders()
@@ -58,7 +59,7 @@ def where() -> Dict[str, object]:
 
 
 def _folders() -> Tuple[str, ...]:
-    """Where the packages are, of those that were imported."""
+    """The folders of these packages, if they were imported."""
     files = (getattr(sys.modules.get(name), "__file__", None) for name in PASSED_OVER)
     return tuple(os.path.dirname(file) + os.sep for file in files if file)
 
@@ -75,10 +76,10 @@ def _from_here(name: str) -> str:
 
 
 def commented(statement: Any, has_parameters: bool = False, **more: object) -> Any:
-    """The statement with a comment that says from where this was called, and what else is given.
-    With `has_parameters` a percent sign in the comment is doubled, since the driver will replace
-    placeholders. A statement with a comment of its own is given back as it is, and so is what is
-    neither str nor bytes."""
+    """The statement with a comment that says where this was called, plus the values in `more`. With
+    `has_parameters`, percent signs in the comment are doubled, since the driver will replace
+    placeholders. A statement that has a comment already is returned unchanged, and so is anything
+    that is neither str nor bytes."""
     text = statement
     if isinstance(statement, bytes):
         text = statement.decode("utf-8", "surrogateescape")
@@ -97,8 +98,8 @@ def commented(statement: Any, has_parameters: bool = False, **more: object) -> A
 
 
 def psycopg2_cursor(base: Any = None) -> Type[Any]:
-    """A class of cursors for psycopg2 that comment their statements; `base` is the class that they
-    extend, psycopg2's own if none is given."""
+    """A cursor class for psycopg2 that adds comments to statements. `base` is the class to extend,
+    by default psycopg2's own."""
     from psycopg2 import extensions
     from psycopg2.sql import SQL, Composable
 
@@ -134,7 +135,8 @@ def _cursor(base: Any, composable: Any, sql: Callable[[str], Any]) -> Type[Any]:
 
 
 def add_to(engine: Any) -> None:
-    """Comments all statements of an engine of SQLAlchemy; of an async engine give `sync_engine`."""
+    """Adds comments to all statements of an SQLAlchemy engine. For an async engine, pass its
+    `sync_engine`."""
     from sqlalchemy import event
 
     def add(_connection: Any, _cursor: Any, statement: Any, parameters: Any, *_: Any) -> Any:
@@ -146,5 +148,5 @@ def add_to(engine: Any) -> None:
 def django(
     execute: Callable[..., Any], sql: Any, parameters: Any, many: bool, context: Any
 ) -> Any:
-    """For `connection.execute_wrapper` of Django."""
+    """A wrapper for Django's `connection.execute_wrapper`."""
     return execute(commented(sql, parameters is not None), parameters, many, context)

@@ -14,6 +14,7 @@ fn numbers_of(command: &Command) -> (&'static str, [u64; 3]) {
             limit,
             version,
         } => ("open", [*sessions, *limit, version_number(*version)]),
+        Command::StartIsolated { sessions, limit } => ("open isolated", [*sessions, *limit, 0]),
         Command::Offer(logged) => ("offer", fragment_numbers(logged)),
         Command::Join(logged) => ("join", fragment_numbers(logged)),
         Command::Close(session) => ("close", [u64::from(*session), 0, 0]),
@@ -111,7 +112,7 @@ struct Row {
     numbers: [u64; 3],
 }
 
-static COMMANDS: [Row; 32] = [
+static COMMANDS: [Row; 33] = [
     Row {
         line: "[\"search\",4294967296,6,16]",
         name: "search",
@@ -151,6 +152,11 @@ static COMMANDS: [Row; 32] = [
         line: "[\"open\",2,16,2]",
         name: "open",
         numbers: [2, 16, 2],
+    },
+    Row {
+        line: "[\"open\",2,16,2,\"\\u0073napshot\"]",
+        name: "open isolated",
+        numbers: [2, 16, 0],
     },
     Row {
         line: "[\"resume\",2,16,2]",
@@ -329,7 +335,7 @@ fn aborted_transactions(rt: HostRuntime) -> Result<(), Fail> {
 }
 
 // Texts that are no JSON, or no array of a known word and its parts; other parts; offers and joins with other parts.
-static BAD_LINES: [&str; 85] = [
+static BAD_LINES: [&str; 91] = [
     "",
     " ",
     "null",
@@ -368,6 +374,12 @@ static BAD_LINES: [&str; 85] = [
     "[\"open\",2,16,null]",
     "[\"open\",2,16,[2]]",
     "[\"open\",2,16,2,2]",
+    "[\"open\",2,16,\"snapshot\"]",
+    "[\"open\",2,16,1,\"snapshot\"]",
+    "[\"open\",2,16,2,\"Snapshot\"]",
+    "[\"open\",2,16,2,\"snapshot\",2]",
+    "[\"open\",2,16,\"snapshot\",2]",
+    "[\"resume\",2,16,2,\"snapshot\"]",
     "[\"resume\",2,16,1]",
     "[\"open\",-0,16]",
     "[\"open\",1.0,16]",

@@ -17,13 +17,15 @@ enum Told {
     Serial,
     Pending,
     Violated,
+    Events,
+    Broken,
     Spent,
     Cut,
     Show,
     Searching,
 }
 
-static ROWS: [(Told, &str); 11] = [
+static ROWS: [(Told, &str); 13] = [
     (Told::Searching, "[\"searching\"]\n"),
     (Told::Done, "[\"ok\"]\n"),
     (Told::No(Refusal::BadLine), "[\"no\",1,\"BadLine\"]\n"),
@@ -38,6 +40,11 @@ static ROWS: [(Told, &str); 11] = [
         "[\"report\",281474976710655,\"pending\",[2,1],[[0,1],[1,0]]]\n",
     ),
     (Told::Violated, VIOLATED),
+    (
+        Told::Events,
+        "[\"report\",281474976710655,\"serial\",[2,1],[[0,0,\"commit\"],[1,0,\"begin\"]]]\n",
+    ),
+    (Told::Broken, BROKEN),
     (Told::Spent, "[\"report\",1,\"spent\",[2]]\n"),
     (
         Told::Cut,
@@ -51,6 +58,11 @@ static ROWS: [(Told, &str); 11] = [
 
 const VIOLATED: &str =
     r#"["report",1,"violated",[2],[["split",[0,1,5,0,0,1,0]],["split",[0,1,5,0,0,1,0]],["force",[0,1,5,0,0,1,0],1,[["session",1,2,3,4],["read",5,1,2,3,4],["base",5,1,2,3,4],["taken",1,2,3,4]]],["force",[0,1,5,0,0,1,0],2,[["session",1,2,3,4],["read",5,1,2,3,4],["base",5,1,2,3,4],["taken",1,2,3,4]]],["gone",1,1,5],["cycle",[["session",1,2,3,4],["read",5,1,2,3,4],["base",5,1,2,3,4],["taken",1,2,3,4]]],["nowrite",63,7,9]]]
+"#;
+
+/// The same tree, where its transactions are halves of those that were split.
+const BROKEN: &str =
+    r#"["report",1,"violated",[2],[["split",[0,0,"commit",5,0,0,"begin",1,0,"begin"]],["split",[0,0,"commit",5,0,0,"begin",1,0,"begin"]],["force",[0,0,"commit",5,0,0,"begin",1,0,"begin"],1,[["session",1,1,"begin",3,2,"begin"],["read",5,1,1,"begin",3,2,"begin"],["base",5,1,1,"begin",3,2,"begin"],["taken",1,1,"begin",3,2,"begin"]]],["force",[0,0,"commit",5,0,0,"begin",1,0,"begin"],2,[["session",1,1,"begin",3,2,"begin"],["read",5,1,1,"begin",3,2,"begin"],["base",5,1,1,"begin",3,2,"begin"],["taken",1,1,"begin",3,2,"begin"]]],["gone",1,0,"commit",5],["cycle",[["session",1,1,"begin",3,2,"begin"],["read",5,1,1,"begin",3,2,"begin"],["base",5,1,1,"begin",3,2,"begin"],["taken",1,1,"begin",3,2,"begin"]]],["nowrite",63,3,"commit",9]]]
 "#;
 
 fn rows() -> &'static [(Told, &'static str)] {
@@ -164,6 +176,27 @@ fn violated_by(alloc: Global, tree: Tree) -> Result<Reply, NoMemory>
     })
 }
 
+fn ordered_events(alloc: Global) -> Result<Reply, NoMemory>
+    ensures { IfOk result (λ reply. HasKindOfOrder reply) }
+{
+    Ok(Reply::Events {
+        round: 281474976710655,
+        kind: Kind::Serial,
+        counts: numbers(alloc, &[2, 1])?,
+        order: ids(alloc, &[id(0, 1), id(1, 0)])?,
+    })
+}
+
+fn broken(alloc: Global) -> Result<Reply, NoMemory>
+    ensures { IfOk result (λ reply. HasKindOfOrder reply) }
+{
+    Ok(Reply::Broken {
+        round: 1,
+        counts: numbers(alloc, &[2])?,
+        tree: tree(alloc)?,
+    })
+}
+
 fn violated(alloc: Global) -> Result<Reply, NoMemory>
     ensures { IfOk result (λ reply. HasKindOfOrder reply) }
 {
@@ -226,6 +259,8 @@ fn reply_of(alloc: Global, told: Told) -> Result<Reply, NoMemory>
         Told::Serial => ordered(alloc, Kind::Serial),
         Told::Pending => ordered(alloc, Kind::Pending),
         Told::Violated => violated(alloc),
+        Told::Events => ordered_events(alloc),
+        Told::Broken => broken(alloc),
         Told::Spent => spent(alloc),
         Told::Cut => cut(alloc),
         Told::Show => shown(alloc),

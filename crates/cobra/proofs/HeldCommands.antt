@@ -24,9 +24,10 @@ use Rattle.round_state.specs.declared.steps.Step.{Step}
 use Rattle.round_state.specs.declared.steps.Step.TheVariants as step
 use Rattle.round_state.specs.declared.steps.StepReply.{StepReply}
 use Rattle.round_state.specs.declared.steps.StepReply.TheVariants as reply
+use Rattle.snapshot_histories.specs.Offered.{HasOfferedLengths, CanBeOffered, OfferedFault}
 use Rattle.cobra.specs.Audits.{AuditState}
 use Rattle.cobra.specs.Held.{IsEnough}
-use Rattle.cobra.specs.Scripts.{Goes, IsStep, IsTakenIn, AnswersOpen, AnswersBeside, BeginsAnew, AnswersResuming}
+use Rattle.cobra.specs.Scripts.{Goes, IsStep, IsTakenIn, AnswersOpen, AnswersBeside, AnswersIsolated, BeginsAnew, AnswersResuming}
 use Rattle.cobra.specs.declared.handing.Handing.{Handing}
 use Rattle.cobra.specs.declared.stages.Stage.{Stage}
 use Rattle.cobra.specs.declared.stages.Stage.TheVariants as stage
@@ -147,6 +148,36 @@ beside_answers most version old new (Offer logged) answer above is = (offer_answ
 beside_answers most version old new (Join logged) answer above is = (join_answers most logged version old.engine new.engine answer above is.0, is.1)
 beside_answers most version old new command answer above is = is
 
+-- ---- where transactions are split, still fewer are taken
+
+no_offered_lengths : (fragment : Fragment) → 256 < length fragment.txns → HasOfferedLengths fragment → ⊥
+no_offered_lengths fragment long good = let few : length fragment.txns ≤ 128 = good.few in omega arith
+
+long_offer : (front whole : LoggedFragment) (refusal : Refusal) → AreTooLong front whole → OfferedFault front.fragment refusal → OfferedFault whole.fragment refusal
+long_offer front whole BadSession long fault = subst (λ (s : ℕ). 64 ≤ s) long.session fault
+long_offer front whole TooLong long fault = (subst (λ (s : ℕ). s < 64) long.session fault.0, no_offered_lengths whole.fragment long.whole_long)
+long_offer front whole refusal long fault = absurd (no_offered_lengths front.fragment long.front_long fault.1)
+
+no_long_offer : (fragment : Fragment) → 256 < length fragment.txns → CanBeOffered fragment → ⊥
+no_long_offer fragment long can = let few : length fragment.txns ≤ 128 = can.few in omega arith
+
+isolated_offer : (most : ℕ) (logged : LoggedFragment) (old new : AuditState) (answer : Reply) → 256 < most → AnswersIsolated old (Offer (front_of most logged)) answer new → AnswersIsolated old (Offer logged) answer new
+isolated_offer most logged old new answer above is =
+    ⊎_elim (λ same. subst (λ (given : LoggedFragment). AnswersIsolated old (Offer given) answer new) same is)
+    (λ long. ⊎_elim (λ fault. inl (fault.0, long_offer (front_of most logged) logged fault.0 long fault.1, fault.2, fault.3)) (λ split. absurd (no_long_offer (front_of most logged).fragment long.front_long split.0)) is)
+    (held_or_long most logged above)
+
+isolated_join : (most : ℕ) (logged : LoggedFragment) (old new : AuditState) (answer : Reply) → 256 < most → AnswersIsolated old (Join (front_of most logged)) answer new → AnswersIsolated old (Join logged) answer new
+isolated_join most logged old new answer above is =
+    ⊎_elim (λ same. subst (λ (given : LoggedFragment). AnswersIsolated old (Join given) answer new) same is)
+    (λ long. ⊎_elim (λ fault. inl (fault.0, long_offer (front_of most logged) logged fault.0 long fault.1, fault.2, fault.3)) (λ split. absurd (no_long_offer (front_of most logged).fragment long.front_long split.0)) is)
+    (held_or_long most logged above)
+
+isolated_answers : (most : ℕ) (old new : AuditState) (command : Command) (answer : Reply) → 256 < most → AnswersIsolated old (held (Some most) command) answer new → AnswersIsolated old command answer new
+isolated_answers most old new (Offer logged) answer above is = isolated_offer most logged old new answer above is
+isolated_answers most old new (Join logged) answer above is = isolated_join most logged old new answer above is
+isolated_answers most old new command answer above is = is
+
 -- where no engine is open, no offer and no join is taken
 anew_answers : (most : ℕ) (old : Stage) (command : Command) (answer : Reply) (new : Stage) → BeginsAnew old (held (Some most) command) answer new → BeginsAnew old command answer new
 anew_answers most old (Offer logged) answer new is = is
@@ -161,3 +192,4 @@ enough_held most stage.Nothing above none command answer new is = anew_answers m
 enough_held most (stage.Resuming sessions limit version) above none command answer new is = resuming_answers most sessions limit version command answer new is
 enough_held most (stage.Handing handed version) above none command answer new is = absurd (none handed version refl)
 enough_held most (stage.Open old version) above none command answer new is = (is.0, beside_answers most version old is.0 command answer above is.1, is.2)
+enough_held most (stage.Isolated old) above none command answer new is = (is.0, isolated_answers most old is.0 command answer above is.1, is.2)

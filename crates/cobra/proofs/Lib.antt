@@ -4,6 +4,7 @@ pub mod Checkpoints
 pub mod GivenOut
 pub mod HandedWriters
 pub mod HeldCommands
+pub mod IsolatedAnswers
 pub mod LightCommands
 pub mod LastTold
 pub mod LineCounts

@@ -5,7 +5,7 @@ use Rattle.order_check.specs.declared.remainder.Kind.{Kind}
 use Rattle.order_check.specs.declared.remainder.Kind.TheVariants as kinds
 use Rattle.order_check.specs.declared.remainder.Parts.{Parts}
 use Rattle.log_text.specs.declared.commands.Command.{Command}
-use Rattle.log_text.specs.declared.commands.Command.TheVariants.{Start, Offer, Join, Close, Begin, Finish, Round, BeginSearch, Collect, Skip, Truncate, Rebuild, Show, Resume, Marks, Last, Resumed, Save, Answer}
+use Rattle.log_text.specs.declared.commands.Command.TheVariants.{Start, StartIsolated, Offer, Join, Close, Begin, Finish, Round, BeginSearch, Collect, Skip, Truncate, Rebuild, Show, Resume, Marks, Last, Resumed, Save, Answer}
 use Rattle.log_text.specs.declared.replies.Reply.{Reply}
 use Rattle.log_text.specs.declared.replies.Reply.TheVariants as told
 use Rattle.log_text.specs.Replies.{HasKindOfOrder}
@@ -31,14 +31,16 @@ use Rattle.cobra.specs.Saving.{saved_told, fragment_told}
 use Rattle.log_text.specs.declared.saved.Saved.TheVariants as saved
 use Rattle.log_text.specs.declared.searches.Search.{Search}
 use Rattle.log_text.specs.declared.versions.Version.{Version}
-use Rattle.log_text.specs.declared.versions.Version.TheVariants.{One}
+use Rattle.log_text.specs.declared.versions.Version.TheVariants.{One, Two}
 use Rattle.logged_fragments.specs.declared.logged.LoggedFragment.{LoggedFragment}
 use Rattle.script_searches.specs.declared.searches.Effort.{Effort}
+use Rattle.snapshot_scripts.specs.Isolated.{isolated_of}
+use Rattle.snapshot_scripts.specs.Splitting.{split_command}
 use Rattle.cobra.specs.Audits.{AuditState}
 use Rattle.cobra.specs.declared.handing.Handing.{Handing}
 use Rattle.cobra.specs.declared.stages.Stage.{Stage}
 use Rattle.cobra.specs.declared.stages.Stage.TheVariants as stage
-use Rattle.cobra.specs.Scripts.{IsBadLine, Goes, EndsRound, IsRound, IsStep, IsTakenIn, AnswersOpen, AnswersBeside, GoesOn, IsCollected, Opens, Resumes, AnswersFirst, BeginsAnew, HandsMarks, AnswersResuming, HandsWriters, HandsOffer, EndsHandOver, AnswersHanding, Answers}
+use Rattle.cobra.specs.Scripts.{IsBadLine, Goes, EndsRound, IsRound, IsStep, IsTakenIn, AnswersOpen, AnswersBeside, AnswersIsolated, GoesOn, IsCollected, Opens, OpensIsolated, Resumes, AnswersFirst, BeginsAnew, HandsMarks, AnswersResuming, HandsWriters, HandsOffer, EndsHandOver, AnswersHanding, Answers}
 use Rattle.cobra.specs.StepReplies.{certificate_of, certified, report_of, reply_of}
 
 -- what a certificate shows is told by its own kind
@@ -117,6 +119,7 @@ open_kind version old new Show answer is = subst HasKindOfOrder (sym is.0) tt
 open_kind version old new (Close session) answer is = told_kind is.0 answer is.2 (step_kind old new (step.Close session) is.0 is.1)
 open_kind version old new (Save wanted) answer is = subst HasKindOfOrder (sym is.0) (saved_kind old.parts wanted)
 open_kind version old new (Start sessions limit begun) answer is = bad_line_kind old new answer is
+open_kind version old new (StartIsolated sessions limit) answer is = bad_line_kind old new answer is
 open_kind version old new (Resume sessions limit begun) answer is = bad_line_kind old new answer is
 open_kind version old new (Marks marks closed) answer is = bad_line_kind old new answer is
 open_kind version old new (Last last) answer is = bad_line_kind old new answer is
@@ -155,6 +158,26 @@ beside_kind version old new Skip answer is = told_kind is.0.0 answer is.0.2 (ste
 beside_kind version old new (Finish budget depth workers search) answer is = finish_kind version old.search old new budget depth workers search answer is
 beside_kind version old new command answer is = open_kind version old.engine new.engine command answer is.0
 
+isolated_kind : (reply : Reply) → HasKindOfOrder reply → HasKindOfOrder (isolated_of reply)
+isolated_kind (told.Order round kinds.Serial counts order) of = tt
+isolated_kind (told.Order round kinds.Pending counts order) of = tt
+isolated_kind (told.Order round kinds.Violated counts order) of = absurd of
+isolated_kind (told.Order round kinds.Spent counts order) of = absurd of
+isolated_kind (told.Violated round counts tree) of = tt
+isolated_kind (told.Spent round counts) of = tt
+isolated_kind (told.Cut fence gone last) of = tt
+isolated_kind (told.Show marks received closed last remaining) of = tt
+isolated_kind reply of = of
+
+isolates_kind : (old new : AuditState) (command : Command) (answer : Reply) → AnswersIsolated old command answer new → HasKindOfOrder answer
+isolates_kind old new command answer is =
+    ⊎_elim (λ fault. subst HasKindOfOrder (sym fault.2) tt) (λ split. subst HasKindOfOrder (sym split.3) (isolated_kind split.1 (beside_kind Two old new (split_command command) split.1 split.2))) is
+
+opens_isolated_kind : (sessions limit : ℕ) (answer : Reply) (begun : Option Stage) → OpensIsolated sessions limit answer begun → HasKindOfOrder answer
+opens_isolated_kind sessions limit told.Done begun is = tt
+opens_isolated_kind sessions limit (told.No refusal) begun is = tt
+opens_isolated_kind sessions limit answer begun is = absurd is
+
 opens_kind : (sessions limit : ℕ) (version : Version) (answer : Reply) (begun : Option Stage) → Opens sessions limit version answer begun → HasKindOfOrder answer
 opens_kind sessions limit version told.Done begun is = tt
 opens_kind sessions limit version (told.No refusal) begun is = tt
@@ -167,6 +190,7 @@ resumes_kind sessions limit version answer begun is = absurd is
 
 first_kind : (command : Command) (answer : Reply) (begun : Option Stage) → AnswersFirst command answer begun → HasKindOfOrder answer
 first_kind (Start sessions limit version) answer begun is = opens_kind sessions limit version answer begun is
+first_kind (StartIsolated sessions limit) answer begun is = opens_isolated_kind sessions limit answer begun is
 first_kind (Resume sessions limit version) answer begun is = resumes_kind sessions limit version answer begun is
 first_kind command answer begun is = subst HasKindOfOrder (sym is.0) tt
 
@@ -208,3 +232,4 @@ answer_kind stage.Nothing command answer new is = anew_kind stage.Nothing comman
 answer_kind (stage.Resuming sessions limit version) command answer new is = resuming_kind sessions limit version command answer new is
 answer_kind (stage.Handing handed version) command answer new is = handing_kind handed version command answer new is
 answer_kind (stage.Open old version) command answer new is = beside_kind version old is.0 command answer is.1
+answer_kind (stage.Isolated old) command answer new is = isolates_kind old is.0 command answer is.1

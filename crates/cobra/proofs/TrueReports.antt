@@ -1,5 +1,5 @@
 -- Replies whose reports are true of what a script's lines had offered and what was answered ok.
-use Rattle.std.proofs.Common.{◌≡◌, ℕ, ◌+◌, Bool, true, false, cond, nat_lt, List, [], ◌∷◌, ◌++◌, length, map, Option, Some, None, refl, sym, ap, ◌∙◌, subst, inl, inr, ⊎_elim}
+use Rattle.std.proofs.Common.{◌≡◌, ℕ, ◌+◌, ◌*◌, ◌/◌, arith, Bool, true, false, cond, nat_lt, List, [], ◌∷◌, ◌++◌, length, map, Option, Some, None, refl, sym, ap, ◌∙◌, subst, inl, inr, ⊎_elim}
 use Rattle.std.specs.Prelude.{⊤, IsSomeAnd, MatchOption, ◌⊎◌}
 use Rattle.std.specs.List.{concat}
 use Rattle.txn.specs.declared.refusals.Refusal.{Refusal}
@@ -13,7 +13,7 @@ use Rattle.order_check.specs.declared.remainder.Kind.TheVariants as kinds
 use Rattle.order_check.specs.declared.remainder.Parts.{Parts}
 use Rattle.order_check.specs.StandsFor.{StandsFor, history_after, with_fragment}
 use Rattle.log_text.specs.declared.commands.Command.{Command}
-use Rattle.log_text.specs.declared.commands.Command.TheVariants.{Start, Offer, Join, Close, Begin, Finish, Round, BeginSearch, Collect, Skip, Truncate, Rebuild, Show, Resume, Marks, Last, Resumed, Save, Answer}
+use Rattle.log_text.specs.declared.commands.Command.TheVariants.{Start, StartIsolated, Offer, Join, Close, Begin, Finish, Round, BeginSearch, Collect, Skip, Truncate, Rebuild, Show, Resume, Marks, Last, Resumed, Save, Answer}
 use Rattle.log_text.specs.declared.commands.Wanted.{Wanted}
 use Rattle.log_text.specs.declared.commands.Wanted.TheVariants as wanted
 use Rattle.log_text.specs.declared.replies.Reply.{Reply}
@@ -21,6 +21,7 @@ use Rattle.log_text.specs.declared.replies.Reply.TheVariants as told
 use Rattle.log_text.specs.declared.saved.Saved.TheVariants as saved
 use Rattle.log_text.specs.declared.searches.Search.{Search}
 use Rattle.log_text.specs.declared.versions.Version.{Version}
+use Rattle.log_text.specs.declared.versions.Version.TheVariants.{Two}
 use Rattle.log_text.specs.Replies.{line_of}
 use Rattle.polygraph.specs.declared.solving.Answer as solved
 use Rattle.polygraph.specs.declared.solving.Answer.TheVariants as answers
@@ -38,10 +39,18 @@ use Rattle.round_state.specs.declared.steps.StepReply.{StepReply}
 use Rattle.round_state.specs.declared.steps.StepReply.TheVariants as reply
 use Rattle.settle.specs.declared.cuts.Cut.{Cut}
 use Rattle.script_searches.specs.declared.searches.Effort.{Effort}
+use Rattle.snapshot_histories.specs.Laws.{SplitDoublesCounts, SplitKeepsVerdict}
+use Rattle.snapshot_histories.specs.Split.{split_history, HistoryCanBeSplit}
+use Rattle.snapshot_scripts.specs.Legal.{IsIsolationOf, HoldsSplit, SplitStepsAreLegal, FreshEnginesAreSplit}
+use Rattle.snapshot_histories.specs.Logged.{split_logged}
+use Rattle.snapshot_histories.specs.Offered.{CanBeOffered}
+use Rattle.snapshot_scripts.specs.Steps.{split_step, CanBeMade}
+use Rattle.snapshot_scripts.specs.Isolated.{halved, isolated_of}
+use Rattle.snapshot_scripts.specs.Splitting.{CanBeAsked, split_command}
 use Rattle.cobra.specs.Audits.{AuditState}
 use Rattle.cobra.specs.Outputs.{RepliesAll}
 use Rattle.cobra.specs.Saving.{saved_told, fragment_told}
-use Rattle.cobra.specs.Scripts.{IsBadLine, IsTakenIn, Goes, IsStep, EndsRound, IsRound, AnswersOpen, AnswersBeside, GoesOn, IsCollected, AnswersFirst, BeginsAnew, AnswersResuming, AnswersHanding, HandsOffer, Answers, stage_after}
+use Rattle.cobra.specs.Scripts.{IsBadLine, IsTakenIn, Goes, IsStep, EndsRound, IsRound, AnswersOpen, AnswersBeside, AnswersIsolated, GoesOn, IsCollected, AnswersFirst, BeginsAnew, AnswersResuming, AnswersHanding, HandsOffer, Answers, stage_after}
 use Rattle.cobra.specs.StepReplies.{certificate_of, certified, reply_of}
 use Rattle.cobra.specs.TrueReports.{Accepted, accepted_more, accepted_after, reported_on, TellsTrueOf, IsTrueTold, BeginsWith, AreTrueReplies, EachReportIsTrue}
 use Rattle.cobra.specs.declared.handing.Handing.{Handing}
@@ -56,10 +65,23 @@ state_of engine accepted = record { engine = engine; whole = accepted.whole; ask
 abbrev Fits : Stage → Option Accepted → Type 0
 Fits (stage.Open audit version) (Some accepted) = Holds audit.engine (state_of audit.engine accepted)
 Fits (stage.Open audit version) None = ⊥
+Fits (stage.Isolated audit) (Some accepted) = HoldsSplit audit.engine (state_of audit.engine accepted)
+Fits (stage.Isolated audit) None = ⊥
 Fits stage.Nothing None = ⊤
 Fits (stage.Resuming sessions limit version) None = ⊤
 Fits (stage.Handing handed version) None = ⊤
 Fits other (Some accepted) = ⊥
+
+-- A reply to a script whose transactions aren't split is true: none tells of begins and commits.
+abbrev TellsByOrder : History → Reply → Type 0
+TellsByOrder history (told.Events round kind counts order) = ⊥
+TellsByOrder history (told.Broken round counts tree) = ⊥
+TellsByOrder history answer = TellsTrueOf history answer
+
+truly : (history : History) (answer : Reply) → TellsByOrder history answer → TellsTrueOf history answer
+truly history (told.Events round kind counts order) tells = absurd tells
+truly history (told.Broken round counts tree) tells = absurd tells
+truly history answer tells = tells
 
 -- ---- reports
 
@@ -92,7 +114,7 @@ judged_tree : (rounds : ℕ) (before held : Option Cut) (asked : Option Parts) (
 judged_tree rounds before held None answer report right = absurd right
 judged_tree rounds before held (Some parts) answer report right = right_tree parts answer report.kind report.certificate right.0.right
 
-certified_true : (history : History) (round : ℕ) (counts : List ℕ) (kind : Kind) (certificate : Certificate) → counts ≡ map length history → IsTrueOf history kind → KindOfTree kind certificate → TellsTrueOf history (certified (record { round = round; kind = kind; counts = counts; certificate = certificate }) certificate)
+certified_true : (history : History) (round : ℕ) (counts : List ℕ) (kind : Kind) (certificate : Certificate) → counts ≡ map length history → IsTrueOf history kind → KindOfTree kind certificate → TellsByOrder history (certified (record { round = round; kind = kind; counts = counts; certificate = certificate }) certificate)
 certified_true history round counts kind (Order order) counted is tree = (counted, is)
 certified_true history round counts kind (Refuted shown) counted is tree = (counted, subst (IsTrueOf history) tree is)
 certified_true history round counts kind Nothing counted is tree = counted
@@ -110,7 +132,7 @@ step_on old new accepted next asked said goes holds whole_is asked_is =
     }
 
 -- a reply to a step that is a report is true
-step_true : (old new : EngineState) (accepted : Accepted) (asked : Step) (said : StepReply) → Goes old asked said new → Holds old (state_of old accepted) → TellsTrueOf accepted.asked (reply_of said)
+step_true : (old new : EngineState) (accepted : Accepted) (asked : Step) (said : StepReply) → Goes old asked said new → Holds old (state_of old accepted) → TellsByOrder accepted.asked (reply_of said)
 step_true old new accepted asked reply.Done goes holds = tt
 step_true old new accepted asked (reply.Refused refusal) goes holds = tt
 step_true old new accepted asked (reply.Cut cut) goes holds = tt
@@ -124,7 +146,7 @@ step_true old new accepted asked (reply.Report report) goes holds = absurd goes.
 
 -- The reply to a command is true, and what the engine stands for after it is what was accepted by then.
 record IsOn (accepted : Accepted) (command : Command) (answer : Reply) (new : EngineState) : Type 0 where
-  is_true : TellsTrueOf (reported_on accepted command) answer
+  is_true : TellsByOrder (reported_on accepted command) answer
   holds : Holds new (state_of new (accepted_more accepted command answer))
 
 told_on : (accepted : Accepted) (command : Command) (answer : Reply) (said : StepReply) (new : EngineState) → answer ≡ reply_of said → IsOn accepted command (reply_of said) new → IsOn accepted command answer new
@@ -220,11 +242,11 @@ round_on old new accepted search budget depth workers said round holds =
 
 -- ---- commands of an open engine
 
-saved_or_not : (history : History) (test : Bool) (fragment : Fragment) → TellsTrueOf history (cond test (told.Saved (saved.Offer fragment)) (told.No BadSession))
+saved_or_not : (history : History) (test : Bool) (fragment : Fragment) → TellsByOrder history (cond test (told.Saved (saved.Offer fragment)) (told.No BadSession))
 saved_or_not history true fragment = tt
 saved_or_not history false fragment = tt
 
-saved_true : (history : History) (parts : Parts) (wanted : Wanted) → TellsTrueOf history (saved_told parts wanted)
+saved_true : (history : History) (parts : Parts) (wanted : Wanted) → TellsByOrder history (saved_told parts wanted)
 saved_true history parts wanted.Marks = tt
 saved_true history parts (wanted.Last key) = tt
 saved_true history parts (wanted.Remain s n) = saved_or_not history (nat_lt s (length parts.remain)) (fragment_told parts s n)
@@ -250,9 +272,10 @@ open_on version old new accepted Truncate answer is holds =
     told_on accepted Truncate answer is.0 new is.2 (record { is_true = step_true old new accepted step.Truncate is.0 is.1 holds; holds = step_on old new accepted accepted step.Truncate is.0 is.1 holds refl refl })
 open_on version old new accepted Rebuild answer is holds =
     told_on accepted Rebuild answer is.0 new is.2 (record { is_true = step_true old new accepted step.Rebuild is.0 is.1 holds; holds = step_on old new accepted accepted step.Rebuild is.0 is.1 holds refl refl })
-open_on version old new accepted Show answer is holds = record { is_true = subst (λ (a : Reply). TellsTrueOf accepted.asked a) (sym is.0) tt; holds = same_on old new accepted is.1 holds }
-open_on version old new accepted (Save wanted) answer is holds = record { is_true = subst (λ (a : Reply). TellsTrueOf accepted.asked a) (sym is.0) (saved_true accepted.asked old.parts wanted); holds = same_on old new accepted is.1 holds }
+open_on version old new accepted Show answer is holds = record { is_true = subst (λ (a : Reply). TellsByOrder accepted.asked a) (sym is.0) tt; holds = same_on old new accepted is.1 holds }
+open_on version old new accepted (Save wanted) answer is holds = record { is_true = subst (λ (a : Reply). TellsByOrder accepted.asked a) (sym is.0) (saved_true accepted.asked old.parts wanted); holds = same_on old new accepted is.1 holds }
 open_on version old new accepted (Start sessions limit other) answer is holds = bad_on old new accepted (Start sessions limit other) answer is holds
+open_on version old new accepted (StartIsolated sessions limit) answer is holds = bad_on old new accepted (StartIsolated sessions limit) answer is holds
 open_on version old new accepted (Resume sessions limit other) answer is holds = bad_on old new accepted (Resume sessions limit other) answer is holds
 open_on version old new accepted (Marks marks closed) answer is holds = bad_on old new accepted (Marks marks closed) answer is holds
 open_on version old new accepted (Last last) answer is holds = bad_on old new accepted (Last last) answer is holds
@@ -264,7 +287,7 @@ open_on version old new accepted Skip answer is holds = bad_on old new accepted 
 -- ---- commands beside a search
 
 -- a reply that tells nothing, after which the engine is what it was
-quiet_on : (old new : AuditState) (accepted : Accepted) (command : Command) (answer said : Reply) → TellsTrueOf (reported_on accepted command) said → accepted_more accepted command said ≡ accepted → answer ≡ said → new.engine ≡ old.engine → Holds old.engine (state_of old.engine accepted) → IsOn accepted command answer new.engine
+quiet_on : (old new : AuditState) (accepted : Accepted) (command : Command) (answer said : Reply) → TellsByOrder (reported_on accepted command) said → accepted_more accepted command said ≡ accepted → answer ≡ said → new.engine ≡ old.engine → Holds old.engine (state_of old.engine accepted) → IsOn accepted command answer new.engine
 quiet_on old new accepted command answer said is_true more is same holds =
     let kept = same_on old.engine new.engine accepted same holds in
     subst (λ (a : Reply). IsOn accepted command a new.engine) (sym is)
@@ -306,6 +329,144 @@ beside_on version old new accepted Skip answer is holds =
 beside_on version old new accepted (Finish budget depth workers search) answer is holds = finish_on version old.search old new accepted budget depth workers search answer is holds
 beside_on version old new accepted command answer is holds = open_on version old.engine new.engine accepted command answer is.0 holds
 
+-- ---- scripts whose transactions are split
+
+pub record Laws : Type 0 where
+  pub steps : SplitStepsAreLegal
+  pub fresh : FreshEnginesAreSplit
+  pub verdict : SplitKeepsVerdict
+  pub doubles : SplitDoublesCounts
+
+-- what was accepted, split
+abbrev split_accepted : Accepted → Accepted
+split_accepted accepted = record { whole = split_history accepted.whole; asked = split_history accepted.asked }
+
+-- The reply to a command is true, and what the engine stands for after it is what was accepted by then, split.
+record IsIsolatedOn (accepted : Accepted) (command : Command) (answer : Reply) (new : EngineState) : Type 0 where
+  is_true : TellsTrueOf (reported_on accepted command) answer
+  holds : HoldsSplit new (state_of new (accepted_more accepted command answer))
+
+halving : (history : History) → halved (map (λ txns. 2 * length txns) history) ≡ map length history
+halving [] = refl
+halving (txns ∷ history) = let half : 2 * length txns / 2 ≡ length txns = omega arith in ap (λ n. n ∷ halved (map (λ txns. 2 * length txns) history)) half ∙ ap (λ rest. length txns ∷ rest) (halving history)
+
+halved_counts : SplitDoublesCounts → (history : History) (counts : List ℕ) → counts ≡ map length (split_history history) → halved counts ≡ map length history
+halved_counts doubles history counts counted = ap halved (counted ∙ (doubles history).counts) ∙ halving history
+
+isolation_of : SplitKeepsVerdict → (history : History) (kind : Kind) → HistoryCanBeSplit history → IsTrueOf (split_history history) kind → IsIsolationOf history kind
+isolation_of verdict history kinds.Serial can is = (verdict history kinds.Serial can).1 is
+isolation_of verdict history kinds.Pending can is = (verdict history kinds.Pending can).1 is
+isolation_of verdict history kinds.Violated can is = (verdict history kinds.Violated can).1 is
+isolation_of verdict history kinds.Spent can is = tt
+
+-- what is true of the split history is told of the history
+isolated_true : Laws → (history : History) (inner : Reply) → HistoryCanBeSplit history → TellsByOrder (split_history history) inner → TellsTrueOf history (isolated_of inner)
+isolated_true laws history (told.Order round kind counts order) can tells = (halved_counts laws.doubles history counts tells.0, isolation_of laws.verdict history kind can tells.1)
+isolated_true laws history (told.Violated round counts tree) can tells = (halved_counts laws.doubles history counts tells.0, isolation_of laws.verdict history kinds.Violated can tells.1)
+isolated_true laws history (told.Spent round counts) can tells = halved_counts laws.doubles history counts tells
+isolated_true laws history (told.Cut fence gone last) can tells = tt
+isolated_true laws history (told.Show marks received closed last remaining) can tells = tt
+isolated_true laws history (told.Events round kind counts order) can tells = absurd tells
+isolated_true laws history (told.Broken round counts tree) can tells = absurd tells
+isolated_true laws history inner can tells = tells
+
+-- a reply that is told so
+isolated_told : (accepted : Accepted) (command : Command) (answer inner : Reply) (new : EngineState) → answer ≡ isolated_of inner → IsIsolatedOn accepted command (isolated_of inner) new → IsIsolatedOn accepted command answer new
+isolated_told accepted command answer inner new is on = subst (λ (a : Reply). IsIsolatedOn accepted command a new) (sym is) on
+
+-- a step takes what it offers in
+isolated_step : Laws → (old new : EngineState) (accepted next : Accepted) (asked : Step) (said : StepReply) → CanBeMade asked → Goes old (split_step asked) said new → HoldsSplit old (state_of old accepted) → whole_after (state_of old accepted) asked said ≡ next.whole → asked_after (state_of old accepted) asked said ≡ next.asked → HoldsSplit new (state_of new next)
+isolated_step laws old new accepted next asked said can goes holds whole_is asked_is =
+    let after = laws.steps old new asked said can goes.right goes.legal (state_of old accepted) holds in
+    let whole : after.0.whole ≡ next.whole = after.1.whole ∙ whole_is in
+    let asked_then : after.0.asked ≡ next.asked = after.1.asked ∙ asked_is in
+    record {
+      holds = record {
+        same = refl;
+        parts = subst (λ (history : History). StandsFor new.parts (split_history history)) whole after.2.holds.parts;
+        asked = λ parts e. subst (λ (history : History). StandsFor parts (split_history history)) asked_then (after.2.holds.asked parts e);
+      };
+      whole = subst HistoryCanBeSplit whole after.2.whole;
+      asked = subst HistoryCanBeSplit asked_then after.2.asked;
+    }
+
+isolated_offer : Laws → (old new : EngineState) (accepted : Accepted) (logged : LoggedFragment) (said : StepReply) → CanBeOffered logged.fragment → Goes old (step.Offer (split_logged logged)) said new → HoldsSplit old (state_of old accepted) → IsIsolatedOn accepted (Offer logged) (isolated_of (reply_of said)) new
+isolated_offer laws old new accepted logged reply.Done can goes holds = record {
+  is_true = tt;
+  holds = isolated_step laws old new accepted (record accepted { whole = with_fragment accepted.whole (effects logged) }) (step.Offer logged) reply.Done can goes holds refl refl;
+}
+isolated_offer laws old new accepted logged (reply.Refused refusal) can goes holds = record { is_true = tt; holds = isolated_step laws old new accepted accepted (step.Offer logged) (reply.Refused refusal) can goes holds refl refl }
+isolated_offer laws old new accepted logged (reply.Report report) can goes holds = absurd goes.right
+isolated_offer laws old new accepted logged (reply.Cut cut) can goes holds = absurd goes.right
+
+isolated_join : Laws → (old new : EngineState) (accepted : Accepted) (logged : LoggedFragment) (said : StepReply) → CanBeOffered logged.fragment → Goes old (step.Join (split_logged logged)) said new → HoldsSplit old (state_of old accepted) → IsIsolatedOn accepted (Join logged) (isolated_of (reply_of said)) new
+isolated_join laws old new accepted logged reply.Done can goes holds = record {
+  is_true = tt;
+  holds = isolated_step laws old new accepted (record accepted { whole = history_after accepted.whole (arrival_of (length accepted.whole) (effects logged)) }) (step.Join logged) reply.Done can goes holds refl refl;
+}
+isolated_join laws old new accepted logged (reply.Refused refusal) can goes holds = record { is_true = tt; holds = isolated_step laws old new accepted accepted (step.Join logged) (reply.Refused refusal) can goes holds refl refl }
+isolated_join laws old new accepted logged (reply.Report report) can goes holds = absurd goes.right
+isolated_join laws old new accepted logged (reply.Cut cut) can goes holds = absurd goes.right
+
+-- in version 2 each fragment has a form
+taken_in_two : {X : Type 0} (logged : LoggedFragment) (old new : X) (answer : Reply) (Taken : Type 0) → IsTakenIn Two logged old answer new Taken → Taken
+taken_in_two logged old new answer Taken is = ⊎_elim (λ taken. taken.1) (λ bad. absurd (let no : true ≡ false = bad.0 in cc)) is
+
+-- any other command, where nothing was taken in
+isolated_rest : Laws → (old new : AuditState) (accepted next : Accepted) (command : Command) (inner : Reply) (history : History) → AnswersBeside Two old command inner new → HoldsSplit old.engine (state_of old.engine accepted)
+    → reported_on accepted command ≡ history → reported_on (split_accepted accepted) command ≡ split_history history → HistoryCanBeSplit history
+    → accepted_more accepted command (isolated_of inner) ≡ next → accepted_more (split_accepted accepted) command inner ≡ split_accepted next → HistoryCanBeSplit next.whole → HistoryCanBeSplit next.asked
+    → IsIsolatedOn accepted command (isolated_of inner) new.engine
+isolated_rest laws old new accepted next command inner history is holds about about_split can more more_split whole asked =
+    let on : IsOn (split_accepted accepted) command inner new.engine = beside_on Two old new (split_accepted accepted) command inner is holds.holds in
+    let tells : TellsByOrder (split_history history) inner = subst (λ (h : History). TellsByOrder h inner) about_split on.is_true in
+    let stands : Holds new.engine (state_of new.engine (split_accepted next)) = subst (λ (a : Accepted). Holds new.engine (state_of new.engine a)) more_split on.holds in
+    record {
+      is_true = subst (λ (h : History). TellsTrueOf h (isolated_of inner)) (sym about) (isolated_true laws history inner can tells);
+      holds = subst (λ (a : Accepted). HoldsSplit new.engine (state_of new.engine a)) (sym more) (record { holds = stands; whole = whole; asked = asked });
+    }
+
+-- a round may begin
+begun_on : Laws → (old new : AuditState) (accepted : Accepted) (inner : Reply) → AnswersBeside Two old Begin inner new → HoldsSplit old.engine (state_of old.engine accepted) → IsIsolatedOn accepted Begin (isolated_of inner) new.engine
+begun_on laws old new accepted told.Done is holds = isolated_rest laws old new accepted (record accepted { asked = accepted.whole }) Begin told.Done accepted.asked is holds refl refl holds.asked refl refl holds.whole holds.whole
+begun_on laws old new accepted (told.Order round kind counts order) is holds = isolated_rest laws old new accepted accepted Begin (told.Order round kind counts order) accepted.asked is holds refl refl holds.asked refl refl holds.whole holds.asked
+begun_on laws old new accepted (told.Violated round counts tree) is holds = isolated_rest laws old new accepted accepted Begin (told.Violated round counts tree) accepted.asked is holds refl refl holds.asked refl refl holds.whole holds.asked
+begun_on laws old new accepted (told.Spent round counts) is holds = isolated_rest laws old new accepted accepted Begin (told.Spent round counts) accepted.asked is holds refl refl holds.asked refl refl holds.whole holds.asked
+begun_on laws old new accepted (told.Cut fence gone last) is holds = isolated_rest laws old new accepted accepted Begin (told.Cut fence gone last) accepted.asked is holds refl refl holds.asked refl refl holds.whole holds.asked
+begun_on laws old new accepted (told.Show marks received closed last remaining) is holds = isolated_rest laws old new accepted accepted Begin (told.Show marks received closed last remaining) accepted.asked is holds refl refl holds.asked refl refl holds.whole holds.asked
+begun_on laws old new accepted inner is holds = isolated_rest laws old new accepted accepted Begin inner accepted.asked is holds refl refl holds.asked refl refl holds.whole holds.asked
+
+asked_on : Laws → (old new : AuditState) (accepted : Accepted) (command : Command) (inner : Reply) → CanBeAsked command → AnswersBeside Two old (split_command command) inner new → HoldsSplit old.engine (state_of old.engine accepted) → IsIsolatedOn accepted command (isolated_of inner) new.engine
+asked_on laws old new accepted (Offer logged) inner can is holds =
+    let taken = taken_in_two (split_logged logged) old.engine new.engine inner (IsStep old.engine (step.Offer (split_logged logged)) inner new.engine) is.0 in
+    subst (λ (a : Reply). IsIsolatedOn accepted (Offer logged) (isolated_of a) new.engine) (sym taken.2) (isolated_offer laws old.engine new.engine accepted logged taken.0 can taken.1 holds)
+asked_on laws old new accepted (Join logged) inner can is holds =
+    let taken = taken_in_two (split_logged logged) old.engine new.engine inner (IsStep old.engine (step.Join (split_logged logged)) inner new.engine) is.0 in
+    subst (λ (a : Reply). IsIsolatedOn accepted (Join logged) (isolated_of a) new.engine) (sym taken.2) (isolated_join laws old.engine new.engine accepted logged taken.0 can taken.1 holds)
+asked_on laws old new accepted Begin inner can is holds = begun_on laws old new accepted inner is holds
+asked_on laws old new accepted (Round budget depth workers search) inner can is holds =
+    isolated_rest laws old new accepted accepted (Round budget depth workers search) inner accepted.whole is holds refl refl holds.whole refl refl holds.whole holds.asked
+asked_on laws old new accepted (Save wanted) inner can is holds = absurd can
+asked_on laws old new accepted (Answer shown) inner can is holds = absurd can
+asked_on laws old new accepted command inner can is holds = isolated_rest laws old new accepted accepted command inner accepted.asked is holds refl refl holds.asked refl refl holds.whole holds.asked
+
+-- a command that is refused before it is asked
+no_more_by : (accepted : Accepted) (command : Command) (refusal : Refusal) → accepted_more accepted command (told.No refusal) ≡ accepted
+no_more_by accepted (Offer logged) refusal = refl
+no_more_by accepted (Join logged) refusal = refl
+no_more_by accepted Begin refusal = refl
+no_more_by accepted command refusal = refl
+
+faulty_on : (old new : AuditState) (accepted : Accepted) (command : Command) (answer : Reply) (refusal : Refusal) → answer ≡ told.No refusal → new ≡ old → HoldsSplit old.engine (state_of old.engine accepted) → IsIsolatedOn accepted command answer new.engine
+faulty_on old new accepted command answer refusal is same holds =
+    let more : HoldsSplit old.engine (state_of old.engine (accepted_more accepted command (told.No refusal))) = subst (λ (a : Accepted). HoldsSplit old.engine (state_of old.engine a)) (sym (no_more_by accepted command refusal)) holds in
+    subst (λ (a : Reply). IsIsolatedOn accepted command a new.engine) (sym is)
+    (subst (λ (audit : AuditState). IsIsolatedOn accepted command (told.No refusal) audit.engine) (sym same) (record { is_true = tt; holds = more }))
+
+isolated_on : Laws → (old new : AuditState) (accepted : Accepted) (command : Command) (answer : Reply) → AnswersIsolated old command answer new → HoldsSplit old.engine (state_of old.engine accepted) → IsIsolatedOn accepted command answer new.engine
+isolated_on laws old new accepted command answer is holds =
+    ⊎_elim (λ fault. faulty_on old new accepted command answer fault.0 fault.2 fault.3 holds) (λ split. isolated_told accepted command answer split.1 new.engine split.3 (asked_on laws old new accepted command split.1 split.0 split.2 holds)) is
+
 -- ---- scripts
 
 -- a stage that begins
@@ -315,68 +476,79 @@ Begun whole old command answer begun = Fits (stage_after old begun) (accepted_af
 along_begun : (whole : History) (old : Stage) (command : Command) (answer : Reply) (begun is : Option Stage) → begun ≡ is → Begun whole old command answer is → Begun whole old command answer begun
 along_begun whole old command answer begun is same fits = subst (λ (o : Option Stage). Begun whole old command answer o) (sym same) fits
 
-first_fits : (whole : History) (old : Stage) (command : Command) (answer : Reply) (begun : Option Stage) → Fits old None → AnswersFirst command answer begun → Begun whole old command answer begun
-first_fits whole old (Start sessions limit version) told.Done begun none first = along_begun whole old (Start sessions limit version) told.Done begun _ first.2 first.3
-first_fits whole old (Start sessions limit version) (told.No refusal) begun none first = along_begun whole old (Start sessions limit version) (told.No refusal) begun None first.1 none
-first_fits whole old (Start sessions limit version) answer begun none first = absurd first
-first_fits whole old (Resume sessions limit version) told.Done begun none first = along_begun whole old (Resume sessions limit version) told.Done begun _ first.2 tt
-first_fits whole old (Resume sessions limit version) (told.No refusal) begun none first = along_begun whole old (Resume sessions limit version) (told.No refusal) begun None first.1 none
-first_fits whole old (Resume sessions limit version) answer begun none first = absurd first
-first_fits whole old Resumed answer begun none first = subst (λ (a : Reply). Begun whole old Resumed a begun) (sym first.0) (along_begun whole old Resumed (told.No BadLine) begun None first.1 none)
-first_fits whole old command answer begun none first = along_begun whole old command answer begun None first.1 none
+first_fits : Laws → (whole : History) (old : Stage) (command : Command) (answer : Reply) (begun : Option Stage) → Fits old None → AnswersFirst command answer begun → Begun whole old command answer begun
+first_fits laws whole old (Start sessions limit version) told.Done begun none first = along_begun whole old (Start sessions limit version) told.Done begun _ first.2 first.3
+first_fits laws whole old (Start sessions limit version) (told.No refusal) begun none first = along_begun whole old (Start sessions limit version) (told.No refusal) begun None first.1 none
+first_fits laws whole old (Start sessions limit version) answer begun none first = absurd first
+first_fits laws whole old (StartIsolated sessions limit) told.Done begun none first = along_begun whole old (StartIsolated sessions limit) told.Done begun _ first.2 (laws.fresh sessions (2 * limit) first.3)
+first_fits laws whole old (StartIsolated sessions limit) (told.No refusal) begun none first = along_begun whole old (StartIsolated sessions limit) (told.No refusal) begun None first.1 none
+first_fits laws whole old (StartIsolated sessions limit) answer begun none first = absurd first
+first_fits laws whole old (Resume sessions limit version) told.Done begun none first = along_begun whole old (Resume sessions limit version) told.Done begun _ first.2 tt
+first_fits laws whole old (Resume sessions limit version) (told.No refusal) begun none first = along_begun whole old (Resume sessions limit version) (told.No refusal) begun None first.1 none
+first_fits laws whole old (Resume sessions limit version) answer begun none first = absurd first
+first_fits laws whole old Resumed answer begun none first = subst (λ (a : Reply). Begun whole old Resumed a begun) (sym first.0) (along_begun whole old Resumed (told.No BadLine) begun None first.1 none)
+first_fits laws whole old command answer begun none first = along_begun whole old command answer begun None first.1 none
 
-anew_fits : (whole : History) (old new : Stage) (command : Command) (answer : Reply) → Fits old None → BeginsAnew old command answer new → Fits new (accepted_after whole None command answer)
-anew_fits whole old new command answer none anew =
-    subst (λ (s : Stage). Fits s (accepted_after whole None command answer)) (sym anew.2) (first_fits whole old command answer anew.0 none anew.1)
+anew_fits : Laws → (whole : History) (old new : Stage) (command : Command) (answer : Reply) → Fits old None → BeginsAnew old command answer new → Fits new (accepted_after whole None command answer)
+anew_fits laws whole old new command answer none anew =
+    subst (λ (s : Stage). Fits s (accepted_after whole None command answer)) (sym anew.2) (first_fits laws whole old command answer anew.0 none anew.1)
 
 -- where it goes on handing over
 along_new : (new is : Stage) → new ≡ is → Fits is None → Fits new None
 along_new new is same fits = subst (λ (s : Stage). Fits s None) (sym same) fits
 
-resuming_fits : (whole : History) (sessions limit : ℕ) (version : Version) (new : Stage) (command : Command) (answer : Reply) → AnswersResuming sessions limit version command answer new → Fits new (accepted_after whole None command answer)
-resuming_fits whole sessions limit version new (Marks marks closed) told.Done is = along_new new _ is.1 tt
-resuming_fits whole sessions limit version new (Marks marks closed) (told.No refusal) is = along_new new _ is.1 tt
-resuming_fits whole sessions limit version new (Marks marks closed) answer is = absurd is
-resuming_fits whole sessions limit version new command answer is = anew_fits whole (stage.Resuming sessions limit version) new command answer tt is
+resuming_fits : Laws → (whole : History) (sessions limit : ℕ) (version : Version) (new : Stage) (command : Command) (answer : Reply) → AnswersResuming sessions limit version command answer new → Fits new (accepted_after whole None command answer)
+resuming_fits laws whole sessions limit version new (Marks marks closed) told.Done is = along_new new _ is.1 tt
+resuming_fits laws whole sessions limit version new (Marks marks closed) (told.No refusal) is = along_new new _ is.1 tt
+resuming_fits laws whole sessions limit version new (Marks marks closed) answer is = absurd is
+resuming_fits laws whole sessions limit version new command answer is = anew_fits laws whole (stage.Resuming sessions limit version) new command answer tt is
 
 hands_fits : (handed : Handing) (version : Version) (fragment : Fragment) (answer : Reply) (new : Stage) → HandsOffer handed version fragment answer new → Fits new None
 hands_fits handed version fragment told.Done new is = along_new new _ is.1 tt
 hands_fits handed version fragment (told.No refusal) new is = along_new new _ is.1 tt
 hands_fits handed version fragment answer new is = absurd is
 
-handing_fits : (whole : History) (handed : Handing) (version : Version) (new : Stage) (command : Command) (answer : Reply) → AnswersHanding handed version command answer new → BeginsWith whole (stage.Handing handed version) command answer → Fits new (accepted_after whole None command answer)
-handing_fits whole handed version new (Last more) told.Done is begins = along_new new _ is tt
-handing_fits whole handed version new (Last more) (told.No NoMemory) is begins = along_new new _ is tt
-handing_fits whole handed version new (Last more) answer is begins = absurd is
-handing_fits whole handed version new (Offer logged) answer is begins =
+handing_fits : Laws → (whole : History) (handed : Handing) (version : Version) (new : Stage) (command : Command) (answer : Reply) → AnswersHanding handed version command answer new → BeginsWith whole (stage.Handing handed version) command answer → Fits new (accepted_after whole None command answer)
+handing_fits laws whole handed version new (Last more) told.Done is begins = along_new new _ is tt
+handing_fits laws whole handed version new (Last more) (told.No NoMemory) is begins = along_new new _ is tt
+handing_fits laws whole handed version new (Last more) answer is begins = absurd is
+handing_fits laws whole handed version new (Offer logged) answer is begins =
     ⊎_elim (λ taken. hands_fits handed version logged.fragment answer new taken.1) (λ bad. along_new new (stage.Handing handed version) bad.1.1 tt) is
-handing_fits whole handed version new Resumed told.Done is begins =
+handing_fits laws whole handed version new Resumed told.Done is begins =
     subst (λ (s : Stage). Fits s (accepted_after whole None Resumed told.Done)) (sym is.1) (is.2 whole begins)
-handing_fits whole handed version new Resumed (told.No refusal) is begins = along_new new _ is.1 tt
-handing_fits whole handed version new Resumed answer is begins = absurd is
-handing_fits whole handed version new command answer is begins = anew_fits whole (stage.Handing handed version) new command answer tt is
+handing_fits laws whole handed version new Resumed (told.No refusal) is begins = along_new new _ is.1 tt
+handing_fits laws whole handed version new Resumed answer is begins = absurd is
+handing_fits laws whole handed version new command answer is begins = anew_fits laws whole (stage.Handing handed version) new command answer tt is
 
 open_fits : (old : AuditState) (version : Version) (new : Stage) (accepted : Accepted) (command : Command) (answer : Reply) → Answers (stage.Open old version) command answer new → Holds old.engine (state_of old.engine accepted) → TellsTrueOf (reported_on accepted command) answer × Fits new (Some (accepted_more accepted command answer))
 open_fits old version new accepted command answer is holds =
     let on = beside_on version old is.0 accepted command answer is.1 holds in
+    (truly (reported_on accepted command) answer on.is_true, subst (λ (s : Stage). Fits s (Some (accepted_more accepted command answer))) (sym is.2) on.holds)
+
+isolated_fits : Laws → (old : AuditState) (new : Stage) (accepted : Accepted) (command : Command) (answer : Reply) → Answers (stage.Isolated old) command answer new → HoldsSplit old.engine (state_of old.engine accepted) → TellsTrueOf (reported_on accepted command) answer × Fits new (Some (accepted_more accepted command answer))
+isolated_fits laws old new accepted command answer is holds =
+    let on = isolated_on laws old is.0 accepted command answer is.1 holds in
     (on.is_true, subst (λ (s : Stage). Fits s (Some (accepted_more accepted command answer))) (sym is.2) on.holds)
 
-answers_true : (old new : Stage) (accepted : Option Accepted) (command : Command) (answer : Reply) → Answers old command answer new → Fits old accepted → IsTrueTold accepted command answer
-answers_true old new None command answer is fits = tt
-answers_true (stage.Open engine version) new (Some accepted) command answer is fits = (open_fits engine version new accepted command answer is fits).0
-answers_true stage.Nothing new (Some accepted) command answer is fits = absurd fits
-answers_true (stage.Resuming sessions limit version) new (Some accepted) command answer is fits = absurd fits
-answers_true (stage.Handing handed version) new (Some accepted) command answer is fits = absurd fits
+answers_true : Laws → (old new : Stage) (accepted : Option Accepted) (command : Command) (answer : Reply) → Answers old command answer new → Fits old accepted → IsTrueTold accepted command answer
+answers_true laws old new None command answer is fits = tt
+answers_true laws (stage.Open engine version) new (Some accepted) command answer is fits = (open_fits engine version new accepted command answer is fits).0
+answers_true laws (stage.Isolated audit) new (Some accepted) command answer is fits = (isolated_fits laws audit new accepted command answer is fits).0
+answers_true laws stage.Nothing new (Some accepted) command answer is fits = absurd fits
+answers_true laws (stage.Resuming sessions limit version) new (Some accepted) command answer is fits = absurd fits
+answers_true laws (stage.Handing handed version) new (Some accepted) command answer is fits = absurd fits
 
-answers_fit : (whole : History) (old new : Stage) (accepted : Option Accepted) (command : Command) (answer : Reply) → Answers old command answer new → Fits old accepted → BeginsWith whole old command answer → Fits new (accepted_after whole accepted command answer)
-answers_fit whole (stage.Open engine version) new (Some accepted) command answer is fits begins = (open_fits engine version new accepted command answer is fits).1
-answers_fit whole (stage.Open engine version) new None command answer is fits begins = absurd fits
-answers_fit whole stage.Nothing new None command answer is fits begins = anew_fits whole stage.Nothing new command answer tt is
-answers_fit whole (stage.Resuming sessions limit version) new None command answer is fits begins = resuming_fits whole sessions limit version new command answer is
-answers_fit whole (stage.Handing handed version) new None command answer is fits begins = handing_fits whole handed version new command answer is begins
-answers_fit whole stage.Nothing new (Some accepted) command answer is fits begins = absurd fits
-answers_fit whole (stage.Resuming sessions limit version) new (Some accepted) command answer is fits begins = absurd fits
-answers_fit whole (stage.Handing handed version) new (Some accepted) command answer is fits begins = absurd fits
+answers_fit : Laws → (whole : History) (old new : Stage) (accepted : Option Accepted) (command : Command) (answer : Reply) → Answers old command answer new → Fits old accepted → BeginsWith whole old command answer → Fits new (accepted_after whole accepted command answer)
+answers_fit laws whole (stage.Open engine version) new (Some accepted) command answer is fits begins = (open_fits engine version new accepted command answer is fits).1
+answers_fit laws whole (stage.Isolated audit) new (Some accepted) command answer is fits begins = (isolated_fits laws audit new accepted command answer is fits).1
+answers_fit laws whole (stage.Isolated audit) new None command answer is fits begins = absurd fits
+answers_fit laws whole (stage.Open engine version) new None command answer is fits begins = absurd fits
+answers_fit laws whole stage.Nothing new None command answer is fits begins = anew_fits laws whole stage.Nothing new command answer tt is
+answers_fit laws whole (stage.Resuming sessions limit version) new None command answer is fits begins = resuming_fits laws whole sessions limit version new command answer is
+answers_fit laws whole (stage.Handing handed version) new None command answer is fits begins = handing_fits laws whole handed version new command answer is begins
+answers_fit laws whole stage.Nothing new (Some accepted) command answer is fits begins = absurd fits
+answers_fit laws whole (stage.Resuming sessions limit version) new (Some accepted) command answer is fits begins = absurd fits
+answers_fit laws whole (stage.Handing handed version) new (Some accepted) command answer is fits begins = absurd fits
 
 -- the replies to lines
 abbrev replies_in : (old new : Stage) (lines texts : List (List ℕ)) → RepliesAll old lines texts new → List Reply
@@ -392,31 +564,31 @@ texts_of old new (line ∷ lines) (text ∷ texts) all =
 texts_of old new [] (text ∷ texts) all = absurd all
 texts_of old new (line ∷ lines) [] all = absurd all
 
-all_true : (whole : History) (old new : Stage) (accepted : Option Accepted) (lines texts : List (List ℕ)) (all : RepliesAll old lines texts new) → Fits old accepted → AreTrueReplies whole old accepted lines (replies_in old new lines texts all) new
-all_true whole old new accepted [] [] all fits = all
-all_true whole old new accepted (line ∷ lines) (text ∷ texts) all fits =
+all_true : Laws → (whole : History) (old new : Stage) (accepted : Option Accepted) (lines texts : List (List ℕ)) (all : RepliesAll old lines texts new) → Fits old accepted → AreTrueReplies whole old accepted lines (replies_in old new lines texts all) new
+all_true laws whole old new accepted [] [] all fits = all
+all_true laws whole old new accepted (line ∷ lines) (text ∷ texts) all fits =
     ⊎_elim
     (λ is. inl (
       is.0,
       all.0,
       is.1,
       is.2,
-      answers_true old all.0 accepted is.0 all.1.answer is.2 fits,
-      λ begins. all_true whole all.0 new (accepted_after whole accepted is.0 all.1.answer) lines texts all.2 (answers_fit whole old all.0 accepted is.0 all.1.answer is.2 fits begins),
+      answers_true laws old all.0 accepted is.0 all.1.answer is.2 fits,
+      λ begins. all_true laws whole all.0 new (accepted_after whole accepted is.0 all.1.answer) lines texts all.2 (answers_fit laws whole old all.0 accepted is.0 all.1.answer is.2 fits begins),
     ))
     (λ none. inr (
       none.0,
       (none.1.0, refl),
       subst (λ (s : Stage). AreTrueReplies whole s accepted lines (replies_in all.0 new lines texts all.2) new) none.1.1
-          (all_true whole all.0 new accepted lines texts all.2 (subst (λ (s : Stage). Fits s accepted) (sym none.1.1) fits)),
+          (all_true laws whole all.0 new accepted lines texts all.2 (subst (λ (s : Stage). Fits s accepted) (sym none.1.1) fits)),
     ))
     all.1.answered
-all_true whole old new accepted [] (text ∷ texts) all fits = absurd all
-all_true whole old new accepted (line ∷ lines) [] all fits = absurd all
+all_true laws whole old new accepted [] (text ∷ texts) all fits = absurd all
+all_true laws whole old new accepted (line ∷ lines) [] all fits = absurd all
 
-pub each_report : EachReportIsTrue
-each_report whole asked output end is = (
+pub each_report : Laws → EachReportIsTrue
+each_report laws whole asked output end is = (
   replies_in stage.Nothing end asked is.0 is.1,
   is.2 ∙ texts_of stage.Nothing end asked is.0 is.1,
-  all_true whole stage.Nothing end None asked is.0 is.1 tt,
+  all_true laws whole stage.Nothing end None asked is.0 is.1 tt,
 )

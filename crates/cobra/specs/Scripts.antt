@@ -1,21 +1,21 @@
 -- What the commands of a script are answered, and what they lead to.
-use Rattle.std.specs.Prelude.{◌≡◌, ℕ, ◌⊎◌, Bool, true, false, List, length, sum_by, Option, Some, None, MatchOption}
+use Rattle.std.specs.Prelude.{◌≡◌, ℕ, ◌*◌, ◌≤◌, ◌⊎◌, Bool, true, false, List, length, sum_by, Option, Some, None, MatchOption}
 use Rattle.std.specs.FinMap as map
 use Rattle.txn.specs.declared.transactions.TxnId.{TxnId}
 use Rattle.txn.specs.declared.transactions.Fragment.{Fragment}
 use Rattle.txn.specs.declared.refusals.Refusal.{Refusal}
-use Rattle.txn.specs.declared.refusals.Refusal.TheVariants.{BadLine, RoundOpen, NoRound, NoMemory}
+use Rattle.txn.specs.declared.refusals.Refusal.TheVariants.{BadLine, BadSession, TooLong, RoundOpen, NoRound, NoMemory}
 use Rattle.txn.specs.History.{History}
 use Rattle.order_check.specs.declared.remainder.Parts.{Parts}
 use Rattle.order_check.specs.Based.{received_counts}
 use Rattle.order_check.specs.StandsFor.{StandsFor}
 use Rattle.log_text.specs.declared.commands.Command.{Command}
-use Rattle.log_text.specs.declared.commands.Command.TheVariants.{Start, Offer, Join, Close, Begin, Finish, Round, BeginSearch, Collect, Skip, Truncate, Rebuild, Show, Resume, Marks, Last, Resumed, Save, Answer}
+use Rattle.log_text.specs.declared.commands.Command.TheVariants.{Start, StartIsolated, Offer, Join, Close, Begin, Finish, Round, BeginSearch, Collect, Skip, Truncate, Rebuild, Show, Resume, Marks, Last, Resumed, Save, Answer}
 use Rattle.log_text.specs.declared.replies.Reply.{Reply}
 use Rattle.log_text.specs.declared.replies.Reply.TheVariants as told
 use Rattle.log_text.specs.declared.searches.Search.{Search}
 use Rattle.log_text.specs.declared.versions.Version.{Version}
-use Rattle.log_text.specs.declared.versions.Version.TheVariants.{One}
+use Rattle.log_text.specs.declared.versions.Version.TheVariants.{One, Two}
 use Rattle.log_text.specs.Versions.{has_form}
 use Rattle.logged_fragments.specs.declared.logged.LoggedFragment.{LoggedFragment}
 use Rattle.round_state.specs.EngineState.{EngineState, engine_over}
@@ -28,6 +28,8 @@ use Rattle.round_state.specs.declared.steps.Step.TheVariants as step
 use Rattle.round_state.specs.declared.steps.StepReply.{StepReply}
 use Rattle.round_state.specs.declared.steps.StepReply.TheVariants as reply
 use Rattle.script_searches.specs.declared.searches.Effort.{Effort}
+use Rattle.snapshot_scripts.specs.Isolated.{isolated_of}
+use Rattle.snapshot_scripts.specs.Splitting.{CanBeAsked, IsAskedFault, split_command}
 use Rattle.cobra.specs.Audits.{AuditState, unsearched}
 use Rattle.cobra.specs.HandOver.{AreOfSessions, AreGoodParts, IsHandRefusal, IsMarksRefusal, IsNextOffer, IsResumedRefusal, handed_first, handed_offer, handed_parts, handed_writers}
 use Rattle.cobra.specs.Saving.{saved_told}
@@ -131,11 +133,35 @@ AnswersBeside version old Skip answer new = IsStep old.engine step.Abandon answe
 AnswersBeside version old (Finish budget depth workers search) answer new = FinishesAlone old answer new (AnswersOpen version old.engine (Finish budget depth workers search) answer new.engine)
 AnswersBeside version old command answer new = AnswersOpen version old.engine command answer new.engine × (new.search ≡ search_after old.search new.engine.asked)
 
+-- The reply to a command of a script that asks for snapshot isolation: it is refused for what is wrong with it as it was given; or its
+-- transactions are split, and what is replied to that, in lines of version 2, is told of begins and commits.
+abbrev pub AnswersIsolated : AuditState → Command → Reply → AuditState → Type 0
+AnswersIsolated old command answer new =
+    ((refusal : Refusal) × IsAskedFault command refusal × (answer ≡ told.No refusal) × (new ≡ old))
+    ⊎ (CanBeAsked command × (inner : Reply) × AnswersBeside Two old (split_command command) inner new × (answer ≡ isolated_of inner))
+
 -- An engine is opened: it is a fresh one, which stands for the history in which nothing was received. Where it isn't, no stage begins.
 abbrev pub Opens : ℕ → ℕ → Version → Reply → Option Stage → Type 0
 Opens sessions limit version told.Done begun = IsSessions sessions × IsLimit limit × (begun ≡ Some (stage.Open (unsearched (fresh sessions limit)) version)) × Holds (fresh sessions limit) (fresh_state sessions limit)
 Opens sessions limit version (told.No refusal) begun = IsOpenRefusal sessions limit refusal × (begun ≡ None)
 Opens sessions limit version answer begun = ⊥
+
+-- so many transactions may be let remain where each is split
+abbrev pub IsIsolatedLimit : ℕ → Type 0
+IsIsolatedLimit limit = (1 ≤ limit) × (limit ≤ 2048)
+
+-- why no engine is given for them
+abbrev pub IsIsolatedRefusal : ℕ → ℕ → Refusal → Type 0
+IsIsolatedRefusal sessions limit BadSession = ¬ IsSessions sessions
+IsIsolatedRefusal sessions limit TooLong = IsSessions sessions × (¬ IsIsolatedLimit limit)
+IsIsolatedRefusal sessions limit NoMemory = IsSessions sessions × IsIsolatedLimit limit
+IsIsolatedRefusal sessions limit refusal = ⊥
+
+-- An engine is opened whose transactions are split: it has room for two of each.
+abbrev pub OpensIsolated : ℕ → ℕ → Reply → Option Stage → Type 0
+OpensIsolated sessions limit told.Done begun = IsSessions sessions × IsIsolatedLimit limit × (begun ≡ Some (stage.Isolated (unsearched (fresh sessions (2 * limit))))) × Holds (fresh sessions (2 * limit)) (fresh_state sessions (2 * limit))
+OpensIsolated sessions limit (told.No refusal) begun = IsIsolatedRefusal sessions limit refusal × (begun ≡ None)
+OpensIsolated sessions limit answer begun = ⊥
 
 -- A hand-over begins, where an engine may be opened.
 abbrev pub Resumes : ℕ → ℕ → Version → Reply → Option Stage → Type 0
@@ -146,6 +172,7 @@ Resumes sessions limit version answer begun = ⊥
 -- the reply to a command with which a script begins, and the stage that begins, where one does
 abbrev pub AnswersFirst : Command → Reply → Option Stage → Type 0
 AnswersFirst (Start sessions limit version) answer begun = Opens sessions limit version answer begun
+AnswersFirst (StartIsolated sessions limit) answer begun = OpensIsolated sessions limit answer begun
 AnswersFirst (Resume sessions limit version) answer begun = Resumes sessions limit version answer begun
 AnswersFirst command answer begun = (answer ≡ told.No BadLine) × (begun ≡ None)
 
@@ -203,9 +230,10 @@ AnswersHanding handed version (Offer logged) answer new = IsTakenIn One logged (
 AnswersHanding handed version Resumed answer new = EndsHandOver handed version answer new
 AnswersHanding handed version command answer new = BeginsAnew (stage.Handing handed version) command answer new
 
--- The reply to a command, and what it leads to. Once an engine is open, one stays open, for lines of the same version.
+-- The reply to a command, and what it leads to. Once an engine is open, one stays open, for lines of the same version or of the same promise.
 abbrev pub Answers : Stage → Command → Reply → Stage → Type 0
 Answers stage.Nothing command answer new = BeginsAnew stage.Nothing command answer new
 Answers (stage.Resuming sessions limit version) command answer new = AnswersResuming sessions limit version command answer new
 Answers (stage.Handing handed version) command answer new = AnswersHanding handed version command answer new
 Answers (stage.Open old version) command answer new = (audit : AuditState) × AnswersBeside version old command answer audit × (new ≡ stage.Open audit version)
+Answers (stage.Isolated old) command answer new = (audit : AuditState) × AnswersIsolated old command answer audit × (new ≡ stage.Isolated audit)

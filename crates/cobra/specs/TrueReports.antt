@@ -7,13 +7,14 @@ use Rattle.logged_fragments.specs.Effects.{effects}
 use Rattle.order_check.specs.declared.remainder.Kind.TheVariants as kinds
 use Rattle.order_check.specs.StandsFor.{StandsFor, history_after, with_fragment}
 use Rattle.log_text.specs.declared.commands.Command.{Command}
-use Rattle.log_text.specs.declared.commands.Command.TheVariants.{Start, Offer, Join, Begin, Round, Resumed}
+use Rattle.log_text.specs.declared.commands.Command.TheVariants.{Start, StartIsolated, Offer, Join, Begin, Round, Resumed}
 use Rattle.log_text.specs.declared.replies.Reply.{Reply}
 use Rattle.log_text.specs.declared.replies.Reply.TheVariants as told
 use Rattle.log_text.specs.Replies.{line_of}
 use Rattle.round_state.specs.Legal.{IsTrueOf}
 use Rattle.round_state.specs.Opening.{no_history}
 use Rattle.round_state.specs.Steps.{arrival_of}
+use Rattle.snapshot_scripts.specs.Legal.{IsIsolationOf}
 use Rattle.cobra.specs.HandOver.{handed_parts}
 use Rattle.cobra.specs.Outputs.{Asks, IsOutputOf}
 use Rattle.cobra.specs.Scripts.{Answers, IsBadLine}
@@ -36,6 +37,7 @@ accepted_more old command answer = old
 -- The same of a script: nothing was accepted where one is opened. One that resumes another begins with the whole history of that.
 abbrev pub accepted_after : History → Option Accepted → Command → Reply → Option Accepted
 accepted_after whole None (Start sessions limit version) told.Done = Some (record { whole = no_history sessions; asked = no_history sessions })
+accepted_after whole None (StartIsolated sessions limit) told.Done = Some (record { whole = no_history sessions; asked = no_history sessions })
 accepted_after whole None Resumed told.Done = Some (record { whole = whole; asked = whole })
 accepted_after whole None command answer = None
 accepted_after whole (Some old) command answer = Some (accepted_more old command answer)
@@ -46,10 +48,12 @@ reported_on accepted (Round budget depth workers search) = accepted.whole
 reported_on accepted command = accepted.asked
 
 -- A reply that is a report is true of a history: it counts the transactions of each session, and its kind, where it isn't spent, is the
--- verdict of the whole.
+-- verdict of the whole: by some order, or, where it is told of begins and commits, by snapshot isolation.
 abbrev pub TellsTrueOf : History → Reply → Type 0
 TellsTrueOf history (told.Order round kind counts order) = (counts ≡ map length history) × IsTrueOf history kind
 TellsTrueOf history (told.Violated round counts tree) = (counts ≡ map length history) × IsTrueOf history kinds.Violated
+TellsTrueOf history (told.Events round kind counts order) = (counts ≡ map length history) × IsIsolationOf history kind
+TellsTrueOf history (told.Broken round counts tree) = (counts ≡ map length history) × IsIsolationOf history kinds.Violated
 TellsTrueOf history (told.Spent round counts) = counts ≡ map length history
 TellsTrueOf history other = ⊤
 

@@ -1,6 +1,6 @@
 //! How a script begins, or one that was saved is handed over.
 ghost use Rattle.std.specs.Prelude.{◌≡◌};
-ghost use Rattle.cobra.specs.Scripts.{IsTakenIn, Opens, Resumes, AnswersFirst, BeginsAnew, AnswersResuming, AnswersHanding, HandsMarks, HandsWriters, HandsOffer, EndsHandOver};
+ghost use Rattle.cobra.specs.Scripts.{IsTakenIn, Opens, OpensIsolated, Resumes, AnswersFirst, BeginsAnew, AnswersResuming, AnswersHanding, HandsMarks, HandsWriters, HandsOffer, EndsHandOver};
 ghost use Rattle.cobra.specs.declared.stages.Stage.{Stage};
 ghost use Rattle.log_text.specs.declared.versions.Version.{Version};
 
@@ -14,6 +14,9 @@ use round_state::{is_limit, is_sessions};
 use std::alloc::Global;
 use txn::{Fragment, Refusal, Sequence, TxnId};
 
+/// How many transactions may be let remain where each is split.
+const ISOLATED_LIMIT: u64 = 2048;
+
 fn open(alloc: Global, sessions: u64, limit: u64, version: Version) -> (Reply, Option<Stage>)
     ensures { Opens sessions limit version result.0 result.1 }
 {
@@ -21,6 +24,25 @@ fn open(alloc: Global, sessions: u64, limit: u64, version: Version) -> (Reply, O
         Ok(engine) => {
             let audit = Audit::new(engine);
             (Reply::Done, Some(Stage::Open { audit, version }))
+        }
+        Err(refusal) => (Reply::No(refusal), None),
+    }
+}
+
+/// Opens an engine whose transactions are split: it has room for two of each.
+fn open_isolated(alloc: Global, sessions: u64, limit: u64) -> (Reply, Option<Stage>)
+    ensures { OpensIsolated sessions limit result.0 result.1 }
+{
+    if !is_sessions(sessions) {
+        return (Reply::No(Refusal::BadSession), None);
+    }
+    if limit < 1 || limit > ISOLATED_LIMIT {
+        return (Reply::No(Refusal::TooLong), None);
+    }
+    match OpenEngine::open(alloc, sessions, 2 * limit) {
+        Ok(engine) => {
+            let audit = Audit::new(engine);
+            (Reply::Done, Some(Stage::Isolated { audit }))
         }
         Err(refusal) => (Reply::No(refusal), None),
     }
@@ -53,6 +75,7 @@ fn answer_first(alloc: Global, command: Command) -> (Reply, Option<Stage>)
             limit,
             version,
         } => open(alloc, sessions, limit, version),
+        Command::StartIsolated { sessions, limit } => open_isolated(alloc, sessions, limit),
         Command::Resume {
             sessions,
             limit,

@@ -1,8 +1,16 @@
 //! A law of scripts. The function does nothing.
 ghost use Rattle.cobra.specs.TrueReports.{EachReportIsTrue};
 
+use snapshot_histories::{split_doubles_counts, split_keeps_verdict};
+use snapshot_scripts::{fresh_engines_are_split, split_steps_are_legal};
+
 /// Whatever `serve` may leave, each report in it is true of everything that the script's lines had offered and that was answered ok before
 /// the report's round began.
 pub fn each_report_is_true()
     ensures { EachReportIsTrue }
-{}
+{
+    split_steps_are_legal();
+    fresh_engines_are_split();
+    split_keeps_verdict();
+    split_doubles_counts();
+}

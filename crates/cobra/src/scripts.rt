@@ -5,7 +5,7 @@ ghost use Rattle.order_check.specs.Effort.{IsEffort};
 ghost use Rattle.round_state.specs.Runs as runs;
 ghost use Rattle.cobra.specs.Held.{AsksWithin, HasAtMost, IsLight};
 ghost use Rattle.cobra.specs.Outputs.{Asks, IsTold, AnswersNext, RepliesTo};
-ghost use Rattle.cobra.specs.Scripts.{IsStep, IsTakenIn, AnswersOpen, AnswersBeside, FinishesAlone, IsRound, Answers, search_after};
+ghost use Rattle.cobra.specs.Scripts.{IsStep, IsTakenIn, AnswersOpen, AnswersBeside, AnswersIsolated, FinishesAlone, IsRound, Answers, search_after};
 ghost use Rattle.cobra.specs.declared.stages.Stage.{Stage};
 
 use crate::audits::Audit;
@@ -20,6 +20,7 @@ use logged_fragments::LoggedFragment;
 use polygraph::{PlainSolver, Solver};
 use round_state::Step;
 use script_searches::{Effort, Solvers};
+use snapshot_scripts::{isolated_of, split_command};
 use std::alloc::{AllocError, Global};
 use std::mem;
 use std::thread::{Scope, Threads};
@@ -193,10 +194,34 @@ fn answer_open<'s, E, R: Threads, P: PlainSolver + Sync, S: Solver + Sync>(
         Command::Show => state_told(alloc, audit.engine()),
         Command::Save(wanted) => saved_told(alloc, audit.engine(), wanted),
         Command::Start { .. }
+        | Command::StartIsolated { .. }
         | Command::Resume { .. }
         | Command::Marks { .. }
         | Command::Last(_)
         | Command::Resumed => Ok(Reply::No(Refusal::BadLine)),
+    }
+}
+
+/// The reply to a command of a script that asks for snapshot isolation.
+fn answer_isolated<'s, E, R: Threads, P: PlainSolver + Sync, S: Solver + Sync>(
+    audit: &mut Audit,
+    scope: &Scope<'s, E>,
+    rt: &R,
+    alloc: Global,
+    command: Command,
+    solvers: &'s Solvers<P, S>,
+) -> Result<Reply, NoMemory>
+    requires plain { P.ready }
+    requires guided { S.ready }
+    requires limits { HasLimits command }
+    ensures { IfOk result (λ answer. AnswersIsolated audit.old command answer audit.new) }
+{
+    match split_command(alloc, command)? {
+        Ok(split) => {
+            let reply = answer_open(audit, scope, rt, alloc, Version::Two, split, solvers)?;
+            isolated_of(alloc, reply)
+        }
+        Err(refusal) => Ok(Reply::No(refusal)),
     }
 }
 
@@ -228,6 +253,11 @@ fn answered<'s, E, R: Threads, P: PlainSolver + Sync, S: Solver + Sync>(
             let mut audit = audit;
             let reply = answer_open(&mut audit, scope, rt, alloc, version, command, solvers)?;
             Ok((reply, Stage::Open { audit, version }))
+        }
+        Stage::Isolated { audit } => {
+            let mut audit = audit;
+            let reply = answer_isolated(&mut audit, scope, rt, alloc, command, solvers)?;
+            Ok((reply, Stage::Isolated { audit }))
         }
     }
 }

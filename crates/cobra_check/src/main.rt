@@ -2,7 +2,7 @@
 //! output what it finds of each report.
 #![tactic(auto)]
 
-ghost use Rattle.std.specs.Prelude.{◌≡◌, ◌≢◌, ℕ, ◌<◌, ◌⊎◌, ◌++◌, List, map, codes, string_bytes, true, false, Ok, Err, Some, IfSome, IfOk, IfErr, OnOk, OnErr, option_map};
+ghost use Rattle.std.specs.Prelude.{◌≡◌, ◌≢◌, ℕ, ◌+◌, ◌<◌, ◌⊎◌, ◌++◌, List, map, codes, string_bytes, true, false, Ok, Err, Some, IfSome, IfOk, IfErr, OnOk, OnErr, option_map};
 ghost use Rattle.std.specs.Io.KnownBytes.{Appends, Keeps};
 ghost use Rattle.std.specs.IoError.{error_kind};
 ghost use Rattle.std.specs.Vec.Iter.{into_iter_items};
@@ -62,7 +62,8 @@ fn asked(alloc: Global, given: io::Result<Args>) -> Result<Asked, Failure>
 }
 
 fn told<W: ByteSink>(sink: &mut W, text: &str) -> Result<(), Failure>
-    ensures { OnOk result (Appends (W.contents sink.old) (W.contents sink.new) text.now) }
+    ensures written { OnOk result (Appends (W.contents sink.old) (W.contents sink.new) text.now) }
+    ensures failed { IfErr result (λ failure. (failure ≡ Failure.Device) × (W.faults sink.new ≡ W.faults sink.old + 1)) }
 {
     write_all(sink, text.as_bytes())?;
     Ok(())
@@ -92,6 +93,7 @@ fn run<R: ByteSource, W: ByteSink>(
 
     ensures help { asked ≡ Ok Asked.Help → result.status ≡ 0 → Appends (W.contents output.old) (W.contents output.new) HELP.now }
     ensures version { asked ≡ Ok Asked.Version → result.status ≡ 0 → Appends (W.contents output.old) (W.contents output.new) VERSION.now }
+    ensures printed { (asked ≡ Ok Asked.Help) ⊎ (asked ≡ Ok Asked.Version) → (result.status ≡ 0) ⊎ (W.faults output.old < W.faults output.new) }
 
     // Other arguments: nothing is written but how the program is used.
     ensures unknown { asked ≡ Ok Asked.Unknown → (result.status ≡ 2) × (option_map (λ words. words.now) result.words ≡ Some USAGE.now) × Keeps (W.contents output.old) (W.contents output.new) }

@@ -1,3 +1,4 @@
+mod AllTaken
 mod Asking
 mod Audits
 mod LastKinds

@@ -1,7 +1,7 @@
 -- What a run comes to.
-use Rattle.std.specs.Prelude.{◌≡◌, true, List, [], ◌∷◌, ◌++◌, length, map, All}
+use Rattle.std.specs.Prelude.{◌≡◌, ℕ, ◌<◌, true, List, [], ◌∷◌, length, map, All}
 use Rattle.demo_store.specs.Logs.{StoreState}
-use Rattle.fragment_intake.specs.Collectors.{AreCollectorsOf, Collector, Counts}
+use Rattle.fragment_intake.specs.Collectors.{AreCollectorsOf, Collector}
 use Rattle.fragment_intake.specs.Delivers.{of}
 use Rattle.fragment_intake.specs.declared.rules.Parcel.{Parcel}
 use Rattle.report_queue.specs.Rings.{Receiving}
@@ -9,7 +9,7 @@ use Rattle.report_queue.specs.declared.entries.Entry.{Entry}
 use Rattle.live_audit.specs.declared.live.AuditorSide.{AuditorSide}
 use Rattle.live_audit.specs.CoreState.{Search}
 use Rattle.live_audit.specs.Live.{Live}
-use Rattle.live_audit.specs.Running.{IsLastCount}
+use Rattle.live_audit.specs.Running.{HasEnded, IsLastCount, reports_in}
 use Rattle.live_audit.specs.Truth.{IsTrueEntry, accepted_history}
 use Rattle.demonstration.specs.declared.collecting.Collected.{Collected}
 use Rattle.demonstration.specs.declared.reading.Heard.{Heard}
@@ -23,9 +23,11 @@ use Rattle.demonstration.specs.Work.{IsAllWork}
 abbrev pub demo_search : Search
 demo_search = record { budget = 4096; depth = 2 }
 
--- The auditor of four sessions took these parcels and sent these entries: each report is true of what was accepted, and the last counts all of it.
+-- The auditor of four sessions took these parcels, an end of each collector among them, and sent these entries: each report is true of what was
+-- accepted, and the last counts all of it.
 pub record HasAudited (taken : List Parcel) (sent : List Entry) : Type 0 where
   pub live : Live 4 4096 demo_search taken sent
+  pub ends : (collector : ℕ) → collector < 4 → HasEnded collector taken
   pub reports : All (IsTrueEntry (accepted_history 4 taken sent)) sent
   pub last : IsLastCount (map length (accepted_history 4 taken sent)) sent
 
@@ -34,16 +36,17 @@ abbrev pub HaveAllWork : List Parcel → Type 0
 HaveAllWork parcels = IsAllWork 0 (of 0 parcels) × IsAllWork 1 (of 1 parcels) × IsAllWork 2 (of 2 parcels) × IsAllWork 3 (of 3 parcels)
 
 -- What is shown of a run of this store whose auditor sent these entries: the fault is the store's; each collector submitted all of its work, 11
--- items, of which so many were taken, and the others left; the auditor audited those taken; the last of its reports has this kind.
+-- items, and all of these were taken; the auditor audited them; the last of its reports has this kind, and so has the latest one that it has
+-- published.
 pub record IsRunOf (store : StoreState) (sent : List Entry) (shown : Shown) : Type 0 where
   pub fault : store.fault ≡ shown.fault
   pub taken : List Parcel
-  pub left : List Parcel
   pub submitted : shown.tally.submitted ≡ 11 ∷ 11 ∷ 11 ∷ 11 ∷ []
-  pub work : HaveAllWork (taken ++ left)
-  pub counts : Counts shown.tally.taken taken
+  pub all : shown.tally.taken ≡ 11 ∷ 11 ∷ 11 ∷ 11 ∷ []
+  pub work : HaveAllWork taken
   pub audited : HasAudited taken sent
   pub last : shown.last ≡ last_kind sent
+  pub latest : shown.latest ≡ last_kind sent
 
 -- what is shown of some run
 abbrev pub IsRun : Shown → Type 0
@@ -87,6 +90,7 @@ pub record HasReturned (passes : Collector × Collector × Collector × Collecto
   pub fourth : IsDone passes.3 returned.passes.3
   pub side_is : IsSameSide side returned.side
   pub audited : HasAudited returned.side.pass.1 returned.side.sender.sent
+  pub published : returned.side.seat.published ≡ reports_in returned.side.sender.sent
   pub ring : returned.reader.ring ≡ reader.ring
   pub heard : returned.last ≡ last_kind returned.reader.received
   pub entries : returned.entries ≡ returned.reader.received
@@ -95,6 +99,7 @@ pub record HasReturned (passes : Collector × Collector × Collector × Collecto
 pub record IsOfHall (hall : Hall) (returned : Returned) : Type 0 where
   pub collectors : AreCollectorsOf hall.desk returned.passes
   pub auditor : returned.side.pass.0 ≡ hall.desk.0
+  pub word : returned.side.seat.word ≡ hall.latest
   pub ring : returned.reader.ring ≡ returned.side.sender.ring
 
 -- each collector's pass has submitted its 11 items

@@ -1,6 +1,7 @@
 ghost use Rattle.std.specs.Prelude.{◌≡◌, None, OnOk};
 ghost use Rattle.round_state.specs.Opening.{fresh_state};
 ghost use Rattle.round_state.specs.Runs.{Holds};
+ghost use Rattle.live_audit.specs.Running.{reports_in};
 ghost use Rattle.demonstration.specs.Runs.{HasAudited, IsFreshSide, IsSameSide};
 
 use crate::halls::Hall;
@@ -34,6 +35,7 @@ pub fn audit<'s, E, R: Threads + Wait, S: Solver + Sync>(
     requires side { IsFreshSide hall.now side.old }
     ensures same { IsSameSide side.old side.new }
     ensures audited { OnOk result (HasAudited side.new.pass.1 side.new.sender.sent) }
+    ensures published { side.new.seat.published ≡ reports_in side.new.sender.sent }
 {
     audit_live(
         scope,

@@ -1,6 +1,8 @@
 ghost use Rattle.std.specs.Prelude.{◌≡◌, ◌≤◌, None, [], IfOk, IsTrue, option_map};
 ghost use Rattle.round_state.specs.Opening.{fresh_state};
 ghost use Rattle.round_state.specs.Runs.{Holds};
+ghost use Rattle.report_queue.specs.Reports.{last_of};
+ghost use Rattle.live_audit.specs.Running.{reports_in};
 ghost use Rattle.demonstration.specs.Reading.{last_kind};
 ghost use Rattle.demonstration.specs.Runs.{IsRunOf, IsOfHall, HaveSubmitted, HaveWorked, HasAudited};
 
@@ -74,6 +76,7 @@ fn store_of(store: Mutex<Store>, fault: Fault) -> Result<Store, NoMemory>
 }
 
 /// What a run came to, once its threads have ended.
+#[tactic(auto, using(crate::proofs::AllTaken::all_counts, crate::proofs::AllTaken::all_work, crate::proofs::LastKinds::latest_kind))]
 fn outcome_of<R: Wait>(
     rt: &R,
     fault: Fault,
@@ -85,21 +88,22 @@ fn outcome_of<R: Wait>(
     requires submitted { HaveSubmitted returned.passes }
     requires worked { HaveWorked returned.passes }
     requires audited { HasAudited returned.side.pass.1 returned.side.sender.sent }
+    requires published { returned.side.seat.published ≡ reports_in returned.side.sender.sent }
     requires heard { returned.last ≡ last_kind returned.reader.received }
     requires entries { returned.entries ≡ returned.reader.received }
     requires word { seat.old.word ≡ hall.latest }
     ensures fault { IfOk result (λ outcome. outcome.shown.fault ≡ fault) }
     ensures run { IfOk result (λ outcome. IsRunOf outcome.store outcome.entries outcome.shown) }
-    ensures latest { IfOk result (λ outcome. outcome.shown.latest ≡ option_map (λ told. told.1) outcome.latest) }
+    ensures latest { IfOk result (λ outcome. outcome.latest ≡ last_of (reports_in outcome.entries)) }
 {
     let Returned {
         passes,
-        side,
+        mut side,
         mut reader,
         last,
         entries,
     } = returned;
-    let latest = hall.latest.latest(seat);
+    let latest = hall.latest.catch_up(&mut side.seat, seat);
     if !has_heard_all(side.sender, &mut reader) {
         return Err(AllocError);
     }
@@ -139,7 +143,7 @@ pub fn run<R: Threads + Wait + Sync, S: Solver + Sync>(
     requires ring { (1 ≤ ring_capacity) × (ring_capacity ≤ 1024) }
     ensures fault { IfOk result (λ outcome. outcome.shown.fault ≡ fault) }
     ensures run { IfOk result (λ outcome. IsRunOf outcome.store outcome.entries outcome.shown) }
-    ensures latest { IfOk result (λ outcome. outcome.shown.latest ≡ option_map (λ told. told.1) outcome.latest) }
+    ensures latest { IfOk result (λ outcome. outcome.latest ≡ last_of (reports_in outcome.entries)) }
 {
     let (desk, passes, pass) = Desk::new(alloc, desk_capacity)?;
     let (sender, reader) = ring(alloc, ring_capacity)?;

@@ -2,6 +2,7 @@ ghost use Rattle.std.specs.Prelude.{◌≡◌, ◌<◌, None, [], IfOk};
 ghost use Rattle.fragment_intake.specs.Collectors.{AreCollectorsOf};
 ghost use Rattle.round_state.specs.Opening.{fresh_state};
 ghost use Rattle.round_state.specs.Runs.{Holds};
+ghost use Rattle.live_audit.specs.Running.{reports_in};
 ghost use Rattle.demonstration.specs.Runs.{AreFresh, IsFreshSide, HasReturned, HasCollected, HasHeard, HasAudited};
 
 use crate::auditing::audit;
@@ -90,7 +91,8 @@ fn join_all<R: Threads>(
     collectors: (Collecting, Collecting, Collecting, Collecting),
     side: AuditorSide,
 ) -> Result<Returned, NoMemory>
-    requires { HasAudited side.pass.1 side.sender.sent }
+    requires audited { HasAudited side.pass.1 side.sender.sent }
+    requires published { side.seat.published ≡ reports_in side.sender.sent }
     ensures { IfOk result (HasReturned (collectors.0.promise.0.value, collectors.1.promise.0.value, collectors.2.promise.0.value, collectors.3.promise.0.value) side hearing.promise.0.value) }
 {
     let (first, second, third, fourth) = collectors;

@@ -1,22 +1,19 @@
 //! Four collectors with 2,000 items each, in threads of their own, over a desk with three places and a ring with one, whose reader starts late.
-ghost use Rattle.std.specs.Prelude.{◌≡◌, ◌+◌, ◌<◌, ◌^◌, None, [], IfOk, length};
-ghost use Rattle.fragment_intake.specs.Collectors.{AreCollectorsOf};
-ghost use Rattle.demonstration_tests.specs.Crowds.{AreFresh, IsFreshSide};
+ghost use Rattle.std.specs.Prelude.{◌≡◌, ◌+◌, ◌<◌, ◌^◌, [], length};
 
-use fragment_intake::{CollectorPass, CollectorPasses, Desk, Item, Tally};
-use live_audit::{AuditorSide, Effort, audit_live};
+use crate::stage::{Play, Setting, run, submit};
+use fragment_intake::{CollectorPass, Desk, Item};
+use live_audit::Effort;
 use logged_fragments::LoggedFragment;
 use order_check::Kind;
 use polygraph::Single;
-use report_queue::{Entry, Latest, ReportReader, ring};
-use round_state::{Engine, Report};
+use report_queue::Entry;
+use round_state::Report;
 use std::alloc::{AllocError, Global};
-use std::snapshot::Snapshot;
 use std::sync::atomic::{AtomicU64, Ordering};
-use std::sync::{OnceLock, Wait};
+use std::sync::{Mutex, Wait};
 use std::test::*;
 use std::thread;
-use std::thread::{JoinHandle, Promise, PromisedHandle, Scope, Threads};
 use txn::{Fragment, NoMemory, Sequence, Source, Txn, TxnId};
 
 /// How many transactions a collector submits, before it closes its session and ends.
@@ -118,39 +115,18 @@ fn item_of(alloc: Global, session: u8, place: u64) -> Item {
     }
 }
 
-/// Submits the item, once there is room for it.
-pub fn submit<R: Wait>(rt: &R, desk: &Desk, pass: &mut CollectorPass, item: Item)
-    requires desk { pass.old.0 ≡ desk.now.0 }
-    requires few { length pass.old.2 < 2 ^ 48 }
-    ensures same { (pass.new.0 ≡ pass.old.0) × (pass.new.1 ≡ pass.old.1) }
-    ensures one { length pass.new.2 ≡ length pass.old.2 + 1 }
-{
-    let mut item = item;
-    for _ in rt.forever() {
-        match desk.submit(rt, pass, item) {
-            Ok(()) => return,
-            Err(back) => item = back,
-        }
-        thread::yield_now();
-    }
-    unreachable!()
-}
-
-/// What the threads share: whether they are to work, how many fences were submitted, whether a collector has found the desk full (1), the desk, and
-/// the word.
+/// What the threads share: how many fences were submitted, whether a collector has found the desk full (1), and what the reader has heard.
 #[derive(Drop)]
-struct Hall {
-    start: OnceLock<bool>,
+struct Crowd {
     fences: AtomicU64,
     full: AtomicU64,
-    desk: Desk,
-    latest: Latest,
+    heard: Mutex<Heard>,
 }
 
 /// Waits until so many fences were submitted, so that no session is far behind the others.
-fn wait_turn<R: Wait>(rt: &R, hall: &Hall, turn: u64) {
+fn wait_turn<R: Wait>(rt: &R, crowd: &Crowd, turn: u64) {
     for _ in rt.forever() {
-        if turn <= hall.fences.load(Ordering::SeqCst) {
+        if turn <= crowd.fences.load(Ordering::SeqCst) {
             return;
         }
         thread::yield_now();
@@ -159,42 +135,32 @@ fn wait_turn<R: Wait>(rt: &R, hall: &Hall, turn: u64) {
 }
 
 /// Submits the item once there is room for it, and notes where there is none at first.
-fn submit_noting<R: Wait>(rt: &R, hall: &Hall, pass: &mut CollectorPass, item: Item)
-    requires desk { pass.old.0 ≡ hall.now.desk.0 }
+fn submit_noting<R: Wait>(rt: &R, crowd: &Crowd, desk: &Desk, pass: &mut CollectorPass, item: Item)
+    requires desk { pass.old.0 ≡ desk.now.0 }
     requires few { length pass.old.2 < 2 ^ 48 }
     ensures same { (pass.new.0 ≡ pass.old.0) × (pass.new.1 ≡ pass.old.1) }
     ensures one { length pass.new.2 ≡ length pass.old.2 + 1 }
 {
-    match hall.desk.submit(rt, pass, item) {
+    match desk.submit(rt, pass, item) {
         Ok(()) => {}
         Err(back) => {
-            hall.full.store(1, Ordering::SeqCst);
-            submit(rt, &hall.desk, pass, back);
+            crowd.full.store(1, Ordering::SeqCst);
+            submit(rt, desk, pass, back);
         }
     }
-}
-
-/// Waits until a collector has found the desk full.
-fn wait_until_full<R: Wait>(rt: &R, hall: &Hall) {
-    for _ in rt.forever() {
-        if hall.full.load(Ordering::SeqCst) == 1 {
-            return;
-        }
-        thread::yield_now();
-    }
-    unreachable!()
 }
 
 /// Submits a session's item at this place, a fence in its turn.
 fn submit_in_turn<R: Wait>(
     rt: &R,
     alloc: Global,
-    hall: &Hall,
+    crowd: &Crowd,
+    desk: &Desk,
     session: u8,
     place: u64,
     pass: &mut CollectorPass,
 )
-    requires desk { pass.old.0 ≡ hall.now.desk.0 }
+    requires desk { pass.old.0 ≡ desk.now.0 }
     requires few { length pass.old.2 < 2 ^ 48 }
     ensures same { (pass.new.0 ≡ pass.old.0) × (pass.new.1 ≡ pass.old.1) }
     ensures one { length pass.new.2 ≡ length pass.old.2 + 1 }
@@ -202,51 +168,30 @@ fn submit_in_turn<R: Wait>(
     let item = item_of(alloc, session, place);
     if is_fence(place) {
         let turn = turn_of(session, place);
-        wait_turn(rt, hall, turn);
-        submit_noting(rt, hall, pass, item);
-        hall.fences.store(turn.saturating_add(1), Ordering::SeqCst);
+        wait_turn(rt, crowd, turn);
+        submit_noting(rt, crowd, desk, pass, item);
+        crowd.fences.store(turn.saturating_add(1), Ordering::SeqCst);
     } else {
-        submit_noting(rt, hall, pass, item);
+        submit_noting(rt, crowd, desk, pass, item);
     }
 }
 
 /// A collector's whole work.
-fn submit_all<R: Wait>(rt: &R, alloc: Global, hall: &Hall, session: u8, pass: &mut CollectorPass)
-    requires { (pass.old.0 ≡ hall.now.desk.0) × (pass.old.2 ≡ []) }
+fn submit_all<R: Wait>(
+    rt: &R,
+    alloc: Global,
+    crowd: &Crowd,
+    desk: &Desk,
+    session: u8,
+    pass: &mut CollectorPass,
+)
+    requires { (pass.old.0 ≡ desk.now.0) × (pass.old.2 ≡ []) }
     ensures { (pass.new.0 ≡ pass.old.0) × (pass.new.1 ≡ pass.old.1) }
 {
     for place in 0..1999u64 {
-        submit_in_turn(rt, alloc, hall, session, place, pass);
+        submit_in_turn(rt, alloc, crowd, desk, session, place, pass);
     }
-    submit(rt, &hall.desk, pass, Item::End);
-}
-
-/// That this pass comes back.
-#[derive(Drop)]
-struct PassOf(Snapshot<CollectorPass>);
-
-impl Promise<CollectorPass> for PassOf {
-    ghost use Rattle.std.specs.Prelude.{◌≡◌};
-
-    ghost kept_by = { λ promise pass. (pass.0 ≡ promise.0.value.0) × (pass.1 ≡ promise.0.value.1) };
-}
-
-/// A collector's whole work, once it is called.
-fn collect<R: Wait>(
-    rt: &R,
-    alloc: Global,
-    hall: &Hall,
-    session: u8,
-    pass: CollectorPass,
-) -> CollectorPass
-    requires { (pass.0 ≡ hall.now.desk.0) × (pass.2 ≡ []) }
-    ensures { (result.0 ≡ pass.0) × (result.1 ≡ pass.1) }
-{
-    let mut pass = pass;
-    if *hall.start.wait(rt) {
-        submit_all(rt, alloc, hall, session, &mut pass);
-    }
-    pass
+    submit(rt, desk, pass, Item::End);
 }
 
 /// What the reader has heard.
@@ -313,248 +258,63 @@ impl Heard {
     }
 }
 
-/// Reads to the end.
-fn hear<R: Wait>(rt: &R, reader: &mut ReportReader) -> Heard {
-    let mut heard = Heard::nothing();
-    for _ in rt.forever() {
-        match reader.next() {
-            Some(Entry::End) => return heard,
-            Some(entry) => heard.note(&entry),
-            None => thread::yield_now(),
+impl Play for Crowd {
+    fn collect<R: Wait>(
+        &self,
+        rt: &R,
+        alloc: Global,
+        desk: &Desk,
+        number: u8,
+        pass: &mut CollectorPass,
+    )
+        requires { (pass.old.0 ≡ desk.now.0) × (pass.old.2 ≡ []) }
+        ensures { (pass.new.0 ≡ pass.old.0) × (pass.new.1 ≡ pass.old.1) }
+    {
+        submit_all(rt, alloc, self, desk, number, pass);
+    }
+
+    /// The reader begins only when the desk is full.
+    fn wait_to_read<R: Wait>(&self, rt: &R) {
+        for _ in rt.forever() {
+            if self.full.load(Ordering::SeqCst) == 1 {
+                return;
+            }
+            thread::yield_now();
         }
+        unreachable!()
     }
-    unreachable!()
-}
 
-/// The reader's whole work, once it is called: it begins only when the desk is full.
-fn listen<R: Wait>(rt: &R, hall: &Hall, reader: ReportReader) -> Heard {
-    let mut reader = reader;
-    if *hall.start.wait(rt) {
-        wait_until_full(rt, hall);
-        hear(rt, &mut reader)
-    } else {
-        Heard::nothing()
+    fn hear<R: Wait>(&self, rt: &R, entry: &Entry) {
+        self.heard.lock(rt).note(entry);
     }
 }
 
-type Collecting = PromisedHandle<CollectorPass, PassOf>;
-
-/// Starts a collector.
-fn start_collector<'s, E, R: Threads + Wait + Sync>(
-    scope: &Scope<'s, E>,
-    rt: &'s R,
-    alloc: Global,
-    hall: &'s Hall,
-    session: u8,
-    pass: CollectorPass,
-) -> Result<Collecting, NoMemory>
-    requires desk { pass.0 ≡ hall.now.desk.0 }
-    requires fresh { pass.2 ≡ [] }
-    ensures { IfOk result (λ thread. thread.promise.0.value ≡ pass) }
-{
-    let promise = PassOf(Snapshot::of(&pass));
-    let thread = scope.spawn_with(
-        promise,
-        move || -> CollectorPass
-            requires { (pass.0 ≡ hall.now.desk.0) × (pass.2 ≡ []) }
-            ensures { (result.0 ≡ pass.0) × (result.1 ≡ pass.1) }
-        { collect(rt, alloc, hall, session, pass) },
-    )?;
-    Ok(thread)
-}
-
-/// Starts the reader.
-fn start_reader<'s, E, R: Threads + Wait + Sync>(
-    scope: &Scope<'s, E>,
-    rt: &'s R,
-    hall: &'s Hall,
-    reader: ReportReader,
-) -> Result<JoinHandle<Heard>, NoMemory> {
-    let thread = scope.spawn(move || -> Heard { listen(rt, hall, reader) })?;
-    Ok(thread)
-}
-
-const EFFORT: Effort = Effort {
-    budget: 4096,
-    depth: 0,
-    workers: 1,
+const SETTING: Setting = Setting {
+    sessions: 4,
+    effort: Effort {
+        budget: 4096,
+        depth: 0,
+        workers: 1,
+    },
+    desk: 3,
+    ring: 1,
 };
-
-/// What the threads come back with: the collectors' passes and the auditor's, what was heard, and whether the last round was made.
-#[derive(Drop)]
-struct Returned {
-    passes: CollectorPasses,
-    side: AuditorSide,
-    heard: Heard,
-    is_made: bool,
-}
-
-/// The auditor's whole work.
-fn audit<'s, E, R: Threads + Wait>(
-    scope: &Scope<'s, E>,
-    rt: &R,
-    alloc: Global,
-    hall: &Hall,
-    engine: Engine,
-    side: &mut AuditorSide,
-) -> bool
-    requires none_open { engine.asked ≡ None }
-    requires side { IsFreshSide hall.now.desk hall.now.latest side.old }
-    ensures { side.new.pass.0 ≡ side.old.pass.0 }
-{
-    audit_live(
-        scope,
-        rt,
-        alloc,
-        engine,
-        &Single,
-        EFFORT,
-        &hall.desk,
-        &hall.latest,
-        side,
-    )
-    .is_ok()
-}
-
-/// Each collector and the reader work in a thread of their own, and the auditor in this one. Where one of the threads can't be made none works.
-fn run_threads<R: Threads + Wait + Sync>(
-    rt: &R,
-    alloc: Global,
-    hall: &Hall,
-    engine: Engine,
-    passes: CollectorPasses,
-    side: AuditorSide,
-    reader: ReportReader,
-) -> Result<Returned, NoMemory>
-    requires passes { AreCollectorsOf hall.now.desk passes }
-    requires none { AreFresh passes }
-    requires none_open { engine.asked ≡ None }
-    requires side { IsFreshSide hall.now.desk hall.now.latest side }
-    ensures passes { IfOk result (λ returned. AreCollectorsOf hall.now.desk returned.passes) }
-    ensures side { IfOk result (λ returned. returned.side.pass.0 ≡ hall.now.desk.0) }
-{
-    thread::scope(
-        thread::scope_env(),
-        rt,
-        move |scope| -> Result<Returned, NoMemory>
-            requires { AreCollectorsOf hall.now.desk passes × AreFresh passes × (engine.asked ≡ None) × IsFreshSide hall.now.desk hall.now.latest side }
-            ensures { IfOk result (λ returned. AreCollectorsOf hall.entry.now.desk returned.passes × (returned.side.pass.0 ≡ hall.entry.now.desk.0)) }
-        {
-            let (first, second, third, fourth) = passes;
-            let reading = start_reader(scope, rt, hall, reader);
-            let first = start_collector(scope, rt, alloc, hall, 0, first);
-            let second = start_collector(scope, rt, alloc, hall, 1, second);
-            let third = start_collector(scope, rt, alloc, hall, 2, third);
-            let fourth = start_collector(scope, rt, alloc, hall, 3, fourth);
-            match (reading, first, second, third, fourth) {
-                (Ok(reading), Ok(first), Ok(second), Ok(third), Ok(fourth)) => {
-                    let _ = hall.start.set(rt, true);
-                    let mut side = side;
-                    let is_made = audit(scope, rt, alloc, hall, engine, &mut side);
-                    let first = first.join(rt);
-                    let second = second.join(rt);
-                    let third = third.join(rt);
-                    let fourth = fourth.join(rt);
-                    Ok(Returned {
-                        passes: (first, second, third, fourth),
-                        side,
-                        heard: reading.join(rt),
-                        is_made,
-                    })
-                }
-                _ => {
-                    let _ = hall.start.set(rt, false);
-                    Err(AllocError)
-                }
-            }
-        },
-    )
-}
-
-/// What a crowd came to.
-#[derive(Clone, Copy, Debug)]
-struct Crowd {
-    tally: Tally,
-    heard: Heard,
-    is_made: bool,
-}
-
-/// What the desk tells, once the threads have ended.
-fn crowd_of<R: Wait>(rt: &R, hall: Hall, returned: Returned) -> Crowd
-    requires passes { AreCollectorsOf hall.desk returned.passes }
-    requires side { returned.side.pass.0 ≡ hall.desk.0 }
-{
-    let Hall {
-        start: _,
-        fences: _,
-        full: _,
-        desk,
-        latest: _,
-    } = hall;
-    let Returned {
-        passes,
-        side,
-        heard,
-        is_made,
-    } = returned;
-    let AuditorSide {
-        pass,
-        sender: _,
-        seat: _,
-    } = side;
-    let tally = desk.tally(rt, passes, pass);
-    Crowd {
-        tally,
-        heard,
-        is_made,
-    }
-}
-
-fn open_engine(alloc: Global) -> Result<Engine, NoMemory>
-    ensures { IfOk result (λ engine. engine.asked ≡ None) }
-{
-    match Engine::open(alloc, 4, 4096) {
-        Ok(engine) => Ok(engine),
-        Err(_) => Err(AllocError),
-    }
-}
-
-fn run_crowd<R: Threads + Wait + Sync>(rt: &R, alloc: Global) -> Result<Crowd, NoMemory> {
-    match (
-        Desk::new(alloc, 3),
-        ring(alloc, 1),
-        Latest::new(alloc, 1),
-        open_engine(alloc),
-    ) {
-        (Ok((desk, passes, pass)), Ok((sender, reader)), Ok((latest, seat, _)), Ok(engine)) => {
-            let start = OnceLock::new();
-            let hall = Hall {
-                start,
-                fences: AtomicU64::new(0),
-                full: AtomicU64::new(0),
-                desk,
-                latest,
-            };
-            let side = AuditorSide { pass, sender, seat };
-            match run_threads(rt, alloc, &hall, engine, passes, side, reader) {
-                Ok(returned) => Ok(crowd_of(rt, hall, returned)),
-                Err(refused) => Err(refused),
-            }
-        }
-        _ => Err(AllocError),
-    }
-}
 
 /// Each collector's items are taken and told in order, none is refused, no report is wrong, and the last one counts all that was accepted, and is
 /// serial. What isn't serial before is pending: a parcel may be taken before that of another collector which it has read from.
 #[test]
 fn four_threads_with_2000_items_each(rt: HostRuntime) -> Result<(), Fail> {
-    let crowd = run_crowd(&rt, rt.alloc())?;
-    let heard = crowd.heard;
-    assert!(rt; crowd.is_made);
-    assert_eq!(rt; crowd.tally.submitted, [2000; 4]);
-    assert_eq!(rt; crowd.tally.taken, [2000; 4]);
-    assert_eq!(rt; crowd.tally.left, [0; 4]);
+    let crowd = Crowd {
+        fences: AtomicU64::new(0),
+        full: AtomicU64::new(0),
+        heard: Mutex::new(Heard::nothing()),
+    };
+    let played = run(&rt, rt.alloc(), SETTING, &crowd, &Single)?;
+    let heard = crowd.heard.into_inner();
+    assert!(rt; played.is_made);
+    assert_eq!(rt; played.tally.submitted, [2000; 4]);
+    assert_eq!(rt; played.tally.taken, [2000; 4]);
+    assert_eq!(rt; played.tally.left, [0; 4]);
     assert_eq!(rt; (heard.refused, heard.wrong), (0, 0), "{heard:?}");
     assert_eq!(rt; heard.accepted, [TXNS; 4], "{heard:?}");
     assert_eq!(rt; heard.counts, heard.accepted, "{heard:?}");

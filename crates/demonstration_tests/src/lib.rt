@@ -11,3 +11,5 @@ mod held_search;
 mod holding;
 #[cfg(test)]
 mod judging;
+#[cfg(test)]
+mod stage;

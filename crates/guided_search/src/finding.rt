@@ -4,7 +4,7 @@ ghost use Rattle.order_check.specs.Good.{IsGood};
 ghost use Rattle.guided_search.specs.Believed.{IsBelieved};
 
 use crate::guided::Finder;
-use crate::running::run_of;
+use crate::running::{Heeds, run_of};
 use crate::searching::{Found, search_within};
 use forced_choices::Branch;
 use order_check::{Parts, explains};
@@ -58,11 +58,15 @@ fn answer_from(
     requires { IsGood parts.now }
     ensures { IfOk result (IsBelieved parts.now) }
 {
-    let order = run_of(alloc, problem, branch, false)?;
+    let order = run_of(alloc, problem, branch, Heeds::Misses)?;
     if explains(alloc, parts, order.as_slice())? {
         return Ok(Answer::Yes(order));
     }
-    let order = run_of(alloc, problem, branch, true)?;
+    let order = run_of(alloc, problem, branch, Heeds::Begun)?;
+    if explains(alloc, parts, order.as_slice())? {
+        return Ok(Answer::Yes(order));
+    }
+    let order = run_of(alloc, problem, branch, Heeds::Readers)?;
     if explains(alloc, parts, order.as_slice())? {
         return Ok(Answer::Yes(order));
     }
@@ -81,7 +85,7 @@ fn answer_within(alloc: Global, problem: &Problem, budget: u64) -> Result<Answer
     answer_from(alloc, problem, problem.parts(), &mut branch, budget)
 }
 
-/// The two orders of a store's run, which cost no node, and then a search that follows its conflicts.
+/// The three orders of a store's run, which cost no node, and then a search that follows its conflicts.
 #[derive(Clone, Copy, Debug)]
 pub struct Conflicts;
 

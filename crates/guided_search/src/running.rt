@@ -6,6 +6,24 @@ use std::alloc::Global;
 use std::collections::BTreeMap;
 use txn::{NoMemory, Sequence, Source, Txn, TxnId};
 
+/// What a run heeds after the reads that are missed.
+#[derive(Clone, Copy, Debug, PartialEq, Eq)]
+pub enum Heeds {
+    /// Nothing.
+    Misses,
+    /// How many versions that others read it begins.
+    Begun,
+    /// How far off the readers of the versions are that it begins.
+    Readers,
+}
+
+/// Who reads a version: how many that aren't taken, and of all of them the greatest place in a session, and which session that is.
+#[derive(Clone, Copy, Debug, PartialEq, Eq)]
+struct Readers {
+    left: usize,
+    furthest: (usize, usize),
+}
+
 /// What stands at a place of the run.
 #[derive(Drop)]
 struct Run {
@@ -15,19 +33,35 @@ struct Run {
     clear: Vec<usize>,
     /// Who wrote each key last.
     last: BTreeMap<u64, Source>,
-    /// How many that aren't taken read the key from the source.
-    readers: BTreeMap<(u64, Source), usize>,
+    /// Who reads the key from the source.
+    readers: BTreeMap<(u64, Source), Readers>,
     order: Vec<TxnId>,
 }
 
-fn count_readers(alloc: Global, parts: &Parts) -> Result<BTreeMap<(u64, Source), usize>, NoMemory> {
+/// Notes that the transaction at this place of a session reads what it reads.
+fn note_reads(
+    readers: &mut BTreeMap<(u64, Source), Readers>,
+    txn: &Txn,
+    place: (usize, usize),
+) -> Result<(), NoMemory> {
+    for read in txn.reads.as_slice() {
+        let noted = readers.entry(*read)?.or_insert(Readers {
+            left: 0,
+            furthest: place,
+        });
+        noted.left = noted.left.saturating_add(1);
+        if noted.furthest < place {
+            noted.furthest = place;
+        }
+    }
+    Ok(())
+}
+
+fn readers_of(alloc: Global, parts: &Parts) -> Result<BTreeMap<(u64, Source), Readers>, NoMemory> {
     let mut readers = BTreeMap::new(alloc);
-    for txns in parts.remain.as_slice() {
-        for txn in txns.as_slice() {
-            for read in txn.reads.as_slice() {
-                let count = readers.entry(*read)?.or_insert(0usize);
-                *count = count.saturating_add(1);
-            }
+    for (session, txns) in parts.remain.as_slice().iter().enumerate() {
+        for (place, txn) in txns.as_slice().iter().enumerate() {
+            note_reads(&mut readers, txn, (place, session))?;
         }
     }
     Ok(readers)
@@ -60,7 +94,7 @@ impl Run {
             taken: vec![in alloc; 0; parts.sessions()]?,
             clear: vec![in alloc; 0; parts.sessions()]?,
             last: BTreeMap::new(alloc),
-            readers: count_readers(alloc, parts)?,
+            readers: readers_of(alloc, parts)?,
             order: Vec::new(alloc),
         })
     }
@@ -117,6 +151,14 @@ impl Run {
         }
     }
 
+    /// How many that aren't taken read the version.
+    fn left_of(&self, read: (u64, Source)) -> usize {
+        match self.readers.get(&read) {
+            Some(readers) => readers.left,
+            None => 0,
+        }
+    }
+
     /// How many of the transaction's reads aren't of what is current, and how many others that aren't taken read what it overwrites.
     fn misses(&self, parts: &Parts, txn: &Txn) -> usize {
         let mut misses = 0usize;
@@ -128,8 +170,7 @@ impl Run {
         for key in txn.writes.as_slice() {
             let read = (*key, self.last_of(parts, *key));
             let own = usize::from(txn.reads.as_slice().contains(&read));
-            let others = self.readers.get(&read).copied().unwrap_or(0);
-            misses = misses.saturating_add(others.saturating_sub(own));
+            misses = misses.saturating_add(self.left_of(read).saturating_sub(own));
         }
         misses
     }
@@ -138,21 +179,32 @@ impl Run {
     fn begun(&self, id: TxnId, txn: &Txn) -> usize {
         let mut begun = 0usize;
         for key in txn.writes.as_slice() {
-            if self
-                .readers
-                .get(&(*key, Source::By(id)))
-                .copied()
-                .unwrap_or(0)
-                > 0
-            {
+            if self.left_of((*key, Source::By(id))) > 0 {
                 begun = begun.saturating_add(1);
             }
         }
         begun
     }
 
+    /// How many transactions stand in front of the furthest reader of each version that the transaction, the session's next, begins.
+    fn in_front_of_readers(&self, session: usize, id: TxnId, txn: &Txn) -> usize {
+        let mut in_front = 0usize;
+        for key in txn.writes.as_slice() {
+            if let Some(readers) = self.readers.get(&(*key, Source::By(id)))
+                && readers.left > 0
+            {
+                let (place, reader) = readers.furthest;
+                let taken = self.taken.get(reader).copied().unwrap_or(0);
+                let own = usize::from(reader == session);
+                let behind = place.saturating_sub(taken).saturating_sub(own);
+                in_front = in_front.saturating_add(behind);
+            }
+        }
+        in_front
+    }
+
     /// The best session to take from.
-    fn best(&mut self, branch: &Branch, careful: bool) -> Option<(usize, TxnId)> {
+    fn best(&mut self, branch: &Branch, heeds: Heeds) -> Option<(usize, TxnId)> {
         let mut best = None;
         for session in 0..self.sessions() {
             let Some(id) = self.next_of(branch.parts(), session) else {
@@ -161,7 +213,7 @@ impl Run {
             if !self.is_ready(branch, session, id) {
                 continue;
             }
-            let value = self.value(branch.parts(), session, id, careful);
+            let value = self.value(branch.parts(), session, id, heeds);
             best = match best {
                 Some((least, found)) if least <= value => Some((least, found)),
                 _ => Some((value, (session, id))),
@@ -174,21 +226,19 @@ impl Run {
     }
 
     /// The less the better.
-    fn value(
-        &self,
-        parts: &Parts,
-        session: usize,
-        id: TxnId,
-        careful: bool,
-    ) -> (usize, usize, u64) {
+    fn value(&self, parts: &Parts, session: usize, id: TxnId, heeds: Heeds) -> (usize, usize, u64) {
         let Some(txn) = parts.remaining_at(id) else {
             return (0, 0, 0);
         };
-        let begun = if careful { self.begun(id, txn) } else { 0 };
+        let heeded = match heeds {
+            Heeds::Misses => 0,
+            Heeds::Begun => self.begun(id, txn),
+            Heeds::Readers => self.in_front_of_readers(session, id, txn),
+        };
         let place = self.taken.get(session).copied().unwrap_or(0);
         (
             self.misses(parts, txn),
-            begun,
+            heeded,
             progress(parts, session, place),
         )
     }
@@ -204,8 +254,8 @@ impl Run {
             return Ok(());
         };
         for read in txn.reads.as_slice() {
-            if let Some(count) = self.readers.get_mut(read) {
-                *count = count.saturating_sub(1);
+            if let Some(readers) = self.readers.get_mut(read) {
+                readers.left = readers.left.saturating_sub(1);
             }
         }
         for key in txn.writes.as_slice() {
@@ -234,19 +284,19 @@ fn count_remaining(parts: &Parts) -> usize {
     count
 }
 
-/// The order of a store's run: next comes what may by what is known, misses the fewest reads, where it is careful begins the fewest versions
-/// that others read, and stands foremost in its session. Where the problem's search was given up, that counts as want of memory.
+/// The order of a store's run: next comes what may by what is known, misses the fewest reads, has the least of what it heeds, and stands foremost
+/// in its session. Where the problem's search was given up, that counts as want of memory.
 pub fn run_of(
     alloc: Global,
     problem: &Problem,
     branch: &Branch,
-    careful: bool,
+    heeds: Heeds,
 ) -> Result<Sequence<TxnId>, NoMemory> {
     let parts = branch.parts();
     let mut run = Run::new(alloc, parts)?;
     for _ in 0..count_remaining(parts) {
         problem.go_on()?;
-        let Some((session, id)) = run.best(branch, careful) else {
+        let Some((session, id)) = run.best(branch, heeds) else {
             break;
         };
         run.take(parts, session, id)?;

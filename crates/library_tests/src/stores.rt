@@ -223,6 +223,19 @@ fn reads_of(
     Ok(store.exec(alloc, request)?.reads)
 }
 
+/// What the store answers to the request. Where it is refused memory for that, it is asked once more.
+fn reads_at_last(
+    rt: &impl Abort,
+    alloc: Global,
+    store: &mut Store,
+    asked: Asked,
+) -> Result<Sequence<(u64, Source)>, NoMemory> {
+    match reads_of(rt, alloc, store, asked) {
+        Ok(reads) => Ok(reads),
+        Err(_) => reads_of(rt, alloc, store, asked),
+    }
+}
+
 /// The answers to the last request of the row.
 fn last_reads(
     rt: &impl Abort,
@@ -232,11 +245,13 @@ fn last_reads(
 ) -> Result<Sequence<(u64, Source)>, NoMemory> {
     let mut store = Store::new(alloc, fault);
     for asked in row.before {
-        reads_of(rt, alloc, &mut store, *asked)?;
+        reads_at_last(rt, alloc, &mut store, *asked)?;
     }
-    reads_of(rt, alloc, &mut store, row.last)
+    reads_at_last(rt, alloc, &mut store, row.last)
 }
 
+/// This and the next may also be run with each allocation refused in turn: `rt try --test --fail-alloc N`. A request that was refused memory
+/// is then executed as ever, once it is asked again.
 #[test]
 fn a_fault_acts_once_where_it_applies(rt: HostRuntime) -> Result<(), Fail> {
     for row in rows() {

@@ -157,7 +157,7 @@ fn report(alloc: Global, round: u64) -> Result<Report, NoMemory> {
     })
 }
 
-/// A parcel refused, a report, a cut left out, and the end.
+/// A parcel refused, a report, a round skipped, and the end.
 fn entries(alloc: Global) -> Result<[Entry; 4], NoMemory> {
     let refused = Entry::Refused {
         collector: 3,

@@ -1,5 +1,5 @@
 -- A form that takes a number of items takes no other number.
-use Rattle.std.proofs.Common.{◌≡◌, ◌≢◌, ◌<◌, List, [], ◌∷◌, length, Option, None, refl, arith}
+use Rattle.std.proofs.Common.{◌≡◌, ◌≢◌, ◌<◌, List, [], ◌∷◌, length, Option, None, option_map, refl, arith}
 use Rattle.serde_json.specs.Data.{Data}
 use Rattle.serde_json.specs.View.{items_view}
 use Rattle.serde_json.specs.declared.value.Value.{Value}
@@ -8,7 +8,8 @@ use Rattle.log_text.specs.Commands.{source_in, aborted_in, effort_in, waits_in, 
 use Rattle.log_text.specs.Refutations.{choice_in, ends_in}
 use Rattle.log_text.specs.Searches.{search_in}
 use Rattle.log_text.specs.Shown.{Reports}
-use Rattle.log_text.specs.Versions.{version_in}
+use Rattle.log_text.specs.Versions.{version_in, opening_in}
+use Rattle.log_text.specs.declared.versions.Opening.TheVariants.{Ordered}
 use Rattle.log_text.specs.declared.shown.Shown.{Shown}
 
 pub alone_none : {X : Type 0} (given : X) (vs : List Value) → length vs ≢ 0 → None ≡ alone given (items_view vs)
@@ -44,6 +45,13 @@ pub version_none : (vs : List Value) → length vs ≢ 0 → length vs ≢ 1 →
 version_none [] none one = absurd (omega (arith, none))
 version_none (a ∷ []) none one = absurd (omega (arith, one))
 version_none (a ∷ b ∷ vs) none one = refl
+
+-- where there are other than two, they are those of a version
+pub ordered_else : (vs : List Value) → length vs ≢ 2 → option_map Ordered (version_in (items_view vs)) ≡ opening_in (items_view vs)
+ordered_else [] other = refl
+ordered_else (a ∷ []) other = refl
+ordered_else (a ∷ b ∷ []) other = absurd (omega (arith, other))
+ordered_else (a ∷ b ∷ c ∷ vs) other = refl
 
 -- and behind the numbers of a search, of which there are three
 pub search_none : (vs : List Value) → length vs ≢ 0 → length vs ≢ 1 → None ≡ search_in (items_view vs)

@@ -10,7 +10,7 @@ use Rattle.log_text.specs.Refutations.{id_at, choice_in, ends_in, keyed_ends_in,
 use Rattle.log_text.specs.Searches.{search_in, search_of}
 use Rattle.log_text.specs.Shown.{id_in}
 use Rattle.log_text.specs.Streams.{is_atom, is_few, TakesFew}
-use Rattle.log_text.specs.Versions.{version_in}
+use Rattle.log_text.specs.Versions.{version_in, promise_of, opening_in}
 use Rattle.log_text.specs.declared.commands.Command.TheVariants.{Begin, Skip, Truncate, Rebuild, Show, Resumed}
 
 abbrev IsThere : {X : Type 0} → Option X → Type 0
@@ -183,13 +183,27 @@ read_few (item a rest) there = let both = both_there _ (whole_number a) (source_
 pub read_takes_few : TakesFew 3 read_in
 read_takes_few = of_few 3 read_in read_few
 
-start_few : (given : Items) → IsThere (start_in given) → AreFewAtoms 3 given
+promise_atom : (given : Data) → IsThere (promise_of given) → IsAtom given
+promise_atom null never = absurd never
+promise_atom (boolean b) never = absurd never
+promise_atom (number n) never = absurd never
+promise_atom (string word) there = tt
+promise_atom (array items) never = absurd never
+promise_atom (object ms) never = absurd never
+
+opening_few : (given : Items) → IsThere (opening_in given) → AreFewAtoms 2 given
+opening_few no_items there = tt
+opening_few (item a no_items) there = (within_atom 2 2 a (map_there _ (number_within 2 2 a) (map_there _ (version_in (item a no_items)) there)), tt)
+opening_few (item a (item b no_items)) there = let both = both_there _ (number_within 2 2 a) (promise_of b) there in (within_atom 2 2 a both.0, (promise_atom b both.1, tt))
+opening_few (item a (item b (item c rest))) never = absurd never
+
+start_few : (given : Items) → IsThere (start_in given) → AreFewAtoms 4 given
 start_few no_items never = absurd never
 start_few (item a no_items) never = absurd never
-start_few (item a (item b rest)) there = let all = three_there _ (whole_number a) (whole_number b) (version_in rest) there in (number_atom a all.0, (number_atom b all.1, version_few rest all.2))
+start_few (item a (item b rest)) there = let all = three_there _ (whole_number a) (whole_number b) (opening_in rest) there in (number_atom a all.0, (number_atom b all.1, opening_few rest all.2))
 
-pub start_takes_few : TakesFew 3 start_in
-start_takes_few = of_few 3 start_in start_few
+pub start_takes_few : TakesFew 4 start_in
+start_takes_few = of_few 4 start_in start_few
 
 resume_few : (given : Items) → IsThere (resume_in given) → AreFewAtoms 3 given
 resume_few no_items never = absurd never
@@ -371,7 +385,7 @@ if_none false one other never none = none
 
 pub plain_takes_few : (name : List ℕ) → TakesFew 4 (plain_named name)
 plain_takes_few name parts many =
-    if_none (bytes_eq name (codes "open")) _ _ (takes_more 3 4 start_in (omega arith) start_takes_few parts many)
+    if_none (bytes_eq name (codes "open")) _ _ (start_takes_few parts many)
     (if_none (bytes_eq name (codes "close")) _ _ (takes_more 1 4 close_in (omega arith) close_takes_few parts many)
     (if_none (bytes_eq name (codes "begin")) _ _ (takes_more 0 4 (alone Begin) (omega arith) (alone_takes_few Begin) parts many)
     (if_none (bytes_eq name (codes "finish")) _ _ (map_takes_few _ 4 effort_in effort_takes_few parts many)

@@ -9,12 +9,14 @@ use Rattle.txn.specs.declared.transactions.Txn.{Txn}
 use Rattle.logged_fragments.specs.declared.logged.LoggedFragment.{LoggedFragment}
 use Rattle.log_text.specs.Items.{alone, one_item, two_items, three_items, with_both, with_three, list_of, each_of}
 use Rattle.log_text.specs.Numbers.{whole_number, session_of}
-use Rattle.log_text.specs.Commands.{txn_of, fragment_of, offer_in, join_in, start_in, resume_in, effort_in, waits_in, marks_in, last_in, flag_of, writer_of, save_in, command_named}
+use Rattle.log_text.specs.Commands.{txn_of, fragment_of, offer_in, join_in, start_of, start_in, resume_in, effort_in, waits_in, marks_in, last_in, flag_of, writer_of, save_in, command_named}
 use Rattle.log_text.specs.Held.{held}
 use Rattle.log_text.specs.Kept.{kept, txns_of, made, behind_of, joined_by, joined_within}
 use Rattle.log_text.specs.Lines.{plain_named}
 use Rattle.log_text.specs.Streams.{AreRead}
-use Rattle.log_text.specs.Versions.{version_in}
+use Rattle.log_text.specs.Versions.{version_in, opening_in}
+use Rattle.log_text.specs.declared.versions.Opening.{Opening}
+use Rattle.log_text.specs.declared.versions.Opening.TheVariants.{Ordered, Isolated}
 use Rattle.log_text.specs.declared.commands.Command.{Command}
 use Rattle.log_text.specs.declared.commands.Command.TheVariants.{Start, Offer, Join, Resume, Marks, Last}
 use Rattle.log_text.specs.declared.fragments.Behind.{Behind}
@@ -159,10 +161,14 @@ module _ (n : ℕ) where
   alone_kept command same no_items = ap Some same
   alone_kept command same (item a rest) = refl
 
+  start_same : (sessions limit : ℕ) (opening : Opening) → held (Some n) (start_of sessions limit opening) ≡ start_of sessions limit opening
+  start_same sessions limit (Ordered version) = refl
+  start_same sessions limit Isolated = refl
+
   start_kept : (parts : Items) → IsKept (start_in parts)
   start_kept no_items = refl
   start_kept (item a no_items) = refl
-  start_kept (item a (item b behind)) = kept_three Start (λ x y z. refl) (whole_number a) (whole_number b) (version_in behind)
+  start_kept (item a (item b behind)) = kept_three start_of start_same (whole_number a) (whole_number b) (opening_in behind)
 
   resume_kept : (parts : Items) → IsKept (resume_in parts)
   resume_kept no_items = refl

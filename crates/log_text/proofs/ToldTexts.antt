@@ -16,65 +16,95 @@ use Rattle.refutation.specs.declared.trees.Leaf.TheVariants.{Cycle, NoWrite, Gon
 use Rattle.refutation.specs.declared.trees.Tree.{Tree, Close, Force', Split'}
 use Rattle.log_text.specs.declared.replies.Reply.{Reply}
 use Rattle.log_text.specs.declared.replies.Reply.TheVariants as reply
-use Rattle.log_text.specs.Lists.{list_text, word_text, numbers_text, named_text}
-use Rattle.log_text.specs.Replies.{id_text, writer_text, flag_text, report_parts, parts_of, text_of}
+use Rattle.snapshot_histories.specs.Halves.{event_at}
+use Rattle.snapshot_histories.specs.declared.events.Event.{Event}
+use Rattle.snapshot_histories.specs.declared.events.Event.TheVariants.{Begin, Commit}
+use Rattle.log_text.specs.Lists.{list_text, word_text, numbers_text}
+use Rattle.log_text.specs.Names.{event_texts, name_texts, key_told}
+use Rattle.log_text.specs.declared.names.Names.{Names}
+use Rattle.log_text.specs.declared.names.Names.TheVariants.{Ids, Events}
+use Rattle.log_text.specs.Replies.{id_text, event_text, writer_text, flag_text, report_parts, parts_of, text_of}
 use Rattle.log_text.specs.Saved.{number_data, list_data, writer_data}
 use Rattle.log_text.specs.Texts.{HasText, HaveTexts}
-use Rattle.log_text.specs.Told.{named_data, id_data, choice_data, arc_data, cycle_data, step_data, split_data, leaf_data, nodes_data, tree_data, report_data, reply_data}
-use Rattle.log_text.specs.Trees.{choice_text, arc_text, cycle_text, side_number, step_text, split_text, leaf_text, tree_text}
+use Rattle.log_text.specs.Told.{id_data, event_data, name_data, named_id_data, ends_data, keyed_data, reader_data, choice_data, arc_data, cycle_data, step_data, split_data, leaf_data, nodes_data, tree_data, report_data, reply_data}
+use Rattle.log_text.specs.Trees.{ends_text, keyed_text, reader_text, choice_text, arc_text, cycle_text, side_number, step_text, split_text, leaf_text, tree_text}
 use Rattle.log_text.specs.Trees as trees
 use Rattle.log_text.proofs.SavedData.{have_texts, have_both, list_data_written, writer_written, saved_written}
-use Rattle.log_text.proofs.ValueTexts.{number_written, flag_written, list_written, name_written, kind_written, ok_written, searching_written, no_written, report_written, cut_written, show_written, session_written, read_written, base_written, taken_written, force_written, split_written, cycle_written, nowrite_written, gone_written}
+use Rattle.log_text.proofs.ValueTexts.{number_written, flag_written, list_written, name_written, kind_written, ok_written, searching_written, no_written, report_written, begin_written, commit_written, cut_written, show_written, session_written, read_written, base_written, taken_written, force_written, split_written, cycle_written, nowrite_written, gone_written}
 
 numbers_written : (numbers : List ℕ) → HasText (list_data number_data numbers) (numbers_text numbers)
 numbers_written numbers = list_data_written number_data decimal number_written numbers
 
-named_written : (word numbers : List ℕ) → HasText (string word) (word_text word) → HasText (named_data word numbers) (named_text word numbers)
-named_written word numbers plain =
-    let items : HaveTexts (items_of (string word ∷ map number_data numbers)) (word_text word ∷ map decimal numbers) = (plain, have_texts number_data decimal number_written numbers) in
-    list_written _ (word_text word ∷ map decimal numbers) items
-
 id_written : (id : TxnId) → HasText (id_data id) (id_text id)
 id_written id = numbers_written (id.session ∷ id.number ∷ [])
 
-choice_written : (choice : Choice) → HasText (choice_data choice) (choice_text choice)
-choice_written choice = numbers_written (choice.reader.session ∷ choice.reader.number ∷ choice.key ∷ choice.writer.session ∷ choice.writer.number ∷ choice.other.session ∷ choice.other.number ∷ [])
+event_written : (event : Event) → HaveTexts (items_of (event_data event)) (event_texts event)
+event_written (Begin id) = (number_written id.session, (number_written id.number, (begin_written, tt)))
+event_written (Commit id) = (number_written id.session, (number_written id.number, (commit_written, tt)))
 
-arc_written : (arc : Arc) → HasText (arc_data arc) (arc_text arc)
-arc_written (Session from to) = named_written (codes "session") (from.session ∷ from.number ∷ to.session ∷ to.number ∷ []) session_written
-arc_written (Read key from to) = named_written (codes "read") (key ∷ from.session ∷ from.number ∷ to.session ∷ to.number ∷ []) read_written
-arc_written (Base key from to) = named_written (codes "base") (key ∷ from.session ∷ from.number ∷ to.session ∷ to.number ∷ []) base_written
-arc_written (Taken from to) = named_written (codes "taken") (from.session ∷ from.number ∷ to.session ∷ to.number ∷ []) taken_written
+name_told : (names : Names) (id : TxnId) → HaveTexts (items_of (name_data names id)) (name_texts names id)
+name_told Ids id = (number_written id.session, (number_written id.number, tt))
+name_told Events half = event_written (event_at half)
 
-arcs_written : (arcs : List Arc) → HasText (cycle_data arcs) (cycle_text arcs)
-arcs_written arcs = list_data_written arc_data arc_text arc_written arcs
+event_id_written : (half : TxnId) → HasText (named_id_data Events half) (event_text half)
+event_id_written half = list_written _ (name_texts Events half) (name_told Events half)
 
-step_written : (step : ForceStep) → HasText (step_data step) (step_text step)
-step_written step =
+ends_told : (names : Names) (from to : TxnId) → HaveTexts (items_of (name_data names from ++ name_data names to)) (name_texts names from ++ name_texts names to)
+ends_told names from to = have_both _ _ _ _ (name_told names from) (name_told names to)
+
+choice_written : (names : Names) (choice : Choice) → HasText (choice_data names choice) (choice_text names choice)
+choice_written names choice =
+    list_written (items_of (name_data names choice.reader ++ (number_data (key_told names choice.key) ∷ (name_data names choice.writer ++ name_data names choice.other)))) (name_texts names choice.reader ++ (decimal (key_told names choice.key) ∷ (name_texts names choice.writer ++ name_texts names choice.other)))
+    (have_both (name_data names choice.reader) (number_data (key_told names choice.key) ∷ (name_data names choice.writer ++ name_data names choice.other)) (name_texts names choice.reader) (decimal (key_told names choice.key) ∷ (name_texts names choice.writer ++ name_texts names choice.other)) (name_told names choice.reader) (number_written (key_told names choice.key), ends_told names choice.writer choice.other))
+
+ends_written : (names : Names) (word : List ℕ) (from to : TxnId) → HasText (string word) (word_text word) → HasText (ends_data names word from to) (ends_text names word from to)
+ends_written names word from to plain =
+    list_written (items_of (string word ∷ (name_data names from ++ name_data names to))) (word_text word ∷ (name_texts names from ++ name_texts names to)) (plain, ends_told names from to)
+
+keyed_written : (names : Names) (word : List ℕ) (key : ℕ) (from to : TxnId) → HasText (string word) (word_text word) → HasText (keyed_data names word key from to) (keyed_text names word key from to)
+keyed_written names word key from to plain =
+    list_written (items_of (string word ∷ number_data (key_told names key) ∷ (name_data names from ++ name_data names to))) (word_text word ∷ decimal (key_told names key) ∷ (name_texts names from ++ name_texts names to)) (plain, (number_written (key_told names key), ends_told names from to))
+
+arc_written : (names : Names) (arc : Arc) → HasText (arc_data names arc) (arc_text names arc)
+arc_written names (Session from to) = ends_written names (codes "session") from to session_written
+arc_written names (Read key from to) = keyed_written names (codes "read") key from to read_written
+arc_written names (Base key from to) = keyed_written names (codes "base") key from to base_written
+arc_written names (Taken from to) = ends_written names (codes "taken") from to taken_written
+
+arcs_written : (names : Names) (arcs : List Arc) → HasText (cycle_data names arcs) (cycle_text names arcs)
+arcs_written names arcs = list_data_written (arc_data names) (arc_text names) (arc_written names) arcs
+
+step_written : (names : Names) (step : ForceStep) → HasText (step_data names step) (step_text names step)
+step_written names step =
     let side = side_number step.side in
-    let items : HaveTexts (items_of (string (codes "force") ∷ choice_data step.choice ∷ number_data side ∷ cycle_data step.cycle ∷ [])) (word_text (codes "force") ∷ choice_text step.choice ∷ decimal side ∷ cycle_text step.cycle ∷ []) =
-    (force_written, (choice_written step.choice, (number_written side, (arcs_written step.cycle, tt)))) in
-    list_written _ (word_text (codes "force") ∷ choice_text step.choice ∷ decimal side ∷ cycle_text step.cycle ∷ []) items
+    let items : HaveTexts (items_of (string (codes "force") ∷ choice_data names step.choice ∷ number_data side ∷ cycle_data names step.cycle ∷ [])) (word_text (codes "force") ∷ choice_text names step.choice ∷ decimal side ∷ cycle_text names step.cycle ∷ []) =
+    (force_written, (choice_written names step.choice, (number_written side, (arcs_written names step.cycle, tt)))) in
+    list_written _ (word_text (codes "force") ∷ choice_text names step.choice ∷ decimal side ∷ cycle_text names step.cycle ∷ []) items
 
-a_split_written : (choice : Choice) → HasText (split_data choice) (split_text choice)
-a_split_written choice =
-    let items : HaveTexts (items_of (string (codes "split") ∷ choice_data choice ∷ [])) (word_text (codes "split") ∷ choice_text choice ∷ []) = (split_written, (choice_written choice, tt)) in
-    list_written _ (word_text (codes "split") ∷ choice_text choice ∷ []) items
+a_split_written : (names : Names) (choice : Choice) → HasText (split_data names choice) (split_text names choice)
+a_split_written names choice =
+    let items : HaveTexts (items_of (string (codes "split") ∷ choice_data names choice ∷ [])) (word_text (codes "split") ∷ choice_text names choice ∷ []) = (split_written, (choice_written names choice, tt)) in
+    list_written _ (word_text (codes "split") ∷ choice_text names choice ∷ []) items
 
-leaf_written : (leaf : Leaf) → HasText (leaf_data leaf) (leaf_text leaf)
-leaf_written (Cycle arcs) =
-    let items : HaveTexts (items_of (string (codes "cycle") ∷ cycle_data arcs ∷ [])) (word_text (codes "cycle") ∷ cycle_text arcs ∷ []) = (cycle_written, (arcs_written arcs, tt)) in
-    list_written _ (word_text (codes "cycle") ∷ cycle_text arcs ∷ []) items
-leaf_written (NoWrite reader key) = named_written (codes "nowrite") (reader.session ∷ reader.number ∷ key ∷ []) nowrite_written
-leaf_written (Gone reader key) = named_written (codes "gone") (reader.session ∷ reader.number ∷ key ∷ []) gone_written
+read_leaf_written : (names : Names) (word : List ℕ) (reader : TxnId) (key : ℕ) → HasText (string word) (word_text word) → HasText (reader_data names word reader key) (reader_text names word reader key)
+read_leaf_written names word reader key plain =
+    list_written (items_of (string word ∷ (name_data names reader ++ number_data (key_told names key) ∷ []))) (word_text word ∷ (name_texts names reader ++ decimal (key_told names key) ∷ []))
+    (plain, have_both (name_data names reader) (number_data (key_told names key) ∷ []) (name_texts names reader) (decimal (key_told names key) ∷ []) (name_told names reader) (number_written (key_told names key), tt))
 
-nodes_written : (tree : Tree) → HaveTexts (items_of (nodes_data tree)) (trees.items_of tree)
-nodes_written (Close leaf) = (leaf_written leaf, tt)
-nodes_written (Force' steps p rest) = have_both _ _ _ _ (have_texts step_data step_text step_written steps) (nodes_written rest)
-nodes_written (Split' choice p first q second) = (a_split_written choice, have_both _ _ _ _ (nodes_written first) (nodes_written second))
+leaf_written : (names : Names) (leaf : Leaf) → HasText (leaf_data names leaf) (leaf_text names leaf)
+leaf_written names (Cycle arcs) =
+    let items : HaveTexts (items_of (string (codes "cycle") ∷ cycle_data names arcs ∷ [])) (word_text (codes "cycle") ∷ cycle_text names arcs ∷ []) = (cycle_written, (arcs_written names arcs, tt)) in
+    list_written _ (word_text (codes "cycle") ∷ cycle_text names arcs ∷ []) items
+leaf_written names (NoWrite reader key) = read_leaf_written names (codes "nowrite") reader key nowrite_written
+leaf_written names (Gone reader key) = read_leaf_written names (codes "gone") reader key gone_written
 
-tree_written : (tree : Tree) → HasText (tree_data tree) (tree_text tree)
-tree_written tree = list_written (items_of (nodes_data tree)) (trees.items_of tree) (nodes_written tree)
+nodes_written : (names : Names) (tree : Tree) → HaveTexts (items_of (nodes_data names tree)) (trees.items_of names tree)
+nodes_written names (Close leaf) = (leaf_written names leaf, tt)
+nodes_written names (Force' steps p rest) = have_both _ _ _ _ (have_texts (step_data names) (step_text names) (step_written names) steps) (nodes_written names rest)
+nodes_written names (Split' choice p first q second) = (a_split_written names choice, have_both _ _ _ _ (nodes_written names first) (nodes_written names second))
+
+tree_written : (names : Names) (tree : Tree) → HasText (tree_data names tree) (tree_text names tree)
+tree_written names tree = list_written (items_of (nodes_data names tree)) (trees.items_of names tree) (nodes_written names tree)
 
 -- what each report begins with, and what is behind it
 reported : (round : ℕ) (kind : Kind) (counts : List ℕ) (more : List Data) (texts : List (List ℕ)) → HaveTexts (items_of more) texts → HaveTexts (items_of (report_data round kind counts ++ more)) (report_parts round kind counts ++ texts)
@@ -84,7 +114,9 @@ reply_written : (given : Reply) → HaveTexts (items_of (reply_data given)) (par
 reply_written reply.Done = (ok_written, tt)
 reply_written (reply.No refusal) = (no_written, (number_written (number_of refusal), (name_written refusal, tt)))
 reply_written (reply.Order round kind counts order) = reported round kind counts (list_data id_data order ∷ []) (list_text (map id_text order) ∷ []) (list_data_written id_data id_text id_written order, tt)
-reply_written (reply.Violated round counts tree) = reported round kind.Violated counts (tree_data tree ∷ []) (tree_text tree ∷ []) (tree_written tree, tt)
+reply_written (reply.Violated round counts tree) = reported round kind.Violated counts (tree_data Ids tree ∷ []) (tree_text Ids tree ∷ []) (tree_written Ids tree, tt)
+reply_written (reply.Events round kind counts order) = reported round kind counts (list_data (named_id_data Events) order ∷ []) (list_text (map event_text order) ∷ []) (list_data_written (named_id_data Events) event_text event_id_written order, tt)
+reply_written (reply.Broken round counts tree) = reported round kind.Violated counts (tree_data Events tree ∷ []) (tree_text Events tree ∷ []) (tree_written Events tree, tt)
 reply_written (reply.Spent round counts) = reported round kind.Spent counts [] [] tt
 reply_written (reply.Cut fence gone last) =
     (cut_written, (id_written fence, (list_data_written id_data id_text id_written gone, (list_data_written writer_data writer_text writer_written last, tt))))

@@ -73,6 +73,15 @@ pub show_written : HasText (string (codes "show")) (word_text (codes "show"))
 unfolding serde_json_on_literals
 show_written = word_written _ refl
 
+-- the words of events
+pub begin_written : HasText (string (codes "begin")) (word_text (codes "begin"))
+unfolding serde_json_on_literals
+begin_written = word_written _ refl
+
+pub commit_written : HasText (string (codes "commit")) (word_text (codes "commit"))
+unfolding serde_json_on_literals
+commit_written = word_written _ refl
+
 -- the words of the items of a tree, and of arcs
 pub session_written : HasText (string (codes "session")) (word_text (codes "session"))
 unfolding serde_json_on_literals

@@ -10,14 +10,16 @@ use Rattle.order_check.specs.Effort.{IsEffort}
 use Rattle.logged_fragments.specs.declared.logged.LoggedFragment.{LoggedFragment}
 use Rattle.log_text.specs.declared.commands.Command.{Command}
 use Rattle.log_text.specs.declared.commands.Effort.{Effort}
-use Rattle.log_text.specs.declared.commands.Command.TheVariants.{Start, Offer, Join, Close, Begin, Finish, Round, BeginSearch, Collect, Skip, Truncate, Rebuild, Show, Resume, Marks, Last, Resumed, Save, Answer}
+use Rattle.log_text.specs.declared.commands.Command.TheVariants.{Start, StartIsolated, Offer, Join, Close, Begin, Finish, Round, BeginSearch, Collect, Skip, Truncate, Rebuild, Show, Resume, Marks, Last, Resumed, Save, Answer}
 use Rattle.log_text.specs.declared.commands.Wanted.TheVariants as wanted
 use Rattle.log_text.specs.Items.{array_of, list_of, with_both, with_three, with_four, alone, one_item, two_items, three_items}
 use Rattle.log_text.specs.Numbers.{whole_number, number_within, session_of}
 use Rattle.log_text.specs.Searches.{search_in}
 use Rattle.log_text.specs.Shown.{IsAnswer}
 use Rattle.log_text.specs.declared.shown.Shown.{Shown}
-use Rattle.log_text.specs.Versions.{version_in}
+use Rattle.log_text.specs.Versions.{version_in, opening_in}
+use Rattle.log_text.specs.declared.versions.Opening.{Opening}
+use Rattle.log_text.specs.declared.versions.Opening.TheVariants.{Ordered, Isolated}
 
 -- "init"
 abbrev pub init_of : Data → Option Source
@@ -76,9 +78,14 @@ fragment_at = with_three fragment_of
 abbrev pub fragment_in : Items → Option LoggedFragment
 fragment_in = three_items fragment_of session_of whole_number (list_of txn_of)
 
--- ["open",sessions,limit] or ["open",sessions,limit,2]
+-- a script that is opened for this
+abbrev pub start_of : ℕ → ℕ → Opening → Command
+start_of sessions limit (Ordered version) = Start sessions limit version
+start_of sessions limit Isolated = StartIsolated sessions limit
+
+-- ["open",sessions,limit], ["open",sessions,limit,2] or ["open",sessions,limit,2,"snapshot"]
 abbrev pub start_in : Items → Option Command
-start_in (item sessions (item limit behind)) = with_three Start (whole_number sessions) (whole_number limit) (version_in behind)
+start_in (item sessions (item limit behind)) = with_three start_of (whole_number sessions) (whole_number limit) (opening_in behind)
 start_in items = None
 
 -- ["offer",session,first,[txn,..]]

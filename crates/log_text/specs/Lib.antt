@@ -6,6 +6,7 @@ pub mod Items
 pub mod Kept
 pub mod Lines
 pub mod Lists
+pub mod Names
 pub mod Numbers
 pub mod Owed
 pub mod ReadBack

@@ -13,7 +13,3 @@ word_text word = codes "\"" ++ word ++ codes "\""
 -- numbers in decimal: [2,1]
 abbrev pub numbers_text : List ℕ → List ℕ
 numbers_text numbers = list_text (map decimal numbers)
-
--- a word and numbers: ["session",0,0,0,1]
-abbrev pub named_text : List ℕ → List ℕ → List ℕ
-named_text word numbers = list_text (word_text word ∷ map decimal numbers)

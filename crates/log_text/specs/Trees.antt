@@ -6,25 +6,34 @@ use Rattle.txn.specs.declared.choices.Choice.{Choice}
 use Rattle.txn.specs.declared.choices.ForceStep.{ForceStep}
 use Rattle.txn.specs.declared.choices.Side.{Side}
 use Rattle.txn.specs.declared.choices.Side.TheVariants.{First, Second}
+use Rattle.txn.specs.declared.transactions.TxnId.{TxnId}
 use Rattle.refutation.specs.declared.trees.Leaf.{Leaf}
 use Rattle.refutation.specs.declared.trees.Leaf.TheVariants.{Cycle, NoWrite, Gone}
 use Rattle.refutation.specs.declared.trees.Tree.{Tree, Close, Force', Split'}
-use Rattle.log_text.specs.Lists.{list_text, word_text, numbers_text, named_text}
+use Rattle.log_text.specs.Lists.{list_text, word_text}
+use Rattle.log_text.specs.Names.{name_texts, key_told}
+use Rattle.log_text.specs.declared.names.Names.{Names}
 
--- a choice: the reader's session and number, the key, the writer's, the other writer's
-abbrev pub choice_text : Choice → List ℕ
-choice_text choice = numbers_text (choice.reader.session ∷ choice.reader.number ∷ choice.key ∷ choice.writer.session ∷ choice.writer.number ∷ choice.other.session ∷ choice.other.number ∷ [])
+-- a choice: the reader, the key, the writer, the other writer
+abbrev pub choice_text : Names → Choice → List ℕ
+choice_text names choice = list_text (name_texts names choice.reader ++ (decimal (key_told names choice.key) ∷ (name_texts names choice.writer ++ name_texts names choice.other)))
 
--- an arc: its word, its key where it has one, the session and number of its start and of its end
-abbrev pub arc_text : Arc → List ℕ
-arc_text (Session from to) = named_text (codes "session") (from.session ∷ from.number ∷ to.session ∷ to.number ∷ [])
-arc_text (Read key from to) = named_text (codes "read") (key ∷ from.session ∷ from.number ∷ to.session ∷ to.number ∷ [])
-arc_text (Base key from to) = named_text (codes "base") (key ∷ from.session ∷ from.number ∷ to.session ∷ to.number ∷ [])
-arc_text (Taken from to) = named_text (codes "taken") (from.session ∷ from.number ∷ to.session ∷ to.number ∷ [])
+-- an arc: its word, its key where it has one, its start and its end
+abbrev pub ends_text : Names → List ℕ → TxnId → TxnId → List ℕ
+ends_text names word from to = list_text (word_text word ∷ (name_texts names from ++ name_texts names to))
+
+abbrev pub keyed_text : Names → List ℕ → ℕ → TxnId → TxnId → List ℕ
+keyed_text names word key from to = list_text (word_text word ∷ decimal (key_told names key) ∷ (name_texts names from ++ name_texts names to))
+
+abbrev pub arc_text : Names → Arc → List ℕ
+arc_text names (Session from to) = ends_text names (codes "session") from to
+arc_text names (Read key from to) = keyed_text names (codes "read") key from to
+arc_text names (Base key from to) = keyed_text names (codes "base") key from to
+arc_text names (Taken from to) = ends_text names (codes "taken") from to
 
 -- a cycle: its arcs
-abbrev pub cycle_text : List Arc → List ℕ
-cycle_text arcs = list_text (map arc_text arcs)
+abbrev pub cycle_text : Names → List Arc → List ℕ
+cycle_text names arcs = list_text (map (arc_text names) arcs)
 
 -- the number of a side
 abbrev pub side_number : Side → ℕ
@@ -32,24 +41,27 @@ side_number First = 1
 side_number Second = 2
 
 -- a forced step: the choice, the side that is taken, and the cycle that the other one would close
-abbrev pub step_text : ForceStep → List ℕ
-step_text step = list_text (word_text (codes "force") ∷ choice_text step.choice ∷ decimal (side_number step.side) ∷ cycle_text step.cycle ∷ [])
+abbrev pub step_text : Names → ForceStep → List ℕ
+step_text names step = list_text (word_text (codes "force") ∷ choice_text names step.choice ∷ decimal (side_number step.side) ∷ cycle_text names step.cycle ∷ [])
 
 -- a split on a choice
-abbrev pub split_text : Choice → List ℕ
-split_text choice = list_text (word_text (codes "split") ∷ choice_text choice ∷ [])
+abbrev pub split_text : Names → Choice → List ℕ
+split_text names choice = list_text (word_text (codes "split") ∷ choice_text names choice ∷ [])
 
--- a closed leaf: the cycle; or the reader's session and number, and the key
-abbrev pub leaf_text : Leaf → List ℕ
-leaf_text (Cycle arcs) = list_text (word_text (codes "cycle") ∷ cycle_text arcs ∷ [])
-leaf_text (NoWrite reader key) = named_text (codes "nowrite") (reader.session ∷ reader.number ∷ key ∷ [])
-leaf_text (Gone reader key) = named_text (codes "gone") (reader.session ∷ reader.number ∷ key ∷ [])
+-- a closed leaf: the cycle; or the reader, and the key
+abbrev pub reader_text : Names → List ℕ → TxnId → ℕ → List ℕ
+reader_text names word reader key = list_text (word_text word ∷ (name_texts names reader ++ decimal (key_told names key) ∷ []))
+
+abbrev pub leaf_text : Names → Leaf → List ℕ
+leaf_text names (Cycle arcs) = list_text (word_text (codes "cycle") ∷ cycle_text names arcs ∷ [])
+leaf_text names (NoWrite reader key) = reader_text names (codes "nowrite") reader key
+leaf_text names (Gone reader key) = reader_text names (codes "gone") reader key
 
 -- the texts of a tree's items: a leaf is one item, forced steps are one each before the rest's, and a split is one before both halves'
-abbrev pub items_of : Tree → List (List ℕ)
-items_of (Close leaf) = leaf_text leaf ∷ []
-items_of (Force' steps p rest) = map step_text steps ++ items_of rest
-items_of (Split' choice p first q second) = split_text choice ∷ (items_of first ++ items_of second)
+abbrev pub items_of : Names → Tree → List (List ℕ)
+items_of names (Close leaf) = leaf_text names leaf ∷ []
+items_of names (Force' steps p rest) = map (step_text names) steps ++ items_of names rest
+items_of names (Split' choice p first q second) = split_text names choice ∷ (items_of names first ++ items_of names second)
 
-abbrev pub tree_text : Tree → List ℕ
-tree_text tree = list_text (items_of tree)
+abbrev pub tree_text : Names → Tree → List ℕ
+tree_text names tree = list_text (items_of names tree)

@@ -1,11 +1,14 @@
 -- Versions of scripts.
-use Rattle.std.specs.Prelude.{Bool, true, not, Option, Some, None, option_map}
+use Rattle.std.specs.Prelude.{Bool, true, not, Option, Some, None, option_map, bytes_eq, codes, if◌then◌else◌}
 use Rattle.std.specs.List.{list_any}
-use Rattle.serde_json.specs.Data.{Items, no_items, item}
+use Rattle.serde_json.specs.Data.{Data, string, Items, no_items, item}
 use Rattle.logged_fragments.specs.declared.logged.LoggedFragment.{LoggedFragment}
 use Rattle.log_text.specs.declared.versions.Version.{Version}
 use Rattle.log_text.specs.declared.versions.Version.TheVariants.{One, Two}
+use Rattle.log_text.specs.Items.{with_both}
 use Rattle.log_text.specs.Numbers.{number_within}
+use Rattle.log_text.specs.declared.versions.Opening.{Opening}
+use Rattle.log_text.specs.declared.versions.Opening.TheVariants.{Ordered, Isolated}
 
 -- In a script of version 1 no transaction is told to have aborted; in one of version 2 each may be.
 abbrev pub has_form : Version → LoggedFragment → Bool
@@ -17,3 +20,14 @@ abbrev pub version_in : Items → Option Version
 version_in no_items = Some One
 version_in (item version no_items) = option_map (λ n. Two) (number_within 2 2 version)
 version_in items = None
+
+-- "snapshot"
+abbrev pub promise_of : Data → Option Opening
+promise_of (string word) = if bytes_eq word (codes "snapshot") then Some Isolated else None
+promise_of given = None
+
+-- What a script is opened for, by what stands behind the numbers of its first line: snapshot isolation, where 2 and "snapshot" do, in
+-- lines of version 2; else some order, in lines of a version.
+abbrev pub opening_in : Items → Option Opening
+opening_in (item version (item promise no_items)) = with_both (λ n opening. opening) (number_within 2 2 version) (promise_of promise)
+opening_in behind = option_map Ordered (version_in behind)

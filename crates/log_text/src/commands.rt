@@ -5,12 +5,12 @@ ghost use Rattle.serde_json.specs.Data.{string};
 ghost use Rattle.log_text.specs.Items.{alone, one_item, two_items};
 ghost use Rattle.log_text.specs.Lines.{plain_named};
 ghost use Rattle.log_text.specs.Numbers.{whole_number, session_of};
-ghost use Rattle.log_text.specs.Commands.{start_in, close_in, effort_in, finish_in, round_in, begin_search_in, waits_by, waits_in, collect_in, resume_in, save_named, save_in, HasLimits};
+ghost use Rattle.log_text.specs.Commands.{start_of, start_in, close_in, effort_in, finish_in, round_in, begin_search_in, waits_by, waits_in, collect_in, resume_in, save_named, save_in, HasLimits};
 
 use crate::numbers::{number_within, session_of, whole_number};
 use crate::searches::{Search, search_in};
 use crate::shown::Shown;
-use crate::versions::{Version, version_in};
+use crate::versions::{Opening, Version, opening_in, version_in};
 use logged_fragments::LoggedFragment;
 use serde_json::Value;
 use txn::{Sequence, TxnId};
@@ -29,6 +29,11 @@ pub enum Command {
         sessions: u64,
         limit: u64,
         version: Version,
+    },
+    /// To open one that is asked for snapshot isolation, by lines of version 2.
+    StartIsolated {
+        sessions: u64,
+        limit: u64,
     },
     /// To take a fragment: it has a flag for each of its transactions, whether it is told to have aborted.
     Offer(LoggedFragment),
@@ -124,17 +129,32 @@ fn alone(command: Command, parts: &[Value]) -> Option<Command>
     }
 }
 
+fn start_of(sessions: u64, limit: u64, opening: Opening) -> Command
+    ensures form { result ≡ start_of sessions limit opening }
+    ensures limits { HasLimits result }
+{
+    match opening {
+        Opening::Ordered(version) => Command::Start {
+            sessions,
+            limit,
+            version,
+        },
+        Opening::Isolated => Command::StartIsolated { sessions, limit },
+    }
+}
+
 #[tactic(auto, using(crate::proofs::Arity::start_none))]
 fn start_in(parts: &[Value]) -> Option<Command>
     ensures form { result ≡ start_in (items_view parts.now) }
     ensures limits { IfSome result HasLimits }
 {
     match parts {
-        [sessions, limit, behind @ ..] => Some(Command::Start {
-            sessions: whole_number(sessions)?,
-            limit: whole_number(limit)?,
-            version: version_in(behind)?,
-        }),
+        [sessions, limit, behind @ ..] => {
+            let sessions = whole_number(sessions)?;
+            let limit = whole_number(limit)?;
+            let opening = opening_in(behind)?;
+            Some(start_of(sessions, limit, opening))
+        }
         _ => None,
     }
 }

@@ -8,6 +8,7 @@ mod fragments;
 mod handed;
 mod lines;
 mod lists;
+mod names;
 mod numbers;
 mod replies;
 mod saved;
@@ -21,8 +22,9 @@ mod versions;
 
 pub use commands::{Command, Wanted};
 pub use lines::{read_line, read_line_within};
+pub use names::Names;
 pub use replies::{Reply, write_reply};
 pub use saved::Saved;
 pub use searches::{Search, search_in, search_of};
 pub use shown::{Shown, read_shown};
-pub use versions::{Version, version_in};
+pub use versions::{Opening, Version, version_in};

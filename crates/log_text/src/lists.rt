@@ -1,7 +1,7 @@
 ghost use Rattle.std.specs.Prelude.{[], ◌∷◌, OnOk, map};
 ghost use Rattle.serde_json.specs.Data.{boolean, string};
 ghost use Rattle.log_text.specs.Saved.{GainsData, list_data, number_data, writer_data};
-ghost use Rattle.log_text.specs.Told.{id_data, named_data};
+ghost use Rattle.log_text.specs.Told.{id_data};
 
 use serde_json::Value;
 use std::alloc::Global;
@@ -35,22 +35,6 @@ pub(crate) fn push_numbers(
     ensures { OnOk result (GainsData items.old.items items.new.items (list_data number_data numbers.now ∷ [])) }
 {
     let mut list = Vec::new(alloc);
-    push_each(&mut list, numbers)?;
-    items.push(Value::Array(list))?;
-    Ok(())
-}
-
-/// Puts a list of a word and numbers at the end of a list.
-pub(crate) fn push_named(
-    alloc: Global,
-    items: &mut Vec<Value>,
-    word: &str,
-    numbers: &[u64],
-) -> Result<(), NoMemory>
-    ensures { OnOk result (GainsData items.old.items items.new.items (named_data word.now numbers.now ∷ [])) }
-{
-    let mut list = Vec::new(alloc);
-    push_word(alloc, &mut list, word)?;
     push_each(&mut list, numbers)?;
     items.push(Value::Array(list))?;
     Ok(())

@@ -10,6 +10,7 @@ ghost use Rattle.log_text.specs.Told.{IsReply, reply_data, report_data};
 use crate::lists::{
     push_each, push_flags, push_id, push_ids, push_numbers, push_word, push_writers,
 };
+use crate::names::{Names, push_events};
 use crate::saved::{Saved, push_saved};
 use crate::trees::push_tree;
 use order_check::Kind;
@@ -34,6 +35,19 @@ pub enum Reply {
     },
     /// A round found that no order explains the history, and a tree shows it.
     Violated {
+        round: u64,
+        counts: Sequence<u64>,
+        tree: Tree,
+    },
+    /// The same where transactions are split: an order of halves, which are told as the events that they stand for.
+    Events {
+        round: u64,
+        kind: Kind,
+        counts: Sequence<u64>,
+        order: Sequence<TxnId>,
+    },
+    /// A round found that no order explains the split history: so that what was offered doesn't keep snapshot isolation.
+    Broken {
         round: u64,
         counts: Sequence<u64>,
         tree: Tree,
@@ -123,7 +137,34 @@ fn push_violated(
     ensures { OnOk result (GainsData items.old.items items.new.items (reply_data (Reply.Violated round counts.now tree.now))) }
 {
     push_report(alloc, items, round, Kind::Violated, counts)?;
-    push_tree(alloc, items, tree)
+    push_tree(alloc, items, Names::Ids, tree)
+}
+
+fn push_ordered_events(
+    alloc: Global,
+    items: &mut Vec<Value>,
+    round: u64,
+    kind: Kind,
+    counts: &Sequence<u64>,
+    order: &Sequence<TxnId>,
+) -> Result<(), NoMemory>
+    ensures { OnOk result (GainsData items.old.items items.new.items (reply_data (Reply.Events round kind counts.now order.now))) }
+{
+    push_report(alloc, items, round, kind, counts)?;
+    push_events(alloc, items, order.as_slice())
+}
+
+fn push_broken(
+    alloc: Global,
+    items: &mut Vec<Value>,
+    round: u64,
+    counts: &Sequence<u64>,
+    tree: &Tree,
+) -> Result<(), NoMemory>
+    ensures { OnOk result (GainsData items.old.items items.new.items (reply_data (Reply.Broken round counts.now tree.now))) }
+{
+    push_report(alloc, items, round, Kind::Violated, counts)?;
+    push_tree(alloc, items, Names::Events, tree)
 }
 
 fn push_cut(
@@ -178,6 +219,17 @@ fn push_parts(alloc: Global, items: &mut Vec<Value>, reply: &Reply) -> Result<()
             counts,
             tree,
         } => push_violated(alloc, items, *round, counts, tree),
+        Reply::Events {
+            round,
+            kind,
+            counts,
+            order,
+        } => push_ordered_events(alloc, items, *round, *kind, counts, order),
+        Reply::Broken {
+            round,
+            counts,
+            tree,
+        } => push_broken(alloc, items, *round, counts, tree),
         Reply::Spent { round, counts } => push_report(alloc, items, *round, Kind::Spent, counts),
         Reply::Cut { fence, gone, last } => push_cut(alloc, items, *fence, gone, last),
         Reply::Show {

@@ -2,79 +2,111 @@ ghost use Rattle.std.specs.Prelude.{◌≡◌, ◌+◌, ◌<◌, ℕ, List, [], 
 ghost use Rattle.serde_json.specs.Data.{Data};
 ghost use Rattle.refutation.specs.Weights.{weight};
 ghost use Rattle.log_text.specs.Saved.{GainsData};
-ghost use Rattle.log_text.specs.Told.{choice_data, arc_data, cycle_data, step_data, split_data, leaf_data, tree_data};
+ghost use Rattle.log_text.specs.Told.{name_data, choice_data, ends_data, keyed_data, arc_data, cycle_data, step_data, split_data, reader_data, leaf_data, tree_data};
 ghost use Rattle.log_text.specs.Trees.{side_number};
 ghost use Rattle.log_text.specs.Waiting.{ComeTo, waiting_weight};
 
-use crate::lists::{push_each, push_named, push_numbers, push_word};
+use crate::lists::{push_each, push_word};
+use crate::names::{Names, key_told, push_name};
 use refutation::{Leaf, Tree};
 use serde_json::Value;
 use std::alloc::Global;
 use txn::{Arc, Choice, ForceStep, NoMemory, Side, TxnId};
 
-fn push_choice(alloc: Global, items: &mut Vec<Value>, choice: &Choice) -> Result<(), NoMemory>
-    ensures { OnOk result (GainsData items.old.items items.new.items (choice_data choice.now ∷ [])) }
+fn push_choice(
+    alloc: Global,
+    items: &mut Vec<Value>,
+    names: Names,
+    choice: &Choice,
+) -> Result<(), NoMemory>
+    ensures { OnOk result (GainsData items.old.items items.new.items (choice_data names choice.now ∷ [])) }
 {
-    let Choice {
-        reader,
-        key,
-        writer,
-        other,
-    } = *choice;
-    let numbers = [
-        u64::from(reader.session),
-        reader.number,
-        key,
-        u64::from(writer.session),
-        writer.number,
-        u64::from(other.session),
-        other.number,
-    ];
-    push_numbers(alloc, items, &numbers)
+    let mut list = Vec::new(alloc);
+    push_name(alloc, &mut list, names, choice.reader)?;
+    push_each(&mut list, &[key_told(names, choice.key)])?;
+    push_ends(alloc, &mut list, names, choice.writer, choice.other)?;
+    items.push(Value::Array(list))?;
+    Ok(())
 }
 
-/// The session and the number of an arc's start, and those of its end.
-fn ends(from: TxnId, to: TxnId) -> [u64; 4]
-    ensures { result ≡ from.session ∷ from.number ∷ to.session ∷ to.number ∷ [] }
+/// Puts the names of two transactions at the end, one after another.
+fn push_ends(
+    alloc: Global,
+    items: &mut Vec<Value>,
+    names: Names,
+    from: TxnId,
+    to: TxnId,
+) -> Result<(), NoMemory>
+    ensures { OnOk result (GainsData items.old.items items.new.items (name_data names from ++ name_data names to)) }
 {
-    [
-        u64::from(from.session),
-        from.number,
-        u64::from(to.session),
-        to.number,
-    ]
+    push_name(alloc, items, names, from)?;
+    push_name(alloc, items, names, to)
 }
 
-/// The same behind a key.
-fn ends_on(key: u64, from: TxnId, to: TxnId) -> [u64; 5]
-    ensures { result ≡ key ∷ from.session ∷ from.number ∷ to.session ∷ to.number ∷ [] }
+/// Puts an arc without a key at the end.
+fn push_plain_arc(
+    alloc: Global,
+    items: &mut Vec<Value>,
+    names: Names,
+    word: &str,
+    from: TxnId,
+    to: TxnId,
+) -> Result<(), NoMemory>
+    ensures { OnOk result (GainsData items.old.items items.new.items (ends_data names word.now from to ∷ [])) }
 {
-    [
-        key,
-        u64::from(from.session),
-        from.number,
-        u64::from(to.session),
-        to.number,
-    ]
+    let mut list = Vec::new(alloc);
+    push_word(alloc, &mut list, word)?;
+    push_ends(alloc, &mut list, names, from, to)?;
+    items.push(Value::Array(list))?;
+    Ok(())
 }
 
-fn push_arc(alloc: Global, items: &mut Vec<Value>, arc: Arc) -> Result<(), NoMemory>
-    ensures { OnOk result (GainsData items.old.items items.new.items (arc_data arc ∷ [])) }
+/// Puts one with a key at the end.
+fn push_keyed_arc(
+    alloc: Global,
+    items: &mut Vec<Value>,
+    names: Names,
+    word: &str,
+    key: u64,
+    from: TxnId,
+    to: TxnId,
+) -> Result<(), NoMemory>
+    ensures { OnOk result (GainsData items.old.items items.new.items (keyed_data names word.now key from to ∷ [])) }
+{
+    let mut list = Vec::new(alloc);
+    push_word(alloc, &mut list, word)?;
+    push_each(&mut list, &[key_told(names, key)])?;
+    push_ends(alloc, &mut list, names, from, to)?;
+    items.push(Value::Array(list))?;
+    Ok(())
+}
+
+fn push_arc(alloc: Global, items: &mut Vec<Value>, names: Names, arc: Arc) -> Result<(), NoMemory>
+    ensures { OnOk result (GainsData items.old.items items.new.items (arc_data names arc ∷ [])) }
 {
     match arc {
-        Arc::Session { from, to } => push_named(alloc, items, "session", &ends(from, to)),
-        Arc::Read { key, from, to } => push_named(alloc, items, "read", &ends_on(key, from, to)),
-        Arc::Base { key, from, to } => push_named(alloc, items, "base", &ends_on(key, from, to)),
-        Arc::Taken { from, to } => push_named(alloc, items, "taken", &ends(from, to)),
+        Arc::Session { from, to } => push_plain_arc(alloc, items, names, "session", from, to),
+        Arc::Read { key, from, to } => {
+            push_keyed_arc(alloc, items, names, "read", key, from, to)
+        }
+        Arc::Base { key, from, to } => {
+            push_keyed_arc(alloc, items, names, "base", key, from, to)
+        }
+        Arc::Taken { from, to } => push_plain_arc(alloc, items, names, "taken", from, to),
     }
 }
 
-fn push_cycle(alloc: Global, items: &mut Vec<Value>, arcs: &[Arc]) -> Result<(), NoMemory>
-    ensures { OnOk result (GainsData items.old.items items.new.items (cycle_data arcs.now ∷ [])) }
+fn push_cycle(
+    alloc: Global,
+    items: &mut Vec<Value>,
+    names: Names,
+    arcs: &[Arc],
+) -> Result<(), NoMemory>
+    ensures { OnOk result (GainsData items.old.items items.new.items (cycle_data names arcs.now ∷ [])) }
 {
     let mut list = Vec::new(alloc);
     for arc in arcs {
-        push_arc(alloc, &mut list, *arc)?;
+        push_arc(alloc, &mut list, names, *arc)?;
     }
     items.push(Value::Array(list))?;
     Ok(())
@@ -89,60 +121,99 @@ fn side_number(side: Side) -> u64
     }
 }
 
-fn push_step(alloc: Global, items: &mut Vec<Value>, step: &ForceStep) -> Result<(), NoMemory>
-    ensures { OnOk result (GainsData items.old.items items.new.items (step_data step.now ∷ [])) }
+fn push_step(
+    alloc: Global,
+    items: &mut Vec<Value>,
+    names: Names,
+    step: &ForceStep,
+) -> Result<(), NoMemory>
+    ensures { OnOk result (GainsData items.old.items items.new.items (step_data names step.now ∷ [])) }
 {
     let mut list = Vec::new(alloc);
     push_word(alloc, &mut list, "force")?;
-    push_choice(alloc, &mut list, &step.choice)?;
+    push_choice(alloc, &mut list, names, &step.choice)?;
     push_each(&mut list, &[side_number(step.side)])?;
-    push_cycle(alloc, &mut list, step.cycle.as_slice())?;
+    push_cycle(alloc, &mut list, names, step.cycle.as_slice())?;
     items.push(Value::Array(list))?;
     Ok(())
 }
 
-fn push_split(alloc: Global, items: &mut Vec<Value>, choice: &Choice) -> Result<(), NoMemory>
-    ensures { OnOk result (GainsData items.old.items items.new.items (split_data choice.now ∷ [])) }
+fn push_split(
+    alloc: Global,
+    items: &mut Vec<Value>,
+    names: Names,
+    choice: &Choice,
+) -> Result<(), NoMemory>
+    ensures { OnOk result (GainsData items.old.items items.new.items (split_data names choice.now ∷ [])) }
 {
     let mut list = Vec::new(alloc);
     push_word(alloc, &mut list, "split")?;
-    push_choice(alloc, &mut list, choice)?;
+    push_choice(alloc, &mut list, names, choice)?;
     items.push(Value::Array(list))?;
     Ok(())
 }
 
-fn push_cycle_leaf(alloc: Global, items: &mut Vec<Value>, arcs: &[Arc]) -> Result<(), NoMemory>
-    ensures { OnOk result (GainsData items.old.items items.new.items (leaf_data (Leaf.Cycle arcs.now) ∷ [])) }
+fn push_cycle_leaf(
+    alloc: Global,
+    items: &mut Vec<Value>,
+    names: Names,
+    arcs: &[Arc],
+) -> Result<(), NoMemory>
+    ensures { OnOk result (GainsData items.old.items items.new.items (leaf_data names (Leaf.Cycle arcs.now) ∷ [])) }
 {
     let mut list = Vec::new(alloc);
     push_word(alloc, &mut list, "cycle")?;
-    push_cycle(alloc, &mut list, arcs)?;
+    push_cycle(alloc, &mut list, names, arcs)?;
     items.push(Value::Array(list))?;
     Ok(())
 }
 
-/// The session and the number of a reader, and a key.
-fn read_at(reader: TxnId, key: u64) -> [u64; 3]
-    ensures { result ≡ reader.session ∷ reader.number ∷ key ∷ [] }
+/// Puts a leaf about one read at the end.
+fn push_read_leaf(
+    alloc: Global,
+    items: &mut Vec<Value>,
+    names: Names,
+    word: &str,
+    reader: TxnId,
+    key: u64,
+) -> Result<(), NoMemory>
+    ensures { OnOk result (GainsData items.old.items items.new.items (reader_data names word.now reader key ∷ [])) }
 {
-    [u64::from(reader.session), reader.number, key]
+    let mut list = Vec::new(alloc);
+    push_word(alloc, &mut list, word)?;
+    push_name(alloc, &mut list, names, reader)?;
+    push_each(&mut list, &[key_told(names, key)])?;
+    items.push(Value::Array(list))?;
+    Ok(())
 }
 
-fn push_leaf(alloc: Global, items: &mut Vec<Value>, leaf: &Leaf) -> Result<(), NoMemory>
-    ensures { OnOk result (GainsData items.old.items items.new.items (leaf_data leaf.now ∷ [])) }
+fn push_leaf(
+    alloc: Global,
+    items: &mut Vec<Value>,
+    names: Names,
+    leaf: &Leaf,
+) -> Result<(), NoMemory>
+    ensures { OnOk result (GainsData items.old.items items.new.items (leaf_data names leaf.now ∷ [])) }
 {
     match leaf {
-        Leaf::Cycle(arcs) => push_cycle_leaf(alloc, items, arcs.as_slice()),
-        Leaf::NoWrite(reader, key) => push_named(alloc, items, "nowrite", &read_at(*reader, *key)),
-        Leaf::Gone(reader, key) => push_named(alloc, items, "gone", &read_at(*reader, *key)),
+        Leaf::Cycle(arcs) => push_cycle_leaf(alloc, items, names, arcs.as_slice()),
+        Leaf::NoWrite(reader, key) => {
+            push_read_leaf(alloc, items, names, "nowrite", *reader, *key)
+        }
+        Leaf::Gone(reader, key) => push_read_leaf(alloc, items, names, "gone", *reader, *key),
     }
 }
 
-fn push_steps(alloc: Global, items: &mut Vec<Value>, steps: &[ForceStep]) -> Result<(), NoMemory>
-    ensures { OnOk result (GainsData items.old.items items.new.items (map step_data steps.now)) }
+fn push_steps(
+    alloc: Global,
+    items: &mut Vec<Value>,
+    names: Names,
+    steps: &[ForceStep],
+) -> Result<(), NoMemory>
+    ensures { OnOk result (GainsData items.old.items items.new.items (map (step_data names) steps.now)) }
 {
     for step in steps {
-        push_step(alloc, items, step)?;
+        push_step(alloc, items, names, step)?;
     }
     Ok(())
 }
@@ -151,16 +222,17 @@ fn push_steps(alloc: Global, items: &mut Vec<Value>, steps: &[ForceStep]) -> Res
 fn push_node<'t>(
     alloc: Global,
     items: &mut Vec<Value>,
+    names: Names,
     waiting: &mut Vec<&'t Tree>,
     tree: &'t Tree,
 ) -> Result<(), NoMemory>
-    ensures written { OnOk result ((all : List Data) → ComeTo items.old.items (waiting.old.items ++ tree.entry ∷ []) all → ComeTo items.new.items waiting.new.items all) }
+    ensures written { OnOk result ((all : List Data) → ComeTo names items.old.items (waiting.old.items ++ tree.entry ∷ []) all → ComeTo names items.new.items waiting.new.items all) }
     ensures lighter { OnOk result (waiting_weight waiting.new.items < waiting_weight waiting.old.items + weight tree.now) }
 {
     match tree {
-        Tree::Close(leaf) => push_leaf(alloc, items, leaf)?,
+        Tree::Close(leaf) => push_leaf(alloc, items, names, leaf)?,
         Tree::Force { steps, rest } => {
-            push_steps(alloc, items, steps.as_slice())?;
+            push_steps(alloc, items, names, steps.as_slice())?;
             waiting.push(rest)?;
         }
         Tree::Split {
@@ -168,7 +240,7 @@ fn push_node<'t>(
             first,
             second,
         } => {
-            push_split(alloc, items, choice)?;
+            push_split(alloc, items, names, choice)?;
             waiting.push(second)?;
             waiting.push(first)?;
         }
@@ -177,14 +249,19 @@ fn push_node<'t>(
 }
 
 /// Puts the list of a tree's items, one after another, at the end. A tree may be very deep, so this is a loop.
-pub(crate) fn push_tree(alloc: Global, items: &mut Vec<Value>, tree: &Tree) -> Result<(), NoMemory>
-    ensures { OnOk result (GainsData items.old.items items.new.items (tree_data tree.now ∷ [])) }
+pub(crate) fn push_tree(
+    alloc: Global,
+    items: &mut Vec<Value>,
+    names: Names,
+    tree: &Tree,
+) -> Result<(), NoMemory>
+    ensures { OnOk result (GainsData items.old.items items.new.items (tree_data names tree.now ∷ [])) }
 {
     let mut list = Vec::new(alloc);
     let mut waiting = Vec::new(alloc);
     waiting.push(tree)?;
     while let Some(next) = waiting.pop() {
-        push_node(alloc, &mut list, &mut waiting, next)?;
+        push_node(alloc, &mut list, names, &mut waiting, next)?;
     }
     items.push(Value::Array(list))?;
     Ok(())

@@ -80,7 +80,9 @@ pub fn add(
     saturated: &mut Saturated,
     id: TxnId,
     txn: &Txn,
-) -> Result<(), NoMemory> {
+) -> Result<(), NoMemory>
+    ensures { OnOk result (saturated.new.parts ≡ parts_with saturated.old.parts (fragment_of id txn.now)) }
+{
     let fragment = alone(alloc, id, txn)?;
     may_come(rt, saturated, &fragment)?;
     saturated.add(alloc, id, txn)

@@ -1,6 +1,6 @@
 //! Cuts that are applied: what they leave, and the verdict of that.
 ghost use Rattle.std.specs.Prelude.{IfOk, Some};
-ghost use Rattle.order_check.specs.Cuts.{IsCutOff};
+ghost use Rattle.order_check.specs.Cuts.{IsCutOff, IsKeptFront};
 ghost use Rattle.order_check.specs.Good.{IsGood};
 ghost use Rattle.settle.specs.Found.{IsFound};
 
@@ -82,6 +82,21 @@ fn rows() -> &'static [Row] {
     &ROWS
 }
 
+/// What a cut leaves of parts that have gone on since it was found in a front of them.
+pub fn cut_past(alloc: Global, front: &Parts, parts: &Parts, cut: &Cut) -> Result<Parts, NoMemory>
+    requires good { IsGood parts.now }
+    requires kept { IsKeptFront front.now parts.now }
+    requires found { IsFound front.now (Some cut.now) }
+    ensures good { IfOk result IsGood }
+    ensures cut_off { IfOk result (IsCutOff parts.now cut.now.gone) }
+{
+    settled_stays_settled();
+    cuts_of_fronts_fit();
+    let mut left = parts.clone()?;
+    apply(alloc, &mut left, cut.gone.as_slice(), &cut.last)?;
+    Ok(left)
+}
+
 /// What the cut leaves of the parts that it was found in.
 pub fn cut_through(alloc: Global, parts: &Parts, cut: &Cut) -> Result<Parts, NoMemory>
     requires good { IsGood parts.now }
@@ -90,11 +105,7 @@ pub fn cut_through(alloc: Global, parts: &Parts, cut: &Cut) -> Result<Parts, NoM
     ensures cut_off { IfOk result (IsCutOff parts.now cut.now.gone) }
 {
     front_of_itself();
-    settled_stays_settled();
-    cuts_of_fronts_fit();
-    let mut left = parts.clone()?;
-    apply(alloc, &mut left, cut.gone.as_slice(), &cut.last)?;
-    Ok(left)
+    cut_past(alloc, parts, parts, cut)
 }
 
 fn is_left(rt: &impl Abort, alloc: Global, parts: &Parts, row: &Row) -> Result<(), NoMemory>

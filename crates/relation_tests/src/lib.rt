@@ -8,6 +8,8 @@ mod cuts;
 #[cfg(test)]
 mod fences;
 #[cfg(test)]
+mod later;
+#[cfg(test)]
 mod orders;
 #[cfg(test)]
 mod relations;

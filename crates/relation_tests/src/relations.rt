@@ -104,7 +104,7 @@ fn is_as_defined(rt: &impl Abort, alloc: Global, saturated: &Saturated) -> Resul
 }
 
 /// The cut that is found behind an order that explains the problem's parts.
-fn cut_behind(
+pub fn cut_behind(
     rt: &impl Abort,
     alloc: Global,
     problem: &Problem,

@@ -15,8 +15,9 @@ use Rattle.order_check.specs.declared.remainder.Kind.TheVariants as kinds
 use Rattle.refutation.specs.declared.trees.Leaf.{Leaf}
 use Rattle.refutation.specs.declared.trees.Leaf.TheVariants.{Cycle, NoWrite, Gone}
 use Rattle.refutation.specs.declared.trees.Tree.{Tree, Close, Force', Split'}
-use Rattle.log_text.specs.Lists.{list_text, word_text, numbers_text, named_text}
+use Rattle.log_text.specs.Lists.{list_text, word_text, numbers_text}
 use Rattle.log_text.specs.Replies.{id_text, kind_name, report_parts, text_of}
+use Rattle.log_text.specs.declared.names.Names.TheVariants.{Ids}
 use Rattle.log_text.specs.Trees.{choice_text, arc_text, cycle_text, side_number, step_text, split_text, leaf_text, items_of, tree_text}
 use Rattle.log_text.specs.declared.commands.Command.{Command}
 use Rattle.round_state.specs.declared.reports.Certificate.{Certificate}
@@ -71,7 +72,7 @@ in_each text h (x ∷ xs) = (h x, in_each text h xs)
 in_numbers : (numbers : List ℕ) → HasNone (numbers_text numbers)
 in_numbers numbers = in_list (map decimal numbers) (in_each decimal in_decimal numbers)
 
-in_named : (word : List ℕ) → HasNone (word_text word) → (numbers : List ℕ) → HasNone (named_text word numbers)
+in_named : (word : List ℕ) → HasNone (word_text word) → (numbers : List ℕ) → HasNone (list_text (word_text word ∷ map decimal numbers))
 in_named word h numbers = in_list (word_text word ∷ map decimal numbers) (h, in_each decimal in_decimal numbers)
 
 in_both : (texts more : List (List ℕ)) → InNone texts → InNone more → InNone (texts ++ more)
@@ -83,30 +84,30 @@ in_both (text ∷ texts) more p q = (p.0, in_both texts more p.1 q)
 in_id : (id : TxnId) → HasNone (id_text id)
 in_id id = in_numbers (id.session ∷ id.number ∷ [])
 
-in_choice : (choice : Choice) → HasNone (choice_text choice)
+in_choice : (choice : Choice) → HasNone (choice_text Ids choice)
 in_choice choice = in_numbers (choice.reader.session ∷ choice.reader.number ∷ choice.key ∷ choice.writer.session ∷ choice.writer.number ∷ choice.other.session ∷ choice.other.number ∷ [])
 
-in_arc : (arc : Arc) → HasNone (arc_text arc)
+in_arc : (arc : Arc) → HasNone (arc_text Ids arc)
 in_arc (Session from to) = in_named (codes "session") refl (from.session ∷ from.number ∷ to.session ∷ to.number ∷ [])
 in_arc (Read key from to) = in_named (codes "read") refl (key ∷ from.session ∷ from.number ∷ to.session ∷ to.number ∷ [])
 in_arc (Base key from to) = in_named (codes "base") refl (key ∷ from.session ∷ from.number ∷ to.session ∷ to.number ∷ [])
 in_arc (Taken from to) = in_named (codes "taken") refl (from.session ∷ from.number ∷ to.session ∷ to.number ∷ [])
 
-in_cycle : (arcs : List Arc) → HasNone (cycle_text arcs)
-in_cycle arcs = in_list (map arc_text arcs) (in_each arc_text in_arc arcs)
+in_cycle : (arcs : List Arc) → HasNone (cycle_text Ids arcs)
+in_cycle arcs = in_list (map (arc_text Ids) arcs) (in_each (arc_text Ids) in_arc arcs)
 
-in_step : (step : ForceStep) → HasNone (step_text step)
-in_step step = in_list (word_text (codes "force") ∷ choice_text step.choice ∷ decimal (side_number step.side) ∷ cycle_text step.cycle ∷ []) (refl, (in_choice step.choice, (in_decimal (side_number step.side), (in_cycle step.cycle, tt))))
+in_step : (step : ForceStep) → HasNone (step_text Ids step)
+in_step step = in_list (word_text (codes "force") ∷ choice_text Ids step.choice ∷ decimal (side_number step.side) ∷ cycle_text Ids step.cycle ∷ []) (refl, (in_choice step.choice, (in_decimal (side_number step.side), (in_cycle step.cycle, tt))))
 
-in_leaf : (leaf : Leaf) → HasNone (leaf_text leaf)
-in_leaf (Cycle arcs) = in_list (word_text (codes "cycle") ∷ cycle_text arcs ∷ []) (refl, (in_cycle arcs, tt))
+in_leaf : (leaf : Leaf) → HasNone (leaf_text Ids leaf)
+in_leaf (Cycle arcs) = in_list (word_text (codes "cycle") ∷ cycle_text Ids arcs ∷ []) (refl, (in_cycle arcs, tt))
 in_leaf (NoWrite reader key) = in_named (codes "nowrite") refl (reader.session ∷ reader.number ∷ key ∷ [])
 in_leaf (Gone reader key) = in_named (codes "gone") refl (reader.session ∷ reader.number ∷ key ∷ [])
 
-in_items : (tree : Tree) → InNone (items_of tree)
+in_items : (tree : Tree) → InNone (items_of Ids tree)
 in_items (Close leaf) = (in_leaf leaf, tt)
-in_items (Force' steps p rest) = in_both (map step_text steps) (items_of rest) (in_each step_text in_step steps) (in_items rest)
-in_items (Split' choice p first q second) = (in_list (word_text (codes "split") ∷ choice_text choice ∷ []) (refl, (in_choice choice, tt)), in_both (items_of first) (items_of second) (in_items first) (in_items second))
+in_items (Force' steps p rest) = in_both (map (step_text Ids) steps) (items_of Ids rest) (in_each (step_text Ids) in_step steps) (in_items rest)
+in_items (Split' choice p first q second) = (in_list (word_text (codes "split") ∷ choice_text Ids choice ∷ []) (refl, (in_choice choice, tt)), in_both (items_of Ids first) (items_of Ids second) (in_items first) (in_items second))
 
 -- ---- reports
 
@@ -123,7 +124,7 @@ in_certified : (report : Report) (certificate : Certificate) → HasNone (text_o
 in_certified report (Order order) =
     in_list (report_parts report.round report.kind report.counts ++ list_text (map id_text order) ∷ []) (in_both (report_parts report.round report.kind report.counts) (list_text (map id_text order) ∷ []) (in_parts report.round report.kind report.counts) (in_list (map id_text order) (in_each id_text in_id order), tt))
 in_certified report (Refuted tree) =
-    in_list (report_parts report.round kinds.Violated report.counts ++ tree_text tree ∷ []) (in_both (report_parts report.round kinds.Violated report.counts) (tree_text tree ∷ []) (in_parts report.round kinds.Violated report.counts) (in_list (items_of tree) (in_items tree), tt))
+    in_list (report_parts report.round kinds.Violated report.counts ++ tree_text Ids tree ∷ []) (in_both (report_parts report.round kinds.Violated report.counts) (tree_text Ids tree ∷ []) (in_parts report.round kinds.Violated report.counts) (in_list (items_of Ids tree) (in_items tree), tt))
 in_certified report Nothing = in_list (report_parts report.round kinds.Spent report.counts) (in_parts report.round kinds.Spent report.counts)
 
 -- where one stands in the stored reply, that isn't a report's, and may be found wrong

@@ -226,6 +226,7 @@ takes_open version old command.Show is = let no : ⊥ = cc in no
 takes_open version old (command.Save asked) is = never_saved old.parts asked is
 takes_open version old (command.BeginSearch budget depth workers search) is = other_refusal is
 takes_open version old command.Skip is = other_refusal is
+takes_open version old (command.StartIsolated sessions limit) is = other_refusal is
 takes_open version old (command.Resume sessions limit lines) is = other_refusal is
 takes_open version old (command.Marks marks closed) is = other_refusal is
 takes_open version old (command.Last last) is = other_refusal is
@@ -254,6 +255,7 @@ takes_beside version searched old asked is = takes_open version old asked is
 
 takes_first : (asked : Command) → GivesFirst asked (told.No NoMemory) → OpensEngine asked
 takes_first (command.Start sessions limit lines) is = tt
+takes_first (command.StartIsolated sessions limit) is = is
 takes_first (command.Resume sessions limit lines) is = is
 takes_first asked is = other_refusal is
 
@@ -373,6 +375,7 @@ gives_first : (asked : Command) (answer : Reply) (new : Option ScriptState) → 
 gives_first (command.Start sessions limit version) told.Done new is = (is.0, is.1)
 gives_first (command.Start sessions limit version) (told.No refusal) new is = is.0
 gives_first (command.Start sessions limit version) answer new is = absurd is
+gives_first (command.StartIsolated sessions limit) answer new is = absurd is
 gives_first (command.Resume sessions limit version) answer new is = absurd is
 gives_first asked answer new is = is.0
 

@@ -26,6 +26,7 @@ use Rattle.log_text.specs.Shown.{Shows, HandsIn, IsAnswer, IsShownIn}
 use Rattle.log_text.proofs.SameTrees.{same_tree}
 use Rattle.log_text.specs.Trees.{split_text, step_text}
 use Rattle.log_text.specs.Trees as trees
+use Rattle.log_text.specs.declared.names.Names.TheVariants.{Ids}
 use Rattle.log_text.specs.declared.commands.Command.{Command}
 use Rattle.log_text.specs.declared.commands.Command.TheVariants as command
 use Rattle.log_text.specs.declared.replies.Reply.{Reply}
@@ -73,12 +74,12 @@ nothing_told (Some it) same = absurd same
 
 -- ---- trees that are the same
 
-same_items : (tree other : Tree) → IsSameTree tree other → trees.items_of tree ≡ trees.items_of other
-same_items (Close leaf) (Close leaf') same = ap (λ (l : Leaf). trees.leaf_text l ∷ []) same
+same_items : (tree other : Tree) → IsSameTree tree other → trees.items_of Ids tree ≡ trees.items_of Ids other
+same_items (Close leaf) (Close leaf') same = ap (λ (l : Leaf). trees.leaf_text Ids l ∷ []) same
 same_items (Force' steps p rest) (Force' steps' p' rest') same =
-    ap₂ (λ (ss : List ForceStep) (more : List (List ℕ)). map step_text ss ++ more) same.0 (same_items rest rest' same.1)
+    ap₂ (λ (ss : List ForceStep) (more : List (List ℕ)). map (step_text Ids) ss ++ more) same.0 (same_items rest rest' same.1)
 same_items (Split' choice p first q second) (Split' choice' p' first' q' second') same =
-    ap₂ (λ (texts more : List (List ℕ)). texts ++ more) (ap (λ c. split_text c ∷ []) same.0) (ap₂ (λ (texts more : List (List ℕ)). texts ++ more) (same_items first first' same.1) (same_items second second' same.2))
+    ap₂ (λ (texts more : List (List ℕ)). texts ++ more) (ap (λ c. split_text Ids c ∷ []) same.0) (ap₂ (λ (texts more : List (List ℕ)). texts ++ more) (same_items first first' same.1) (same_items second second' same.2))
 same_items tree other same = absurd same
 
 same_depth : (tree other : Tree) → IsSameTree tree other → depth_of tree ≡ depth_of other

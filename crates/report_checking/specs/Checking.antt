@@ -2,7 +2,7 @@
 use Rattle.std.specs.Prelude.{◌≡◌, ℕ, ⊤, false, List, [], ◌∷◌, ◌++◌, Option, Some, None}
 use Rattle.txn.specs.declared.refusals.Refusal.TheVariants.{NoMemory}
 use Rattle.log_text.specs.declared.commands.Command.{Command}
-use Rattle.log_text.specs.declared.commands.Command.TheVariants.{Start, Close, BeginSearch, Collect, Skip, Show, Resume, Marks, Last, Resumed, Save}
+use Rattle.log_text.specs.declared.commands.Command.TheVariants.{Start, StartIsolated, Close, BeginSearch, Collect, Skip, Show, Resume, Marks, Last, Resumed, Save}
 use Rattle.log_text.specs.declared.replies.Reply.{Reply}
 use Rattle.log_text.specs.declared.replies.Reply.TheVariants as told
 use Rattle.log_text.specs.Replies.{text_of}
@@ -29,6 +29,7 @@ AsksOfMemory (BeginSearch budget depth workers search) = ⊥
 AsksOfMemory Skip = ⊥
 AsksOfMemory Show = ⊥
 AsksOfMemory (Save wanted) = ⊥
+AsksOfMemory (StartIsolated sessions limit) = ⊥
 AsksOfMemory (Resume sessions limit version) = ⊥
 AsksOfMemory (Marks marks closed) = ⊥
 AsksOfMemory (Last last) = ⊥

@@ -5,7 +5,7 @@ use Rattle.txn.specs.declared.refusals.Refusal.TheVariants.{NoRound, RoundOpen}
 use Rattle.order_check.specs.declared.remainder.Parts.{Parts}
 use Rattle.polygraph.specs.declared.solving.Answer as solved
 use Rattle.log_text.specs.declared.commands.Command.{Command}
-use Rattle.log_text.specs.declared.commands.Command.TheVariants.{Start, Offer, Join, Close, Begin, Finish, Round, BeginSearch, Collect, Skip, Truncate, Rebuild, Show, Resume, Save, Answer}
+use Rattle.log_text.specs.declared.commands.Command.TheVariants.{Start, StartIsolated, Offer, Join, Close, Begin, Finish, Round, BeginSearch, Collect, Skip, Truncate, Rebuild, Show, Resume, Save, Answer}
 use Rattle.log_text.specs.declared.replies.Reply.{Reply}
 use Rattle.log_text.specs.declared.replies.Reply.TheVariants as told
 use Rattle.log_text.specs.declared.versions.Version.{Version}
@@ -114,11 +114,13 @@ pub record ScriptState : Type 0 where
   pub version : Version
   pub searched : Bool
 
--- What is owed to a command, where none is open yet. To one that begins a hand-over nothing is: what had gone before isn't shown.
+-- What is owed to a command, where none is open yet. To one that begins a hand-over nothing is: what had gone before isn't shown. Nor is anything to
+-- one that asks for snapshot isolation, of which replies aren't checked.
 abbrev pub OwesFirst : Command → Reply → Option ScriptState → Type 0
 OwesFirst (Start sessions limit version) told.Done new = IsSessions sessions × IsLimit limit × (new ≡ Some (record { state = fresh_state sessions limit; version = version; searched = false }))
 OwesFirst (Start sessions limit version) (told.No refusal) new = IsOpenRefusal sessions limit refusal × (new ≡ None)
 OwesFirst (Start sessions limit version) answer new = ⊥
+OwesFirst (StartIsolated sessions limit) answer new = ⊥
 OwesFirst (Resume sessions limit version) answer new = ⊥
 OwesFirst command answer new = IsBadLine None answer new
 

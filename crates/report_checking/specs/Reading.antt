@@ -4,7 +4,7 @@ use Rattle.std.specs.List.{list_any}
 use Rattle.txn.specs.declared.refusals.Refusal.{Refusal}
 use Rattle.txn.specs.declared.refusals.Refusal.TheVariants.{NoMemory, NoRound, RoundOpen, BadLine}
 use Rattle.log_text.specs.declared.commands.Command.{Command}
-use Rattle.log_text.specs.declared.commands.Command.TheVariants.{Start, Offer, Join, Close, Begin, Finish, Round, BeginSearch, Collect, Skip, Truncate, Rebuild, Show, Resume, Save, Answer}
+use Rattle.log_text.specs.declared.commands.Command.TheVariants.{Start, StartIsolated, Offer, Join, Close, Begin, Finish, Round, BeginSearch, Collect, Skip, Truncate, Rebuild, Show, Resume, Save, Answer}
 use Rattle.polygraph.specs.declared.solving.Answer as solved
 use Rattle.polygraph.specs.declared.solving.Answer.TheVariants as answers
 use Rattle.log_text.specs.declared.replies.Reply.{Reply}
@@ -262,6 +262,7 @@ abbrev pub GivesFirst : Command → Reply → Type 0
 GivesFirst (Start sessions limit version) told.Done = IsSessions sessions × IsLimit limit
 GivesFirst (Start sessions limit version) (told.No refusal) = IsOpenRefusal sessions limit refusal
 GivesFirst (Start sessions limit version) answer = ⊥
+GivesFirst (StartIsolated sessions limit) answer = ⊥
 GivesFirst (Resume sessions limit version) answer = ⊥
 GivesFirst command answer = answer ≡ told.No BadLine
 

@@ -22,6 +22,8 @@ use Rattle.report_checking.specs.declared.texts.Tally.{Tally}
 abbrev pub what_of : Reply → What
 what_of (told.Order round kind counts order) = what.Report kind
 what_of (told.Violated round counts tree) = what.Report kinds.Violated
+what_of (told.Events round kind counts order) = what.Report kind
+what_of (told.Broken round counts tree) = what.Report kinds.Violated
 what_of (told.Spent round counts) = what.Report kinds.Spent
 what_of (told.Cut fence gone last) = what.Cut
 what_of other = what.Other
@@ -61,6 +63,7 @@ words_of_fault (fault.Other text) = codes "wrong: owed is "
 words_of_fault (fault.Unshown unshown.Order) = codes "wrong: its order doesn't explain what had been accepted"
 words_of_fault (fault.Unshown unshown.Refutation) = codes "wrong: it refutes nothing of what had been accepted"
 words_of_fault (fault.Unshown unshown.Beginning) = codes "wrong: its script resumes another, and what had gone before isn't shown"
+words_of_fault (fault.Unshown unshown.Isolation) = codes "wrong: its script asks for snapshot isolation, which isn't checked here"
 words_of_fault fault.Missing = codes "wrong: the line has no reply"
 words_of_fault fault.TooLong = codes "wrong: it is too long to be read"
 

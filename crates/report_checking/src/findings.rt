@@ -21,6 +21,8 @@ pub(crate) enum Unshown {
     Refutation,
     /// What had gone before: the script resumes what another run gave out.
     Beginning,
+    /// Its script asks for snapshot isolation, of which replies aren't checked.
+    Isolation,
 }
 
 /// Why a reply is wrong.
@@ -67,6 +69,8 @@ pub(crate) fn what_of(answer: &Reply) -> What
     match answer {
         Reply::Order { kind, .. } => What::Report(*kind),
         Reply::Violated { .. } => What::Report(Kind::Violated),
+        Reply::Events { kind, .. } => What::Report(*kind),
+        Reply::Broken { .. } => What::Report(Kind::Violated),
         Reply::Spent { .. } => What::Report(Kind::Spent),
         Reply::Cut { .. } => What::Cut,
         Reply::Done | Reply::Searching | Reply::No(_) | Reply::Show { .. } | Reply::Saved(_) =>

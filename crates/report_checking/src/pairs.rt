@@ -51,6 +51,7 @@ impl Replay {
             | Command::Skip
             | Command::Show
             | Command::Save(_)
+            | Command::StartIsolated { .. }
             | Command::Resume { .. }
             | Command::Marks { .. }
             | Command::Last(_)
@@ -89,6 +90,7 @@ impl Replay {
                 limit,
                 version,
             } => Ok(Owed::Reply(self.open(alloc, sessions, limit, version))),
+            Command::StartIsolated { .. } => Ok(Owed::Nothing(Unshown::Isolation)),
             Command::Resume { .. } => Ok(Owed::Nothing(Unshown::Beginning)),
             _ => Ok(Owed::Reply(Reply::No(Refusal::BadLine))),
         }

@@ -92,6 +92,7 @@ look_keeps slots id me s k len at fits =
         subst (IsNoLater v.seen) (sym is) f.seen.1,
         subst (IsNoLater v.told) (sym is) f.told.1,
         λ h. subst (λ (l : List Told). WasPublished l v.told) (sym (f.list h)) f.told.0,
+        λ h. (is ∙ ap last_of (sym (f.list h)), subst (λ (l : List Told). IsNoLater v.told (last_of l)) (sym (f.list h)) f.told.1),
       ),
     )
 

@@ -58,7 +58,7 @@ Known = Me (Unit {0}) View
 abbrev pub published_after : Step (Unit {0}) → Known → ℕ → Known → Type 0
 published_after s m n m' = (m'.1 ≡ m.1) × (m'.0 ≡ publishes m.0 (report_at s.first))
 
--- A look: it is never at an earlier report than one that the seat has seen or was told of. The publisher learns that what it was told of is among
--- what it has published.
+-- A look: it is never at an earlier report than one that the seat has seen or was told of. The publisher sees what it has published last, and
+-- learns that what it was told of is among what it has published, and no later than that.
 abbrev pub looked_after : Step (Unit {0}) → Known → ℕ → Known → Type 0
-looked_after s m n m' = (m'.1 ≡ m.1) × (m'.0 ≡ looks_at m.0 (told_by n)) × IsNoLater m.0.seen (told_by n) × IsNoLater m.0.told (told_by n) × (0 < m.0.publishes → WasPublished m.0.published m.0.told)
+looked_after s m n m' = (m'.1 ≡ m.1) × (m'.0 ≡ looks_at m.0 (told_by n)) × IsNoLater m.0.seen (told_by n) × IsNoLater m.0.told (told_by n) × (0 < m.0.publishes → WasPublished m.0.published m.0.told) × (0 < m.0.publishes → (told_by n ≡ last_of m.0.published) × IsNoLater m.0.told (last_of m.0.published))

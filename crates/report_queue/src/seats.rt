@@ -1,5 +1,5 @@
 ghost use Rattle.std.specs.Prelude.{◌≡◌, ◌+◌, ◌^◌, ◌<◌, ◌≤◌, ◌++◌, ◌∷◌, [], All, IfOk, vec_len};
-ghost use Rattle.report_queue.specs.Reports.{IsBefore, IsNoLater, WasPublished};
+ghost use Rattle.report_queue.specs.Reports.{IsBefore, IsNoLater, WasPublished, last_of};
 ghost use Rattle.report_queue.specs.Seats.{IsNewReader};
 
 use crate::words::{Place, Rises, View, look, open, publish, tell};
@@ -114,6 +114,27 @@ impl Latest {
         let _ = look(word, &mut second.place);
         tell(word, &mut second.place, &mut first.place);
         let _ = look(word, &mut first.place);
+    }
+
+    /// Has the reader see the report that was published last, if any was, and gives it back.
+    pub fn catch_up(
+        &self,
+        publisher: &mut PublisherSeat,
+        reader: &mut ReaderSeat,
+    ) -> Option<(u64, Kind)>
+        requires word { (publisher.old.word ≡ self.now) × (reader.old.word ≡ self.now) }
+        ensures publisher { publisher.new ≡ publisher.old }
+        ensures word { reader.new.word ≡ reader.old.word }
+        ensures looked { (reader.new.looks ≡ reader.old.looks + 1) × (reader.new.seen ≡ result) }
+        ensures last { result ≡ last_of publisher.old.published }
+    {
+        let word = &self.table.shared;
+        let _ = look(word, &mut publisher.place);
+        tell(word, &mut publisher.place, &mut reader.place);
+        let seen = look(word, &mut reader.place);
+        tell(word, &mut reader.place, &mut publisher.place);
+        let _ = look(word, &mut publisher.place);
+        seen
     }
 
     /// Shows that what the reader has seen is among what was published.

@@ -1,6 +1,6 @@
 // The word of the latest report, and each step on it. The only ones that may step are those who hold a seat.
 ghost use Rattle.std.specs.Prelude.{◌≡◌, ◌^◌, ◌<◌, ◌≤◌, [], All};
-ghost use Rattle.report_queue.specs.Reports.{code_of, told_by, IsBefore, IsNoLater, WasPublished};
+ghost use Rattle.report_queue.specs.Reports.{code_of, told_by, IsBefore, IsNoLater, WasPublished, last_of};
 ghost use Rattle.report_queue.specs.Rule.{publishes, looks_at, heard_of, reader};
 
 use atomic_table::{Join, Play, Split, TableRule};
@@ -129,6 +129,7 @@ pub fn look(word: &Word, seat: &mut Place) -> Option<(u64, Kind)>
     ensures seen { IsNoLater seat.old.me.0.seen result }
     ensures told { IsNoLater seat.old.me.0.told result }
     ensures within { 0 < seat.old.me.0.publishes → WasPublished seat.old.me.0.published seat.old.me.0.told }
+    ensures last { 0 < seat.old.me.0.publishes → (result ≡ last_of seat.old.me.0.published) × IsNoLater seat.old.me.0.told (last_of seat.old.me.0.published) }
 {
     told_by(word.load::<Looks>(seat, 0))
 }

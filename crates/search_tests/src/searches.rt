@@ -477,3 +477,29 @@ fn worked_histories_are_answered(rt: HostRuntime) -> Result<(), Fail> {
     }
     Ok(())
 }
+
+/// A search that is refused memory answers nothing, and the next one answers.
+fn answers_at_last(rt: &impl Abort, alloc: Global, row: &Row) {
+    let Ok(parts) = row.table.parts(alloc) else {
+        return;
+    };
+    let Ok(problem) = problem_of(rt, alloc, &parts) else {
+        return;
+    };
+    let first = solved(rt, alloc, &problem, row.budget, row.depth);
+    let second = solved(rt, alloc, &problem, row.budget, row.depth);
+    assert!(rt; first == row.said || second == row.said);
+    for said in [first, second] {
+        assert!(rt; said == row.said || said == "no memory");
+    }
+}
+
+/// To be run with each allocation refused in turn: `rt try --test --fail-alloc N`.
+#[test]
+fn refused_memory_changes_no_answer_of_a_search(rt: HostRuntime) {
+    for row in rows() {
+        if row.open < 10 {
+            answers_at_last(&rt, rt.alloc(), row);
+        }
+    }
+}

@@ -19,7 +19,6 @@ pub AreTold-known : (gone received : List ℕ) (arcs : List Arc) (arc : Arc) (to
 AreTold-known gone received arcs arc told known =
     let order = IsOrder-reaches gone received arcs in
     record {
-      stay = λ id there. there;
       all = λ a b is. elim (Reaches-push_cases gone received arcs arc is) [
         | inl was ↦ inl was
         | inr both ↦ inl (then_or gone received (Reaches gone received arcs) order a (end_of arc) b (or_then gone received (Reaches gone received arcs) order a (start_of arc) (end_of arc) both.0 known) both.1)
@@ -134,7 +133,6 @@ module _ (gone received : List ℕ) (arcs : List Arc) (first count : List (Vec �
 
     pub AreTold-noted : AreTold gone received arcs arc old new
     AreTold-noted = record {
-      stay = λ id there. noted_stays mid new id more (noted_stays old mid id front there);
       all = λ a b is. elim (Reaches-push_cases gone received arcs arc is) [
         | inl was ↦ inl was
         | inr both ↦ old_or_told a b both.0 both.1

@@ -25,8 +25,7 @@ pub record IsFrontOf (old new : List TxnId) : Type 0 where
   pub more : List TxnId
   pub is : new ≡ old ++ more
 
--- both of any two are told of which the one reaches the other by the arc alone, no others are, and what was told before stays
+-- both of any two are told of which the one reaches the other by the arc alone, and no others are
 pub record AreTold (gone received : List ℕ) (arcs : List Arc) (arc : Arc) (old new : List TxnId) : Type 0 where
-  pub stay : (id : TxnId) → Contains old id → Contains new id
   pub all : (a b : TxnId) → Reaches gone received (arcs ++ arc ∷ []) a b → Reaches gone received arcs a b ⊎ (Contains new a × Contains new b)
   pub only : (id : TxnId) → Contains new id → Contains old id ⊎ HasGrown gone received arcs arc id

@@ -48,19 +48,20 @@ pub record IsTreeTo (goal : TxnId) (tops : List ℕ) (tree : List Arc) : Type 0 
 abbrev pub IsWhole : TxnId → List ℕ → List Arc → Type 0
 IsWhole goal tops arcs = All (λ arc. IsLedTo tops goal (end_of arc) → IsLed tops (start_of arc)) arcs
 
--- the arc is taken, which leads on from a transaction that isn't below them
+-- the arc is taken: it leads on from a transaction that isn't below its number yet
 pub record IsTaken (goal : TxnId) (arc : Arc) (tops : List ℕ) (tree : List Arc) (new_tops : List ℕ) (new_tree : List Arc) : Type 0 where
   pub on : IsLedTo tops goal (end_of arc)
   pub out : ¬ IsLed tops (start_of arc)
   pub raised : new_tops ≡ slice_set tops (start_of arc).session ((start_of arc).number + 1)
   pub pushed : new_tree ≡ tree ++ arc ∷ []
 
--- it isn't, and doesn't
+-- the arc is passed: it doesn't lead on, or its start is below its number already
 pub record IsPassed (goal : TxnId) (arc : Arc) (tops : List ℕ) (tree : List Arc) (new_tops : List ℕ) (new_tree : List Arc) : Type 0 where
   pub not : IsLedTo tops goal (end_of arc) → IsLed tops (start_of arc)
   pub tops_stay : new_tops ≡ tops
   pub tree_stays : new_tree ≡ tree
 
+-- taken or passed, as the answer says
 abbrev pub IsTakenOr : Bool → TxnId → Arc → List ℕ → List Arc → List ℕ → List Arc → Type 0
 IsTakenOr true goal arc tops tree new_tops new_tree = IsTaken goal arc tops tree new_tops new_tree
 IsTakenOr false goal arc tops tree new_tops new_tree = IsPassed goal arc tops tree new_tops new_tree

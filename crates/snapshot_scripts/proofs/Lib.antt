@@ -1,3 +1,4 @@
 mod Counting
 mod Fresh
+mod Kept
 mod Legality

@@ -1,2 +1,4 @@
+pub mod Isolated
 pub mod Legal
+pub mod Splitting
 pub mod Steps

@@ -1,5 +1,5 @@
 """The commands of `zanteyard`, and its parser. A command's modules are imported only if that
-command was asked for."""
+command was requested."""
 
 from __future__ import annotations
 
@@ -12,12 +12,12 @@ from ..core._visible import say
 from ..core._visible import shown as safe
 from ._statuses import STATUS_WORDS
 
-WIDTH = 79  # columns of what stands below a command's options
+WIDTH = 79  # columns of the text below a command's options
 
 
 class Command(NamedTuple):
-    """`fill` adds the arguments, and sets `run`, which takes what was asked for and gives the exit
-    status."""
+    """A command. `fill` adds the arguments and sets `run`, which takes the parsed arguments and
+    returns the exit status."""
 
     about: str
     example: str
@@ -41,6 +41,7 @@ def _levels(command: argparse.ArgumentParser) -> None:
     from ._scripts import add_levels
 
     add_levels(command)
+    _shows_progress(command, "checking")
     command.epilog = "Exit status: 0 if they could be determined, 2 if the script is wrong."
 
 
@@ -48,6 +49,7 @@ def _demo(command: argparse.ArgumentParser) -> None:
     from ._runs import add_demo
 
     add_demo(command)
+    _shows_progress(command, "checking")
 
 
 def _check_report(command: argparse.ArgumentParser) -> None:
@@ -62,7 +64,22 @@ def _import(command: argparse.ArgumentParser) -> None:
 
     _command.add_arguments(command)
     command.set_defaults(run=_command.run)
+    _shows_progress(command, "importing")
     command.epilog = "Exit status: 0 if the script was written, 2 if not."
+
+
+def _shows_progress(command: argparse.ArgumentParser, what: str) -> None:
+    """Shows progress on a terminal while it runs."""
+    from ._progress import Progress
+
+    run = command.get_default("run")
+
+    def watched(asked: Any) -> int:
+        with Progress(what):
+            status: int = run(asked)
+        return status
+
+    command.set_defaults(run=watched)
 
 
 def _watch(command: argparse.ArgumentParser) -> None:
@@ -232,12 +249,13 @@ class _Parser(argparse.ArgumentParser):
 
 
 def command_of(words: Sequence[str]) -> str:
-    """Which command these words ask for; "" if none. Options before it take no words."""
+    """The command in these words; "" if there is none. Options before it take no words."""
     return next((word for word in words if not word.startswith("-")), "")
 
 
 def parser(named: Optional[str] = None) -> argparse.ArgumentParser:
-    """The command line. Only the command of this name has its arguments; all have if None."""
+    """The command line's parser. Only the command with this name has its arguments; all have them
+    if it is None."""
     whole = _Parser(
         prog="zanteyard",
         description="Checks whether a store's transactions were serializable and kept each "
@@ -264,7 +282,7 @@ def parser(named: Optional[str] = None) -> argparse.ArgumentParser:
 
 
 def documents() -> str:
-    """The folder `docs` that help and errors name: in the wheel, else in a clone; or empty."""
+    """The folder `docs` that help and errors name: the wheel's, else a clone's; or empty."""
     package = os.path.dirname(os.path.dirname(os.path.abspath(__file__)))
     places = (os.path.join(package, "docs"), os.path.join(package, "../../../docs"))
     found = (os.path.normpath(it) for it in places if os.path.isfile(f"{it}/FORMATS.md"))
@@ -283,7 +301,7 @@ def _add(commands: Any, name: str, about: str) -> argparse.ArgumentParser:
 
 
 def _end(command: argparse.ArgumentParser, example: str) -> None:
-    """What stands below the options."""
+    """The text below the options."""
     its = command.epilog or ""
     command.epilog = f"example:\n  {example}\n\n" + (its if "\n" in its else _paragraphs(its))
 

@@ -1,5 +1,5 @@
-"""The command `zanteyard`. Its exit status is that of the last verdict: 0 serial, 1 violated,
-2 a mistake in the script or the call, 3 pending, 4 undecided."""
+"""The command `zanteyard`. Its exit status is that of the last verdict: 0 serial, 1 violated, 2 a
+mistake in the script or the call, 3 pending, 4 undecided."""
 
 from __future__ import annotations
 
@@ -8,18 +8,23 @@ import os
 import sys
 from typing import Any, Optional, Sequence
 
+from ..core._command_start import is_over
 from ..core.errors import ImportRefusedError, ProgramEndedError, ZanteyardError
 from ._statuses import MISTAKE, UNDECIDED, complain
 
 
 def main(words: Optional[Sequence[str]] = None) -> int:
-    """Runs the command, and gives its exit status. Mistakes are told on standard error."""
+    """Runs the command, and returns its exit status. Errors are printed on standard error."""
     words = sys.argv[1:] if words is None else words
     asked: Any = None
     try:
-        # In here, so that Ctrl-C while they are imported is answered as it is later.
+        is_over()
+        # Imported here, so that Ctrl-C during the imports is handled as it is later.
         from ._commands import command_of, parser
+        from ._completion import ASKED, complete
 
+        if ASKED in os.environ:
+            return complete(parser())
         if not words:
             parser("").print_help(sys.stderr)
             return MISTAKE
@@ -36,7 +41,7 @@ def main(words: Optional[Sequence[str]] = None) -> int:
         return complain(MISTAKE, f"mistake: {error}")
     except BrokenPipeError:
         _let_go_of_output()
-        known = getattr(asked, "status", None)  # of a verdict that nothing can change
+        known = getattr(asked, "status", None)  # of a verdict that is final
         if known is not None:
             return int(known)
         return complain(UNDECIDED, "undecided: standard output was closed")
@@ -46,7 +51,7 @@ def main(words: Optional[Sequence[str]] = None) -> int:
     except KeyboardInterrupt:
         word = "undecided: " if getattr(asked, "has_verdict", False) else ""
         return complain(UNDECIDED, f"{word}interrupted")
-    except Exception:  # Python's own status would be 1, which says violated
+    except Exception:  # Python's own status would be 1, which means violated
         import traceback
 
         first, *lines = traceback.format_exc().rstrip().split("\n")
@@ -54,6 +59,7 @@ def main(words: Optional[Sequence[str]] = None) -> int:
 
 
 def _let_go_of_output() -> None:
-    """What is left of it would be written as Python ends, which would make another error of it."""
+    """Discards buffered output. Otherwise Python would try to write it at its end, and report
+    another error."""
     with contextlib.suppress(OSError), open(os.devnull, "w", encoding="utf-8") as nowhere:
         os.dup2(nowhere.fileno(), sys.stdout.fileno())

@@ -1,4 +1,4 @@
-"""Figures of a live audit in Prometheus's text format, at an address."""
+"""Serves metrics of a live audit in Prometheus's text format."""
 
 from __future__ import annotations
 
@@ -17,8 +17,9 @@ KINDS = ("serial", "pending", "violated", "spent")
 def families(
     live: LiveAuditor, clients: int = 0, redis_up: Any = None, refused: int = 0
 ) -> Iterator[Family]:
-    """`clients` are the processes of clients that are heard; `redis_up` tells whether the Redis can
-    be reached, None where there is none; so many messages there were `refused`."""
+    """The metrics. `clients` is the number of connected client processes, `redis_up` says whether
+    the Redis can be reached (None if there is none), and `refused` counts messages that were
+    refused."""
     outcome, figures, auditor = live.outcome, live.figures, live.auditor
     whole = sum(outcome_before.audited for outcome_before in live.earlier)
 
@@ -87,9 +88,10 @@ def families(
 
 
 class MetricsServer(WebServer):
-    """Answers GET /metrics at HOST:PORT by what `tell` gives, until it is closed: a few requests at
-    a time, under whatever name it is asked. Raises OSError if it can't listen there, ValueError if
-    that is no address. Port 0 takes any; `port` is the one taken."""
+    """Answers GET /metrics at HOST:PORT with the result of `tell`, until it is closed. It serves a
+    few requests at a time, and ignores the host name in them. Raises OSError if it can't listen
+    there, and ValueError if that is no address. With port 0 it takes any free one; `port` says
+    which."""
 
     def __init__(self, address: str, tell: Callable[[], str]) -> None:
         def answer(path: str) -> Answer:

@@ -1,4 +1,5 @@
-"""How far a command is, on the last line of a terminal: nothing where standard output is none."""
+"""Shows a command's progress on the last line of a terminal, and nothing if standard output is
+none."""
 
 from __future__ import annotations
 
@@ -10,16 +11,17 @@ from typing import Iterable, Iterator, Optional
 
 from ..core import _visible
 
-FIRST, NEXT = 1.0, 0.5  # seconds before it is shown, and between two changes
+FIRST, NEXT = 1.0, 0.5  # seconds before it is shown, and between two updates
 ERASED = "\r\x1b[K"
 
 
 class Progress:
-    """In a `with` around the work. It is taken away before a line is said. `at` is for the thread
-    that works."""
+    """A context around the work. The line is removed before something else is printed. `at` is for
+    the working thread."""
 
     def __init__(self, what: str) -> None:
-        self._what, self._count = what, 0
+        self._what = what
+        self._count: Optional[int] = None  # if something is counted
         self._began = time.monotonic()
         self._turn, self._is_shown = threading.Lock(), False
         self._ends = threading.Event()
@@ -51,7 +53,8 @@ class Progress:
             seconds = time.monotonic() - self._began
             with self._turn:
                 self._is_shown = True
-                self._write(f"{ERASED}({self._what} {self._count:,}, {seconds:.0f} s)")
+                count = f" {self._count:,}" if self._count is not None else ""
+                self._write(f"{ERASED}({self._what}{count}, {seconds:.0f} s)")
 
     def _take_away(self) -> None:
         with self._turn:
@@ -60,7 +63,7 @@ class Progress:
                 self._write(ERASED)
 
     def _write(self, text: str) -> None:
-        """Nobody is told if the terminal is gone: what is said next tells."""
+        """Ignores a terminal that is gone; the next output will report it."""
         try:
             os.write(sys.stdout.fileno(), text.encode())
         except (OSError, ValueError):

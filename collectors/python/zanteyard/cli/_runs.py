@@ -1,4 +1,4 @@
-"""`zanteyard demo`, `audit` and `journal`: a run of clients, as it is made or afterwards."""
+"""`zanteyard demo`, `audit` and `journal`: a run of clients, while it happens or afterwards."""
 
 from __future__ import annotations
 
@@ -56,7 +56,7 @@ def run_audit(asked: Any) -> int:
     if asked.html:
         try:
             write(ran.page(origin()), asked.html)
-        except OSError as error:  # what came of the run is printed, and won't come again
+        except OSError as error:  # the run can't be repeated, so its outcome is printed first
             why_not = f"can't write {asked.html}: {error.strerror}"
     for line in ran.lines():
         say(line)

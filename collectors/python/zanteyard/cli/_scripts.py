@@ -1,4 +1,4 @@
-"""`zanteyard check`, `explain` and `levels`: what a script says, in words and on a page."""
+"""`zanteyard check`, `explain` and `levels`: what a script says, as text and on a page."""
 
 from __future__ import annotations
 
@@ -14,6 +14,7 @@ from ..explain._report import EXPLAINED, Story, verdict_story, violation_story
 from ..explain._script_names import ScriptNames, read_names
 from ..explain._script_times import ScriptTimes, read_times
 from ..explain._scripts import MORE, ScriptRun, Verdict
+from ..imports._guess import FIRST, history_form
 from ..program._binaries import find_program
 from ..promises._kinds import ASKED
 from ._progress import Progress
@@ -82,16 +83,27 @@ def _nodes(text: str) -> int:
 
 def _lines(path: str) -> Iterator[bytes]:
     if path == "-":
-        if sys.stdin is None:  # so Python has it where it is closed
+        if sys.stdin is None:  # Python's value if it is closed
             raise OSError("standard input is closed")
         yield from sys.stdin.buffer
     else:
         with open(path, "rb") as file:
+            _check_script(path, file.peek(FIRST)[:FIRST])
             yield from file
 
 
+def _check_script(path: str, front: bytes) -> None:
+    """Raises CantBeAskedError if the file seems to be another tool's history."""
+    form = history_form(front)
+    if form is not None:
+        raise CantBeAskedError(
+            f"{path} is a history, not a script: `zanteyard import {form} {path} -o SCRIPT` makes "
+            "one of it (docs/IMPORT.md)"
+        )
+
+
 def _names(path: str) -> Optional[ScriptNames]:
-    """The names beside the script, where it has some."""
+    """The names next to the script, if there are any."""
     names, why_not = read_names(path) if path != "-" else (None, "")
     if why_not:
         say(f"({why_not})")
@@ -99,12 +111,12 @@ def _names(path: str) -> Optional[ScriptNames]:
 
 
 def _times(path: str) -> Optional[ScriptTimes]:
-    """The times beside the script, where it has some."""
+    """The times next to the script, if there are any."""
     return read_times(path) if path != "-" else None
 
 
 def _run_of(asked: Any) -> ScriptRun:
-    """Raises CantBeAskedError where the script can't be asked about the promise."""
+    """Raises CantBeAskedError if the script can't be checked for the promise."""
     names = _names(asked.script)
     is_timed = names is not None and names.asks_time
     promise = ASKED[asked.promise or ("strict" if is_timed else "serializable")]
@@ -122,7 +134,7 @@ def check(asked: Any) -> int:
     with _run_of(asked) as run, Progress("line") as progress:
         for verdict in run.verdicts(progress.of(_lines(asked.script))):
             if verdict.kind == "violated":
-                asked.status = STATUSES[verdict.kind]  # which nothing can change
+                asked.status = STATUSES[verdict.kind]  # this is final
             if verdict.kind == "violated" and is_told:
                 say(f"{_where(verdict)} still violated")
                 continue
@@ -164,7 +176,7 @@ def _story(verdict: Verdict, run: ScriptRun, seconds: float) -> Story:
 
 
 def _where(verdict: Verdict) -> str:
-    """Which round it is that says so."""
+    """Which round the verdict is from."""
     line = f"line {verdict.line_number}" if verdict.line_number else "at the end"
     again = f", after {verdict.rounds} tries, the last with {verdict.nodes:,} nodes"
     return f"{line}{again if verdict.rounds > 1 else ''}:"
@@ -178,7 +190,7 @@ def _tell_no_cuts(run: ScriptRun) -> None:
 
 
 def _tell_resumed(run: ScriptRun) -> None:
-    if run.is_resumed:  # what had gone before isn't in the script
+    if run.is_resumed:  # what came before isn't in the script
         what = "a verdict holds for every history that the parts can stand for"
         say(f"(the script continues another one: {what})")
 

@@ -1,10 +1,10 @@
-"""`zanteyard serve`: an audit that goes on as a daemon, for clients that come and go.
+"""`zanteyard serve`: an audit as a daemon, for clients that come and go.
 
-docs/OPERATION.md says how it is run. Its exit status says what ended it: 0 it was stopped, and all
-was serial by then; 1 the audit is violated; 2 it can't begin or go on, by a mistake in the call,
-the journal or the Redis, or since another one has the audit; 3 it was stopped, and was pending; 4
-something wasn't audited, or not decided, a fault of the daemon's own ended it, or the collector's
-own transactions alone have no order.
+docs/OPERATION.md says how to run it. The exit status says why it ended: 0 it was stopped, and
+everything was serial; 1 the audit is violated; 2 it can't begin or continue, because of a mistake
+in the call, the journal or the Redis, or because another auditor has the audit; 3 it was stopped,
+and was pending; 4 something wasn't audited or decided, it ended by a fault of its own, or only the
+collector's own transactions have no order.
 """
 
 from __future__ import annotations
@@ -52,8 +52,8 @@ STATUS_WORDS = (
     "audit; 3 stopped, and pending; 4 something wasn't audited or decided, or the collector's own "
     "transactions have no order."
 )
-LOOKS = 0.2  # seconds between two looks at whether it is over
-TELLING = 30.0  # seconds that making a violation small may take
+LOOKS = 0.2  # seconds between two checks whether it is over
+TELLING = 30.0  # seconds that reducing a violation may take
 FORM = "%(asctime)s %(levelname)s %(message)s"
 logger = logging.getLogger("zanteyard")
 
@@ -154,7 +154,7 @@ def _level(text: str) -> int:
 
 
 def run(asked: Any) -> int:
-    """Until a signal or the audit's own end; gives the exit status."""
+    """Runs until a signal or the end of the audit; returns the exit status."""
     logging.basicConfig(level=asked.log, format=FORM, stream=sys.stderr)
     stopped = threading.Event()
     for number in (signal.SIGTERM, signal.SIGINT, signal.SIGHUP):
@@ -199,13 +199,13 @@ def _audit(asked: Any, stack: contextlib.ExitStack, stopped: threading.Event) ->
 
 
 def _failure(server: Any) -> Optional[Exception]:
-    """By which it serves no more."""
+    """Why the server has ended, if it has."""
     failure: Optional[Exception] = getattr(server, "failure", None)
     return failure
 
 
 def _end_at_faults(faults: List[str]) -> None:
-    """A thread that ends by an exception leaves a daemon that only looks well."""
+    """Ends the daemon after an exception in any thread: otherwise it would only look healthy."""
 
     def note(raised: Any) -> None:
         words = "".join(traceback.format_exception(*raised[:3]))
@@ -217,15 +217,16 @@ def _end_at_faults(faults: List[str]) -> None:
 
 
 def _auditor(asked: Any) -> Auditor:
-    """Goes on with what is there, where clients' streams have the rest."""
+    """An auditor that continues the existing journal, if clients' streams have the rest; else a new
+    one."""
     path = os.path.join(asked.journal, JOURNAL)
     settings: Any = {"program": find_program(), "script": _unused(asked.script)}
     settings["round_seconds"] = asked.round_seconds
     if os.path.lexists(path):
         if asked.redis is not None and os.path.lexists(f"{path}.live"):
             return Auditor.resumed(path, promise=asked.promise, **settings)
-        # Nobody had a session; or nobody knows what was on its way as its process ended.
-        journal = Journal(path)  # which another daemon may have
+        # No client had a session, or what was in flight when the process ended is unknown.
+        journal = Journal(path)  # another daemon may be using it
         try:
             os.replace(path, f"{path}.old")
         finally:
@@ -234,7 +235,7 @@ def _auditor(asked: Any) -> Auditor:
 
 
 def _unused(script: Optional[str]) -> Optional[str]:
-    """What a daemon before this one was given stays."""
+    """An unused file name, so that an earlier daemon's script is kept."""
     names = itertools.chain([""], (f".resumed{at or ''}" for at in itertools.count()))
     return script and next(script + name for name in names if not os.path.isfile(script + name))
 
@@ -243,7 +244,7 @@ def _server(asked: Any, live: LiveAuditor) -> Any:
     try:
         if asked.redis is None:
             return AuditServer(live, os.path.join(asked.journal, SOCKET))
-        # redis-py needn't be there else
+        # only here, since redis-py is optional
         from ..remote._listed_stores import ListedStores
         from ..remote.streams import StreamServer
 
@@ -272,8 +273,8 @@ def _end(server: Any, live: LiveAuditor) -> Outcome:
 
 
 def _tell(asked: Any, auditor: Auditor, outcome: Outcome) -> None:
-    """What can't be, in the log and in files. Where that fails, as on a full disk, it is violated
-    all the same."""
+    """Writes an explanation of the violation to the log and to files. If that fails, for example
+    because the disk is full, the verdict stays."""
     path = os.path.join(asked.journal, VIOLATION)
     lines: List[str] = []
 

@@ -1,4 +1,4 @@
-"""The exit statuses of the commands that tell a verdict."""
+"""The exit statuses of the commands that print a verdict."""
 
 from __future__ import annotations
 
@@ -17,8 +17,8 @@ STATUS_WORDS = (
 
 
 def complain(status: int, *lines: str) -> int:
-    """Prints the lines on standard error, and gives the status, also if they can't be printed:
-    Python's own would be 1."""
+    """Prints the lines on standard error and returns the status, even if they can't be printed:
+    then Python's own status would be 1."""
     with contextlib.suppress(OSError):
         for line in lines:
             say(line, file=sys.stderr, flush=True)

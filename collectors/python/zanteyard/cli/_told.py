@@ -1,4 +1,4 @@
-"""What the commands share: their statuses, and how a story is printed and written as a page."""
+"""Prints a story, and writes it as a page, for all commands."""
 
 from __future__ import annotations
 
@@ -15,7 +15,7 @@ from ._statuses import complain as complain
 
 
 def tell(story: Story, tells_all: bool = False, lead: str = "") -> None:
-    """In words. `lead` begins the first line."""
+    """Prints the story. `lead` precedes the first line."""
     for line in story_lines(story, tells_all):
         say(f"{lead} {line}" if lead else line)
         lead = ""
@@ -28,9 +28,9 @@ def tell_with_page(
     tells_all: bool = False,
     lead: str = "",
 ) -> None:
-    """Writes the page first, if there is to be one: whoever reads the words may stop before their
-    end. `lead` begins their first line. Raises OSError if the page can't be written, after the
-    words."""
+    """Writes the page, if there is to be one, and then prints the story: a reader may stop before
+    the end of the text. `lead` precedes the first line. If the page can't be written, raises
+    OSError after printing."""
     why_not: Optional[OSError] = None
     if path is not None:
         try:
@@ -50,5 +50,5 @@ def write(page: str, path: str) -> None:
 
 
 def origin() -> str:
-    """How the auditor was made."""
+    """How the auditor was built."""
     return origin_of(find_program()).sentence()

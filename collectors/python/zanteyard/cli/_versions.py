@@ -1,4 +1,4 @@
-"""What `zanteyard --version` says of the programs that it would run."""
+"""The output of `zanteyard --version`: the versions of the programs that it would run."""
 
 from __future__ import annotations
 

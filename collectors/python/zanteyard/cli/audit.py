@@ -1,5 +1,6 @@
-"""Audits a PostgreSQL, or another store, while clients run on it at the same time: a line a round,
-and what can't be at a violation. `zanteyard audit` and `examples/postgres_live.py` are this."""
+"""Audits PostgreSQL or another store while clients run on it at the same time. Prints a line for
+each round, and the explanation of a violation. Both `zanteyard audit` and
+`examples/postgres_live.py` run this."""
 
 from __future__ import annotations
 
@@ -33,13 +34,13 @@ from ..trial.store_kinds import POSTGRES, MakesStore, StoreKind
 from ..trial.store_kinds import CantAuditError as CantAuditError
 from ..trial.workloads import EVERY_WORKLOAD, ChurningClients, ClientProcesses, Clients, Nothing
 
-STAYING, CHURNING = 8, 16  # clients at a time, where nothing else is asked for
+STAYING, CHURNING = 8, 16  # clients at a time, by default
 
 
 @dataclass(frozen=True)
 class LiveRun:
-    """What came of a run. `alone` are the clients without an auditor, if they ran so; `story` tells
-    a violation where there was one, and `seen` the rounds."""
+    """The result of a run. `alone` are the clients without an auditor, if they ran; `story` is the
+    explanation of a violation, if there was one; `seen` are the rounds."""
 
     asked: argparse.Namespace
     live: LiveAuditor
@@ -50,7 +51,7 @@ class LiveRun:
     seen: Tuple[RoundSeen, ...]
 
     def lines(self) -> List[str]:
-        """The three lines that end a run."""
+        """The last three lines of a run."""
         at = f"{self.asked.workload} at {self._level()}"
         came = getattr(self.clients, "came", None)
         by = f"{self.asked.clients} clients"
@@ -67,7 +68,7 @@ class LiveRun:
         ]
 
     def page(self, origin: str) -> str:
-        """The run on a page."""
+        """The run as a page."""
         about = f"{kind_of(self.asked).name}, {self.asked.workload} at {self._level()}"
         if self.outcome.from_before:
             about += f"; {words_of_before(self.outcome.from_before)}"
@@ -89,13 +90,13 @@ class LiveRun:
 
 @contextlib.contextmanager
 def stopped_by_signals() -> Iterator[threading.Event]:
-    """In here the first signal that would end the program sets the event instead, so that what was
-    run until then gets its last round and its verdict. A second one ends the program. For the main
-    thread."""
+    """A context in which the first signal that would end the program sets the event instead, so
+    that what was run so far gets a last round and a verdict. A second signal ends the program. For
+    the main thread."""
     stop = threading.Event()
     kinds = (signal.SIGINT, signal.SIGTERM, signal.SIGHUP)
     before = {each: signal.getsignal(each) for each in kinds}
-    before = {each: its for each, its in before.items() if its != signal.SIG_IGN}  # as nohup wants
+    before = {each: its for each, its in before.items() if its != signal.SIG_IGN}  # for nohup
 
     def restore() -> None:
         for each, handler in before.items():
@@ -118,7 +119,7 @@ def stopped_by_signals() -> Iterator[threading.Event]:
 def unaudited_run(
     asked: Any, make_store: MakesStore, stop: Optional[threading.Event] = None
 ) -> Clients:
-    """The clients without the auditor, to compare with."""
+    """The clients without the auditor, for comparison."""
     is_over = (stop or threading.Event()).is_set
     if asked.processes:
         more = (asked.clients, asked.workload, asked.unaudited, asked.rate, is_over)
@@ -150,7 +151,7 @@ def _beside(
 
 
 class _Rounds:
-    """Keeps what was seen of each."""
+    """Records each round."""
 
     def __init__(self) -> None:
         self.began = time.monotonic()
@@ -165,13 +166,13 @@ class _Rounds:
 def audited_run(
     asked: Any, make_store: MakesStore, stop: Optional[threading.Event] = None
 ) -> Tuple[LiveAuditor, Outcome, Clients, Optional[Story], Tuple[RoundSeen, ...]]:
-    """The clients beside the auditor, until the time is up or `stop` is set, and what became of the
-    audit."""
+    """Runs the clients with the auditor until the time is up or `stop` is set. Returns the audit
+    and its outcome."""
     policy = RATHER_WAIT if asked.rather_wait else RATHER_LOSE_THE_AUDIT
     rounds, story = _Rounds(), None
     promise = asked.promise
     with AuditorApart(asked.clients, journal=asked.audit_journal, promise=promise) as auditor:
-        more: Any = {"on_client": _say} if asked.churn else {}  # what each did first
+        more: Any = {"on_client": _say} if asked.churn else {}  # prints clients' first transactions
         its = {"every": asked.every, "policy": policy, "tell": _say, "on_round": rounds.see}
         live = LiveAuditor(auditor, **its, **more)
         clients = _beside(asked, make_store, live, stop or threading.Event())
@@ -190,7 +191,8 @@ def _say(told: object) -> None:
 
 
 def _unused(name: str) -> str:
-    """The name, or the first of name-2, name-3 and so on: what was found before stays."""
+    """The name, or the first unused one of name-2, name-3 and so on, so that earlier violations are
+    kept."""
     for count in itertools.count(1):
         path = name if count == 1 else f"{name}-{count}"
         if not any(map(os.path.isfile, glob.glob(f"{path}.*"))):
@@ -199,7 +201,7 @@ def _unused(name: str) -> str:
 
 
 def count_of_clients(text: str) -> int:
-    """2 to 64."""
+    """A number of clients, 2 to 64."""
     count = int(text) if text.isdecimal() else 0
     if not 2 <= count <= 64:
         raise argparse.ArgumentTypeError(f"{text!r} isn't a whole number from 2 to 64")
@@ -207,17 +209,20 @@ def count_of_clients(text: str) -> int:
 
 
 def kind_of(asked: Any) -> StoreKind:
-    """Which store is audited: a PostgreSQL, where nothing else was asked for."""
+    """The store to audit; PostgreSQL by default."""
     kind: StoreKind = getattr(asked, "kind", POSTGRES)
     return kind
 
 
 def add_arguments(asked: argparse.ArgumentParser, kind: StoreKind = POSTGRES) -> None:
-    """What may be asked of a run."""
+    """Adds the arguments of a run."""
     asked.set_defaults(kind=kind)
-    asked.add_argument("--level", choices=kind.levels, default=kind.default_level)
-    asked.add_argument("--workload", choices=EVERY_WORKLOAD, default="mixed")
-    asked.add_argument("--seconds", type=float, default=10.0)
+    about = f"the store's isolation level ({kind.default_level})"
+    asked.add_argument("--level", choices=kind.levels, default=kind.default_level, help=about)
+    about = "what the clients do (mixed)"
+    asked.add_argument("--workload", choices=EVERY_WORKLOAD, default="mixed", help=about)
+    about = "how many seconds to run with the auditor (10)"
+    asked.add_argument("--seconds", type=float, default=10.0, help=about)
     about = "seconds to run without the auditor first, for comparison; 0 for none (3)"
     asked.add_argument("--unaudited", type=float, default=3.0, help=about)
     asked.add_argument(
@@ -230,7 +235,7 @@ def add_arguments(asked: argparse.ArgumentParser, kind: StoreKind = POSTGRES) ->
         "at most this many transactions a second from all clients together (no limit)"
     )
     asked.add_argument("--rate", type=float, help=about)
-    about = "transactions between two meetings"
+    about = f"transactions between two meetings ({LiveAuditor.EVERY})"
     asked.add_argument("--every", type=int, default=LiveAuditor.EVERY, help=about)
     about = "run each client in its own process instead of a thread"
     asked.add_argument("--processes", action="store_true", help=about)
@@ -248,8 +253,8 @@ def add_arguments(asked: argparse.ArgumentParser, kind: StoreKind = POSTGRES) ->
 
 
 def run(asked: Any) -> LiveRun:
-    """Runs the clients as asked, and tells each round. Ctrl-C, and the like, end a live audit as
-    the time does. Raises CantAuditError."""
+    """Runs the clients as requested, and prints each round. Signals such as Ctrl-C end a live audit
+    as the time does. Raises CantAuditError."""
     kind = kind_of(asked)
     asked.clients = asked.clients or (CHURNING if asked.churn else STAYING)
     if asked.churn and asked.processes:
@@ -259,6 +264,6 @@ def run(asked: Any) -> LiveRun:
         with stopped_by_signals() as stop:
             alone = unaudited_run(asked, make_store, stop) if asked.unaudited else None
             if stop.is_set():
-                raise KeyboardInterrupt  # nothing was audited by then
+                raise KeyboardInterrupt  # nothing had been audited yet
             live, outcome, clients, story, seen = audited_run(asked, make_store, stop)
     return LiveRun(asked, live, outcome, clients, alone, story, seen)

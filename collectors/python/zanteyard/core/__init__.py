@@ -1,2 +1,2 @@
-"""What all other packages stand on: the records of transactions and of outcomes, the errors, time
-limits, locks, and what outlives a client's process or a fork."""
+"""What all other packages use: records of transactions and outcomes, errors, time limits, locks,
+and what survives a killed client process or a fork."""

@@ -1,5 +1,5 @@
-"""When and from where a transaction was begun, and what it read and wrote: told of a violation, and
-nothing that a verdict rests on."""
+"""When and where a transaction began, and what it read and wrote: shown with a violation, and never
+used for a verdict."""
 
 from __future__ import annotations
 
@@ -13,20 +13,22 @@ from typing import Any, Dict, Iterator, List, Tuple
 from ._records import History, Logged, Naming, ShownId
 
 PACKAGE = os.path.dirname(os.path.dirname(os.path.abspath(__file__))) + os.sep
-OURS = (PACKAGE, contextlib.__file__, threading.__file__)  # what calls nothing by itself
-LETTERS = 60  # of a value, at most
-DEPTH = 12  # calls that are looked through, at most
+# Code that isn't the caller itself, such as the modules by which `python -m` starts a program.
+OURS = (PACKAGE, contextlib.__file__, threading.__file__, "<frozen ")
+COMMAND = "zanteyard"  # the file by which this package's own command is started
+LETTERS = 60  # characters of a value, at most
+DEPTH = 12  # stack frames to look through, at most
 
 
 def caller() -> str:
-    """The file and line outside of this package from which this was called; empty where there is
-    none near."""
+    """The nearest caller outside of this package, as "file:line"; empty if there is none within
+    `DEPTH` frames."""
     frame: Any = sys._getframe(1)
     for _ in range(DEPTH):
         if frame is None:
             return ""
         name = frame.f_code.co_filename
-        if not name.startswith(OURS):
+        if not name.startswith(OURS) and os.path.basename(name) != COMMAND:
             return f"{name}:{frame.f_lineno}"
         frame = frame.f_back
     return ""
@@ -42,7 +44,7 @@ def brief(value: Any) -> str:
 
 
 def clock_of(logged: Logged) -> str:
-    """The time of day, to a millisecond; empty where it isn't known."""
+    """The local time of day at which it began, to the millisecond; empty if unknown."""
     if not logged.began:
         return ""
     whole, parts = divmod(int(logged.began * 1000), 1000)
@@ -50,13 +52,14 @@ def clock_of(logged: Logged) -> str:
 
 
 def caller_of(logged: Logged) -> str:
-    """The caller as it is told: from this folder on, where it is in it."""
+    """The caller, as a path relative to the current folder if it is below that."""
     here = os.getcwd() + os.sep
     return logged.caller[len(here) :] if logged.caller.startswith(here) else logged.caller
 
 
 def values_of(logged: Logged) -> Dict[Tuple[str, str], str]:
-    """What was read from and written to each key that it still is about."""
+    """What was read from and written to each key, for the reads and writes that `logged` still
+    has."""
     did_read, did_write = logged.did
     texts_of: Dict[Tuple[str, str], List[str]] = {("read", key): [] for key, _ in did_read}
     texts_of.update({("wrote", key): [] for key in did_write})
@@ -68,7 +71,7 @@ def values_of(logged: Logged) -> Dict[Tuple[str, str], str]:
 
 
 def circumstances(history: History, names: Naming) -> Iterator[str]:
-    """A line for each transaction of which something is known."""
+    """A line for each transaction about which something is known."""
     for session, transactions in enumerate(history):
         for number, logged in enumerate(transactions):
             if not any(logged.did):

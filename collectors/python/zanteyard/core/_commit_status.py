@@ -1,9 +1,10 @@
-"""How another process than the client's finds out what became of a commit that wasn't answered.
+"""Finds out from another process whether a commit that got no answer took place.
 
-A store that can be asked so has `asks()`, which gives plain values: the word by which it is known
-here, and what its kind's `asked(..)` wants; and `ticket(written)`, which gives, also as plain
-values, by what the transaction at hand is found, which has written, or is to write, a key under a
-name: `(key, *name)`. `writes_at_once` says that a transaction's writes don't wait for its commit.
+A store that supports this has two methods, whose results are plain values. `asks()` gives the kind
+of the store and the arguments that the `asked(..)` function of that kind needs. `ticket(written)`
+gives what identifies the current transaction; `written` is a key and a name, `(key, *name)`, that
+it has written or is about to write. `writes_at_once` says that its writes don't wait for the
+commit.
 """
 
 from __future__ import annotations
@@ -14,30 +15,30 @@ from typing import Any, Dict, Optional, Sequence, Tuple
 
 from ._records import Name
 
-# The outcome, and the name of what an `exchange` by itself has overwritten: a tuple of it, or of
-# nothing where there was none; None where that isn't known.
+# The outcome, and the name that a single-statement `exchange` overwrote: a tuple of one name, or an
+# empty one if there was none, or None if that is unknown.
 CommitStatus = Tuple[str, Optional[Sequence[Name]]]
 UNKNOWN: CommitStatus = ("unknown", None)
 logger = logging.getLogger("zanteyard")
 
 
 PACKAGE = __name__.split(".")[0]
-MODULES = {  # that look an outcome up, by the word for the kind of store
+MODULES = {  # where each kind of store looks up an outcome
     "postgres": f"{PACKAGE}.stores._postgres_outcomes",
     **{kind: f"{PACKAGE}.stores.{kind}" for kind in ("mariadb", "redis", "sqlite")},
 }
 
 
 def find_out(asks: Any, ticket: Any, seconds: float, is_dead: bool = True) -> CommitStatus:
-    """Raises nothing: what can't be asked is unknown. Where it isn't known that the client
-    `is_dead`, nothing is ended that it may be about."""
+    """Returns UNKNOWN instead of raising. If the client may still be alive (`is_dead` is false), it
+    ends nothing that the client may be using."""
     more: Dict[str, Any] = {}
     if not is_dead:
         ticket, more = harmlessly(asks, ticket)
     if asks is None or ticket is None:
         return UNKNOWN
     kind, *how = asks
-    if len(how) == 1 and isinstance(how[0], list):  # one of these is the client's, if any is
+    if len(how) == 1 and isinstance(how[0], list):  # several stores: one at most is the client's
         for one in how[0]:
             its = find_out(one, ticket, seconds / len(how[0]), is_dead)
             if its != UNKNOWN:
@@ -53,17 +54,18 @@ def find_out(asks: Any, ticket: Any, seconds: float, is_dead: bool = True) -> Co
 
 
 def harmlessly(asks: Any, ticket: Any) -> Tuple[Any, Dict[str, Any]]:
-    """A ticket, None where there is none, and what else is said, by which what is still on its way
-    isn't ended, and another server isn't taken for the client's. Only PostgreSQL is asked so: who
-    asks another store has what isn't there yet abort."""
+    """The ticket, or None, and the further arguments for a client that may still be alive.
+    PostgreSQL can be asked without ending a statement that is still on its way and without
+    mistaking another server for the client's. The other stores can't: looking there aborts what
+    hasn't arrived yet."""
     if asks is not None and asks[0] == "postgres":
         return ticket, {"ends_it": False}
     return None, {}
 
 
 def kept(overwritten: Optional[Name]) -> str:
-    """The name of what an `exchange` of the collector's own overwrites, as the value that it
-    writes: so it isn't lost where the answer is."""
+    """The name that an `exchange` of the collector overwrites, as the value that it writes. If the
+    answer is lost, the name isn't."""
     return f"{overwritten[1]} {overwritten[2]} {overwritten[0]}" if overwritten else ""
 
 

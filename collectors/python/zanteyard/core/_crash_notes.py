@@ -1,10 +1,12 @@
-"""What a process of clients is about to commit, and was answered, in files that outlive it.
+"""What a client process is about to commit, and the answers it got, in files that survive the
+process.
 
-Each session of it has two files, which it fills in turns: one is used again when all that it tells
-has been handed over. A record is its length and the CRC-32 of what follows, four bytes each, and
-then a plain tuple as `marshal` writes it: the version of this form, a count, and a Note's fields.
-Counts go up by one within a file; behind the last record the file has what is older, or torn.
-Nothing is flushed to a disk: the machine goes on where a process is killed.
+Each session has two files, which it fills in turn: a file is used again once everything in it has
+been handed over. A record starts with its length and the CRC-32 of what follows, four bytes each.
+Then follows a plain tuple, written with `marshal`: the version of this format, a count, and the
+fields of a CrashNote. Within a file the count goes up by one from record to record; what follows
+the last record is older or torn. Nothing is flushed to the disk: these notes are for a process that
+is killed, not for a machine that stops.
 """
 
 from __future__ import annotations
@@ -18,20 +20,20 @@ from typing import Any, Callable, Dict, Iterator, List, NamedTuple, Optional
 
 VERSION = 3
 HEAD = struct.Struct("<II")
-ROOM = 1 << 16  # bytes of a file, asked for as it is made: they are there on a full disk, too
-TURN = 3 << 14  # bytes, behind which the other file is used, if it may be
-MOST = 1 << 26  # bytes of a file: who gets so far hands nothing over any more
-FORKED = "-forked"  # behind a process's path: a file that is there once it has forked
+ROOM = 1 << 16  # bytes that each file gets when it is created, in case the disk fills up
+TURN = 3 << 14  # bytes after which the other file is used, if it is free
+MOST = 1 << 26  # bytes of a file, at most: a session that gets this far hands nothing over any more
+FORKED = "-forked"  # appended to a process's path: a file that exists once the process has forked
 logger = logging.getLogger("zanteyard")
 
 
 class CrashNote(NamedTuple):
-    """Of a transaction: `outcome` is None before its commit is sent, and then what was logged;
-    `packed` is what is to be logged where it was committed, None where another note has it, or
-    there is none, or what an attempt that was aborted had done; `ticket` is by what the store
-    is asked for it; `has_reads` tells whether what it reads is known, as it is of all but
-    statements that are committed by themselves; `is_last` is that of its session's end;
-    `unclear` says why what it did isn't known, if that is so."""
+    """A note about a transaction. `outcome` is None before its commit is sent, and then what was
+    logged. `packed` is what to log if it was committed; for an aborted attempt, what the attempt
+    had done. It is None if another note has it, or if there is none. `ticket` identifies the
+    transaction to the store. `has_reads` tells whether its reads are known; they aren't for
+    single-statement transactions. `is_last` is set if it is the last of its session. `unclear` says
+    why its effects are unknown, if they are."""
 
     session: int
     number: int
@@ -46,25 +48,25 @@ class CrashNote(NamedTuple):
 class Half:
     def __init__(self, path: str) -> None:
         self.path, self.at = path, 0
-        self.last: Dict[int, int] = {}  # of each session that it tells of, the last number
+        self.last: Dict[int, int] = {}  # of each session in this file, the last number
         flags = os.O_RDWR | os.O_CREAT | os.O_EXCL | os.O_CLOEXEC
         self.file = os.open(path, flags, 0o600)
         os.posix_fallocate(self.file, 0, ROOM)
 
 
 class CrashNotes:
-    """Of one session, for who has its turn. What fails here harms nobody: the files are removed, so
-    that nothing is taken from what they lack, and `tell_failure` is called."""
+    """The notes of one session, for the thread that holds its turn. A failure here doesn't reach
+    the client: the files are removed, so that nobody relies on incomplete notes, and `tell_failure`
+    is called."""
 
     def __init__(
         self, path: str, sent: Dict[int, int], tell_failure: Callable[[], object]
     ) -> None:
-        """`sent` has of each session the number behind the last that was handed over. Raises
-        OSError."""
+        """`sent` maps each session to the number after the last one handed over. Raises OSError."""
         self.paths = [f"{path}.{which}" for which in range(2)]
         self.sent, self.tell_failure = sent, tell_failure
         self.count, self.has_failed = 0, False
-        self.is_over = False  # nobody reads them any more
+        self.is_over = False  # nobody reads the files any more
         self.halves: List[Half] = []
         try:
             for each in self.paths:
@@ -75,7 +77,7 @@ class CrashNotes:
         self.half = self.halves[0]
 
     def write(self, session: int, number: int, *more: Any) -> None:
-        """A Note's fields, by one call of the system's."""
+        """Writes a CrashNote's fields with one system call."""
         if self.has_failed:
             if self.is_over:
                 self.let_go()
@@ -93,7 +95,7 @@ class CrashNotes:
             self.fail(error)
 
     def turned(self) -> Half:
-        """The other file, if all is handed over of which it tells."""
+        """The other file if everything in it has been handed over, else the current one."""
         if self.half.at > MOST:
             raise OSError("the notes file is no longer written")
         other = self.halves[1 if self.half is self.halves[0] else 0]
@@ -114,45 +116,46 @@ class CrashNotes:
             try:
                 os.unlink(path)
             except OSError:
-                pass  # it isn't there; else who looks is told
+                pass  # it is gone; if not, `tell_failure` reports it
 
     def end(self) -> None:
-        """From any thread: nobody reads them any more, and they take no room. Who has the session's
-        turn may be writing: its descriptors are closed as it writes once more."""
+        """Frees the files' space; nobody reads them any more. May be called from any thread. The
+        holder of the session's turn may be writing: its descriptors are closed at its next
+        write."""
         self.has_failed = self.is_over = True
         for path in self.paths:
             try:
                 file = os.open(path, os.O_WRONLY | os.O_CLOEXEC)
             except OSError:
-                continue  # it isn't there
+                continue  # it is gone
             try:
-                os.unlink(path)  # before it is emptied: it isn't to be taken for one without notes
+                os.unlink(path)  # before it is emptied: it mustn't look like one without notes
                 os.ftruncate(file, 0)
             except OSError:
-                pass  # another thread has done so
+                pass  # another thread has done it
             finally:
                 os.close(file)
 
     def close(self) -> None:
-        """For good, without a trace: all that was done is handed over, and nobody writes."""
+        """Removes the files, once everything is handed over and nobody writes."""
         self.has_failed = True
         self.remove()
         self.let_go()
 
     def let_go(self) -> None:
-        """Of the files, which stay."""
+        """Closes the files, and leaves them on disk."""
         self.has_failed = True
         while self.halves:
             try:
                 half = self.halves.pop()
             except IndexError:
-                return  # another thread has let them go
+                return  # another thread has closed them
             os.close(half.file)
 
 
 def notes_of(path: str) -> Optional[List[CrashNote]]:
-    """Of a session that had this path, in the order in which they were written; None where they
-    aren't there, or of another version."""
+    """The notes at this path, in the order in which they were written. None if a file is missing or
+    has another version."""
     notes = {}
     for which in range(2):
         try:
@@ -168,7 +171,7 @@ def notes_of(path: str) -> Optional[List[CrashNote]]:
 
 
 def records(text: bytes) -> Iterator[Any]:
-    """From the beginning to the first that is torn, or older."""
+    """The records from the beginning of a file up to the first one that is torn or older."""
     at, before = 0, None
     while at + HEAD.size <= len(text):
         length, check = HEAD.unpack_from(text, at)

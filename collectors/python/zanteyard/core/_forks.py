@@ -1,11 +1,11 @@
-"""What becomes of a process's sessions in a child that it forks.
+"""Keeps a forked child's transactions out of the audit of its parent's sessions.
 
-Such a child has no part in the audit. Where it goes on in a session all the same, as behind a
-driver that connects anew in each process, the name beside what it writes must not be one that its
-parent gives to something else, or a serial run would look like a violation. So the child's
-transactions have names of a session that no audit is about: who reads what they wrote has read
-something unaudited, and the audit says that it is incomplete. So it is of sessions that the child
-makes by its parent's auditor, whose numbers its parent may give to others.
+A child has no part in the audit. But it may go on using a session, for example over a driver that
+reconnects in each process. Then the names that it writes must differ from those that its parent
+will use; otherwise a serial run would look like a violation. Therefore the child's transactions get
+the names of a session that no audit covers. A transaction that reads what they wrote has read
+something unaudited, and the audit reports that it is incomplete. The same holds for sessions that
+the child opens with its parent's auditor, whose numbers the parent may give to others.
 """
 
 from __future__ import annotations
@@ -15,11 +15,11 @@ import threading
 import weakref
 from typing import Any
 
-UNAUDITED = 1 << 20  # from here on, behind those of clients for whom no session was left
+UNAUDITED = 1 << 20  # added to a session's number, above the numbers of clients that got no session
 
 
 class _Nobody:
-    """Takes what a child's sessions hand in."""
+    """Takes what a child's sessions hand in, and ignores it."""
 
     def take(self, *_: object) -> None:
         pass
@@ -28,22 +28,23 @@ class _Nobody:
 
 
 def keep(session: Any) -> None:
-    """It is to have no part in the audit in a child that is forked from here on; nor in this
-    process, where that is a child of the auditor's."""
+    """Registers a session: children forked from now on leave the audit with it. If this process is
+    itself a child of the auditor's process, the session leaves at once."""
     _sessions.add(session)
     if is_forked(session.auditor):
         _leave(session)
 
 
 def is_forked(made: Any) -> bool:
-    """Whether this process is a child that was forked from the one in which this was made."""
+    """Whether this process was forked from the one that made this object."""
     process = getattr(made, "made_in", None)
     return isinstance(process, int) and process != os.getpid()
 
 
 def _leave(session: Any) -> None:
-    """In the child, in which no thread runs but the one that forked: a lock that another one had
-    would never be given back. What is under way is ended by who began it."""
+    """Runs in the child, which has no other thread than the one that forked, so that a lock held by
+    another thread would never be released. A running transaction keeps the turn; whoever began it
+    ends it."""
     place = session.place
     if place is not None:
         number = place.number

@@ -1,4 +1,4 @@
-"""Locks of which it is known whether they were taken, whatever interrupt comes."""
+"""Locks that record whether they were taken, even if an interrupt arrives."""
 
 from __future__ import annotations
 
@@ -6,14 +6,14 @@ from typing import Any, List
 
 
 def take(lock: Any, seconds: float, taken: List[bool]) -> bool:
-    """Whether the lock was got within so many seconds. The same is then the list's last: an
-    interrupt comes before both or behind both, since both are one call of C's. So who looks there,
-    in a `finally`, knows whether to release it."""
+    """Whether the lock was taken within this many seconds. The answer is also appended to `taken`.
+    Both happen in one call of C code, so an interrupt comes before both or after both, and a
+    `finally` clause that looks at `taken` knows whether to release the lock."""
     taken.extend(map(lock.acquire, (True,), (seconds,)))
     return taken[-1]
 
 
 def give_back(lock: Any, taken: List[bool]) -> None:
-    """Once, where it was taken."""
+    """Releases the lock once, if it was taken."""
     if taken and taken.pop():
         lock.release()

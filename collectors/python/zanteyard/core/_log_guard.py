@@ -1,10 +1,10 @@
-"""What a handler of the log raises reaches nobody who runs transactions, and what is logged is
-safe to show: no key, statement or name in it can look like another line.
+"""Keeps exceptions of log handlers away from the application, and makes log lines safe to show: no
+key, statement or name in one can look like a line of its own.
 
-Some of Python's own handlers raise: a WatchedFileHandler whose folder is gone, or may not be
-written to any more, or a FileHandler that opens its file late. Told behind a commit that would look
-to the application as if the commit had failed. So what the log can't have is told on standard
-error, as Python does where there is no handler at all.
+Some of Python's own handlers raise: a WatchedFileHandler whose folder is gone or has become
+read-only, or a FileHandler that opens its file late. An exception raised after a commit would look
+to the application as if the commit had failed. What can't be logged is therefore printed on
+standard error, as Python does if a logger has no handler.
 """
 
 from __future__ import annotations
@@ -21,8 +21,7 @@ from ._visible import shown
 
 
 def guard(logger: logging.Logger) -> None:
-    """From here on, whatever handlers it, or those above it, are given later. May be called
-    again."""
+    """Guards this logger, whatever handlers it and its parents get later. May be called again."""
     if getattr(logger.handle, "is_guarded", False):
         return
     plain = logger.handle
@@ -37,11 +36,11 @@ def guard(logger: logging.Logger) -> None:
             tell(record, error)
 
     handle.is_guarded = True  # type: ignore[attr-defined]
-    setattr(logger, "handle", handle)  # of this logger alone
+    setattr(logger, "handle", handle)  # of this logger only
 
 
 def make_visible(record: logging.LogRecord) -> None:
-    """Changes it only if something in it can't be seen. Lines of a traceback begin with a mark."""
+    """Escapes unprintable characters of a record. Lines of a traceback get a prefix."""
     message = record.getMessage()
     safe = shown(message)
     if safe != message:
@@ -52,7 +51,7 @@ def make_visible(record: logging.LogRecord) -> None:
 
 
 def tell(record: logging.LogRecord, error: Exception) -> None:
-    """On standard error, if there is one."""
+    """Prints the record on standard error, if there is one."""
     with contextlib.suppress(Exception):
         told = f"{record.getMessage()} (can't write the log: {error!r})"
         sys.stderr.write(f"{shown(told)}\n")
@@ -60,7 +59,8 @@ def tell(record: logging.LogRecord, error: Exception) -> None:
 
 
 def is_of_signal(error: BaseException) -> bool:
-    """Whether a signal's handler has raised it, wherever that came: it is the application's."""
+    """Whether a signal handler raised it, wherever it was interrupted. Then it is the
+    application's."""
     codes = {*_codes()}
     return any(frame.f_code in codes for frame, _ in walk_tb(error.__traceback__))
 
@@ -73,7 +73,7 @@ def _codes() -> Iterator[Any]:
 
 
 def _code_of(called: Callable[..., Any]) -> Any:
-    """Of what runs as this is called; None where that isn't Python's."""
+    """The code object that runs when this is called; None if it isn't Python code."""
     while isinstance(called, functools.partial):
         called = called.func
     plain: Any = getattr(called, "__func__", called)

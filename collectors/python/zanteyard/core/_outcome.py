@@ -1,4 +1,4 @@
-"""What came of an audit, and what gives way where an audit can't keep up with the clients."""
+"""The outcome of an audit, and the policy for an audit that can't keep up with its clients."""
 from __future__ import annotations
 
 from dataclasses import dataclass, replace
@@ -10,15 +10,15 @@ from .errors import MissingError
 
 SERIAL, PENDING, VIOLATED, UNDECIDED = "serial", "pending", "violated", "undecided"
 INCOMPLETE = "incomplete"  # something that clients did wasn't audited
-COLLECTOR = "the collector's own violation"  # of fences and marks alone: no client takes part
+COLLECTOR = "the collector's own violation"  # of fences and marks only; no client is involved
 RUNNING = "running"
 
 
 @dataclass(frozen=True)
 class Policy:
-    """What gives way. A client waits for the audit at most `wait` seconds in one call. Where that
-    isn't enough the audit ends with its reason; where it `begins_anew`, another one begins of what
-    is done from then on, at most one in `pause` seconds."""
+    """What gives way if the audit can't keep up. A client waits at most `wait` seconds in one call.
+    After that the audit ends, with its reason. If `begins_anew` is set, a new audit then starts
+    with what is done from that moment on, at most once every `pause` seconds."""
 
     wait: float = 0.25
     begins_anew: bool = True
@@ -31,19 +31,21 @@ RATHER_WAIT = Policy(wait=30.0, begins_anew=False)
 
 @dataclass(frozen=True)
 class Outcome:
-    """Only the kind "serial" says that everything that clients did is in one order.
+    """The result of an audit. Only the kind "serial" says that everything that clients did has one
+    order.
 
-    `kind`: "running" while more may come; "serial"; "pending" where all was audited, but reads name
-    transactions that never came, or sessions may have done more that never came, which `failure`
-    then tells; "violated", which stays true whatever is missing; "the collector's
-    own violation", where its own transactions alone have no order; "undecided", where the search
-    was given up; "incomplete", where something wasn't audited: `failure` says why.
+    `kind` is "running" while more may arrive, and then one of these. "serial". "pending":
+    everything was audited, but some reads name transactions that never arrived, or sessions may
+    have done more that never arrived (then `failure` says so). "violated", which stays true
+    whatever is missing. "the collector's own violation": its own transactions alone have no order.
+    "undecided": the search was given up. "incomplete": something wasn't audited, and `failure` says
+    why.
 
-    `audited` of `handed_in` transactions were audited; of the `left_out` reads the source isn't
-    known to the audit, so that they weren't checked. So many were `from_before`: of versions that
-    were there before the audit, or that another program wrote; all such versions of a key count as
-    one, its first state, so that an older one that comes back isn't found out. `earlier` are the
-    audits that ended before this one began, each with its own outcome.
+    `audited` of `handed_in` transactions were audited. `left_out` counts the reads that weren't
+    checked, because the audit doesn't know their source. `from_before` counts the reads of versions
+    that existed before the audit or that another program wrote. All such versions of a key count as
+    one, its first state, so an older one that comes back isn't noticed. `earlier` are the audits
+    that ended before this one began, each with its own outcome.
     """
 
     kind: str
@@ -63,18 +65,19 @@ class Outcome:
 
     @property
     def counts(self) -> Optional[Sequence[int]]:
-        """Of the last round: how many transactions of each session it was about; None without
-        one."""
+        """How many transactions of each session the last round covered; None before the first
+        round."""
         return self.report.counts if self.report else None
 
     @property
     def certificate(self) -> Any:
-        """Of the last round: its order or its refutation; None without one."""
+        """The order or the refutation of the last round; None before the first round."""
         return self.report.certificate if self.report else None
 
     @property
     def whole(self) -> "Outcome":
-        """This and all earlier audits as one: nothing is known of what lies between two of them."""
+        """This audit and all earlier ones as one. Nothing is known about the time between two
+        audits."""
         if not self.earlier:
             return self
         every = (*self.earlier, self)
@@ -118,13 +121,13 @@ KINDS = {"spent": UNDECIDED}
 
 
 def words_of_before(reads: int) -> str:
-    """So many of which the audit knows no writer."""
+    """A phrase for this many reads of versions whose writer the audit doesn't know."""
     what = "1 read was of a version" if reads == 1 else f"{reads} reads were of versions"
     return f"{what} from before the audit"
 
 
 def kind_of(report: Optional[Report], failure: Optional[Exception], is_whole: bool) -> str:
-    """Of an audit that has ended. A violation stays one, whatever is missing."""
+    """The kind of an audit that has ended. A violation stays a violation, whatever is missing."""
     kind = KINDS.get(report.kind, report.kind) if report else INCOMPLETE
     if kind == VIOLATED:
         return kind

@@ -1,16 +1,16 @@
-"""Keys that the collector writes for itself, and what a script's lines are limited to."""
+"""The keys that the collector writes for itself, and the limits of a script's lines."""
 
 from __future__ import annotations
 
-FENCE = "zanteyard fence"  # the key on which sessions run fences; its number is 0
-MARK = "zanteyard mark"  # a key that a meeting writes behind its fence, for all sessions to read
-FLAG = "zanteyard flag "  # and a session's number: a key that this session alone writes
-PLAIN_FENCE = "zanteyard's fence"  # the key of fences, where what is left of one may be none
-OWN = (FENCE, MARK, FLAG, PLAIN_FENCE)  # what keys of the collector's own begin with
+FENCE = "zanteyard fence"  # the key of sessions' fences; its number is 0
+MARK = "zanteyard mark"  # written at a meeting after its fence, and read by all sessions
+FLAG = "zanteyard flag "  # followed by a session's number: a key that only this session writes
+PLAIN_FENCE = "zanteyard's fence"  # FENCE in a small part, where a fence may be none
+OWN = (FENCE, MARK, FLAG, PLAIN_FENCE)  # prefixes of the collector's own keys
 LONGEST = 256  # transactions of one line
-FORM = 2  # of scripts: in the first nothing tells what was aborted
+FORM = 2  # of scripts; form 1 says nothing about aborted transactions
 
 
 def is_own(key: object) -> bool:
-    """Whether it is a key of the collector's own transactions."""
+    """Whether this key belongs to the collector's own transactions."""
     return isinstance(key, str) and key.startswith(OWN)

@@ -1,4 +1,5 @@
-"""Files that only their owner may read: they have keys, values and statements of an application."""
+"""Files that only their owner may read, since they contain keys, values and statements of an
+application."""
 
 from __future__ import annotations
 
@@ -9,8 +10,8 @@ from .errors import FolderUnfitError
 
 
 def private(path: str, flags: int) -> int:
-    """An opener for `open`: the file can be read and written by its owner alone, also if it was
-    there before with other rights. Raises OSError as `os.open` does."""
+    """An opener for `open`: only the owner can read and write the file, even if it existed before
+    with other permissions. Raises OSError as `os.open` does."""
     file = os.open(path, flags | os.O_CLOEXEC, 0o600)
     try:
         if os.fstat(file).st_uid == os.geteuid() and os.path.isfile(path):
@@ -22,8 +23,8 @@ def private(path: str, flags: int) -> int:
 
 
 def check_folder(path: str) -> None:
-    """That the folder is this user's own, and nobody else may read or write it. Raises
-    FolderUnfitError, which says how that is mended, and OSError where it can't be looked at."""
+    """Checks that the folder belongs to this user and that no other user may read or write it.
+    Raises FolderUnfitError, which says how to fix it, and OSError if it can't be examined."""
     seen = os.lstat(path)
     if not stat.S_ISDIR(seen.st_mode):
         raise FolderUnfitError(f"{path} isn't a folder")

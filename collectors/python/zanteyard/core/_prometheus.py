@@ -1,4 +1,4 @@
-"""Figures as Prometheus's text format has them."""
+"""Writes metrics in Prometheus's text format."""
 
 from __future__ import annotations
 
@@ -7,7 +7,7 @@ from typing import Iterator, List, Sequence, Tuple
 TEXT = "text/plain; version=0.0.4; charset=utf-8"
 Labels = Tuple[Tuple[str, object], ...]
 Sample = Tuple[Labels, float]
-Family = Tuple[str, str, str, Sequence[Sample]]  # name, kind, what it is, samples
+Family = Tuple[str, str, str, Sequence[Sample]]  # name, kind, help text, samples
 
 
 def text_of(every: Iterator[Family]) -> str:
@@ -19,7 +19,7 @@ def text_of(every: Iterator[Family]) -> str:
 
 
 def number(value: float) -> str:
-    """All of its digits: a counter that is rounded stands still and then jumps."""
+    """With all digits: a rounded counter stands still and then jumps."""
     return str(int(value)) if float(value).is_integer() else repr(float(value))
 
 

@@ -1,4 +1,4 @@
-"""What is logged, and what is told of it, as plain values."""
+"""What is logged and what is reported, as plain values."""
 
 from __future__ import annotations
 
@@ -6,42 +6,42 @@ import marshal
 from typing import Any, Callable, Iterable, List, Mapping, NamedTuple, NewType, Sequence
 from typing import Tuple, Union
 
-# A transaction, by its session and its number there. Three numberings aren't to be taken for each
-# other:
-StoreId = NewType("StoreId", Tuple[int, int])  # as names in the store have it: all that began count
+# A transaction: its session, and its number in that session. There are three numberings, not to be
+# confused:
+StoreId = NewType("StoreId", Tuple[int, int])  # as in the names in the store: counts all that began
 AuditId = NewType(
     "AuditId", Tuple[int, int]
-)  # as lines and reports have it: from the audit's begin
-ShownId = NewType("ShownId", Tuple[int, int])  # in a history that is explained: from its own begin
-# Who wrote what was read, by the numbering of the history that it is in; "init" for what was there
-# before the run.
+)  # as in lines and reports: from the beginning of the audit
+ShownId = NewType("ShownId", Tuple[int, int])  # in an explained history: from its own beginning
+# The writer of the version that was read, in the numbering of its history; "init" for a version
+# from before the run.
 Source = Any
-Read = Tuple[str, Source]  # a key's name, and who wrote what was read
+Read = Tuple[str, Source]  # the name of a key, and the writer of the version that was read
 Deed = Union[Read, Tuple[str]]  # a read, or (key,) for a write
-Name = Tuple[str, int, int]  # beside a value: the run, the session, the number
-StoredValue = Tuple[Any, Name]  # a value, and the name beside it
+Name = Tuple[str, int, int]  # stored next to a value: the run, the session, the number
+StoredValue = Tuple[Any, Name]  # a value, and the name stored next to it
 Naming = Callable[[ShownId], str]  # how a transaction is shown
 AuditNaming = Callable[[AuditId], str]
-ABORTED = "aborted"  # an outcome, and what lines have behind what such an attempt did
-MOST = 256  # reads, or writes, that a line may have of a transaction
-SESSIONS, NUMBERS = 64, 1 << 48  # what names a transaction in a line is below these
+ABORTED = "aborted"  # an outcome; in a line it follows what the aborted attempt did
+MOST = 256  # reads, or writes, that a line may list for one transaction
+SESSIONS, NUMBERS = 64, 1 << 48  # what a transaction's name in a line must stay below
 
 
 class Logged(NamedTuple):
-    """What one transaction did. `outcome` is "committed", "aborted" or "unknown"; "forgotten" of
-    what stands for transactions that the auditor has forgotten.
+    """What one transaction did. `outcome` is "committed", "aborted" or "unknown", or "forgotten"
+    for an entry that stands for transactions that the auditor has forgotten.
 
-    What an attempt that was aborted has done counts for nothing: it isn't in `reads` and `writes`,
-    but in `tried_reads` and `tried_writes`, as far as it is known.
+    What an aborted attempt did has no effect. It isn't in `reads` and `writes`, but in
+    `tried_reads` and `tried_writes`, as far as it is known.
 
-    The rest is for who is told of a violation. `statements` are pairs of a deed and what was run
-    for it; `values` are triples of "read" or "wrote", a key, and what was read or written, as a
-    short text; `began` is the time of day in seconds since 1970, 0 where it isn't known; `caller`
-    is the file and line from which the transaction was begun. `span` is when it began and when it
-    ended, by one clock, and what that counts ("ns", or another word); empty where it isn't known,
-    and None for an end that isn't. So many of `reads` are `from_before`: of versions that no
-    transaction of the run wrote, and which count as the keys' first state, as those that were there
-    before it."""
+    The other fields are for the explanation of a violation. `statements` are pairs of a deed and
+    the statement that was run for it. `values` are triples of "read" or "wrote", a key, and the
+    value as a short text. `began` is the time of day in seconds since 1970, 0 if unknown. `caller`
+    is the file and line that began the transaction. `span` is its begin, its end (None if unknown),
+    and the unit of that clock ("ns", or another word); it is empty if unknown. `from_before` is how
+    many of `reads` are of versions that no transaction of the run wrote; these count as the keys'
+    first state.
+    """
 
     reads: Sequence[Read]
     writes: Sequence[str]
@@ -57,12 +57,12 @@ class Logged(NamedTuple):
 
     @property
     def is_undone(self) -> bool:
-        """Whether it is an attempt that was aborted, and that had done something."""
+        """Whether it is an aborted attempt that had done something."""
         return self.outcome == ABORTED and bool(self.tried_reads or self.tried_writes)
 
     @property
     def did(self) -> Tuple[Sequence[Read], Sequence[str]]:
-        """What it read and what it wrote, whether that counts or not."""
+        """What it read and what it wrote, whether or not that had an effect."""
         if self.is_undone:
             return self.tried_reads, self.tried_writes
         return self.reads, self.writes
@@ -71,9 +71,9 @@ class Logged(NamedTuple):
 def undone(
     id: StoreId, reads: Iterable[Read], writes: Iterable[str], fence: str
 ) -> Tuple[List[Read], List[str]]:
-    """Of what an attempt with this name did, which was aborted, what a line may have: since it
-    counts for nothing, the rest is left out. What only looks like a fence, the key of which this
-    is, can't be told."""
+    """The reads and writes of an aborted attempt that a line may list. It had no effect, so the
+    rest can be left out. Accesses to `fence`, the fences' key, are left out unless the attempt has
+    the exact form of a fence."""
     did_read = sorted({read for read in reads if _may_be_told(id, read[1])}, key=repr)[:MOST]
     keys = sorted({*writes})
     keys = keys if len(keys) <= MOST else []
@@ -92,7 +92,7 @@ def _may_be_told(id: StoreId, source: Source) -> bool:
 
 
 def as_bytes(logged: Logged) -> bytes:
-    # This takes a third of pickle's time, and knows plain values alone.
+    # Takes a third of pickle's time, and knows only plain values.
     plain: Any = tuple(logged)
     return marshal.dumps(plain)
 
@@ -102,8 +102,8 @@ def unpacked(packed: bytes) -> Logged:
 
 
 class Report(NamedTuple):
-    """What the program says of a round. The certificate is an order where the kind is serial or
-    pending, and the items of a refutation where it is violated."""
+    """What the program reports about a round. The certificate is an order if the kind is serial or
+    pending, and the items of a refutation if it is violated."""
 
     number: int
     kind: str
@@ -112,7 +112,7 @@ class Report(NamedTuple):
 
 
 class Pending(NamedTuple):
-    """A read that names a transaction which never came."""
+    """A read that names a transaction which never arrived."""
 
     reader: AuditId
     key: str
@@ -126,5 +126,5 @@ class Cut(NamedTuple):
     gone: int
 
 
-History = List[List[Logged]]  # of each session what it did, in order
+History = List[List[Logged]]  # for each session what it did, in order
 Transactions = Mapping[ShownId, Logged]

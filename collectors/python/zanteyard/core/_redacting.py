@@ -1,5 +1,5 @@
-"""Leaves out what applications have in their statements and values; keys, and the form of each
-statement, stay."""
+"""Removes an application's data from its statements and values. Keys and the form of each statement
+stay."""
 
 from __future__ import annotations
 
@@ -8,7 +8,7 @@ import re
 from ._records import Logged, as_bytes, unpacked
 
 GONE = "?"
-# Identifiers in quotes come first, and names, so that digits in them aren't taken for numbers.
+# Quoted identifiers and names come first, so that digits in them aren't taken for numbers.
 TOKENS = re.compile(
     r"""
     (?P<name> "(?:[^"]|"")*" | \$\d+ | (?! [eEbBxXnN]' | [uU]&' ) [^\W\d]\w* | [:%]\w* )
@@ -24,7 +24,7 @@ TOKENS = re.compile(
 
 def without_constants(statement: str) -> str:
     """The statement with a question mark for each constant, and without comments. A quoted text
-    that has no end goes on to the end of the statement."""
+    without an end extends to the end of the statement."""
 
     def one(found: "re.Match[str]") -> str:
         if found["name"] is not None:
@@ -35,11 +35,11 @@ def without_constants(statement: str) -> str:
 
 
 def redacted(logged: Logged) -> Logged:
-    """The same without values, and with statements without constants."""
+    """The same transaction without values, and with no constants in its statements."""
     statements = tuple((deed, without_constants(text)) for deed, text in logged.statements)
     return logged._replace(statements=statements, values=())
 
 
 def redacted_bytes(packed: bytes) -> bytes:
-    """The same, of what is packed."""
+    """As `redacted`, for a packed transaction."""
     return as_bytes(redacted(unpacked(packed)))

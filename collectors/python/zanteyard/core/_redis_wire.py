@@ -1,5 +1,4 @@
-"""A connection to a Redis, and commands over it, none of which is waited for longer than was said.
-"""
+"""Connections to a Redis, and commands over them, each with a time limit."""
 
 from __future__ import annotations
 
@@ -18,7 +17,7 @@ Command = Tuple[Any, ...]
 
 
 class _OverAPath(redis.UnixDomainSocketConnection):
-    """redis-py leaves its socket open where nobody listens there."""
+    """Closes its socket if nobody listens there; redis-py leaves it open."""
 
     def _connect(self) -> socket.socket:
         sock = socket.socket(socket.AF_UNIX)
@@ -32,7 +31,7 @@ class _OverAPath(redis.UnixDomainSocketConnection):
 
 
 def connected(url: str, seconds: float, **more: Any) -> Any:
-    """A connection that is open. Raises redis-py's errors where it can't be opened in so many
+    """An open connection. Raises redis-py's errors if it can't be opened within this many
     seconds."""
     pool = redis.ConnectionPool.from_url(url, **more)
     if pool.connection_class is redis.UnixDomainSocketConnection:
@@ -46,7 +45,8 @@ def connected(url: str, seconds: float, **more: Any) -> Any:
 
 
 def limit(connection: Any, ends: float = math.inf) -> None:
-    """No answer is waited for longer than until then, and than its URL says."""
+    """Sets the socket's timeout, so that no answer is awaited past `ends` or longer than the URL
+    says."""
     sock = getattr(connection, "_sock", None)
     if sock is None:
         return
@@ -59,7 +59,7 @@ def limit(connection: Any, ends: float = math.inf) -> None:
 
 
 def interrupt(connection: Any) -> None:
-    """Whoever waits for an answer by another thread finds the connection at its end."""
+    """Makes another thread that is waiting for an answer find the connection closed."""
     sock = getattr(connection, "_sock", None)
     if sock is not None:
         with contextlib.suppress(OSError):  # it was closed meanwhile
@@ -67,7 +67,7 @@ def interrupt(connection: Any) -> None:
 
 
 def answers(connection: Any, commands: Sequence[Command]) -> List[Any]:
-    """Of all, one behind the other; where one is refused, the error stands in its place."""
+    """The answers to all commands, in order. If a command is refused, its answer is the error."""
     connection.send_packed_command(connection.pack_commands(commands), check_health=False)
     received: List[Any] = []
     for _ in commands:
@@ -79,7 +79,7 @@ def answers(connection: Any, commands: Sequence[Command]) -> List[Any]:
 
 
 def replies(connection: Any, commands: Sequence[Command]) -> List[Any]:
-    """The same; raises the first error, once all have been answered."""
+    """The answers to all commands. Raises the first error, after all have been answered."""
     received = answers(connection, commands)
     for each in received:
         if isinstance(each, redis.ResponseError):

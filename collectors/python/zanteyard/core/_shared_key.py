@@ -1,7 +1,6 @@
-"""The key that processes of several machines share, by which they know what others of them sent.
+"""The key by which processes on several machines recognize each other's messages.
 
-It is a file whose bytes are the key, as they are, which its owner alone may use. The proxy reads
-the same form.
+The key is the bytes of a file that only its owner may access. The proxy reads the same form.
 """
 
 from __future__ import annotations
@@ -17,11 +16,11 @@ from .errors import KeyFileError
 
 LEAST = 16  # bytes
 MOST = 4096
-ENVIRONMENT = "ZANTEYARD_KEY"  # the environment's name for the file's path
+ENVIRONMENT = "ZANTEYARD_KEY"  # the environment variable with the file's path
 
 
 def make_key(path: str) -> None:
-    """A new one, in a file that isn't there yet. Raises KeyFileError."""
+    """Writes a new key to a file that doesn't exist yet. Raises KeyFileError."""
     flags = os.O_WRONLY | os.O_CREAT | os.O_EXCL | os.O_CLOEXEC
     try:
         with open(os.open(path, flags, 0o600), "w", encoding="ascii") as file:
@@ -33,8 +32,8 @@ def make_key(path: str) -> None:
 
 
 def read_key(path: str) -> bytes:
-    """Raises KeyFileError if it can't be read, if others than its owner may use the file, or if it
-    is too short."""
+    """Raises KeyFileError if the file can't be read, if other users may access it, or if the key is
+    too short or too long."""
     try:
         with open(os.open(path, os.O_RDONLY | os.O_CLOEXEC | os.O_NONBLOCK), "rb") as file:
             mode = os.fstat(file.fileno()).st_mode
@@ -49,7 +48,8 @@ def read_key(path: str) -> bytes:
 
 
 def shared_key(path: Optional[str]) -> bytes:
-    """That of this file, or of the one that the environment names. Raises KeyFileError."""
+    """The key in this file, or in the file that the environment variable names. Raises
+    KeyFileError."""
     path = path or os.environ.get(ENVIRONMENT)
     if not path:
         raise KeyFileError(
@@ -60,8 +60,8 @@ def shared_key(path: Optional[str]) -> bytes:
 
 
 class Signer:
-    """Signs numbered messages of one sender to one receiver. What is signed for another purpose,
-    another audit, another process or another admission has another signature."""
+    """Signs numbered messages from one sender to one receiver. A message that is signed for another
+    purpose, audit, process or admission has a different signature."""
 
     def __init__(self, key: bytes, *purpose: str) -> None:
         self._key = hmac.digest(key, json.dumps(purpose).encode("ascii"), "sha256")

@@ -1,8 +1,8 @@
-"""Which store it is whose clients an audit hears.
+"""Identifies the store that an audit is about.
 
-Two stores behind one auditor would be taken for one that has faults: what a client wrote in one of
-them, another client doesn't find in the other one. So each store tells which one it is, the first
-that is told is the audit's, and no other one is let in.
+If clients of two stores used one auditor, the stores would look like one faulty store: what a
+client wrote in one isn't found in the other. Therefore each store identifies itself. The first
+identity belongs to the audit, and no other is admitted.
 """
 
 from __future__ import annotations
@@ -21,21 +21,22 @@ logger = logging.getLogger("zanteyard")
 
 
 class StoreIdentity(NamedTuple):
-    """`known` is the same over all connections to one store, whatever name or address leads there,
-    and over those to another one it is another. `shown` is for people."""
+    """`known` is the same over all connections to one store, whatever name or address they use, and
+    differs from that of any other store. `shown` is for people."""
 
     known: str
     shown: str
 
 
-# Of a store that doesn't tell which one it is; and of one that couldn't tell it this time, as where
-# its memory is full.
+# The identities of a store that doesn't identify itself, and of one that couldn't do so this time,
+# for example because its memory is full.
 UNTOLD = StoreIdentity("", "a store that doesn't identify itself")
 UNSURE = StoreIdentity("?", "a store that can't identify itself now")
 
 
 def identity_of(told: Any) -> StoreIdentity:
-    """Of what a store's `identity` gave: a StoreIdentity, one text for both, or None."""
+    """The identity from what a store's `identity` returned: a StoreIdentity, one text for both,
+    (known, shown), or None."""
     if type(told) is StoreIdentity and len(told.known) <= LONGEST >= len(told.shown):
         return told
     if told is None:
@@ -45,14 +46,14 @@ def identity_of(told: Any) -> StoreIdentity:
 
 
 def bounded(known: str) -> str:
-    """What is longer than may be sent is known by its sum."""
+    """A text that is too long to be sent is replaced by its hash."""
     if len(known) <= LONGEST:
         return known
     return f"sum {hashlib.sha256(known.encode(errors='surrogatepass')).hexdigest()}"
 
 
 def checked(known: Any, shown: Any) -> StoreIdentity:
-    """Raises ValueError where these are no such texts."""
+    """Raises ValueError unless both are texts of allowed length."""
     for text in (known, shown):
         if not isinstance(text, str) or len(text) > LONGEST:
             raise ValueError("a store's identity must be two strings of at most 1,000 characters")
@@ -64,18 +65,18 @@ def known_of(identity: Optional[StoreIdentity]) -> Optional[str]:
 
 
 class AuditedStore:
-    """The one that an audit is about. For threads, and in a child that was forked."""
+    """The store that an audit is about. Safe for use by several threads and in a forked child."""
 
     def __init__(self) -> None:
         self._first: Dict[str, StoreIdentity] = {}
 
     @property
     def identity(self) -> Optional[StoreIdentity]:
-        """None before any was told."""
+        """None until a store has identified itself."""
         return self._first.get("store")
 
     def first(self, identity: StoreIdentity) -> StoreIdentity:
-        """This one, where it is the first that is told; else the one that was."""
+        """The audit's identity: this one if it is the first, else the earlier one."""
         is_first = self.identity is None
         first = self._first.setdefault("store", identity)
         if is_first and first is identity:
@@ -83,7 +84,7 @@ class AuditedStore:
         return first
 
     def meet(self, identity: StoreIdentity) -> None:
-        """Raises StoreUnfitError where it is another one than the audit's."""
+        """Raises StoreUnfitError if this isn't the audit's store."""
         first = self.first(identity)
         if first.known == identity.known:
             return
@@ -105,7 +106,7 @@ class AuditedStore:
 
 
 def this_machine() -> str:
-    """What tells it from others, for a store that is a file of it."""
+    """An identifier of this machine, for a store that is a file on it."""
     for path in ("/etc/machine-id", "/proc/sys/kernel/random/boot_id"):
         try:
             with open(path, encoding="ascii", errors="replace") as file:

@@ -1,7 +1,7 @@
-"""What a session wants of a store, and what a store may have besides.
+"""What a session needs from a store, and what a store may offer in addition.
 
-`Store` is what every store has. The five protocols after it are parts that a store may have, whole
-or in part: what it lacks is made of the other calls, or isn't done (`session/_store_calls.py`).
+Every store has the methods of `Store`. The five protocols after it are optional, as a whole or in
+part: what a store lacks is built from its other methods or left out (`session/_store_calls.py`).
 """
 
 from __future__ import annotations
@@ -12,103 +12,103 @@ from ._records import Name, StoredValue
 
 
 class Store(Protocol):
-    """A store's connection, for one thread at a time. Each call but `outcome` may raise
+    """A connection to a store, for one thread at a time. Every method except `outcome` may raise
     AbortedError."""
 
     def begin(self) -> None:
         ...
 
     def read(self, key: str) -> Optional[StoredValue]:
-        """The value with the name that was written beside it; None where the key isn't there."""
+        """The value and the name that was stored with it; None if the key doesn't exist."""
 
     def write(self, key: str, value: Any, name: Name) -> None:
-        """The value None deletes the key, and leaves the name behind."""
+        """Writes the value and the name. The value None deletes the key but keeps the name."""
 
     def commit(self) -> None:
-        """Raises OutcomeUnknownError where no answer came."""
+        """Raises OutcomeUnknownError if no answer arrived."""
 
     def rollback(self) -> None:
         ...
 
     def outcome(self) -> str:
-        """Of the transaction whose commit was sent last, and which had written: "committed",
-        "aborted" or "unknown"."""
+        """The outcome of the last transaction whose commit was sent and that had written:
+        "committed", "aborted" or "unknown"."""
 
 
 class BoundedStore(Protocol):
     """Calls with a time limit."""
 
     def begin_alone(self, seconds: float) -> None:
-        """Begins, in place of `begin`, transactions of one statement each, which end within so many
-        seconds; these calls may then raise OutcomeUnknownError themselves."""
+        """Used in place of `begin` for transactions of one statement each that end within this many
+        seconds. Their reads and writes may raise OutcomeUnknownError."""
 
     def outcome_within(self, seconds: float) -> str:
-        """What `outcome` gives, within so many seconds. Without it `outcome` is called, however
-        long it takes."""
+        """As `outcome`, within this many seconds. If a store lacks this, `outcome` is called,
+        however long it takes."""
 
     def hang_up(self) -> None:
-        """From any thread: whatever waits for an answer over this connection waits no more, and the
-        next transaction begins over another one. It is called where a client waits for what the
-        audit asks."""
+        """Interrupts whatever waits for an answer over this connection; the next transaction uses a
+        new one. May be called from any thread. It is called when a client waits for the audit's own
+        statements."""
 
 
 class BulkStore(Protocol):
-    """Several reads, or a read and a write, by one statement."""
+    """Several reads, or a read and a write, in one statement."""
 
     def read_all(self, keys: Sequence[str]) -> Dict[str, StoredValue]:
-        """By key what `read` gives, for those that are there."""
+        """By key what `read` returns, for the keys that exist."""
 
     def exchange(self, key: str, value: Any, name: Name) -> Optional[StoredValue]:
-        """Writes as `write` does, and gives what `read` gave of the version that it overwrites:
-        nothing may come between the two, at whatever level the store runs."""
+        """Writes as `write` does and returns what `read` would have returned for the version that
+        it overwrites. Both must be one atomic step at every isolation level of the store."""
 
 
 class TracedStore(Protocol):
-    """What lets another process find out what became of a client's commits."""
+    """Lets another process find out what became of a client's commits."""
 
     @property
     def writes_at_once(self) -> bool:
         """Whether a transaction's writes don't wait for its commit."""
 
     def claim(self, run_name: str, token: str, seconds: float) -> None:
-        """Makes the name that of one run. Raises NameTakenError where the store knows the name, but
-        for a run with this token, and OutcomeUnknownError where it hasn't said so after so many
+        """Reserves this name for one run. Raises NameTakenError if the store knows the name from a
+        run with another token, and OutcomeUnknownError if the store doesn't answer within this many
         seconds."""
 
     def asks(self) -> Any:
-        """How the store is asked from another process, as plain values: the word by which its kind
-        is known (`core/_commit_status.py`), and what that kind's `asked` wants."""
+        """How to ask the store from another process, as plain values: the word for its kind
+        (`core/_commit_status.py`) and the arguments of that kind's `asked`."""
 
     def ticket(self, written: Sequence[Any]) -> Any:
-        """By what the transaction at hand is found, as plain values, which has written, or is to
-        write, a key under a name: `(key, *name)`."""
+        """Plain values that identify the current transaction. `written` is a key and a name, `(key,
+        *name)`, that it has written or is about to write."""
 
 
 class ObservedStore(Protocol):
-    """What the store knows of its client's own statements, and of what it has answered."""
+    """What the store knows about its client's own statements and about its answers."""
 
     @property
     def errors(self) -> Tuple[Type[BaseException], ...]:
-        """The classes of what its driver raises. A client joins by a statement of the collector's
-        own, in the application's thread: what comes of that is kept from the application where it
-        is one of these, or of this package's; anything else, as what a handler of SIGALRM raises,
-        is not."""
+        """The exception classes of its driver. A client joins by a statement of the collector,
+        which runs in the application's thread. If that raises one of these, or an error of this
+        package, the application doesn't see it. It does see anything else, such as what a handler
+        of SIGALRM raises."""
 
     @property
     def statement(self) -> Optional[str]:
-        """What was run last, as it is to be shown with a violation."""
+        """The statement that was run last, as it is to be shown with a violation."""
 
     def has_answered(self, error: BaseException) -> bool:
-        """Whether what `commit` raised is the store's own answer: then nothing of it was committed,
-        and nobody has to ask."""
+        """Whether what `commit` raised is the store's own answer. Then nothing was committed, and
+        nobody has to ask."""
 
 
 class IdentifiedStore(Protocol):
-    """What tells a store from all others."""
+    """Distinguishes a store from all others."""
 
     def identity(self) -> Any:
-        """Of the store that the connection at hand leads to: one text, or a StoreIdentity of
-        `core._store_identity`. It is the same over all connections to one store, and another one
-        over those to another. None where that can't be told. It is asked as each transaction
-        begins, so that it is to be found out as the connection is opened, which this does where
-        none is open; then it raises as `begin`."""
+        """The identity of the store behind the current connection: one text, or a StoreIdentity of
+        `core._store_identity`. It is the same over all connections to one store, and differs over
+        those to another. None if unknown. It is asked when each transaction begins, so find it out
+        once, when the connection is opened. If none is open, this method opens one, and raises what
+        `begin` raises."""

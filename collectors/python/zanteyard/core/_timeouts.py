@@ -1,4 +1,4 @@
-"""Calls that nobody waits for longer than was said."""
+"""Calls with a time limit."""
 
 from __future__ import annotations
 
@@ -9,13 +9,13 @@ from typing import Any, Callable
 
 
 class LateError(TimeoutError):
-    """Nothing has come of the call by then."""
+    """The call didn't return in time."""
 
 
 def within(seconds: float, call: Callable[[], Any], drop: Callable[[Any], object] = bool) -> Any:
-    """What the call gives, in a thread that nobody waits for any longer: not even names of hosts
-    are looked up in a time that could be bounded otherwise. Raises LateError then. What comes
-    later, or None where the call has failed then, is dropped."""
+    """Returns what `call` returns. The call runs in a thread, which is abandoned after this many
+    seconds, since even the lookup of a host name has no time limit of its own. Then LateError is
+    raised. If the call ends later, its result, or None if it failed, is passed to `drop`."""
     future: Future[Any] = Future()
 
     def run() -> None:
@@ -26,7 +26,7 @@ def within(seconds: float, call: Callable[[], Any], drop: Callable[[Any], object
             failure = error
         try:
             future.set_exception(failure) if failure else future.set_result(result)
-        except InvalidStateError:  # nobody waits for it
+        except InvalidStateError:  # nobody waits any more
             drop(result)
 
     threading.Thread(target=run, daemon=True).start()

@@ -1,7 +1,7 @@
-"""The version of the package, the same as that of the programs beside it."""
+"""The version of the package and of the programs that belong to it."""
 
 VERSION = "0.1.0"
 
-# Of what processes of clients and the auditor's tell one another: it goes up with each change of
-# that, and these understand one another where it is the same.
+# The version of the messages between client processes and the auditor's process. It goes up with
+# each change of them; only equal versions understand each other.
 FORM = 5

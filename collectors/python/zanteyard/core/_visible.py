@@ -1,10 +1,10 @@
-"""Texts that come from outside, made safe to show to a person.
+"""Makes texts from outside safe to show.
 
-A key, a statement or the name of a file may hold anything: codes that move a terminal's cursor or
-clear its screen, line breaks behind which a line looks like one of ours, marks that turn the
-direction of writing around, characters that can't be seen. All of these are shown as escapes, such
-as \\x1b or \\u202e. Whatever is printed, logged or written as text goes through `shown`, or through
-a function here that does.
+A key, a statement or a file name may contain anything: codes that move a terminal's cursor or clear
+its screen, line breaks that make the rest look like a line of ours, marks that reverse the
+direction of writing, invisible characters. All of these are shown as escapes, such as \\x1b or
+\\u202e. Whatever is printed, logged or written as text passes through `shown`, or through a
+function here that calls it.
 """
 
 from __future__ import annotations
@@ -20,17 +20,17 @@ LONGEST = 4000  # characters of one text
 
 
 def shown(text: str) -> str:
-    """The whole text on one line. What can't be seen is an escape, line breaks and tabs too; spaces
-    stay, and other characters that look like one become one."""
+    """The whole text on one line. Invisible characters, line breaks and tabs become escapes. Spaces
+    stay, and other kinds of space become plain ones."""
     return text if text.isprintable() else "".join(map(_one, text))
 
 
 def shown_lines(text: str) -> str:
-    """The same with line breaks kept, for a text that is made of lines of ours."""
+    """As `shown`, but keeps line breaks: for a text that consists of lines of ours."""
     return "\n".join(map(shown, text.split("\n")))
 
 
-before_saying: Optional[Callable[[], None]] = None  # what takes away what isn't to stay there
+before_saying: Optional[Callable[[], None]] = None  # removes the progress line
 COLOURS = {
     **dict.fromkeys(("serial", "kept"), "32"),  # green
     **dict.fromkeys(("violated", "mistake"), "31"),  # red
@@ -40,8 +40,7 @@ VERDICT = re.compile(f"({'|'.join(COLOURS)})(?=[:;,]|$)")
 
 
 def say(text: str, file: Optional[TextIO] = None, end: str = "\n", flush: bool = False) -> None:
-    """Prints one line, with a verdict in it in its colour on a terminal. Raises what `print`
-    does."""
+    """Prints one line. On a terminal a verdict in it is coloured. Raises what `print` does."""
     if before_saying is not None:
         before_saying()
     file = sys.stdout if file is None else file
@@ -57,27 +56,27 @@ def is_terminal(file: Optional[TextIO]) -> bool:
 
 
 def has_colours(file: Optional[TextIO]) -> bool:
-    """As no-color.org has it."""
+    """Whether to use colours, by the rules of no-color.org."""
     if os.environ.get("NO_COLOR") or os.environ.get("TERM", "dumb") == "dumb":
         return False
     return is_terminal(file)
 
 
 def _coloured(line: str) -> str:
-    """The first verdict, unless the line is further in: then it is about something else."""
+    """Colours the first verdict, unless the line is indented: then it is about something else."""
     if line[:1] in (" ", ""):
         return line
     return VERDICT.sub(lambda it: f"\x1b[1;{COLOURS[it[1]]}m{it[1]}\x1b[0m", line, count=1)
 
 
 def visible(text: str, longest: int = LONGEST) -> str:
-    """The text on one line: white space as single spaces, what can't be seen as an escape. A text
-    that is longer than `longest` characters is cut off, which ".." tells."""
+    """The text on one line, with white space as single spaces and escapes for invisible characters.
+    A text longer than `longest` characters is cut off and ends in ".."."""
     return _cut(shown(" ".join(text[: longest * 4].split())), longest)
 
 
 def visible_lines(text: str, longest: int = LONGEST) -> str:
-    """The same, with its own line breaks and indentation kept."""
+    """The same, but keeps line breaks and indentation."""
     lines = text[: longest * 4].expandtabs(4).replace("\r\n", "\n").split("\n")
     return _cut("\n".join(shown(line).rstrip() for line in lines).strip("\n"), longest)
 
@@ -110,7 +109,7 @@ def _one(sign: str) -> str:
     if sign.isprintable():
         return sign
     if unicodedata.category(sign) == "Zs":
-        return " "  # of whatever width
+        return " "  # whatever its width
     code = ord(sign)
     if code < 1 << 8:
         return f"\\x{code:02x}"

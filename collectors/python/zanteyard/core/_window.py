@@ -1,9 +1,9 @@
-"""Which of the sessions' transactions an audit is about, where it began while clients went on.
+"""Which transactions of each session an audit covers, if it began while clients were running.
 
-What was answered before the audit began is the state that it begins with: no version that is
-written later can stand before it. What was on its way in that moment may stand before or after any
-of it, so that nothing is said of who read from it. What was sent to the store later is audited,
-under a number that counts from there.
+What was answered before the audit began is the state that it begins with: no version written later
+can come before it. What was in flight at that moment may come before or after any of it, so reads
+from it are left out. What was sent to the store later is audited, with numbers that count from
+there.
 """
 
 from __future__ import annotations
@@ -14,18 +14,18 @@ from typing import Any, Dict, List, Optional, Tuple
 from ._own_keys import is_own
 from ._records import Logged, Source
 
-SESSIONS = 64  # that an auditor has at a time
-SKIPPED = 1 << 32  # numbers that may have been given unseen, by a process that ended without a word
+SESSIONS = 64  # sessions that an auditor has at a time
+SKIPPED = 1 << 32  # numbers that a process may have used unseen before it ended without notice
 
 
 @dataclass
 class Coverage:
-    """Of each session that there was as it began: `early`, below which all had been answered;
-    `first`, from which on all are audited, or None where none is; `last`, up to which they are, or
-    None where there is no end; `unknown`, the numbers, each from one to before another one, of
-    those of before that the store may have committed, or may do so yet: a read from these is
-    neither of the state that the audit begins with nor of anything that is audited. All that is
-    done in sessions that join later is audited."""
+    """The part of each session that an audit covers, for the sessions that existed when it began.
+    All transactions with numbers below `early` had been answered. Those from `first` on are audited
+    (None: none of them), up to `last` (None: no end). `unknown` are ranges of earlier numbers, each
+    from a first one to before a second one, that the store may have committed or may still commit.
+    A read from one of these is neither from the first state nor from anything that is audited.
+    Sessions that join later are audited completely."""
 
     early: List[int]
     first: List[Optional[int]]
@@ -41,25 +41,25 @@ class Coverage:
         return cls([0] * sessions, [0] * sessions)
 
     def number(self, session: int, number: int) -> Optional[int]:
-        """The transaction's number in the audit; None where it isn't audited."""
+        """The transaction's number in the audit; None if it isn't audited."""
         if session >= len(self.early):
-            return number  # it has joined since
+            return number  # it joined later
         first, last = self.first[session], self.last[session]
         if first is None or number < first or (last is not None and number > last):
             return None
         return number - first
 
     def number_there(self, session: int, number: int) -> Optional[int]:
-        """Of a transaction of this number in the audit the one in the store; None where the session
-        isn't audited."""
+        """The number in the store of the transaction with this number in the audit; None if the
+        session isn't audited."""
         first = self.first[session] if session < len(self.early) else 0
         return None if first is None else first + number
 
     def source(self, session: int, number: int) -> Optional[Source]:
-        """Where a read of this transaction's write was from, as the audit sees it: (session,
-        number) or "init"; None where it can't be said, so that the read is to be left out."""
+        """The source of a read of this transaction's write, as the audit sees it: (session, number)
+        or "init". None if that is unknown, so that the read has to be left out."""
         if session >= max(SESSIONS, len(self.early)):
-            return None  # it is one that isn't audited, since there were more clients than sessions
+            return None  # a session without an audit: there were more clients than sessions
         audited = self.number(session, number)
         if audited is not None:
             return (session, audited)
@@ -78,9 +78,9 @@ class Coverage:
         )
 
     def moved(self, logged: Logged) -> Tuple[Logged, int]:
-        """What was logged, and how many of its reads were left out. Those of an attempt that was
-        aborted count for nothing, and so aren't counted. What was answered before this audit began
-        is read as from before it."""
+        """What was logged, in the audit's numbering, and how many of its reads were left out. Reads
+        of an aborted attempt have no effect and aren't counted. A version that was answered before
+        the audit began counts as read from before it."""
         logged = self._with_tried(logged)
         reads = [
             (key, source if isinstance(source, str) else self.source(*source))

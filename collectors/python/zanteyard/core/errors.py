@@ -1,4 +1,4 @@
-"""What this package raises. All of it is a ZanteyardError."""
+"""The errors that this package raises. All of them are subclasses of ZanteyardError."""
 
 from __future__ import annotations
 
@@ -6,53 +6,53 @@ from ._visible import shown
 
 
 class ZanteyardError(Exception):
-    """The base of every error that this package raises by itself. Its text may quote what came from
-    outside, and is safe to print."""
+    """The base of every error that this package raises itself. Its text may quote input, and is
+    safe to print."""
 
     def __str__(self) -> str:
         return shown(super().__str__())
 
 
 class ProgramMissingError(ZanteyardError):
-    """There is no auditor to start: none was named, none came with the package, none is built."""
+    """There is no auditor program to start: none was named, none is in the package, none was
+    built."""
 
 
 class ProgramTooOldError(ZanteyardError):
-    """The program is of an earlier version, which doesn't know lines that this package writes.
-    Nothing has begun."""
-
-
-class ProgramEndedError(ZanteyardError):
-    """The program ended, or can't be reached, and what it knew is gone with it."""
-
-
-class ProgramLateError(ProgramEndedError):
-    """The program hasn't answered in time."""
-
-
-class ProgramUnreachableError(ProgramEndedError):
-    """The process between this one and the program is gone, whatever became of the program."""
-
-
-class OtherVersionError(ZanteyardError):
-    """Clients and the auditor's process are of versions that don't understand one another. Nothing
+    """The program is an earlier version, which doesn't know lines that this package writes. Nothing
     has begun."""
 
 
+class ProgramEndedError(ZanteyardError):
+    """The program ended or can't be reached, and its state is lost."""
+
+
+class ProgramLateError(ProgramEndedError):
+    """The program didn't answer in time."""
+
+
+class ProgramUnreachableError(ProgramEndedError):
+    """The process between this one and the program is gone. The program may still be running."""
+
+
+class OtherVersionError(ZanteyardError):
+    """The versions of the clients and of the auditor's process don't fit. Nothing has begun."""
+
+
 class RefusedError(ZanteyardError):
-    """A line was refused: this is a mistake in how the log was made."""
+    """A line was refused: the log is wrong."""
 
 
 class BadLineError(RefusedError):
-    """The program knows no such line."""
+    """The program doesn't know this line."""
 
 
 class FullError(RefusedError):
-    """As many transactions remain as the auditor holds; nothing is wrong with this one."""
+    """The auditor holds as many transactions as it can. Nothing is wrong with this one."""
 
 
 class NoMemoryError(RefusedError):
-    """The program was refused memory for it, also when it was given the line again; nothing has
+    """The program ran out of memory for this line, also at a second attempt. Nothing has
     changed."""
 
 
@@ -61,12 +61,12 @@ class NoCutError(RefusedError):
 
 
 class NoRoundError(RefusedError):
-    """No round is open, or none is searched."""
+    """No round is open, or no round is being searched."""
 
 
 class NotAnchoredError(RefusedError):
-    """What a session is to join with is no fence, or reads from one that neither remains nor is the
-    last that is forgotten: it makes a fence now, and joins with that."""
+    """The transaction that a session is to join with is no fence, or it reads from a fence that
+    neither remains nor is the last one forgotten. Run a new fence and join with that."""
 
 
 class AbortedError(ZanteyardError):
@@ -74,40 +74,40 @@ class AbortedError(ZanteyardError):
 
 
 class OutcomeUnknownError(ZanteyardError):
-    """Whether the transaction was committed can't be found out. Where it had written, nothing more
-    of its session is audited, unless another one is left for it."""
+    """Whether the transaction was committed can't be found out. If it had written, nothing more of
+    its session is audited, unless there is another session for the client."""
 
 
 class StoreLateError(ZanteyardError, TimeoutError):
-    """Over this session's connection the store hasn't answered what the audit asked, and nothing
-    else can be asked meanwhile. Nothing has begun."""
+    """The store hasn't answered the audit's own statement on this session's connection, and nothing
+    else can be sent meanwhile. Nothing has begun."""
 
 
 class NameTakenError(ZanteyardError, ValueError):
-    """The store knows the name of this run from an earlier one: what that has written would be
-    taken for this one's."""
+    """The store knows this run's name from an earlier run, whose writes would be taken for this
+    run's."""
 
 
 class StoreUnfitError(ZanteyardError, ValueError):
-    """The store drops what it was given, by its settings: what is found missing would be told as a
-    fault. Or it is another store than the one that the audit is about. Nothing has begun."""
+    """The store's settings allow it to drop data, which would be reported as a fault; or it isn't
+    the store that the audit is about. Nothing has begun."""
 
 
 class FolderUnfitError(ZanteyardError):
-    """Others may read or write the folder, or it is theirs: nothing of an audit is put there.
-    Nothing has begun."""
+    """Other users may read or write the folder, or it belongs to one of them. Nothing of an audit
+    was written there, and nothing has begun."""
 
 
 class AuditLostError(ZanteyardError):
-    """The audit ended, and why; the clients go on."""
+    """The audit ended, and why. The clients go on."""
 
 
 class AuditTakenError(AuditLostError):
-    """Another auditor has the audit of this name."""
+    """Another auditor runs the audit of this name."""
 
 
 class StrangeRedisError(AuditLostError):
-    """The Redis has something else under a name where the audit keeps its own."""
+    """The Redis has foreign data under a name that the audit uses."""
 
 
 class KeyFileError(ZanteyardError, OSError):
@@ -115,24 +115,24 @@ class KeyFileError(ZanteyardError, OSError):
 
 
 class MissingError(AuditLostError):
-    """The audit goes on, but for what a process of clients may have done that isn't heard of any
-    more; which sessions these are, and from which transactions on."""
+    """The audit goes on, without what a vanished client process may have done. The message says
+    which sessions these are, and from which transactions on."""
 
 
 class ElsewhereError(ZanteyardError):
-    """What failed in another process, in its words."""
+    """An error from another process, as its text."""
 
 
 class JournalError(ZanteyardError):
-    """The journal can't be written or read, or doesn't fit: nothing of the audit is told by it."""
+    """The journal can't be written or read, or doesn't fit. The audit reports nothing by it."""
 
 
 class JournalInUseError(JournalError):
-    """Another auditor, of this process or of another one, has this journal."""
+    """Another auditor, in this process or another one, uses this journal."""
 
 
 class JournalDamagedError(JournalError):
-    """What the journal has isn't what was written there."""
+    """The journal's contents aren't what was written there."""
 
 
 class JournalVersionError(JournalError):
@@ -140,13 +140,12 @@ class JournalVersionError(JournalError):
 
 
 class CantBeAskedError(ZanteyardError):
-    """A line that can't be asked about the promise that was chosen; nothing is said of the
-    store."""
+    """A line that can't be used with the chosen promise. This says nothing about the store."""
 
 
 class ScriptMistakeError(ZanteyardError):
-    """A line of a script was refused, or none opens an audit (`refusal` is "nothing"): the script
-    is wrong, and nothing is said of the store."""
+    """A line of a script was refused, or no line opens an audit (then `refusal` is "nothing"). The
+    script is wrong; this says nothing about the store."""
 
     def __init__(self, line_number: int, refusal: str, advice: str = "") -> None:
         self.line_number = line_number
@@ -161,8 +160,8 @@ class ScriptMistakeError(ZanteyardError):
 
 
 class ImportRefusedError(ZanteyardError):
-    """Nothing sound can be made of a file of another tool's: nothing is said of the store.
-    `line_number` is that of what it can't be made of, from 1; 0 where it is the file as a whole."""
+    """A file of another tool can't be turned into a sound history. This says nothing about the
+    store. `line_number` is the line at fault, from 1; 0 for the file as a whole."""
 
     def __init__(self, line_number: int, why: str) -> None:
         self.line_number = line_number

@@ -1,2 +1,2 @@
-"""A violated history made small, and why no order explains it: as sentences, as a script, as a page
-and as pictures. The verdict rests on none of this."""
+"""Reduces a violated history to a small part and explains why no order fits it: as sentences, as a
+script, as a page and as pictures. The verdict doesn't depend on any of this."""

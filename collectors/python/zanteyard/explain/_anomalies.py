@@ -1,9 +1,9 @@
-"""The kind of anomaly that a violated history shows, where it has a name.
+"""Finds the kind of anomaly that a violated history shows, if it has a name.
 
-Each name stands for a pattern of reads and writes that no order explains; the patterns are those
-of Adya (Weak Consistency, 1999) and of the session guarantees, told by who read which version.
-A history is looked at once all is left out that it is violated without: then the pattern that is
-found is why it is violated. This is an aid; the verdict rests on none of it.
+Each name stands for a pattern of reads and writes that no order explains. The patterns are those of
+Adya (Weak Consistency, 1999) and of the session guarantees, in terms of who read which version. A
+history should first be reduced to a minimal violated part: then the pattern found is the reason for
+the violation. This is an aid; the verdict doesn't depend on it.
 """
 
 from __future__ import annotations
@@ -23,7 +23,7 @@ Edge = Tuple[ShownId, ShownId]
 
 @dataclass(frozen=True)
 class Anomaly:
-    """A pattern with a name, and which transactions show it."""
+    """A named pattern, and the transactions that show it."""
 
     name: str
     sentence: str
@@ -31,35 +31,35 @@ class Anomaly:
 
 
 MEANINGS: Mapping[str, str] = {
-    "dirty read": "Adya's G1a, an aborted read: of what an attempt wrote that was aborted, or "
-    "from what wrote nothing",
-    "intermediate read": "a read of what its writer hadn't finished with",
+    "dirty read": "Adya's G1a: a read of what an aborted transaction wrote, or of what nobody "
+    "wrote",
+    "intermediate read": "a read of a version that its own writer overwrote or extended",
     "impossible read": "a read that no order could give its reader, whatever the others did",
     "non-repeatable read": "a transaction read a key twice, and found two versions of it",
     "circular information flow": "Adya's G1c: transactions that each saw what another of them "
-    "wrote, around",
+    "wrote, in a cycle",
     "lost update": "two transactions read one version of a key, and both overwrote it",
-    "dirty write": "Adya's G0: of two transactions that wrote the same keys each overwrote a part "
-    "of the other's work",
+    "dirty write": "Adya's G0: two transactions wrote the same keys, and each overwrote a part of "
+    "the other's work",
     "fractured read": "a transaction saw one part of another's work and not the rest",
-    "stale read": "a read of a version that the reader has to come behind",
-    "long fork": "two transactions saw two writes in opposite orders: each saw the one and not "
-    "the other",
+    "stale read": "a read of a version older than one that the reader has to come after",
+    "long fork": "two transactions saw two writes in opposite orders: each saw one and not the "
+    "other",
     "write skew": "transactions that each overwrote what another had read, on different keys",
-    # circles that are none of the patterns above
-    "G-single": "a circle in which exactly one transaction read what the next one overwrote",
-    "G-nonadjacent": "a circle in which transactions read what the next one overwrote, but never "
-    "two one after another",
-    "G2": "a circle in which several transactions read what the next one overwrote",
+    # cycles that match none of the patterns above
+    "G-single": "a cycle in which exactly one transaction read what the next one overwrote",
+    "G-nonadjacent": "a cycle in which several transactions read what the next one overwrote, but "
+    "never two in a row",
+    "G2": "a cycle in which two transactions in a row read what the next one overwrote",
 }
 
 
 UNREPEATABLE = "non-repeatable read"
-MANY = 256  # transactions; of more some patterns aren't looked for, which would take too long
+MANY = 256  # transactions; in larger histories some patterns would take too long to find
 
 
 def meaning_of(name: str) -> str:
-    """What an anomaly's name says; empty if it isn't known."""
+    """What an anomaly's name means; empty if unknown."""
     return MEANINGS.get(name, "")
 
 
@@ -68,15 +68,15 @@ def find_anomaly(
     name: Naming = plain_name,
     promise: Promise = SERIALIZABLE,
 ) -> Optional[Anomaly]:
-    """The first of the patterns that the history has, and that the promise excludes; or None. The
-    history should be small."""
+    """The first pattern in the history that the promise excludes, or None. The history should be
+    small."""
     table = _busy(history)
     behind = _behind(table, promise.is_timed)
     patterns = [
         *(_dirty_reads, _unrepeatable_reads, _information_flows, _lost_updates, _dirty_writes),
         *(_fractured_reads, _stale_reads, _long_forks),
     ]
-    if not promise.is_split:  # snapshot isolation lets it through
+    if not promise.is_split:  # snapshot isolation allows it
         patterns.append(_write_skews)
     for pattern in patterns:
         for anomaly in pattern(table, behind, name):
@@ -85,7 +85,8 @@ def find_anomaly(
 
 
 def _busy(history: Sequence[Sequence[Logged]]) -> Transactions:
-    """Without those that did nothing, of which a part has as many as the whole; in their order."""
+    """The transactions in order, without those that did nothing and that nobody read from. A part
+    of a history keeps such entries as placeholders."""
     read = {
         source for txns in history for logged in txns for _, source in logged.did[0]
     }
@@ -98,8 +99,8 @@ def _busy(history: Sequence[Sequence[Logged]]) -> Transactions:
 
 
 def name_circle(arcs: Sequence[Arc], name: Naming = plain_name) -> Optional[Anomaly]:
-    """What a circle is called that has none of the patterns; None where the order of time has part
-    in it."""
+    """The name of a cycle that matches none of the patterns; None if real-time order is
+    involved."""
     kinds = [arc.kind for arc in arcs]
     if not arcs or IN_TIME in kinds:
         return None
@@ -125,7 +126,7 @@ def _told(key: str) -> str:
 
 
 def _plain_arcs(table: Transactions) -> Iterator[Edge]:
-    """What comes before what by sessions and by who read from whom."""
+    """The order given by sessions, and by who read from whom."""
     before: Optional[ShownId] = None
     for id, logged in table.items():
         if before is not None and before[0] == id[0]:
@@ -137,7 +138,7 @@ def _plain_arcs(table: Transactions) -> Iterator[Edge]:
 
 
 def _in_time(table: Transactions) -> Iterator[Edge]:
-    """What ended before what began."""
+    """The order given by time: what ended before what began."""
     for first, first_logged in table.items():
         for second, second_logged in table.items():
             if told_later(first_logged, second_logged, ("", "")):
@@ -145,7 +146,7 @@ def _in_time(table: Transactions) -> Iterator[Edge]:
 
 
 def _behind(table: Transactions, is_timed: bool) -> Dict[ShownId, Set[ShownId]]:
-    """Of each transaction, those that stand behind it by these arcs."""
+    """For each transaction, those that come after it by these arcs."""
     after: Dict[ShownId, List[ShownId]] = {id: [] for id in table}
     in_time = _in_time(table) if is_timed and len(table) <= MANY else ()
     for start, end in [*_plain_arcs(table), *in_time]:
@@ -166,7 +167,8 @@ def _behind(table: Transactions, is_timed: bool) -> Dict[ShownId, Set[ShownId]]:
 def _overwritten(
     table: Transactions, behind: Mapping[ShownId, Set[ShownId]]
 ) -> List[Tuple[ShownId, str, Source, ShownId]]:
-    """Each (reader, key, source, other) where the other wrote a later version than was read."""
+    """Each (reader, key, source, other) such that `other` wrote a later version than the one
+    read."""
     overwritten = []
     for reader, logged in table.items():
         for key, source in logged.reads:
@@ -192,7 +194,7 @@ def _dirty_reads(table: Transactions, _: object, name: Naming) -> Iterator[Anoma
 
 
 def _wrong_read(source: Logged) -> Tuple[str, str]:
-    """The name of a read from what didn't write the key, and why it is none that may be."""
+    """The name of a read from a transaction that didn't write the key, and why it is wrong."""
     if source.outcome == "unfinished":
         return "intermediate read", "which wrote more of it before it ended"
     if source.outcome == "impossible":
@@ -218,7 +220,7 @@ def _unrepeatable_reads(table: Transactions, _: object, name: Naming) -> Iterato
 def _information_flows(
     table: Transactions, behind: Mapping[ShownId, Set[ShownId]], name: Naming
 ) -> Iterator[Anomaly]:
-    """Reads around; what was read may have been handed on by a session."""
+    """Cycles of reads and session order."""
     for start in table:
         if start not in behind[start]:
             continue
@@ -244,7 +246,7 @@ def _information_flows(
 
 
 def _flows(table: Transactions, writer: ShownId) -> Iterator[Tuple[ShownId, ShownId, str]]:
-    """Who read from it, and who follows it in its session."""
+    """The transactions that read from this one, and its successor in the session."""
     for reader, logged in table.items():
         for key, source in logged.reads:
             if source == writer:
@@ -257,8 +259,8 @@ def _flows(table: Transactions, writer: ShownId) -> Iterator[Tuple[ShownId, Show
 def _dirty_writes(
     table: Transactions, behind: Mapping[ShownId, Set[ShownId]], name: Naming
 ) -> Iterator[Anomaly]:
-    """Of two writers of the same keys, neither of which is known to come first, a reader found each
-    one's version of another key."""
+    """Two writers of the same two keys, in no known order, of which a reader found one's version of
+    one key and the other's version of the other."""
     for reader, logged in table.items():
         for key, first in logged.reads:
             for other_key, second in logged.reads:
@@ -324,7 +326,7 @@ def _stale_reads(
             yield Anomaly(
                 "stale read",
                 f"{name(reader)} read {_told(key)} {version(key, source, name)}, though it comes "
-                f"behind {name(other)}, which wrote it ({why})",
+                f"after {name(other)}, which wrote it ({why})",
                 (other, reader),
             )
 
@@ -351,7 +353,7 @@ def _long_forks(
 def _write_skews(
     table: Transactions, behind: Mapping[ShownId, Set[ShownId]], name: Naming
 ) -> Iterator[Anomaly]:
-    """Circles in which each transaction read what the next one overwrote."""
+    """Cycles in which each transaction read what the next one overwrote."""
     after: Dict[ShownId, Dict[ShownId, str]] = {}
     for reader, key, _, other in _overwritten(table, behind):
         after.setdefault(reader, {}).setdefault(other, key)

@@ -1,5 +1,5 @@
-"""Why one transaction comes before another, in words: by sessions, by reads, by the time, and by
-what is impossible otherwise."""
+"""Says why one transaction comes before another: by sessions, by reads, by time, or because the
+opposite is impossible."""
 
 from __future__ import annotations
 
@@ -26,7 +26,7 @@ from ._words import told_undone, version
 
 SELF = "a transaction begins before it commits"
 ASSUMED = "assumed in this case"
-# Why a transaction of such an outcome can't be read from.
+# Why a transaction with this outcome can't be read from.
 NO_WRITE = {
     "aborted": "which aborted",
     "unfinished": "which wrote more of it before it ended",
@@ -35,7 +35,7 @@ NO_WRITE = {
 
 
 class ArcWords:
-    """Makes arcs, for transactions that are called so."""
+    """Makes arcs between these transactions; `name` names them."""
 
     def __init__(self, txns: Transactions, name: Naming) -> None:
         self.txns, self.name = txns, name
@@ -63,19 +63,19 @@ class ArcWords:
         return self._arc(start, end, why, READ, key)
 
     def read_before_all(self, key: str, start: Node, end: Node) -> Arc:
-        """Of who read the first version to a writer of the key."""
+        """The arc from a reader of the first version to a writer of the key."""
         read = f"{self.of(start)} read {key} {version(key, 'init', self.name)}"
         why = f"{read}, and {self.of(end)} wrote it"
         return self._arc(start, end, why, READ_BEFORE, key)
 
     def assumed(self, choice: Choice, side: int) -> Arc:
-        """One side of a choice, in its case of a split."""
+        """The arc of one side of a choice, assumed in one case of a split."""
         kind = READ_BEFORE if side == 2 and not is_of_writers(choice) else WRITTEN
         arc = self._arc(*choice.sides()[side - 1], ASSUMED, kind)
         return arc._replace(choice=choice)
 
     def forced(self, choice: Choice, side: int, needs: Sequence[Arc]) -> Arc:
-        """One side of a choice, where these arcs rule the other side out."""
+        """The arc of one side of a choice, after `needs` have ruled the other side out."""
         its = self.assumed(choice, side)
         return its._replace(why=self._forced(choice, side), needs=tuple(needs))
 
@@ -93,8 +93,8 @@ class ArcWords:
         return f"{read} comes {f'after {writer}' if side == 2 else f'before {reader}'}"
 
     def after_own(self, first: Arc) -> Arc:
-        """Of two writers of a key, where one begins before the other, that it also commits before
-        the other begins. The first arc says why it begins before."""
+        """The arc for two writers of a key, of which one begins before the other: it also commits
+        before the other begins. `first` says why it begins before."""
         choice = first.choice
         assert choice is not None
         start, end = transaction_of(first.start), transaction_of(first.end)
@@ -104,7 +104,7 @@ class ArcWords:
         return its._replace(needs=first.needs, choice=other)
 
     def between(self, choice: Choice) -> str:
-        """Which two ways there are."""
+        """Says which two possibilities a choice has."""
         first, second = (told_arc(*side, self.name) for side in choice.sides())
         if is_of_writers(choice):
             both = f"{self.of(choice.writer)} and {self.of(choice.other)} both wrote {choice.key}"
@@ -114,20 +114,20 @@ class ArcWords:
         return f"either {first}, or {second}: {both}"
 
     def wrong_read(self, reader: ShownId, key: str, source: ShownId) -> str:
-        """Of a read from a transaction that didn't write the key."""
+        """Says what is wrong with a read from a transaction that didn't write the key."""
         if key in self.txns[source].tried_writes:
             return told_undone(reader, key, source, self.name)
         why = NO_WRITE.get(self.txns[source].outcome, "which didn't write it")
         return f"{self.name(reader)} read {key} from {self.name(source)}, {why}"
 
     def step(self, node: Node) -> str:
-        """As one of a circle."""
+        """The name of a step in a cycle."""
         if isinstance(node, Event):
             return f"{self.name(node.id)} {node.what}s"
         return self.name(ShownId(node))
 
     def none_first(self, around: Sequence[Arc]) -> str:
-        """That none of a circle's transactions can come before the others."""
+        """Says that none of a cycle's transactions can come first."""
         *others, last = (told_node(arc.start, self.name) for arc in around)
         if not others:
             return f"so {last} can't come first"
@@ -137,5 +137,6 @@ class ArcWords:
 
 
 def is_of_writers(choice: Choice) -> bool:
-    """Whether it is about two writers of a key, one of which commits before the other begins."""
+    """Whether the choice is about two writers of a key, one of which commits before the other
+    begins."""
     return isinstance(choice.reader, Event) and choice.reader.what == "commit"

@@ -1,4 +1,4 @@
-"""What comes before what, as arcs, and from which other arcs each of them follows."""
+"""Arcs, which say what comes before what, and the arcs that each of them follows from."""
 
 from __future__ import annotations
 
@@ -9,7 +9,7 @@ from ..promises._times import told_gap
 
 
 class Event(NamedTuple):
-    """A transaction's begin or commit, where they are told apart."""
+    """A transaction's begin or commit, if these are separate events."""
 
     id: ShownId
     what: str  # "begin" or "commit"
@@ -17,15 +17,15 @@ class Event(NamedTuple):
 
 Node = Any  # a ShownId, or an Event
 Ends = Tuple[Node, Node]
-# Kinds of arcs, by which circles have their names.
+# The kinds of arcs, by which cycles are named.
 IN_SESSION, READ, IN_TIME = "session", "read", "time"
-READ_BEFORE = "read before"  # from who read a version to who overwrote it: an anti-dependency
+READ_BEFORE = "read before"  # from a reader of a version to who overwrote it: an anti-dependency
 WRITTEN = "written"  # from a writer of a key to a later one
 SESSION = "they are in one session"
 
 
 class Choice(NamedTuple):
-    """A reader read the key from the writer, and another transaction wrote the key too. In any
+    """A reader read the key from the writer, and another transaction wrote the key, too. In any
     order the other one comes before the writer, or the reader comes before the other one."""
 
     reader: Node
@@ -38,18 +38,18 @@ class Choice(NamedTuple):
 
 
 class Arc(NamedTuple):
-    """That one transaction comes before another, or one's begin or commit before another's. What
-    was forced has the choice of which this is a side, and `needs`: the arcs of a path that rules
-    the other side out. What is assumed in a case of a split has the choice alone."""
+    """One transaction comes before another, or one's begin or commit before another's. A forced arc
+    has the choice that it is a side of, and in `needs` the arcs of a path that rules the other side
+    out. An arc that is assumed in a case of a split has only the choice."""
 
     start: Node
     end: Node
     why: str
     needs: Tuple[Any, ...]  # of Arc, which this Python's types can't name here
     kind: str = IN_SESSION
-    key: str = ""  # which was read, if that is the reason
+    key: str = ""  # the key that was read, if that is the reason
     choice: Optional[Choice] = None
-    told: str = ""  # what comes before what, in words
+    told: str = ""  # a phrase for what comes before what
 
     @property
     def ends(self) -> Ends:
@@ -65,7 +65,7 @@ def table(history: History) -> Transactions:
 
 
 def told_later(first: Logged, second: Logged, names: Tuple[str, str]) -> str:
-    """That the second began when the first had ended; empty where that isn't known."""
+    """Says that the second began after the first had ended; empty if that isn't known."""
     if not first.span or not second.span or first.span[1] is None:
         return ""
     gap, unit = second.span[0] - first.span[1], second.span[2]
@@ -76,7 +76,7 @@ def told_later(first: Logged, second: Logged, names: Tuple[str, str]) -> str:
 
 
 def merged(way: Iterable[Arc], name: Naming) -> List[Arc]:
-    """The same way, where a run of transactions of one session is one arc."""
+    """The same path, with each run of transactions of one session as one arc."""
     kept: List[Arc] = []
     for arc in way:
         if kept and kept[-1].why == arc.why == SESSION:
@@ -87,8 +87,8 @@ def merged(way: Iterable[Arc], name: Naming) -> List[Arc]:
 
 
 def below(arcs: Iterable[Arc]) -> List[Arc]:
-    """The arcs, each after those from which it follows; of several between the same two the first
-    one alone."""
+    """The arcs and all that they follow from, each after those that it follows from; only the first
+    of several between the same two nodes."""
     found: Dict[Ends, Arc] = {}
     waiting: List[Tuple[Optional[Arc], Iterator[Arc]]] = [(None, iter([*arcs]))]
     while waiting:
@@ -104,7 +104,7 @@ def below(arcs: Iterable[Arc]) -> List[Arc]:
 
 
 def shortest_circle(arcs: Iterable[Arc]) -> List[Arc]:
-    """The fewest of these arcs that lead round, if they do."""
+    """The shortest cycle of these arcs. There must be one."""
     after: Dict[Node, List[Arc]] = {}
     for arc in arcs:
         after.setdefault(arc.start, []).append(arc)
@@ -112,7 +112,7 @@ def shortest_circle(arcs: Iterable[Arc]) -> List[Arc]:
 
 
 def _around(after: Dict[Node, List[Arc]], node: Node) -> List[Arc]:
-    """The fewest that lead from the node back to it; none if it can't be reached."""
+    """The shortest path from the node back to it; empty if there is none."""
     reached: Dict[Node, Arc] = {}
     waiting = [node]
     for at in waiting:
@@ -127,7 +127,7 @@ def _around(after: Dict[Node, List[Arc]], node: Node) -> List[Arc]:
 
 
 def told_arc(start: Node, end: Node, name: Naming) -> str:
-    """What comes before what."""
+    """Says what comes before what."""
     if not isinstance(start, Event):
         return f"{name(start)} comes before {name(end)}"
     starts, ends = (f"{name(it.id)} {it.what}s" for it in (start, end))
@@ -135,10 +135,10 @@ def told_arc(start: Node, end: Node, name: Naming) -> str:
 
 
 def told_node(node: Node, name: Naming) -> str:
-    """A transaction, or the begin or commit of one."""
+    """A transaction's name, or a phrase for its begin or commit."""
     return f"the {node.what} of {name(node.id)}" if isinstance(node, Event) else name(node)
 
 
 def transaction_of(node: Node) -> ShownId:
-    """Whose begin or commit it is, or which transaction."""
+    """The transaction of a node."""
     return node.id if isinstance(node, Event) else ShownId(node)

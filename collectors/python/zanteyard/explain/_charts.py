@@ -1,4 +1,4 @@
-"""What a live run has seen round by round, as plain SVG: how many transactions remain, how far the
+"""Charts of a live run, round by round, as plain SVG: how many transactions remain, how far the
 auditor is behind, and each round's verdict."""
 
 from __future__ import annotations
@@ -20,11 +20,11 @@ class RoundSeen:
     remaining: int  # transactions after it
     behind: float  # seconds that the auditor was behind the clients
     taken: int = 0  # transactions taken in since the audit began
-    waiting: Tuple[str, ...] = ()  # reads that wait for a transaction, and for whom
+    waiting: Tuple[str, ...] = ()  # reads that wait for a transaction, and for which
 
 
 def draw_rounds(rounds: Sequence[RoundSeen]) -> str:
-    """Two charts above one another; an empty text where there was no round."""
+    """Two charts, one above the other; empty if there was no round."""
     if not rounds:
         return ""
     return "\n".join(

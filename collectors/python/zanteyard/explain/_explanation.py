@@ -1,5 +1,5 @@
-"""Why no order explains a history, as a tree of cases, and how that is laid out: in numbered steps
-for a page and its pictures, and in lines for a terminal."""
+"""Why no order explains a history, as a tree of cases, and its layout: numbered steps for a page
+and its pictures, and lines for a terminal."""
 
 from __future__ import annotations
 
@@ -12,7 +12,7 @@ from ._arcs import Arc, Ends, Event, Node, below, transaction_of
 
 @dataclass(frozen=True)
 class Case:
-    """One of two, and what is impossible where the arc holds."""
+    """One of two cases: the arc that holds in it, and why that is impossible."""
 
     arc: Arc
     explanation: Explanation
@@ -20,13 +20,14 @@ class Case:
 
 @dataclass(frozen=True)
 class Explanation:
-    """A refutation. It ends in one of three ways: `arcs` lead from a transaction back to itself, as
-    `circle` names it; or `cases` are two, one of which holds in any order; or neither, and `end`
-    tells of a read that no order gives. `end` says in a sentence where it ends."""
+    """A refutation, which ends in one of three ways. Either `arcs` lead from a transaction back to
+    itself, as `circle` names it; or there are two `cases`, one of which holds in any order; or
+    neither, and `end` describes a read that no order allows. `end` is a sentence about how it
+    ends."""
 
     end: str
     arcs: Tuple[Arc, ...] = ()
-    circle: Tuple[str, ...] = ()  # the first transaction last again
+    circle: Tuple[str, ...] = ()  # ends with the first transaction again
     cases: Tuple[Case, ...] = ()
 
     @property
@@ -35,42 +36,43 @@ class Explanation:
         return tuple(lines_of(laid_out(self)))
 
     def ends(self) -> Iterator[Explanation]:
-        """The leaves of the tree: itself, if it has no cases."""
+        """The leaves of the tree: the explanation itself, if it has no cases."""
         if not self.cases:
             yield self
         for case in self.cases:
             yield from case.explanation.ends()
 
     def all_arcs(self) -> List[Arc]:
-        """Those of its circles, each after those from which it follows."""
+        """The arcs of its cycles and all that they follow from, each after those that it follows
+        from."""
         return below(arc for leaf in self.ends() for arc in leaf.arcs)
 
 
 @dataclass(frozen=True)
 class Link:
-    """That one transaction has to come before another, or one's begin or commit before another's,
-    and why. `number` is that of the reason on its page, and `follows` those of the reasons from
-    which it follows."""
+    """One transaction has to come before another, or one's begin or commit before another's, and
+    why. `number` is that of the reason on its page, and `follows` are those of the reasons that it
+    follows from."""
 
     start: ShownId
     end: ShownId
     why: str
     is_of_circle: bool
-    is_of_aborted: bool = False  # the first was aborted, and has been read all the same
-    told: str = ""  # what comes before what
-    events: Tuple[str, str] = ("", "")  # "begin" or "commit", where these are told apart
+    is_of_aborted: bool = False  # the first was aborted, and was read all the same
+    told: str = ""  # what comes before what, in words
+    events: Tuple[str, str] = ("", "")  # "begin" or "commit", if these are separate events
     number: int = 0
     follows: Tuple[int, ...] = ()
 
     @property
     def ends(self) -> Tuple[Tuple[ShownId, str], Tuple[ShownId, str]]:
-        """Between what it leads."""
+        """Its two ends."""
         return (self.start, self.events[0]), (self.end, self.events[1])
 
 
 @dataclass(frozen=True)
 class ShownCase:
-    """`link` is what holds in it."""
+    """A case; `link` is what holds in it."""
 
     link: Link
     reasons: Reasons
@@ -78,10 +80,10 @@ class ShownCase:
 
 @dataclass(frozen=True)
 class Reasons:
-    """An explanation as it is shown: what is told of it first, then its end. `drawn` are all links
-    on which a circle rests, also those that were told above its case."""
+    """An explanation as it is shown: first the links, then the end. `drawn` are all links that a
+    cycle follows from, including those shown above its case."""
 
-    links: Tuple[Link, ...] = ()  # each behind those from which it follows
+    links: Tuple[Link, ...] = ()  # each after those that it follows from
     end: str = ""
     circle: Tuple[str, ...] = ()
     cases: Tuple[ShownCase, ...] = ()
@@ -93,7 +95,7 @@ def laid_out(explanation: Explanation) -> Reasons:
 
 
 class _Layout:
-    """Numbers the reasons of all cases on, so that each number stands for one."""
+    """Numbers the reasons across all cases, so that each number stands for one."""
 
     def __init__(self) -> None:
         self.count = 0
@@ -147,16 +149,17 @@ def _event(node: Node) -> str:
 
 
 def _shared(explanation: Explanation) -> List[Arc]:
-    """What is forced before the cases, and used in both; each behind that from which it follows."""
+    """What is forced before the cases and used in both; each after those that it follows from."""
     first, second = (case.explanation.all_arcs() for case in explanation.cases)
     in_second = {id(arc) for arc in second}
     return below(arc for arc in first if arc.needs and id(arc) in in_second)
 
 
 def lines_of(reasons: Reasons) -> Iterator[str]:
-    """As text; what a case is about indents its lines."""
+    """The lines of a text; what belongs to a case is indented."""
     for link in reasons.links:
-        yield f"{link.told}: {link.why}"
+        if link.start != link.end:  # it is obvious that it begins before it commits
+            yield f"{link.told}: {link.why}"
     yield reasons.end
     for case in reasons.cases:
         yield f"if {case.link.told}:"

@@ -1,4 +1,4 @@
-"""A picture of why no order explains a history: Graphviz text, and SVG where `dot` is installed."""
+"""A picture of why no order explains a history: Graphviz text, and SVG if `dot` is installed."""
 
 from __future__ import annotations
 
@@ -15,11 +15,11 @@ from ._reasons import explain_history
 from ._words import deeds, name, statements_of
 
 DRAWING = 20.0  # seconds for `dot`
-COLOURS = ("red", "blue", "darkgreen", "purple", "orange")  # of the circles of cases
+COLOURS = ("red", "blue", "darkgreen", "purple", "orange")  # of the cases' cycles
 
 
 def quoted(*lines: str) -> str:
-    """As a string of Graphviz's, which knows backslashes and the entities of HTML."""
+    """A Graphviz string; it interprets backslashes and HTML entities."""
     changed = str.maketrans({"\\": "\\\\", '"': '\\"', "&": "&amp;"})
     escaped = (shown(line).translate(changed) for line in lines)
     return '"' + "\\n".join(escaped) + '"'
@@ -28,10 +28,10 @@ def quoted(*lines: str) -> str:
 def dot_text(
     history: History, name: Naming = name, explanation: Optional[Explanation] = None
 ) -> str:
-    """Each transaction with what it did, a column for each session. An auditor is asked for the
-    explanation where none is given. The arcs of its circle are bold and red, those from which they
-    follow are grey; an arc goes from what comes before to what comes after. With several cases the
-    circle of each has a colour of its own. What was aborted is dashed, and so is a read of it."""
+    """Each transaction with what it did, in a column for each session. If no explanation is given,
+    an auditor is asked for one. An arc goes from what comes before to what comes after. The
+    cycle's arcs are bold and red, and those that they follow from are grey. With several cases,
+    each cycle has its own colour. Aborted transactions, and reads from them, are dashed."""
     its = explain_history(history, name) if explanation is None else explanation
     lines = [
         "digraph violation {",
@@ -42,7 +42,7 @@ def dot_text(
             if deeds(logged, name):
                 called = name(ShownId((session, number)))
                 label = quoted(called, *deeds(logged, name))
-                run = [*statements_of(logged)]  # seen in the SVG where the pointer rests on it
+                run = [*statements_of(logged)]  # the SVG shows these as tooltips
                 more = f", tooltip={quoted(*run)}" if run else ""
                 more += ", style=dashed" if logged.outcome == ABORTED else ""
                 lines.append(f"  {quoted(called)} [label={label}, group=session{session}{more}];")
@@ -54,7 +54,7 @@ def dot_text(
 
 
 def _arc_lines(explanation: Explanation, name: Naming) -> Iterator[str]:
-    """Of all cases, each arc once but for the circles'."""
+    """The arcs of all cases: those of cycles for each case, the others once."""
     ends = [*explanation.ends()]
     around = {arc.ends for leaf in ends for arc in leaf.arcs}
     plain = [arc for arc in explanation.all_arcs() if arc.ends not in around]
@@ -67,7 +67,7 @@ def _arc_lines(explanation: Explanation, name: Naming) -> Iterator[str]:
 
 
 def _is_own(arc: Arc) -> bool:
-    """Whether it leads from a begin to its own commit."""
+    """Whether the arc leads from a begin to its own commit."""
     return transaction_of(arc.start) == transaction_of(arc.end)
 
 
@@ -81,7 +81,7 @@ def _arc_line(arc: Arc, name: Naming, case: str, style: str) -> str:
 def _reads_of_aborted(
     history: History,
 ) -> Iterator[Tuple[ShownId, str, ShownId]]:
-    """Who read which key from whom."""
+    """Reads from aborted attempts: reader, key, source."""
     txns = table(history)
     for reader, logged in txns.items():
         for key, source in logged.reads:
@@ -92,8 +92,8 @@ def _reads_of_aborted(
 def draw(
     history: History, path: str, name: Naming = name, explanation: Optional[Explanation] = None
 ) -> List[str]:
-    """Writes path.dot, and path.svg where `dot` is installed and makes one; gives the names of the
-    files. Raises OSError where they can't be written."""
+    """Writes path.dot, and path.svg if `dot` is installed and succeeds. Returns the names of the
+    files. Raises OSError if they can't be written."""
     with open(f"{path}.dot", "w", encoding="utf-8", opener=private) as file:
         file.write(dot_text(history, name, explanation))
     if not shutil.which("dot"):

@@ -1,5 +1,5 @@
-"""A page that tells a story: one HTML file with nothing from outside, which reads well without
-scripting and on paper."""
+"""A page about a story: one HTML file that loads nothing from outside, and works without scripting
+and on paper."""
 
 from __future__ import annotations
 
@@ -80,6 +80,8 @@ pre { background: var(--box); border: 1px solid var(--line); border-radius: 6px;
   overflow-x: auto; white-space: pre-wrap; overflow-wrap: anywhere; }
 td.did { min-width: 13rem; }
 td code { overflow-wrap: anywhere; color: var(--soft); }
+@media (max-width: 40rem) { th:first-child { width: auto; } td.did { min-width: 6rem; }
+  th, td { padding-right: .5rem; overflow-wrap: anywhere; } }
 @media print { body { padding: 0; max-width: none; font-size: 11pt; } .wide { overflow: visible; }
   svg.timeline { max-width: 100%; } h2, figcaption { break-after: avoid; }
   figure, li, tr { break-inside: avoid; }
@@ -94,9 +96,9 @@ HEADINGS = {
 }
 
 ARROWS = (
-    "An arrow leads from what has to come before to what has to come after; its number is that of "
-    "the reason below, which also shows where the pointer rests. Red arrows go round in the "
-    "circle, grey ones say what follows from what."
+    "An arrow leads from what has to come before to what has to come after. Its number is that of "
+    "the reason below; point at the arrow to read it. Red arrows form the cycle, grey ones show "
+    "what follows from what."
 )
 BEFORE_YOU_ACCUSE = (
     "Are the reads named here what the clients saw? The verdict is about the log.",
@@ -126,8 +128,7 @@ def page_of(story: Story, about: str, origin: str, rounds: Sequence[RoundSeen] =
             f"<style>{STYLE}</style></head><body>",
             *parts,
             f"<footer><p>Made by zanteyard {VERSION}. The verdict is that of the auditor "
-            f"({html_text(origin)}); what is told and drawn of it here is an aid, made beside it."
-            "</p></footer>",
+            f"({html_text(origin)}); the text and the picture only explain it.</p></footer>",
             "</body></html>",
             "",
         ]
@@ -153,7 +154,7 @@ def _head(story: Story, about: str) -> str:
             f"<br>{html_text(_capital(story.anomaly.sentence))}.</div>"
         )
     elif story.reasons.cases:
-        lines.append(f'<div class="anomaly">{html_text(_neither(story.reasons))}</div>')
+        lines.append(f'<div class="anomaly">{html_text(neither(story.reasons))}</div>')
     lines += [f"<p>It {html_text(line)}.</p>" for line in story.standing.lines()]
     return "\n".join(lines)
 
@@ -167,7 +168,7 @@ def _heading(story: Story) -> str:
 
 
 def _sentence(story: Story) -> str:
-    more = ", and nothing that comes later can mend it" if story.kind == "violated" else ""
+    more = ", and nothing that comes later can change that" if story.kind == "violated" else ""
     return _capital(story.sentence) + more
 
 
@@ -176,7 +177,7 @@ def _capital(text: str) -> str:
 
 
 def picture_part(story: Story) -> Iterable[str]:
-    """What happened, with the circle if there is one. Cases have a picture each instead."""
+    """What happened, with the cycle if there is one. Cases have a picture each instead."""
     drawn = "" if story.reasons.cases else draw_story(story, story.reasons.drawn)
     if drawn:
         yield "<h2>What happened</h2>"
@@ -190,29 +191,35 @@ def _caption(story: Story) -> str:
     if story.reasons.drawn or story.reasons.cases:
         caption += ARROWS
     else:
-        caption += "A grey arrow leads from a writer to who read from it."
+        caption += "A grey arrow leads from a writer to the transaction that read from it."
     if story.promise.is_split:
         caption += " A box reaches from the transaction’s begin to its commit."
     if any(step.outcome == ABORTED for step in story.steps):
-        caption += " What was aborted is dashed."
+        caption += " Aborted attempts are dashed."
     return caption
 
 
 def reasons_part(story: Story) -> Iterable[str]:
-    """Why no order is left; two cases are two parts that fold."""
+    """Why no order is left; two cases are two parts that can be folded."""
     yield "<h2>Why no order is left</h2>"
     if story.reasons.cases and story.reasons.links:
         yield "<p>In any order:</p>"
-    yield from _reasons(story.reasons, story)
+    if story.anomaly is None:  # the page's head has the choice already
+        yield from _reasons(story.reasons, story, choice="The two cases:")
+    else:
+        yield from _reasons(story.reasons, story)
     if story.reasons.cases:
         yield f'<p class="soft">The pictures: {_caption(story)}</p>'
 
 
-def _reasons(reasons: Reasons, story: Story, picture: str = "") -> Iterable[str]:
-    """The end first, and then what it rests on; but what two cases share comes before them."""
+def _reasons(
+    reasons: Reasons, story: Story, picture: str = "", choice: str = ""
+) -> Iterable[str]:
+    """The end first, and then what it follows from. What two cases share comes before them,
+    followed by the choice."""
     if reasons.circle:
         around = " → ".join(html_text(called) for called in reasons.circle)
-        yield "<p>These go round in a circle, so that none of them can come first:</p>"
+        yield "<p>These form a cycle, so none of them can come first:</p>"
         yield f'<p class="around">{around}</p>'
     yield picture
     red = {link.number for link in reasons.drawn if link.is_of_circle}
@@ -221,14 +228,14 @@ def _reasons(reasons: Reasons, story: Story, picture: str = "") -> Iterable[str]
         yield from (_reason(link, link.number in red) for link in reasons.links)
         yield "</ol>"
     if reasons.cases:
-        yield f'<p class="choice">{html_text(_neither(reasons))}</p>'
+        yield f'<p class="choice">{html_text(choice or neither(reasons))}</p>'
         yield from (part for case in reasons.cases for part in _case(case, story))
     elif not reasons.circle:
-        yield f"<ul><li>{html_text(reasons.end)}</li></ul>"
+        yield f"<ul><li>{html_text(_capital(reasons.end))}.</li></ul>"
 
 
-def _neither(reasons: Reasons) -> str:
-    """Of two cases."""
+def neither(reasons: Reasons) -> str:
+    """A sentence about two cases."""
     return f"{_capital(reasons.end)}. Neither is possible."
 
 
@@ -244,7 +251,7 @@ def _reason(link: Link, is_of_circle: bool) -> str:
 
 
 def _case(case: ShownCase, story: Story) -> Iterable[str]:
-    """What is impossible in it, with a picture of its circle."""
+    """What is impossible in the case, with a picture of its cycle."""
     yield '<details class="case" open>'
     yield f"<summary>If {html_text(case.link.told)}</summary>"
     inner = case.reasons
@@ -261,12 +268,13 @@ def _table(steps: Sequence[Step]) -> Iterable[str]:
         return
     has_statements = any(deed.statement for step in steps for deed in step.deeds)
     has_returned = any(deed.returned for step in steps for deed in step.deeds)
+    where = "When and where" if any(step.caller for step in steps) else "When"
     has_places = any(step.clock or step.caller for step in steps)
     is_numbered = any(step.name == "{}.{}".format(*step.id) for step in steps)
     yield "<h2>What each transaction did</h2>"
     yield "<table><thead><tr><th>Transaction</th><th>Did</th>"
     yield "<th>Value</th>" * has_returned + "<th>Statement</th>" * has_statements
-    yield "<th>When and where</th>" * has_places + "</tr></thead><tbody>"
+    yield f"<th>{where}</th>" * has_places + "</tr></thead><tbody>"
     for step in steps:
         deeds = step.deeds
         rows = max(1, len(deeds))
@@ -283,24 +291,24 @@ def _table(steps: Sequence[Step]) -> Iterable[str]:
             if has_statements:
                 yield f"<td><code>{html_text(deed.statement) if deed else ''}</code></td>"
             if has_places and not at:
-                where = " ".join(part for part in (step.clock, step.caller) if part)
-                yield f'<td rowspan="{rows}">{html_text(where)}</td>'
+                place = " ".join(part for part in (step.clock, step.caller) if part)
+                yield f'<td rowspan="{rows}">{html_text(place)}</td>'
             yield "</tr>"
     yield "</tbody></table>"
     yield (
         '<p class="soft">'
         + "Transaction 2.7 is number 7 of session 2, counted from 0. " * is_numbered
-        + "All is left out that the history is violated without."
+        + "What the violation doesn’t need is left out."
     )
     if any(step.outcome == "forgotten" for step in steps):
-        yield " “The cut” stands for all that the auditor had forgotten by then."
+        yield " “The cut” stands for everything that the auditor had forgotten."
     yield "</p>"
 
 
 def _others(story: Story) -> Iterable[str]:
-    """The violations that lie apart, a line each."""
+    """The independent violations, a line each."""
     if story.others:
-        yield "<h2>What else is violated, apart from this</h2><ul>"
+        yield "<h2>Other independent violations</h2><ul>"
         yield from (f"<li>{html_text(line_of(other))}</li>" for other in story.others[: 4 * SHOWN])
         yield "</ul>"
         if len(story.others) > 4 * SHOWN:
@@ -317,7 +325,7 @@ def _again(story: Story) -> Iterable[str]:
         yield "<h2>See it again</h2>"
         yield (
             "<p>This is the same as a script. Save it as <code>violation.jsonl</code>; "
-            f"<code>zanteyard check {asked}violation.jsonl</code> says so again{refutation}.</p>"
+            f"<code>zanteyard check {asked}violation.jsonl</code> reports it again{refutation}.</p>"
         )
         yield f"<pre>{html_lines(story.script)}</pre>"
     yield "<h2>Before you accuse the store</h2>"
@@ -326,7 +334,7 @@ def _again(story: Story) -> Iterable[str]:
 
 def _order(story: Story) -> Iterable[str]:
     if story.waiting:
-        yield "<h2>What is waited for</h2><ul>"
+        yield "<h2>Reads that wait</h2><ul>"
         yield from (f"<li>{html_text(line)}</li>" for line in story.waiting[: 4 * SHOWN])
         yield "</ul>"
         if len(story.waiting) > 4 * SHOWN:
@@ -348,6 +356,6 @@ def _rounds(rounds: Sequence[RoundSeen]) -> Iterable[str]:
     )
     yield f'<figure><div class="wide">{draw_rounds(rounds)}</div></figure>'
     if last.waiting:
-        yield "<p>Reads that wait for a transaction which hasn’t come:</p><ul>"
+        yield "<p>Reads that wait for a transaction that hasn’t arrived:</p><ul>"
         yield from (f"<li>{html_text(line)}</li>" for line in last.waiting[: 2 * SHOWN])
         yield "</ul>"

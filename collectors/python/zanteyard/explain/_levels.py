@@ -30,15 +30,15 @@ from ._scripts import MORE, ScriptHistory, ScriptRun, Verdict
 from ._shrinking import Part, audited, from_start, is_violated, refuted, smaller
 from ._standing import listed
 
-YES, NO, UNKNOWN, PENDING = "yes", "no", "not known", "so far"
-# By the script's own lines: what these forget is forgotten under each promise.
+YES, NO, UNKNOWN, PENDING = "yes", "no", "unknown", "so far"
+# Checked with the script's own lines; what these forget is forgotten for each promise.
 BY_LINES = tuple(each for each in ALL if each.keeps_sessions and each != PREFIX)
 
 
 @dataclass(frozen=True)
 class Level:
-    """Whether one promise is kept. `why` names the transactions that break it, or says why that
-    isn't known; empty otherwise."""
+    """Whether a promise is kept. `why` names the transactions that break it, or says why the answer
+    is unknown; otherwise it is empty."""
 
     promise: Promise
     answer: str
@@ -47,8 +47,9 @@ class Level:
 
 @dataclass
 class Levels:
-    """Asks a script about all promises, the strongest first; what follows from an answer isn't
-    asked again. `seconds` is how long making a violated history small may take, for each."""
+    """Checks a script for all promises, the strongest first. What follows from an answer isn't
+    checked again. `seconds` limits how long reducing a violated history may take, for each
+    promise."""
 
     program: str
     lines: Sequence[bytes]
@@ -62,9 +63,9 @@ class Levels:
     _is_whole: bool = False  # nothing of it is forgotten, or was handed over
 
     def found(self) -> List[Level]:
-        """One for each promise. Raises ScriptMistakeError where the script is wrong, and
+        """One level for each promise. Raises ScriptMistakeError if the script is wrong, and
         ProgramEndedError."""
-        self._ask(SERIALIZABLE)  # which tells what is in the script
+        self._ask(SERIALIZABLE)  # this also reads what is in the script
         for promise in ALL:
             if promise not in self._found:
                 self._ask(promise)
@@ -85,7 +86,7 @@ class Levels:
         self._note(level)
 
     def _note(self, level: Level) -> None:
-        """With what follows from it."""
+        """Notes a level, with what follows from it."""
         self._found[level.promise] = level
         following = {YES: weaker, PENDING: weaker, NO: stronger}.get(level.answer)
         for promise in following(level.promise) if following else ():
@@ -110,7 +111,7 @@ class Levels:
         if verdict.kind == "serial":
             return Level(promise, YES)
         if verdict.kind == "pending":
-            return Level(promise, PENDING, "a read names a transaction that hasn't come")
+            return Level(promise, PENDING, "a read names a transaction that hasn't arrived")
         return Level(promise, UNKNOWN, "the search ran out of its budget")
 
     def _by_whom(self, promise: Promise, verdict: Verdict, history: ScriptHistory) -> str:
@@ -121,8 +122,9 @@ class Levels:
         return _told(small, names)
 
     def _by_history(self, promise: Promise) -> Level:
-        """What can't be asked by lines: without sessions, or where fences aren't apart from other
-        transactions. Of a history that isn't whole that is not known."""
+        """Checks promises that can't be checked with the script's lines: without session order, or
+        when fences can't be told apart from other transactions. The answer is unknown for a history
+        that isn't whole."""
         if not self._is_whole:
             return Level(promise, UNKNOWN, "the script forgets, or resumes another one")
         whole, names = from_start(self._history)
@@ -135,8 +137,8 @@ class Levels:
         return self._level(promise, verdict, self._history)
 
     def _without_sessions(self, promise: Promise, whole: History, names: Naming) -> Level:
-        """Each transaction is in a session of its own, so that few can be asked about; but what few
-        break the whole breaks."""
+        """Checks a promise without session order. Each transaction needs a session of its own, so
+        only few can be checked; but if a few break the promise, the whole history does."""
         part = Part.of(whole, promise)
         if len(part.txns) <= SESSIONS:
             kind = audited(whole, self.program, promise)[0].kind
@@ -158,7 +160,7 @@ def _told(small: History, names: Naming) -> str:
     return ", ".join(names(id) for id in ids[:SHOWN]) + (", .." if len(ids) > SHOWN else "")
 
 
-# How the promises are laid out: whoever keeps one keeps what is to its right and below it.
+# The layout of the promises: each one implies those to its right and below it.
 COLUMNS = ("in order of time", "in session order", "in any order")
 ROWS = (
     ("serializability", (STRICT, SERIALIZABLE, SESSIONLESS)),
@@ -168,7 +170,7 @@ ROWS = (
 
 
 def levels_lines(levels: Sequence[Level]) -> Iterator[str]:
-    """A table, and behind it who breaks what."""
+    """A table of the answers, followed by the transactions that break each promise."""
     answers = {level.promise: level for level in levels}
     width = max(map(len, COLUMNS)) + 2
     names = max(len(name) for name, _ in ROWS) + 2
@@ -181,6 +183,6 @@ def levels_lines(levels: Sequence[Level]) -> Iterator[str]:
         if level.answer != YES:
             told.setdefault((level.answer, level.why), []).append(level.promise)
     for (answer, why), promises in told.items():
-        begins = {NO: "broken", PENDING: "kept so far", UNKNOWN: "not known"}[answer]
+        begins = {NO: "broken", PENDING: "kept so far", UNKNOWN: "unknown"}[answer]
         yield f"{begins}: {listed(promises)}"
         yield f"  {'by ' if answer == NO else ''}{why}"

@@ -1,6 +1,8 @@
-"""What is wrong with a line of a script that the auditor answered BadLine: the column, and what was
-expected there. An aid for people: that the line is wrong is the auditor's answer. docs/FORMATS.md
-has all forms."""
+"""Says what is wrong with the form of a script's line: the column, and what was expected there.
+
+This only helps people with a line that the auditor has answered with BadLine. docs/FORMATS.md has
+all forms.
+"""
 
 from __future__ import annotations
 
@@ -10,14 +12,14 @@ from typing import Any, Callable, List, Mapping, NamedTuple, Optional, Sequence
 from ..core._visible import visible
 
 LONGEST = 8_388_608  # bytes of a line
-SHOWN = 30  # characters of what is found there
-MOST_SESSION = 255  # more is BadLine; 64 to 255 are refused by name
-DEEPEST = 32  # lists in one another, of which no form has as many
+SHOWN = 30  # characters shown of what was found
+MOST_SESSION = 255  # higher numbers are BadLine; 64 to 255 have their own refusal
+DEEPEST = 32  # levels of nested lists; no form has that many
 READER = json.JSONDecoder()
 
 
 class Unexpected(Exception):
-    """`column` counts characters, from 1."""
+    """A mistake; `column` counts characters, from 1."""
 
     def __init__(self, column: int, expected: str, found: str) -> None:
         super().__init__(f"column {column}: expected {expected}, found {found}")
@@ -25,7 +27,8 @@ class Unexpected(Exception):
 
 
 class Part(NamedTuple):
-    """A value of the line: where it begins, its text, and the parts of a list (else None)."""
+    """A value of the line: where it begins, its text, its value, and the parts of a list (else
+    None)."""
 
     at: int
     text: str
@@ -40,7 +43,7 @@ Form = Callable[[Part], None]  # raises Unexpected
 
 
 def mistake_of(line: bytes) -> str:
-    """What is wrong with its form; empty if nothing is."""
+    """What is wrong with the line's form; empty if nothing is."""
     if len(line) > LONGEST:
         return f"it has {len(line):,} bytes, and a line has at most {LONGEST:,}"
     try:
@@ -95,7 +98,7 @@ def _list(text: str, start: int, depth: int) -> Any:
     return Part(start, text[start : at + 1], None, parts), at + 1
 
 
-# the forms of parts
+# forms of parts
 
 
 def _whole(what: str, least: int = 0, most: int = 2**64 - 1) -> Form:
@@ -141,7 +144,7 @@ def _each(what: str, form: Form) -> Form:
 
 
 def _row(what: str, *forms: Sequence[Form]) -> Form:
-    """A list that has one of these rows of parts: the first one with as many parts as it has."""
+    """A list with one of these rows of parts: the first row with the same number of parts."""
 
     def check(part: Part) -> None:
         if part.parts is None:
@@ -194,7 +197,7 @@ OPENS = (OPEN, (*OPEN, _two))
 IDS = _each("the order", _row("a transaction: [session,number]", (SESSION, NUMBER)))
 LAST = _row("a last writer: [key,session,number]", (KEY, SESSION, NUMBER))
 FORMS: Mapping[str, Sequence[Sequence[Form]]] = {
-    "open": OPENS,
+    "open": (*OPENS, (*OPEN, _two, _word("snapshot"))),
     "resume": OPENS,
     "offer": ((SESSION, FIRST, TRANSACTIONS),),
     "join": ((SESSION, TRANSACTIONS), (SESSION, FIRST, TRANSACTIONS)),

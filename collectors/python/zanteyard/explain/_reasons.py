@@ -1,4 +1,4 @@
-"""Why no order explains a history, in words: the refutation that the auditor has checked."""
+"""Why no order explains a history: the refutation that the auditor has checked, in words."""
 
 from __future__ import annotations
 
@@ -32,7 +32,7 @@ def explain_history(
     program: str = PROGRAM,
     promise: Promise = SERIALIZABLE,
 ) -> Explanation:
-    """The Explanation of a violated history, for which an auditor is asked."""
+    """The explanation of a violated history, from a new auditor."""
     return explanation_of(audited_apart(history, program, promise), history, name)
 
 

@@ -1,9 +1,9 @@
-"""Reads a refutation of the auditor's, a flat list of items, into an Explanation. What is told is
-what the auditor has checked: its circles, what they force, and its splits.
+"""Reads an auditor's refutation, a flat list of items, into an Explanation. It says what the
+auditor has checked: its cycles, what they force, and its splits.
 
-Two things make it shorter. If what a circle rests on goes round by itself in fewer arcs, that is
-the circle that is told. And if an arc of the circle at the end was forced, that circle and the one
-that forced the arc each rule out one side of a choice: the shorter of the two is told at the end.
+Two things make it shorter. If what a cycle follows from contains a shorter cycle, that one is
+used. And if an arc of the last cycle was forced, this cycle and the one that forced the arc each
+rule out one side of a choice; the shorter of the two comes last.
 """
 
 from __future__ import annotations
@@ -18,13 +18,13 @@ from ._arcs import SESSION, WRITTEN, Arc, Choice, Ends, Event, Node, below, merg
 from ._arcs import shortest_circle, table, transaction_of
 from ._explanation import Case, Explanation
 
-MOST_ARCS = 256  # among which a shorter circle is looked for
-MANY = 24  # splits of a refutation; with more it isn't told case by case
-Facts = Mapping[Ends, Arc]  # what is taken, in the order in which it was
+MOST_ARCS = 256  # arcs among which a shorter cycle is looked for
+MANY = 24  # splits of a refutation; one with more isn't explained case by case
+Facts = Mapping[Ends, Arc]  # the known arcs, in the order in which they became known
 
 
 class UnreadableError(Exception):
-    """The items aren't those of a refutation of this history."""
+    """The items aren't a refutation of this history."""
 
 
 def read_refutation(
@@ -35,12 +35,12 @@ def read_refutation(
     moved: Callable[[ShownId], ShownId] = ShownId,
     keeps_sessions: bool = True,
 ) -> Explanation:
-    """What the items tell of the history. `keys` are the names of keys by their numbers, and
-    `moved` gives the place in the history of a transaction of the items. A read from the reader's
-    own session is told by the session, if its order is kept. Raises UnreadableError."""
+    """The explanation in these items. `keys` are the names of keys by number, and `moved` gives the
+    place in the history of a transaction in the items. If session order is kept, a read from the
+    reader's own session counts as session order. Raises UnreadableError."""
     count = sum(item[0] == "split" for item in items)
     if count > MANY:
-        return Explanation(f"the auditor's refutation has {count + 1:,} cases, too many to tell")
+        return Explanation(f"the auditor's refutation has {count + 1:,} cases, too many to show")
     try:
         return _Reading(items, history, keys, name, moved, keeps_sessions).part({})
     except (LookupError, TypeError, ValueError, StopIteration) as error:
@@ -48,7 +48,7 @@ def read_refutation(
 
 
 class _Reading:
-    """Of one refutation, item by item."""
+    """Reads one refutation, item by item."""
 
     def __init__(
         self,
@@ -65,7 +65,7 @@ class _Reading:
         self.words = ArcWords(self.txns, name)
 
     def part(self, above: Facts) -> Explanation:
-        """The items up to the end of this part of the argument."""
+        """Reads the items up to the end of this part of the argument."""
         facts: Dict[Ends, Arc] = {**above}
         while True:
             kind, *rest = next(self.items)
@@ -98,7 +98,7 @@ class _Reading:
         return Explanation(self.words.wrong_read(reader, key, source))
 
     def _path(self, cycle: Sequence[Any], ruled_out: Ends, facts: Facts) -> List[Arc]:
-        """The rest of a cycle, from the end of what it rules out to its start."""
+        """The rest of a cycle, from the end of the arc that it rules out to its start."""
         at = next(at for at, arc in enumerate(cycle) if self._ends(arc) == ruled_out)
         rest = [*cycle[at + 1 :], *cycle[:at]]
         return merged([self._arc(arc, facts) for arc in rest], self.name)
@@ -113,7 +113,7 @@ class _Reading:
 
     def _circle(self, arcs: Sequence[Arc], facts: Facts) -> Explanation:
         needed = below(arcs)
-        if len(needed) <= MOST_ARCS:  # what it rests on may go round already
+        if len(needed) <= MOST_ARCS:  # what it follows from may contain a cycle
             arcs = shortest_circle([*arcs, *needed])
         around = self._turned(self._better(self._turned(arcs), facts))
         names = [self.words.step(arc.start) for arc in around]
@@ -121,15 +121,16 @@ class _Reading:
         return Explanation(end, tuple(around), tuple([*names, names[0]]))
 
     def _turned(self, arcs: Sequence[Arc]) -> List[Arc]:
-        """The same circle from the first of its transactions on, no run of one session cut."""
+        """The same cycle, starting at its first transaction and without cutting a run of one
+        session."""
         first = next(at for at, arc in enumerate(arcs) if {arcs[at - 1].why, arc.why} != {SESSION})
         around = merged([*arcs[first:], *arcs[:first]], self.name)
         at = min(range(len(around)), key=lambda at: _place(around[at].start))
         return [*around[at:], *around[:at]]
 
     def _better(self, around: List[Arc], facts: Facts) -> List[Arc]:
-        """Of this circle, and the one that ruled out the other side of what was forced last in it,
-        the one that is told in fewer steps."""
+        """The shorter of this cycle and the one that ruled out the other side of the last forced
+        arc in it."""
         order = [*facts]
         forced = [at for at, arc in enumerate(around) if arc.needs and arc.ends in facts]
         if not forced:
@@ -145,7 +146,7 @@ class _Reading:
             return around
         return min(around, ways, key=_length)
 
-    # what items are made of
+    # parts of items
 
     def _choice(self, parts: Sequence[Any]) -> Choice:
         reader, key, writer, other = self._read(parts, "node key node node")
@@ -171,7 +172,8 @@ class _Reading:
         return self.words.read_before_all(self.keys[key[0]], start, end)
 
     def _read(self, parts: Sequence[Any], shape: str) -> List[Any]:
-        """Parts of such a shape: a node is two numbers, and a word if begins are told apart."""
+        """The parts according to a shape: a node is two numbers, followed by a word if begins and
+        commits are separate."""
         left, found = [*parts], []
         for what in shape.split():
             if what != "node":
@@ -185,15 +187,15 @@ class _Reading:
         return found
 
 
-KEY_OF = {"read": "key", "base": "key"}  # kinds of arcs that name one
+KEY_OF = {"read": "key", "base": "key"}  # kinds of arcs that name a key
 
 
 def _length(around: Sequence[Arc]) -> Tuple[int, int, int]:
-    """What it takes to tell of a circle: its own arcs, all that it rests on, and those of its arcs
-    that say which of two writers came first, and not who read what."""
+    """How long a cycle is to explain: its own arcs, everything that it follows from, and how many
+    of its arcs say which of two writers came first rather than who read what."""
     return len(around), len(below(around)), sum(arc.kind == WRITTEN for arc in around)
 
 
 def _place(node: Node) -> Tuple[ShownId, str]:
-    """By which the nodes of a circle are compared."""
+    """The key by which a cycle's nodes are sorted."""
     return transaction_of(node), node.what if isinstance(node, Event) else ""

@@ -1,6 +1,6 @@
-"""What is told of a history: the verdict in a sentence, the few transactions that show it, and why.
+"""A story about a history: the verdict in a sentence, the few transactions that show it, and why.
 
-A story is plain data, so that it can be told as lines and drawn on a page alike.
+A story is plain data, which can be printed as lines and drawn on a page.
 """
 
 from __future__ import annotations
@@ -23,14 +23,14 @@ from ._standing import Apart, Standing, standing
 from ._words import version as version_text
 from ._words import words
 
-EXPLAINED = SECONDS  # that making the history small may take
-SHOWN = 12  # transactions of an order, and reads that wait, which are told of a long one
+EXPLAINED = SECONDS  # seconds that reducing the history may take
+SHOWN = 12  # transactions of an order, and waiting reads, that are shown of a long list
 
 
 @dataclass(frozen=True)
 class ShownAccess:
-    """One read or write. `statement` is what was run for it, and `returned` what it gave, where
-    the collector has logged that; else they are empty."""
+    """One read or write. `statement` is what was run for it, and `returned` its value, if the
+    collector has logged these; else they are empty."""
 
     text: str
     statement: str = ""
@@ -39,37 +39,37 @@ class ShownAccess:
 
 @dataclass(frozen=True)
 class Step:
-    """A transaction as it is shown. `clock` is the time of day, and `caller` the file and line,
-    where the collector has logged them; else they are empty."""
+    """A transaction as it is shown. `clock` is the time of day, and `caller` the file and line, if
+    the collector has logged these; else they are empty."""
 
     id: ShownId
     name: str
     outcome: str
     deeds: Tuple[ShownAccess, ...]
-    sources: Tuple[ShownId, ...] = ()  # from whom it read
+    sources: Tuple[ShownId, ...] = ()  # the transactions from which it read
     clock: str = ""
     caller: str = ""
 
 
 @dataclass(frozen=True)
 class Story:
-    """What is told of one verdict."""
+    """A verdict and its explanation."""
 
     kind: str
-    counts: Tuple[int, ...] = ()  # of each session, how many transactions the verdict is about
+    counts: Tuple[int, ...] = ()  # how many transactions of each session the verdict covers
     anomaly: Optional[Anomaly] = None
     steps: Tuple[Step, ...] = ()
     reasons: Reasons = Reasons()  # why no order is left
     lines: Tuple[str, ...] = ()  # the transactions, as text
     because: Tuple[str, ...] = ()  # the reasons, as text
-    script: str = ""  # what shows the same again by the auditor alone
+    script: str = ""  # with which the auditor alone reports the same
     order: Tuple[str, ...] = ()  # of a serial or pending verdict
     waiting: Tuple[str, ...] = ()  # the reads that wait for a transaction
-    promise: Promise = SERIALIZABLE  # which the verdict is about
-    standing: Standing = Standing()  # what a violation breaks besides, and what it doesn't
-    others: Tuple["Story", ...] = ()  # violations that lie apart from this one
-    are_all_found: bool = True  # whether there are none besides these
-    unnamed: int = 0  # transactions, where these were too many to look for an anomaly among them
+    promise: Promise = SERIALIZABLE  # that the verdict is about
+    standing: Standing = Standing()  # what else a violation breaks, and what it doesn't
+    others: Tuple["Story", ...] = ()  # violations that are independent of this one
+    are_all_found: bool = True  # whether there are no more than these
+    unnamed: int = 0  # transactions, if these were too many to look for an anomaly
 
     @property
     def sentence(self) -> str:
@@ -80,7 +80,7 @@ class Story:
 def verdict_story(
     verdict: Verdict, history: ScriptHistory, promise: Promise = SERIALIZABLE
 ) -> Story:
-    """Of a verdict that isn't violated."""
+    """The story of a verdict other than violated."""
     order: Tuple[str, ...] = ()
     if verdict.kind in ("serial", "pending"):
         order = tuple(
@@ -93,11 +93,11 @@ def verdict_story(
 
 
 def _waits(history: ScriptHistory, read: Pending) -> str:
-    """A read that waits for a transaction."""
+    """A line about a read that waits for a transaction."""
     reader = history.called(read.reader)
     if (reader, read.key) == (PART, REST):
         return f"{REST} wasn't imported (--first)"
-    return f"{reader} read {read.key} from {history.called(read.source)}, which hasn't come"
+    return f"{reader} read {read.key} from {history.called(read.source)}, which hasn't arrived"
 
 
 def violation_story(
@@ -108,9 +108,9 @@ def violation_story(
     certificate: Sequence[Any] = (),
     promise: Promise = SERIALIZABLE,
 ) -> Story:
-    """Of a violated history, and of the violations in it that lie apart from the first. The auditor
-    is an Auditor, or whatever has its `history`, `marks` and `base`; the certificate is its last
-    round's. Takes up to four times so many seconds."""
+    """The story of a violated history, and of the violations in it that are independent of the
+    first. `auditor` is an Auditor, or anything with its `history`, `marks` and `base`;
+    `certificate` is that of its last round. Takes up to four times `seconds`."""
     history, names = from_start(auditor)
     small = smaller(history, program, seconds, refuted(auditor, certificate), promise)
     apart = Apart(history, program, promise)
@@ -144,8 +144,9 @@ def story_of(
     counts: Sequence[int] = (),
     promise: Promise = SERIALIZABLE,
 ) -> Story:
-    """Of a violated history that is small already. One that couldn't be made small in time has no
-    name but that of the circle: to look for an anomaly among many takes minutes."""
+    """The story of a violated history that is small already. A history that couldn't be reduced in
+    time is named only by its cycle, since looking for an anomaly among many transactions takes
+    minutes."""
     count = sum(any(logged.did) for txns in history for logged in txns)
     anomaly = find_anomaly(history, names, promise) if count <= NAMED else None
     arcs = explanation.all_arcs()
@@ -197,16 +198,16 @@ def _deeds(logged: Logged, names: Naming) -> Iterator[ShownAccess]:
 
 
 def story_lines(story: Story, tells_all: bool = False) -> Iterator[str]:
-    """The story as text, for a terminal; other violations in a line each, or whole."""
+    """The story as text, for a terminal; other violations as one line each, or in full."""
     yield from _one_story(story)
     count = len(story.others)
     if count:
-        what = "violation lies" if count == 1 else "violations lie"
+        what = "violation" if count == 1 else "violations"
         more = "" if story.are_all_found else ", and there may be more"
-        hint = "" if tells_all else " (--all tells each whole)"
-        yield f"{count} other {what} apart from this one{more}{hint}"
+        hint = "" if tells_all else " (--all explains each in full)"
+        yield f"{count} more independent {what}{more}{hint}"
     elif not story.are_all_found:
-        yield "(there was no time to look for violations that lie apart from this one)"
+        yield "(there was no time to look for independent violations)"
     for at, other in enumerate(story.others[: None if tells_all else SHOWN], 2):
         if tells_all:
             yield f"violation {at}:"
@@ -218,7 +219,7 @@ def story_lines(story: Story, tells_all: bool = False) -> Iterator[str]:
 
 
 def line_of(story: Story) -> str:
-    """A violation in a line."""
+    """A violation as one line."""
     if story.anomaly is not None:
         return f"{story.anomaly.name}: {story.anomaly.sentence}"
     return "without a name: " + ", ".join(step.name for step in story.steps)

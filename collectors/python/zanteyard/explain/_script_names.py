@@ -1,6 +1,6 @@
-"""The names that a script's transactions and keys have where they came from. They stand in a file
-beside the script, `SCRIPT.names`, which is used as long as the script is the one it was made for.
-"""
+"""The names that a script's transactions and keys have in the file that it was made from. They are
+in a file next to the script, `SCRIPT.names`, which is used as long as the script is the one that it
+was made for."""
 
 from __future__ import annotations
 
@@ -14,56 +14,56 @@ from ..core._private_files import private
 from ..core._records import AuditId
 
 NAMES = ".names"
-# If a file was imported only in part: its transaction that waits for the rest, and what it reads.
+# For a partial import: the transaction that waits for the rest, and what it reads.
 PART, REST = "this part of the file", "the rest of the file"
 VERSION = 1
 
 
 @dataclass(frozen=True)
 class NamedTransaction:
-    """How one transaction is told. `texts` are the reads and writes as the script has them, a
-    write as [key], each with what the other file has for it."""
+    """A transaction's name. `texts` are the reads and writes in the script's form, a write as
+    [key], each with its text in the original file."""
 
     name: str
     outcome: str
     texts: Tuple[Tuple[Sequence[Any], str], ...] = ()
-    where: str = ""  # what else the other file calls it
+    where: str = ""  # what else the original file calls it
 
 
 @dataclass(frozen=True)
 class ScriptNames:
-    """Of a whole script: keys by their numbers, transactions by session and number, and those that
-    are named and never come."""
+    """The names of a whole script: keys by number, transactions by session and number, and
+    transactions that are referred to and never arrive."""
 
     form: str
     keys: Mapping[int, str] = field(default_factory=dict)
     transactions: Sequence[Sequence[NamedTransaction]] = ()
     absent: Mapping[AuditId, str] = field(default_factory=dict)
-    asks_time: bool = False  # whether it was made to be asked about the order of time
-    timed: Sequence[int] = ()  # sessions that several clients share by the order of time
-    has_pauses: bool = False  # fences of nobody's ask for some of the order of time
+    asks_time: bool = False  # whether it is to be checked for real-time order
+    timed: Sequence[int] = ()  # sessions that several clients share by real-time order
+    has_pauses: bool = False  # some of the real-time order is in fences that no client wrote
 
     def name(self, id: AuditId) -> str:
-        """How the transaction is told."""
+        """The transaction's name."""
         session, number = id
         if session < len(self.transactions) and number < len(self.transactions[session]):
             return self.transactions[session][number].name
         return self.absent.get(id, f"{session}.{number}")
 
     def key(self, number: int) -> str:
-        """How the key is told."""
+        """The key's name, for a sentence."""
         key = self.keys.get(number, str(number))
         return f"key {key}" if key.isdigit() else key
 
     def transaction(self, session: int, number: int) -> Optional[NamedTransaction]:
-        """None where the names have none."""
+        """The named transaction; None if there is none."""
         if session < len(self.transactions) and number < len(self.transactions[session]):
             return self.transactions[session][number]
         return None
 
 
 def write_names(names: ScriptNames, script: str) -> str:
-    """Writes them beside the script, which has been written; gives the path."""
+    """Writes the names next to the script, which has been written already; returns the path."""
     whole: Dict[str, Any] = {
         "version": VERSION,
         "script": _sum_of(script),
@@ -78,15 +78,15 @@ def write_names(names: ScriptNames, script: str) -> str:
             for session in names.transactions
         ],
     }
+    text = json.dumps(whole, separators=(",", ":"))  # `dump` to a file takes five times as long
     with open(script + NAMES, "w", encoding="utf-8", opener=private) as file:
-        json.dump(whole, file, separators=(",", ":"))
-        file.write("\n")
+        file.write(f"{text}\n")
     return script + NAMES
 
 
 def read_names(script: str) -> Tuple[Optional[ScriptNames], str]:
-    """The names beside the script, if there are any and they were made for it; and why they aren't
-    used, where there are some."""
+    """The names next to the script, if there are any and they belong to it; and, if they can't be
+    used, why."""
     path = script + NAMES
     if not os.path.isfile(path):
         return None, ""

@@ -1,5 +1,5 @@
-"""When a script's transactions began and ended. That stands in a file beside the script,
-`SCRIPT.times` (docs/PROMISES.md)."""
+"""When a script's transactions began and ended, from a file next to the script, `SCRIPT.times`
+(docs/PROMISES.md)."""
 
 from __future__ import annotations
 
@@ -21,18 +21,19 @@ UNITS = ("ns", "places")  # nanoseconds, or the order of events in a file
 
 @dataclass(frozen=True)
 class ScriptTimes:
-    """Of a script's transactions, as far as they are known."""
+    """The times of a script's transactions, as far as they are known."""
 
     unit: str = "ns"
     spans: Mapping[AuditId, Span] = field(default_factory=dict)
 
     def span(self, id: AuditId) -> Tuple[Any, ...]:
-        """As `Logged` has it."""
+        """The transaction's span, as in `Logged`."""
         return (*self.spans[id], self.unit) if id in self.spans else ()
 
     def timeline(self, lines: Iterable[Sequence[Any]]) -> Timeline:
-        """Of the transactions that these lines offer, but for fences, which do nothing else, and
-        for what was aborted. Raises CantBeAskedError where some have times and aren't offered."""
+        """The timeline of the transactions in these lines, without fences that do nothing else and
+        without aborted attempts. Raises CantBeAskedError if there are times for a transaction that
+        isn't in the lines."""
         kinds = {id: _has_order(txn) for line in lines for id, txn in _offered(line)}
         missing = sorted(id for id in self.spans if id not in kinds)
         if missing:
@@ -54,7 +55,7 @@ def _has_order(transaction: Sequence[Any]) -> bool:
 
 
 def write_times(times: ScriptTimes, script: str) -> str:
-    """Gives the name of the file."""
+    """Writes the file, and returns its name."""
     with open(script + TIMES, "w", encoding="utf-8", opener=private) as file:
         for line in _lines_of(times):
             file.write(json.dumps(line, separators=(",", ":")) + "\n")
@@ -62,7 +63,7 @@ def write_times(times: ScriptTimes, script: str) -> str:
 
 
 def _lines_of(times: ScriptTimes) -> Iterator[List[Any]]:
-    """A line for transactions of a session that follow one another."""
+    """The lines of the file; each is for consecutive transactions of a session."""
     yield ["times", times.unit]
     run: List[AuditId] = []
     for id in sorted(times.spans):
@@ -75,8 +76,8 @@ def _lines_of(times: ScriptTimes) -> Iterator[List[Any]]:
 
 
 def read_times(script: str) -> Optional[ScriptTimes]:
-    """The times beside the script; None where there are none. Raises CantBeAskedError where they
-    can't be what they are said to be."""
+    """The times next to the script; None if there are none. Raises CantBeAskedError if they are
+    malformed or impossible."""
     path = script + TIMES
     if not os.path.isfile(path):
         return None
@@ -101,7 +102,7 @@ def read_times(script: str) -> Optional[ScriptTimes]:
 
 
 def _spans_of(session: Any, first: Any, spans: Any) -> Dict[AuditId, Span]:
-    """Raises ValueError or TypeError."""
+    """The spans in a line. Raises ValueError or TypeError if it is malformed."""
     found: Dict[AuditId, Span] = {}
     for number, (began, ended) in enumerate(spans, first):
         its = [session, number, began, *([] if ended is None else [ended])]

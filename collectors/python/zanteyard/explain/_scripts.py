@@ -1,4 +1,4 @@
-"""Runs a saved script through the auditor, and keeps what it was about."""
+"""Runs a saved script through the auditor, and keeps what the script offered."""
 
 from __future__ import annotations
 
@@ -24,28 +24,28 @@ from ..program._intake import EFFORTS, GUIDED, never_came
 from ..program._lines import TOO_OLD
 from ..program._rewritten_pipes import NO_ROOM
 from ..promises._kinds import SERIALIZABLE, Promise
-from ..promises._rewriting import LIMIT, Rewriting
+from ..promises._rewriting import ASKS_ITSELF, LIMIT, Rewriting
 from ._line_forms import mistake_of
 from ._script_names import NamedTransaction, ScriptNames
 from ._script_times import ScriptTimes
 
-# What a spent round is given again with: nodes of the search, depth, workers.
+# The efforts with which a spent round is repeated: nodes of the search, depth, workers.
 WORKERS = max(1, min(16, os.cpu_count() or 1))
 MORE = tuple((nodes, 4, WORKERS) for nodes in (1 << 16, 1 << 20, 1 << 24))
-WAITS = (0.1, 0.5)  # seconds after which a line that was answered NoMemory is given again
-OPENS_FORM = re.compile(rb'\["(open|resume)",\d+,\d+,2\]$')  # as a script of version 2 does
+WAITS = (0.1, 0.5)  # seconds until a line that was answered NoMemory is sent again
+OPENS_FORM = re.compile(rb'\["(open|resume)",\d+,\d+,2\]$')  # opens a script of version 2
 MOST_OPEN = "a script has 1 to 64 sessions, and at most 4,096 transactions remain at a time"
 
-# What to do about a refusal, where it isn't plain from its name.
+# What to do about a refusal, if its name doesn't say.
 ADVICE: Mapping[str, str] = {
-    "BadLine": "it is no command, or none that may stand there (docs/FORMATS.md has them all)",
+    "BadLine": "it is no command, or not allowed at this place (docs/FORMATS.md has them all)",
     "BadSession": MOST_OPEN + "; one that joins is the next new one, or was closed and has "
     "nothing left",
     "BadTxn": "reads and keys have to ascend, and nothing reads from itself",
-    "BadFence": "key 0 is for fences alone",
+    "BadFence": "key 0 is only for fences",
     "Gap": "an earlier transaction of this session is missing",
     "Repeat": "this session has a transaction of that number already",
-    "Closed": "that session was closed before; it comes back by `join`",
+    "Closed": "that session was closed before; `join` reopens it",
     "Backlog": "as many transactions remain as `open` has room for (at most 4,096): "
     "fences make room, or audit it in parts",
     "TooLong": "a line has 1 to 256 transactions, each with at most 256 reads and 256 writes; "
@@ -54,49 +54,49 @@ ADVICE: Mapping[str, str] = {
     "NotAnchored": "a session joins with a fence that reads from one that remains, or from the "
     "last one that is forgotten",
     "NoRound": "no round is open",
-    "BadParts": "what is handed over isn't what a run has given out (docs/FORMATS.md)",
+    "BadParts": "the saved state isn't what a run has returned (docs/FORMATS.md)",
 }
 
 
 BEGINS = 'a script begins with ["open",..], or by ["resume",..] up to ["resumed"]'
 HALF_THE_ROOM = (
-    f"under this promise each transaction takes the room of two, so that at most {LIMIT // 2:,} "
-    "remain at a time: fences and `truncate` make room, or check a part of the history"
+    f"under this promise each transaction takes the room of two, so at most {LIMIT // 2:,} remain "
+    "at a time: fences and `truncate` make room, or check a part of the history"
 )
 
 
 @dataclass(frozen=True)
 class Verdict:
-    """What a round has said. `line_number` is that of the line which asked, from 1; 0 where the
-    script asked for none, and a round was put at its end."""
+    """The result of a round. `line_number` is the line that asked for it, from 1; 0 if the script
+    didn't ask, and a round was added at its end."""
 
     kind: str  # "serial", "pending", "violated" or "spent"
     line_number: int
-    counts: Sequence[int]  # of each session, how many transactions the round is about
+    counts: Sequence[int]  # how many transactions of each session the round covers
     certificate: Sequence[Any]  # an order of what remains, or the items of a refutation
-    nodes: int  # the budget of the round that decided, or that was the last to give up
-    rounds: int = 1  # how many were given, the first among them
+    nodes: int  # the budget of the round that decided, or of the last one that gave up
+    rounds: int = 1  # how many were run, including the first
 
 
 @dataclass
 class ScriptHistory:
-    """What a script has offered, and what of it remains. Keys are told as `key 5`, and transactions
-    as `0.1`, where there are no names for them."""
+    """What a script has offered, and what of it remains. Without names, keys are called `key 5` and
+    transactions `0.1`."""
 
     names: ScriptNames = field(default_factory=lambda: ScriptNames(""))
     history: List[List[Logged]] = field(default_factory=list)
-    marks: List[int] = field(default_factory=list)  # of each session, how many are forgotten
-    base: Dict[str, AuditId] = field(default_factory=dict)  # of a key the last one gone
+    marks: List[int] = field(default_factory=list)  # how many of each session are forgotten
+    base: Dict[str, AuditId] = field(default_factory=dict)  # by key, the last forgotten writer
     tenancy: Tenancy = field(default_factory=Tenancy)  # of sessions that several clients had
     times: ScriptTimes = field(default_factory=ScriptTimes)
 
     def begin(self, sessions: int) -> None:
-        """Nothing has come yet."""
+        """Begins with this many sessions and no transactions."""
         self.history, self.marks, self.base = [[] for _ in range(sessions)], [0] * sessions, {}
         self.tenancy = Tenancy()
 
     def join(self, session: int, transactions: Iterable[Any]) -> None:
-        """What an accepted `join` has said."""
+        """Takes in an accepted `join`."""
         if session == len(self.history):
             self.history.append([])
             self.marks.append(0)
@@ -104,7 +104,7 @@ class ScriptHistory:
         self.take_in(session, transactions)
 
     def take_in(self, session: int, transactions: Iterable[Any]) -> None:
-        """What an accepted `offer` has said."""
+        """Takes in an accepted `offer`."""
         for reads, keys, *more in transactions:
             number = self.marks[session] + len(self.history[session])
             named = self.names.transaction(session, number)
@@ -114,12 +114,13 @@ class ScriptHistory:
             self.history[session].append(logged._replace(span=span) if span else logged)
 
     def called(self, id: AuditId) -> str:
-        """How the transaction is told: with its client's first, where its session had others."""
+        """The transaction's name, with its client's first transaction if the session had
+        several."""
         called, by_number = self.names.name(id), f"{id[0]}.{id[1]}"
         return self.tenancy.called_by_first(id) if called == by_number else called
 
     def key_name(self, number: int) -> str:
-        """How the key is told."""
+        """The key's name."""
         return self.names.key(number) if number else FENCE
 
     def forget(
@@ -128,8 +129,8 @@ class ScriptHistory:
         last: Sequence[Sequence[int]],
         begun: Sequence[Sequence[int]] = (),
     ) -> None:
-        """What a `cut` has told, or of the last writers a `last` that is handed over. Of those that
-        have begun only the begins are forgotten, and with these what they read."""
+        """Takes in a `cut`, or the last writers of a `last` that is handed over. Of those in
+        `begun`, only the begins are forgotten, and with them what they read."""
         self.base.update(
             (self.key_name(key), AuditId((session, number))) for key, session, number in last
         )
@@ -141,7 +142,7 @@ class ScriptHistory:
             self.history[session][at] = self.history[session][at]._replace(reads=())
 
     def pending(self) -> Iterator[Pending]:
-        """The reads that wait for a transaction which hasn't come."""
+        """The reads that wait for a transaction which hasn't arrived."""
         yield from never_came(self.history, self.marks)
 
     @property
@@ -157,8 +158,8 @@ def logged_of(
     named: Optional[NamedTransaction] = None,
     is_undone: bool = False,
 ) -> Logged:
-    """A transaction of a script, or what an attempt did that was aborted, as version 2 has it. One
-    that did nothing may be such an attempt, which its names tell where it has some."""
+    """A transaction of a script, or what an aborted attempt did, in version 2's form. A transaction
+    that did nothing may also be such an attempt, if its names say so."""
 
     def deed_of(key: int, *source: Any) -> Any:
         if not source:
@@ -177,7 +178,7 @@ def logged_of(
 
 
 def _parts_of(text: bytes) -> List[Any]:
-    """Of a line; none where the auditor has to say what is wrong with it."""
+    """The parts of a line; none if the auditor has to say what is wrong with it."""
     try:
         line = json.loads(text)
     except ValueError:
@@ -186,7 +187,7 @@ def _parts_of(text: bytes) -> List[Any]:
 
 
 class ScriptRun:
-    """The auditor, which is given a script line by line. Not for several threads."""
+    """An auditor that is given a script line by line; not for several threads."""
 
     def __init__(
         self,
@@ -196,24 +197,23 @@ class ScriptRun:
         promise: Promise = SERIALIZABLE,
         times: Optional[ScriptTimes] = None,
     ) -> None:
-        """`most_nodes` is the greatest budget that a spent round is given again with; `names` are
-        those of the script's transactions and keys, where there are some, and `times` tell when
-        they began and ended. Raises CantBeAskedError where the promise asks for times, and there
-        are none."""
+        """`most_nodes` is the largest budget with which a spent round is repeated. `names` are
+        those of the script's transactions and keys, and `times` say when the transactions began and
+        ended. Raises CantBeAskedError if the promise needs times and there are none."""
         if promise.is_timed and times is None:
             raise CantBeAskedError(
-                f"{promise.title} takes the times at which transactions began and ended, and the "
-                "script has none: they stand in a file beside it, SCRIPT.times"
+                f"{promise.title} needs the times at which transactions began and ended, and the "
+                "script has none: they belong in a file next to it, SCRIPT.times"
             )
         self.most_nodes, self.promise = most_nodes, promise
         self.history = ScriptHistory(names or ScriptNames(""), times=times or ScriptTimes())
         self._rewriting = Rewriting(promise)
-        self.verdict: Verdict | None = None  # the last one
-        self.no_cut_lines: List[int] = []  # where `truncate` found nothing to forget
-        self.is_resumed = False  # it began with what an earlier run had given out
+        self.verdict: Verdict | None = None  # the latest one
+        self.no_cut_lines: List[int] = []  # lines of `truncate` that found nothing to forget
+        self.is_resumed = False  # it began with an earlier run's state
         self._is_open = False
         self._round_is_open = False
-        self._search: List[Any] = []  # the numbers of a search that isn't collected
+        self._search: List[Any] = []  # the numbers of a search that isn't collected yet
         self._has_more = False  # something was accepted since the last verdict
         self.path = program
         self._program = subprocess.Popen(
@@ -221,13 +221,13 @@ class ScriptRun:
         )
 
     def verdicts(self, lines: Iterable[bytes]) -> Iterator[Verdict]:
-        """Gives the lines to the auditor, and yields each round's verdict as it comes; a round is
-        put at the end where something came behind the last one. A verdict of a script that resumes
-        another is one of every history that the parts stand for. Raises ScriptMistakeError at the
-        first line that is refused, or that can't be asked under the promise, and ProgramEndedError
-        where the program ends."""
+        """Gives the lines to the auditor, and yields each round's verdict when it arrives. If
+        something follows the last round, one is added at the end. A verdict about a script that
+        resumes another one is true of every history that the parts may stand for. Raises
+        ScriptMistakeError at the first line that is refused or that the promise doesn't allow, and
+        ProgramEndedError if the program ends."""
         number = 0
-        if self.promise.is_timed:  # who comes before whom is known once all is
+        if self.promise.is_timed:  # the order is known only when all times are
             lines = [*lines]
             timeline = self.history.times.timeline(map(_parts_of, lines))
             self._rewriting = Rewriting(self.promise, timeline)
@@ -249,14 +249,16 @@ class ScriptRun:
             yield from self._ended("round", *EFFORTS[0], GUIDED)
 
     def _ended(self, *command: Any) -> Iterator[Verdict]:
-        """The end of a round, by a command that the script doesn't have."""
+        """Ends a round by a command that the script doesn't have."""
         yield from self._taken([*command], self._ask_for(*command), 0)
 
     def _taken(self, command: List[Any], reply: List[Any], number: int) -> Iterator[Verdict]:
-        """Keeps what the command has done."""
+        """Takes in what the command has done."""
         if reply[0] == "no":  # a truncate that found nothing
             self.no_cut_lines.append(number)
         elif command[0] in ("open", "resume"):
+            if len(command) > 4:  # its reports name begins and commits
+                raise ScriptMistakeError(number, "", ASKS_ITSELF)
             self._is_open, self.is_resumed = command[0] == "open", command[0] == "resume"
             self.history.begin(command[1])
         elif command[0] == "marks":
@@ -275,13 +277,13 @@ class ScriptRun:
             self._round_is_open, self._has_more = True, False
         elif command[0] == "search":
             self._search = command[1:]
-        elif command[0] == "skip":  # its round is without a verdict
+        elif command[0] == "skip":  # its round has no verdict
             self._round_is_open, self._search, self._has_more = False, [], True
         elif reply[0] == "cut":
             self.history.forget(*reply[2:])
         if reply[0] == "report":
             self._round_is_open = False
-            if command[0] == "round":  # what came while a round was open isn't in its report
+            if command[0] == "round":  # otherwise its report lacks what arrived while it was open
                 self._has_more = False
             effort = self._search if command[0] == "collect" else command[1:]
             nodes = 0 if command[0] == "answer" else effort[0]  # handed in, without a search
@@ -292,7 +294,7 @@ class ScriptRun:
             yield self.verdict
 
     def _decided(self, nodes: int, reply: List[Any], number: int) -> Verdict:
-        """The verdict; a round that was spent is given again with more."""
+        """The verdict. A round that was spent is repeated with larger budgets."""
         rounds = 1
         for more, depth, workers in MORE:
             if reply[2] != "spent":
@@ -305,7 +307,8 @@ class ScriptRun:
         )
 
     def _without_times(self, verdict: Verdict) -> Verdict:
-        """What waits for a transaction by the order of time alone doesn't wait for a read."""
+        """The verdict, with "serial" for a pending one in which no read waits for a transaction:
+        the real-time order alone doesn't count."""
         is_by_time = self.promise.is_timed and verdict.kind == "pending"
         if is_by_time and not any(self.history.pending()):
             return replace(verdict, kind="serial")
@@ -315,7 +318,7 @@ class ScriptRun:
         return self._ask(json.dumps(words).encode(), 0)
 
     def _ask(self, text: bytes, number: int) -> List[Any]:
-        """The reply; a refusal that is no mistake is handed on."""
+        """The reply. A refusal that isn't a mistake of the script is returned, too."""
         for wait in (*WAITS, None):
             reply = self._reply_to(text)
             if reply[0] != "no" or reply[2] == "NoCut":
@@ -324,7 +327,7 @@ class ScriptRun:
                 raise ProgramTooOldError(f"{self.path} {TOO_OLD}")
             if reply[2] != "NoMemory":
                 raise ScriptMistakeError(number, reply[2], self._advice(reply[2], text))
-            if self._search and _parts_of(text)[0] == "collect":  # which has ended the search
+            if self._search and _parts_of(text)[0] == "collect":  # the refusal has ended the search
                 text = json.dumps(["finish", *self._search]).encode()
             if wait:
                 time.sleep(wait)
@@ -338,16 +341,16 @@ class ScriptRun:
         return ADVICE.get(refusal, "")
 
     def _misplaced(self, line: Sequence[Any]) -> str:
-        """Why a line of a right form may not stand where it does."""
+        """Says why a well-formed line isn't allowed at this place."""
         opens = line[:1] in (["open"], ["resume"])
         if not self._is_open and not self.is_resumed:
             return "" if opens else BEGINS
         if not self._is_open:
-            return 'up to ["resumed"] there may only be what was handed over (docs/FORMATS.md)'
+            return 'up to ["resumed"] only the saved state is allowed (docs/FORMATS.md)'
         if opens or line[:1] in (["marks"], ["last"], ["resumed"]):
-            return "the script is open already, and what opens one stands at its beginning alone"
+            return "the script is open already, and only its beginning can open it"
         if line[:1] in (["offer"], ["join"]) and any(ABORTED in its for its in line[-1]):
-            return '"aborted" stands in a script of version 2, which ["open",..,..,2] begins'
+            return '"aborted" needs a script of version 2, which begins with ["open",..,..,2]'
         return ""
 
     def _reply_to(self, text: bytes) -> List[Any]:
@@ -361,14 +364,14 @@ class ScriptRun:
         if rewritten == [line]:
             return self._rewriting.told(line, [self._told(text)])
         replies: List[List[Any]] = []
-        for each in rewritten:  # behind one that is refused nothing is given
+        for each in rewritten:  # nothing is sent after one that is refused
             replies.append(self._told_again(json.dumps(each).encode()))
             if replies[-1][0] == "no":
                 break
         return self._rewriting.told(line, replies)
 
     def _told_again(self, text: bytes) -> List[Any]:
-        """The reply to one of several lines; where memory is refused it alone is given again."""
+        """The reply to one of several lines. If memory runs out, only this line is repeated."""
         for wait in WAITS:
             reply = self._told(text)
             if reply[0] != "no" or reply[2] != "NoMemory":

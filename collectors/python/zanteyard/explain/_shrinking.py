@@ -1,5 +1,5 @@
-"""What is told of a violated history: a small part of it that is violated too, in words and as a
-script."""
+"""Reduces a violated history to a small part that is still violated, for explanations and
+scripts."""
 
 from __future__ import annotations
 
@@ -22,18 +22,20 @@ from ..program._lines import written
 from ..promises._kinds import SERIALIZABLE, STRICT, Promise
 from ..promises._rewriting import LIMIT, SESSIONS, Rewriting, ids_of
 from ..promises._times import Timeline
-from ._anomalies import find_anomaly
+from ._anomalies import UNREPEATABLE, find_anomaly
 from ._words import name
 
-SECONDS = 5.0  # to make a history smaller
+SECONDS = 5.0  # seconds for reducing a history
+# Cycles that give way to a lost update, if there is one of at most the same size.
+LESS_PLAIN = (None, UNREPEATABLE, "fractured read", "stale read", "long fork", "write skew")
 NAMED = 40  # transactions of a part in which an anomaly is looked for, at most
 SIDE_BY_SIDE = max(1, min(4, os.cpu_count() or 1))  # auditors
-START = "everything before the cut"  # a key that the first transaction behind a cut writes
+START = "everything before the cut"  # a key that the first transaction after a cut writes
 
 
 def timeline_of(history: History) -> Timeline:
-    """When its transactions began and ended, as far as that is known; but for fences, which do
-    nothing else, and for what was aborted."""
+    """When the history's transactions began and ended, as far as that is known, without fences that
+    do nothing else and without aborted attempts."""
     return Timeline(
         {
             (session, number): (logged.span[0], logged.span[1])
@@ -49,7 +51,7 @@ def _keys_of(logged: Logged) -> Set[str]:
 
 
 def apart_ids(history: History) -> List[ShownId]:
-    """The transactions that did something, or from which one is said to have read."""
+    """The transactions that did something, or that a read names as its source."""
     did = [
         ShownId((session, number))
         for session, txns in enumerate(history)
@@ -60,8 +62,8 @@ def apart_ids(history: History) -> List[ShownId]:
 
 
 def each_apart(history: History) -> History:
-    """The same transactions, each in a session of its own; those that did nothing are left out.
-    Raises CantBeAskedError where they are more than there can be sessions."""
+    """The same transactions, each in a session of its own, without those that did nothing. Raises
+    CantBeAskedError if there are more of them than sessions."""
     did = apart_ids(history)
     if len(did) > SESSIONS:
         raise CantBeAskedError(
@@ -69,7 +71,7 @@ def each_apart(history: History) -> History:
             f" are more than {SESSIONS}"
         )
     places: Dict[Source, Source] = {id: (at, 0) for at, id in enumerate(did)}
-    absent = SESSIONS - 1  # whose number 1 and on nobody has
+    absent = SESSIONS - 1  # nobody has its numbers from 1 on
 
     def moved(source: Source) -> Source:
         if source == "init":
@@ -87,9 +89,9 @@ def each_apart(history: History) -> History:
 
 
 class Audited(NamedTuple):
-    """What an auditor of its own said of a history, and the script that gives it. `keys` are the
-    names of keys by the numbers that the report has, and `ids` its transactions, if it has them
-    renumbered, each in a session of its own."""
+    """A new auditor's report about a history, and a script that reproduces it. `keys` are the names
+    of keys by the report's numbers. `ids` are the transactions, if they were renumbered, each in a
+    session of its own."""
 
     report: Report
     script: str
@@ -97,17 +99,17 @@ class Audited(NamedTuple):
     ids: Optional[Sequence[ShownId]] = None
 
     def moved(self, id: ShownId) -> ShownId:
-        """Which transaction of the history the report means."""
+        """The transaction of the history that the report means."""
         return id if self.ids is None else self.ids[id[0]]
 
 
 def audited(
     history: History, program: str = PROGRAM, promise: Promise = SERIALIZABLE
 ) -> Tuple[Report, str]:
-    """The report of an auditor of its own, and the script that gives it: under a promise about time
-    what that adds is in the script, so that the auditor gives the report by itself; under one about
-    snapshots `zanteyard check` has to be asked for the promise. Raises CantBeAskedError where the
-    history can't be asked about it."""
+    """The report of a new auditor, and a script that reproduces it. For a promise about time, the
+    script contains what expresses the times, so the auditor itself reproduces the report; for one
+    about snapshots, `zanteyard check` has to be given the promise. Raises CantBeAskedError if the
+    history can't be checked for it."""
     its = audited_apart(history, program, promise)
     return its.report, its.script
 
@@ -115,7 +117,7 @@ def audited(
 def audited_apart(
     history: History, program: str = PROGRAM, promise: Promise = SERIALIZABLE
 ) -> Audited:
-    """The same, with what it takes to read the report."""
+    """The same, with what is needed to read the report."""
     count = max(1, sum(map(len, history)))
     limit = min(count, LIMIT)
     timeline = timeline_of(history) if promise.is_timed else None
@@ -144,16 +146,17 @@ def audited_apart(
 def is_violated(
     history: History, program: str = PROGRAM, promise: Promise = SERIALIZABLE
 ) -> bool:
-    """Without what did nothing, so that a few transactions among many take no time."""
+    """Whether the history is violated. Transactions that did nothing are left out, so that a few
+    among many are checked fast."""
     return Part.of(history, promise).report(program) is not None
 
 
 def from_start(auditor: Any) -> Tuple[History, Naming]:
-    """What remains as a history without a cut and without fences' own key, and the names of its
-    transactions. Where something is forgotten, a first transaction stands for it: it writes the
-    last version of each key, and every session begins with one that reads from it."""
+    """The remaining transactions as a history without a cut and without the fences' key, and their
+    names. If something was forgotten, a first transaction stands for it: it writes the last version
+    of each key, and every session begins with a transaction that reads from it."""
     marks, base, history = auditor.marks, auditor.base, auditor.history
-    # It may have names, or tell whose it was.
+    # The auditor may have names, or know the clients.
     called: AuditNaming = getattr(auditor, "called", name)
     gone, some_gone = ShownId((0, 0)), any(marks)
 
@@ -163,7 +166,7 @@ def from_start(auditor: Any) -> Tuple[History, Naming]:
         mark = marks[source[0]] if source[0] < len(marks) else 0  # it may join later
         if source[1] >= mark:
             return (source[0], source[1] - mark + 1)
-        # an older one than the last is as wrong as the initial state
+        # a version older than the last is as wrong as the initial state
         return "init" if base.get(key, source) != source else gone
 
     def plain(key: str) -> str:
@@ -183,7 +186,7 @@ def from_start(auditor: Any) -> Tuple[History, Naming]:
 
     history = [[without_cut(logged) for logged in txns] for txns in history]
     if not some_gone:
-        return history, cast(Naming, called)  # both numberings are one
+        return history, cast(Naming, called)  # both numberings are the same
     first = Logged((), (START, *sorted(map(plain, base))), "forgotten")
     after = Logged(((START, gone),), (), "forgotten")
 
@@ -198,8 +201,8 @@ def from_start(auditor: Any) -> Tuple[History, Naming]:
 
 
 def refuted(auditor: Any, certificate: Iterable[Any]) -> Set[ShownId]:
-    """The transactions that a violated round's refutation names, as the history of `from_start` has
-    them."""
+    """The transactions that a violated round's refutation names, as in the history of
+    `from_start`."""
     marks = auditor.marks
 
     def moved(id: AuditId) -> ShownId:
@@ -212,8 +215,8 @@ def refuted(auditor: Any, certificate: Iterable[Any]) -> Set[ShownId]:
 
 
 def is_collectors_own(auditor: Any, program: str = PROGRAM) -> bool:
-    """Whether the collector's own transactions have no order by themselves, and the clients' have
-    one: then it isn't they who are to look for what went wrong."""
+    """Whether the collector's own transactions are violated by themselves and the clients' aren't:
+    then the fault isn't in what the clients did."""
     history, promise = from_start(auditor)[0], getattr(auditor, "promise", SERIALIZABLE)
     return is_violated(only_keys(history, is_own), program, promise) and not is_violated(
         only_keys(history, lambda key: not is_own(key)), program, promise
@@ -221,7 +224,7 @@ def is_collectors_own(auditor: Any, program: str = PROGRAM) -> bool:
 
 
 def only_keys(history: History, is_kept: Callable[[str], bool]) -> History:
-    """The same, where nothing was done with any other key."""
+    """The same history, restricted to these keys."""
 
     def part(logged: Logged) -> Logged:
         reads = [(key, source) for key, source in logged.reads if key == START or is_kept(key)]
@@ -233,7 +236,7 @@ def only_keys(history: History, is_kept: Callable[[str], bool]) -> History:
 
 
 def named(items: Iterable[Any]) -> Set[AuditId]:
-    """The transactions that the items of a refutation name."""
+    """The transactions that a refutation's items name."""
     ids: Set[Tuple[int, int]] = set()
     for kind, first, *rest in items:
         if kind in ("nowrite", "gone"):
@@ -247,9 +250,9 @@ def named(items: Iterable[Any]) -> Set[AuditId]:
 
 
 class Part:
-    """Some transactions of a history, by (session, number). It is true of the store too: a read is
-    left out where its source is, and a write only where no read of it is left. It is asked about
-    one promise."""
+    """Some transactions of a history, by (session, number), to be checked for one promise. The part
+    is true of the store, too: a read is left out only together with its source, and a write only if
+    no remaining read needs it."""
 
     def __init__(self, txns: Dict[ShownId, Logged], promise: Promise = SERIALIZABLE) -> None:
         self.txns, self.promise = txns, promise
@@ -268,8 +271,8 @@ class Part:
         )
 
     def only(self, ids: Iterable[ShownId]) -> Part:
-        """The part that these are, with those from which one has read what they didn't write: that
-        is what is wrong."""
+        """The part with only these transactions, and those that a wrong read among them names:
+        these are what is wrong."""
         kept = {id for id in ids if id in self.txns}
         for id in [*kept]:
             kept.update(source for _, source in self.wrong_reads(self.txns[id]))
@@ -288,7 +291,8 @@ class Part:
         return logged if len(reads) == len(logged.reads) else logged._replace(reads=reads)
 
     def report(self, program: str) -> Optional[Set[ShownId]]:
-        """Of these alone, under numbers without holes: what its refutation names, or None."""
+        """What the refutation of these transactions names, if they are violated by themselves; else
+        None. They are renumbered without gaps."""
         old: List[List[ShownId]] = []
         sessions: Dict[int, int] = {}
         for session, number in sorted(self.txns):
@@ -317,8 +321,9 @@ class Part:
         return logged._replace(reads=reads, statements=(), tried_reads=(), tried_writes=())
 
     def lesser(self) -> Iterator[Tuple[Any, Part]]:
-        """The same without some transactions, the last first, and fewer and fewer; then without one
-        read, or without a write that nobody has read; each behind what is left out."""
+        """The same part without some transactions, the last ones first, in ever smaller groups;
+        then without one read, or without one write that nobody has read. Each is preceded by what
+        is left out."""
         ids = sorted(self.txns, key=lambda id: (-id[1], id[0]))
         size = max(1, len(ids) // 2)
         while size:
@@ -341,12 +346,13 @@ class Part:
                     yield (id, (key,)), Part(less, self.promise)
 
     def history(self, sessions: int) -> History:
-        """With all in their places, and nothing done in between."""
+        """The part as a history, with idle transactions in the gaps, so that all keep their
+        numbers."""
         whole: History = [[] for _ in range(sessions)]
         read = {(source, key) for logged in self.txns.values() for key, source in logged.reads}
         for id, logged in sorted(self.txns.items(), key=lambda item: item[0]):
             session, number = id
-            if logged.is_undone:  # of what it did there is left what somebody has read
+            if logged.is_undone:  # keeps of its writes only those that somebody has read
                 keys = [key for key in logged.tried_writes if (id, key) in read]
                 logged = logged._replace(tried_reads=(), tried_writes=keys)
             whole[session] += [Logged((), ())] * (number - len(whole[session])) + [logged]
@@ -354,7 +360,7 @@ class Part:
 
 
 def wrong_sources(history: History) -> Dict[ShownId, Logged]:
-    """Transactions that did nothing, and from which one is said to have read."""
+    """Transactions that a read names as its source although they didn't write the key."""
     return {
         source: history[source[0]][source[1]]
         for txns in history
@@ -374,11 +380,11 @@ def smaller(
     known: Iterable[ShownId] = (),
     promise: Promise = SERIALIZABLE,
 ) -> History:
-    """A part of a violated history that is violated too, while nothing that has one thing less is;
-    or as small as it got in so many seconds. What a refutation names is kept, as long as that
-    leaves something out; then one thing after another is left out. The history itself, where it
-    isn't violated. Where it is known what a refutation of the whole names, that is tried first:
-    the whole takes longest."""
+    """A part of a violated history that is violated and from which nothing more can be left out, or
+    the smallest one found within this many seconds. First, only what a refutation names is kept, as
+    long as that leaves something out; then single transactions, reads and writes are left out. If
+    `known`, what a refutation of the whole names, is given, it is tried first, since checking the
+    whole takes longest. Returns the history itself if it isn't violated."""
     ends = time.monotonic() + seconds
     whole = Part.of(history, promise)
     part = whole.only(known)
@@ -388,17 +394,50 @@ def smaller(
     if ids is None:
         return history
     part = by_names(part, ids, program)
-    needed: Set[Any] = set()  # what can't be left out of a part can't be left out of a smaller one
+    needed: Set[Any] = set()  # what one part needs, its smaller parts need, too
     while time.monotonic() < ends:
         lesser = next_smaller(part, needed, program, ends)
         if lesser is None:
             break
         part = by_names(*lesser, program)
-    return part.history(len(history))
+    return lost_update_if_any(whole, part, program).history(len(history))
+
+
+def lost_update_if_any(whole: Part, part: Part, program: str) -> Part:
+    """A lost update of at most as many transactions, if the part is another kind of cycle, since
+    people understand it best. Else the part."""
+    if len(part.txns) > NAMED or _called(part) not in LESS_PLAIN:
+        return part
+    found = (it for it in _lost_updates(whole) if len(it.txns) <= len(part.txns))
+    for candidate in islice(found, SIDE_BY_SIDE):
+        if candidate.report(program) is not None:
+            return candidate
+    return part
+
+
+def _lost_updates(whole: Part) -> Iterator[Part]:
+    """Pairs of transactions that read the same version of a key, and both overwrote it."""
+    first: Dict[Tuple[str, Source], ShownId] = {}
+    for id, logged in sorted(whole.txns.items()):
+        for key, source in logged.reads:
+            writer = whole.txns.get(source)
+            is_known = source == "init" or (writer is not None and key in writer.writes)
+            is_clients = key != START and not is_own(key)
+            if key not in logged.writes or not is_known or not is_clients:
+                continue
+            other = first.setdefault((key, source), id)
+            if other != id:
+                txns = {
+                    one: whole.txns[one]._replace(reads=[(key, source)], writes=[key])
+                    for one in (other, id)
+                }
+                if writer is not None:
+                    txns[source] = writer._replace(reads=(), writes=[key])
+                yield Part(txns, whole.promise)
 
 
 def by_names(part: Part, ids: Set[ShownId], program: str) -> Part:
-    """What refutations name, again and again until nothing changes."""
+    """Keeps only what refutations name, until nothing changes."""
     while True:
         fewer = part.only(ids)
         if len(fewer.txns) >= len(part.txns):
@@ -410,7 +449,7 @@ def by_names(part: Part, ids: Set[ShownId], program: str) -> Part:
 
 
 def _called(part: Part) -> Optional[str]:
-    """The name of the anomaly that it shows, if it has one."""
+    """The name of the anomaly in the part, if it has one."""
     if len(part.txns) > NAMED:
         return None
     sessions = 1 + max(id[0] for id in part.txns)
@@ -421,9 +460,9 @@ def _called(part: Part) -> Optional[str]:
 def next_smaller(
     part: Part, needed: Set[Any], program: str, ends: float
 ) -> Optional[Tuple[Part, Set[ShownId]]]:
-    """One that has one thing less, and what its refutation names; None where each thing is needed,
-    or the time is up. A read or a write isn't left out where that takes an anomaly's name away. An
-    auditor takes as long to start as for so few, so that some are asked side by side."""
+    """A part with one thing less, and what its refutation names; None if everything is needed, or
+    the time is up. A read or a write stays if leaving it out would lose the anomaly's name. Several
+    auditors run in parallel, since one takes longer to start than to check so few transactions."""
     called = _called(part)
 
     def keeps_name(what: Any, candidate: Part) -> bool:

@@ -1,5 +1,5 @@
-"""Which promises a violation breaks, and which it leaves standing; and the other violations of a
-history that lie apart from one."""
+"""Which promises a violation breaks and which it leaves standing; and further violations of a
+history that are independent of the first."""
 
 from __future__ import annotations
 
@@ -13,17 +13,18 @@ from ..promises._kinds import ALL, SERIALIZABLE, WITHOUT_SESSIONS, Promise, stro
 from ._arcs import table
 from ._shrinking import SECONDS, Part, audited, smaller
 
-FEW = 64  # transactions of a violation of which it is asked what it breaks, at most
+FEW = 64  # transactions of a violation whose promises are checked, at most
 
 
 @dataclass(frozen=True)
 class Standing:
-    """Of one violation, as promises in the order of ALL. What couldn't be decided is in neither."""
+    """The promises that a violation breaks and keeps, in the order of ALL. Undecided ones are in
+    neither."""
 
     broken: Sequence[Promise] = ()
     kept: Sequence[Promise] = ()
-    late: Sequence[Promise] = ()  # for which there was no time
-    many: int = 0  # transactions, where these were too many to be asked about
+    late: Sequence[Promise] = ()  # there was no time for these
+    many: int = 0  # the number of transactions, if there were too many to check
 
     def lines(self) -> Iterator[str]:
         """What it breaks, and the strongest of what it leaves standing."""
@@ -47,7 +48,7 @@ class Standing:
 
 
 def listed(promises: Sequence[Promise]) -> str:
-    """As in "a, b and c"."""
+    """A list as in "a, b and c"."""
     titles = [promise.title for promise in promises]
     return " and ".join([", ".join(titles[:-1]), titles[-1]] if titles[1:] else titles)
 
@@ -55,8 +56,8 @@ def listed(promises: Sequence[Promise]) -> str:
 def standing(
     small: History, program: str, promise: Promise = SERIALIZABLE, seconds: float = SECONDS
 ) -> Standing:
-    """Of a small history that breaks this promise. Promises about time are asked about if it tells
-    when its transactions began."""
+    """What a small history that breaks this promise breaks and keeps. Promises about time are
+    checked if it has times."""
     count = len(Part.of(small).txns)
     if count > FEW:
         return Standing(many=count)
@@ -86,18 +87,18 @@ def _following(promise: Promise, is_kept: bool) -> Sequence[Promise]:
 
 
 def _keeps(small: History, program: str, promise: Promise) -> Optional[bool]:
-    """None where that can't be asked, or isn't decided."""
+    """Whether the promise is kept; None if that can't be checked, or isn't decided."""
     try:
         kind = audited(small, program, promise)[0].kind
     except CantBeAskedError:
         return None
-    except ZanteyardError:  # the verdict has been told by then, and rests on none of this
+    except ZanteyardError:  # the verdict was reported before, and doesn't depend on this
         return None
     return {"violated": False, "serial": True, "pending": True}.get(kind)
 
 
 class Apart:
-    """Looks for the violations of a history that share no reader with those found before."""
+    """Finds violations of a history that share no reader with those found before."""
 
     def __init__(self, history: History, program: str, promise: Promise = SERIALIZABLE) -> None:
         self._sessions, self._program = len(history), program
@@ -105,8 +106,8 @@ class Apart:
         self.are_all_found = False
 
     def others(self, first: History, seconds: float = SECONDS) -> Iterator[History]:
-        """Those besides the first, each as small as it gets; as many as are found in so many
-        seconds. `are_all_found` tells whether there is none besides."""
+        """Violations other than the first, each reduced as far as possible; as many as are found
+        within this many seconds. Afterwards `are_all_found` tells whether there are no more."""
         ends, small = time.monotonic() + seconds, first
         while True:
             left = self._without(small)
@@ -123,7 +124,8 @@ class Apart:
             yield small
 
     def _without(self, small: History) -> Optional[Part]:
-        """The same without what the readers of this violation have read; None where it has none."""
+        """The rest of the history without the reads of this violation's readers; None if it has no
+        readers in it."""
         readers: Set[ShownId] = {id for id, logged in table(small).items() if logged.reads}
         if not readers & self._part.txns.keys():
             return None

@@ -1,7 +1,7 @@
-"""A story's transactions on a time line by session, as SVG: a lane for each session, time to the
-right, and an arc from what comes before to what comes after. What was aborted is dashed, and so is
-a read of it. Where a transaction's begin and commit are told apart, these are the left and the
-right edge of its box. Nothing in it is from outside."""
+"""A story's transactions on a time line, as SVG: a lane for each session, time from left to right,
+and an arc from what comes before to what comes after. Aborted transactions, and reads from them,
+are dashed. If begins and commits are separate, they are the left and right edges of a box. The
+picture loads nothing from outside."""
 
 from __future__ import annotations
 
@@ -17,16 +17,16 @@ from ._report import Step, Story
 
 WIDTH, GAP, LANE_GAP = 316.0, 110.0, 76.0  # of a box, and between boxes, in the picture's units
 LINE, PADDING, LEFT = 18.0, 8.0, 100.0
-APART = 9.0  # half of what lies between arcs that leave an edge and those that come to it
-MOST_LETTERS = 40  # of a line in a box: they fit in DejaVu Sans, which is wide
-ALONG = (0.5, 0.42, 0.58, 0.34, 0.66, 0.26, 0.74, 0.18, 0.82)  # parts of a way
+APART = 9.0  # half the distance between arcs that leave an edge and those that arrive there
+MOST_LETTERS = 40  # of a line in a box: they fit even in DejaVu Sans, which is wide
+ALONG = (0.5, 0.42, 0.58, 0.34, 0.66, 0.26, 0.74, 0.18, 0.82)  # fractions of a path
 Point = Tuple[float, float]
-Curve = Tuple[Point, ...]  # of Bezier's: its ends, with one or two points between that bend it
+Curve = Tuple[Point, ...]  # a Bezier curve: its ends, with one or two control points between them
 
 
 @dataclass(frozen=True)
 class Box:
-    """Where a transaction stands."""
+    """The place of a transaction."""
 
     left: float
     top: float
@@ -41,11 +41,11 @@ class Box:
         return self.left < x < self.left + WIDTH and self.top < y < self.top + self.height
 
     def edge_of(self, event: str) -> Point:
-        """Where it begins, or commits."""
+        """The point of its begin or commit."""
         return self.left + (WIDTH if event == "commit" else 0), self.top + self.height / 2
 
     def edge_towards(self, point: Point) -> Point:
-        """Where the way from the middle to this point leaves the box."""
+        """The point where the line from the middle to this point leaves the box."""
         (x, y), (to_x, to_y) = self.middle, point
         across, down = to_x - x, to_y - y
         if not across and not down:
@@ -58,8 +58,8 @@ class Box:
 
 
 def columns_of(steps: Sequence[Step]) -> Dict[ShownId, int]:
-    """How far right each transaction stands: behind what it comes after by its session and by its
-    reads, as far as these go round in no circle."""
+    """The column of each transaction: to the right of what precedes it in its session and of what
+    it reads from, unless these form a cycle."""
     shown = [step.id for step in steps]
     before: Dict[ShownId, List[ShownId]] = {id: [] for id in shown}
     for id, following in zip(shown, shown[1:]):
@@ -79,7 +79,7 @@ def columns_of(steps: Sequence[Step]) -> Dict[ShownId, int]:
 
 
 def boxes_of(story: Story) -> Dict[ShownId, Box]:
-    """Where each transaction stands."""
+    """The place of each transaction."""
     columns = columns_of(story.steps)
     lanes = sorted({step.id[0] for step in story.steps})
     tops: Dict[int, float] = {}
@@ -106,18 +106,15 @@ def _told(step: Step) -> List[str]:
 
 
 def draw_story(story: Story, links: Sequence[Link] = (), place: int = 0) -> str:
-    """The picture with these links, as an `svg` element; an empty text where there is nothing to
-    draw. Without links it shows who read from whom. The place is another for each picture of a
-    page: what one of them defines isn't there for the others while it is folded away."""
+    """The picture with these links, as an `svg` element; empty if there is nothing to draw. Without
+    links it shows who read from whom. `place` must differ for each picture of a page: definitions
+    of one picture don't work for the others while it is folded away."""
     if not story.steps:
         return ""
     boxes = boxes_of(story)
     shown = links or _reads(story.steps)
-    curves = [
-        (link, _curve(link, boxes))
-        for link in shown
-        if link.start in boxes and link.end in boxes
-    ]
+    shown = [link for link in shown if link.start in boxes and link.end in boxes]
+    curves = [*zip(shown, _side_by_side([_curve(link, boxes) for link in shown]))]
     marks = _places_of_numbers([curve for _, curve in curves], [*boxes.values()])
     arcs = [(link.is_of_circle, _arc(link, curve, place)) for link, curve in curves]
     points = [point for _, curve in curves for point in (curve[0], curve[-1])]
@@ -150,7 +147,7 @@ def draw_story(story: Story, links: Sequence[Link] = (), place: int = 0) -> str:
 
 
 def _reads(steps: Sequence[Step]) -> List[Link]:
-    """From whom each transaction read: what is drawn where there is no one circle."""
+    """Who read from whom: drawn if there isn't a single cycle."""
     names = {step.id: step.name for step in steps}
     aborted = {step.id for step in steps if step.outcome == ABORTED}
 
@@ -257,36 +254,59 @@ def _number(link: Link, at: Point) -> str:
 
 
 def _curve(link: Link, boxes: Mapping[ShownId, Box]) -> Curve:
-    """What it leads along. One that leads to the right in another lane swings over; any other bends
-    to its right, so that opposite ones stand apart."""
+    """The path of a link. One that leads to another column and another lane swings over; any other
+    bends to its right, so that opposite ones stay apart."""
     start, end = boxes[link.start], boxes[link.end]
     (x, y), (to_x, to_y) = start.middle, end.middle
     if all(link.events):
         return _between_edges(link, start, end)
-    if to_x > x + WIDTH and abs(to_y - y) > 1:
+    if abs(to_x - x) > WIDTH and abs(to_y - y) > 1:
+        is_back = to_x < x
         first, last = (start.left + WIDTH, y), (end.left, to_y)
-        swing = max(70.0, (last[0] - first[0]) * 0.5)
-        return first, (first[0] + swing, y), (last[0] - swing, to_y), last
+        if is_back:  # apart from those that lead to the right
+            first, last = (start.left, y + APART), (end.left + WIDTH, to_y - APART)
+        swing = max(70.0, abs(last[0] - first[0]) * 0.5) * (-1 if is_back else 1)
+        return first, (first[0] + swing, first[1]), (last[0] - swing, last[1]), last
     bent = _bent(start.middle, end.middle, link.why == SESSION)
     return start.edge_towards(bent), bent, end.edge_towards(bent)
 
 
 def _between_edges(link: Link, start: Box, end: Box) -> Curve:
-    """From one begin or commit to another. It leaves a box on the side of that edge, and comes to
-    one so, above where others leave."""
+    """The path from one begin or commit to another. It leaves and enters boxes at the side of that
+    edge, and enters above where others leave."""
     first, last = start.edge_of(link.events[0]), end.edge_of(link.events[1])
+    if link.start == link.end:  # above the box
+        (x, _), (to_x, _), top = first, last, start.top - 5
+        bow = 40 if x < to_x else -40
+        return (x, top), (x + bow, top - 22), (to_x - bow, top - 22), (to_x, top)
     first, last = (first[0], first[1] + APART), (last[0], last[1] - APART)
-    if link.start == link.end:  # along the box's upper edge
-        top = start.top - 14
-        return first, (first[0], top), (last[0], top), last
     swing = 60 + 0.15 * (abs(last[0] - first[0]) + abs(last[1] - first[1]))
+    if link.events == ("commit", "begin") and last[0] < first[0]:
+        swing *= 1.6  # around the ends of both boxes, and between them
     out, back = (swing if event == "commit" else -swing for event in link.events)
     return first, (first[0] + out, first[1]), (last[0] + back, last[1]), last
 
 
+def _side_by_side(curves: Sequence[Curve]) -> List[Curve]:
+    """The same curves, shifted so that those between the same columns don't lie on one another."""
+    gaps: Dict[int, List[int]] = {}
+    for at, curve in enumerate(curves):
+        if len(curve) == 4 and abs(curve[0][1] - curve[3][1]) > 2 * APART:
+            gaps.setdefault(round((curve[0][0] + curve[3][0]) / 20), []).append(at)
+    found = [*curves]
+    for gap in gaps.values():
+        gap.sort(key=lambda at: curves[at][0][1] + curves[at][3][1])
+        step = min(26.0, 90.0 / max(1, len(gap) - 1))
+        for place, at in enumerate(gap):
+            first, one, other, last = curves[at]
+            more = (place - (len(gap) - 1) / 2) * step
+            found[at] = first, (one[0] + more, one[1]), (other[0] + more, other[1]), last
+    return found
+
+
 def _places_of_numbers(curves: Sequence[Curve], boxes: Sequence[Box]) -> List[Point]:
-    """Of each curve where its number stands: at its middle, or as near to that as it is apart from
-    those before it, and from what stands in the boxes."""
+    """The place of each curve's number: its middle, or the nearest place to it that is away from
+    the previous numbers and outside of boxes."""
     taken: List[Point] = []
     for curve in curves:
         places = [_on_curve(curve, at) for at in ALONG]
@@ -301,7 +321,7 @@ def _places_of_numbers(curves: Sequence[Curve], boxes: Sequence[Box]) -> List[Po
 
 
 def _on_curve(curve: Curve, at: float) -> Point:
-    """The point of a curve of Bezier's after this part of the way."""
+    """The point of a Bezier curve after this fraction of the way."""
     points = [*curve]
     while len(points) > 1:
         points = [
@@ -318,7 +338,7 @@ def _bent(start: Point, end: Point, is_in_one_session: bool) -> Point:
     length = max(1.0, (across**2 + down**2) ** 0.5)
     if is_in_one_session and abs(across) < WIDTH + GAP + 1:
         bend = 0.0
-    elif abs(across) < 1:  # above one another
+    elif abs(across) < 1:  # one above the other
         bend = WIDTH * 0.62
     elif abs(down) < 1:  # side by side
         bend = 50 + 0.28 * length

@@ -1,4 +1,4 @@
-"""A violation, told to a person."""
+"""Describes a violation for people."""
 
 from __future__ import annotations
 
@@ -30,11 +30,10 @@ def tell_violation(
     known: Iterable[ShownId] = (),
     promise: Promise = SERIALIZABLE,
 ) -> History:
-    """Tells what is left of a violated history without what it is violated without, why no order
-    explains it, and which promises it breaks; then writes that as path.jsonl for cobra_audit, and
-    draws it. What can't be written is told as well, when everything else has been. Gives the small
-    history. `known` is what a refutation of the history names, where one is at hand. Each line that
-    `tell` is given is safe to show."""
+    """Describes a violated history: a minimal violated part of it, why no order explains that, and
+    which promises it breaks. Then writes the part as path.jsonl for cobra_audit, and draws it. If
+    writing fails, that is reported last. Returns the small history. `known` is what a refutation of
+    the history names, if there is one. Each line passed to `tell` is safe to show."""
     return tell_story(history, path, called, tell, seconds, program, known, promise)[0]
 
 
@@ -48,7 +47,7 @@ def tell_story(
     known: Iterable[ShownId] = (),
     promise: Promise = SERIALIZABLE,
 ) -> Tuple[History, Story]:
-    """The same; gives what was told as well, for a page."""
+    """The same, and also returns the story, for a page."""
 
     def told(*lines: str) -> None:
         for line in lines:
@@ -76,15 +75,15 @@ def tell_story(
     for write in (lambda: write_script(story, path), drawn):
         try:
             told(write())
-        except Exception as error:  # as where the disk is full: what was found has been told
+        except Exception as error:  # such as a full disk: what was found has been reported
             told(f"({path} can't be written: {error})")
     return small, story
 
 
 def write_script(story: Story, path: str) -> str:
-    """Writes it, and says what it is for."""
+    """Writes the script, and returns a line about how to use it."""
     with open(f"{path}.jsonl", "w", encoding="utf-8", opener=private) as file:
         file.write(story.script)
     if story.promise.is_split:
-        return f"(zanteyard check --promise {story.promise.name} {path}.jsonl says so again)"
-    return f"(cobra_audit < {path}.jsonl says so again)"
+        return f"(zanteyard check --promise {story.promise.name} {path}.jsonl reports it again)"
+    return f"(cobra_audit < {path}.jsonl reports it again)"

@@ -1,4 +1,4 @@
-"""Transactions of a history in words."""
+"""Describes the transactions of a history."""
 
 from __future__ import annotations
 
@@ -6,23 +6,23 @@ from typing import Any, Dict, Iterator, List, Tuple
 
 from ..core._records import History, Logged, Naming, ShownId, Source
 
-TOLD, FROM = 300, 150  # characters of a statement, at most, and of its end, where its place stands
+TOLD, FROM = 300, 150  # characters of a statement, at most, and of its end, which has its place
 
 
 def name(id: Tuple[int, int]) -> str:
-    """How a transaction is shown that has no other name, in whichever numbering."""
+    """The name of a transaction that has no other one, in any numbering."""
     return f"{id[0]}.{id[1]}"
 
 
 def version(key: str, source: Source, name: Naming) -> str:
-    """Which version of the key was read."""
+    """A phrase for the version of the key that was read."""
     if source != "init":
         return f"from {name(source)}"
     return getattr(name, "older", {}).get(key, "as it was at first")
 
 
 def told_undone(reader: ShownId, key: str, source: ShownId, name: Naming) -> str:
-    """Of a read of what an attempt wrote that was aborted."""
+    """A sentence about a read from an aborted attempt."""
     return f"of {key}, {name(reader)} read what {name(source)} wrote, which had aborted"
 
 
@@ -35,7 +35,7 @@ def deeds(logged: Logged, name: Naming) -> List[str]:
 
 
 def statements_of(logged: Logged) -> Iterator[str]:
-    """Lines that tell what was run for what the transaction did, where that is known."""
+    """Lines with the statements that the transaction ran, as far as they are known."""
     left: Dict[Any, str] = dict(logged.statements)
     deeds_by_statement: Dict[str, List[str]] = {}
     did_read, did_write = logged.did
@@ -50,10 +50,10 @@ def statements_of(logged: Logged) -> Iterator[str]:
 
 
 def words(history: History, name: Naming = name) -> Iterator[str]:
-    """A line for each transaction, with its statements behind it."""
+    """A line for each transaction, followed by its statements."""
     for session, txns in enumerate(history):
         for number, logged in enumerate(txns):
-            if deeds(logged, name):  # else it is there for its number alone
+            if deeds(logged, name):  # else it only keeps a number
                 called = name(ShownId((session, number)))
                 yield f"{called} {', '.join(deeds(logged, name))}"
                 yield from (f"    {line}" for line in statements_of(logged))

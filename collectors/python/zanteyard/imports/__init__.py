@@ -1,1 +1,1 @@
-"""Histories that other tools have saved, made scripts of (docs/IMPORT.md)."""
+"""Turns histories that other tools have saved into scripts (docs/IMPORT.md)."""

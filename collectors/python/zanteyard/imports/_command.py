@@ -1,12 +1,15 @@
-"""The command `zanteyard import`: makes a script of a history that another tool has saved."""
+"""The command `zanteyard import`: turns a history that another tool has saved into a script."""
 
 from __future__ import annotations
 
 import argparse
 import contextlib
+import gc
+import gzip
 import os
+import zlib
 from dataclasses import dataclass
-from typing import Any, Callable, Mapping, Optional
+from typing import Any, Callable, Collection, Dict, Iterator, Mapping, Optional
 
 from ..core._private_files import private
 from ..core._visible import say
@@ -21,23 +24,29 @@ from ._sessions import read_csv, read_dbcop, read_polysi
 from ._times import EVERY
 
 
+GZIP = b"\x1f\x8b"  # how such a file begins
+
+
 @dataclass(frozen=True)
 class Form:
-    """One form of files. `read` makes a Recording of a text."""
+    """A file format. `read` turns a text into a Recording."""
 
     about: str
     read: Callable[..., Recording]
-    has_initial: bool = False  # whether it can be told which value keys have at first
+    has_initial: bool = False  # whether the initial value of keys can be specified
+    is_jepsen: bool = False
 
 
 FORMS: Mapping[str, Form] = {
     "jepsen-registers": Form(
         "a Jepsen history of reads and writes, as EDN or JSON",
-        lambda text: read_jepsen(text, "jepsen-registers", False),
+        lambda text, **more: read_jepsen(text, "jepsen-registers", False, **more),
+        is_jepsen=True,
     ),
     "jepsen-lists": Form(
         "a Jepsen history of reads and list appends, as EDN or JSON",
-        lambda text: read_jepsen(text, "jepsen-lists", True),
+        lambda text, **more: read_jepsen(text, "jepsen-lists", True, **more),
+        is_jepsen=True,
     ),
     "dbcop": Form("a dbcop history, as JSON", read_dbcop, True),
     "polysi": Form("a PolySI history, one operation a line", read_polysi, True),
@@ -46,10 +55,12 @@ FORMS: Mapping[str, Form] = {
 
 
 def add_arguments(command: argparse.ArgumentParser) -> None:
-    """What the command takes."""
+    """Adds the command's arguments."""
     forms = "; ".join(f"{name}: {form.about}" for name, form in FORMS.items())
     command.add_argument("form", choices=tuple(FORMS), metavar="FORM", help=forms)
-    command.add_argument("file", metavar="FILE", help="the history, in UTF-8")
+    command.add_argument(
+        "file", metavar="FILE", help="the history, in UTF-8; it may be compressed by gzip"
+    )
     command.add_argument(
         "-o", dest="script", metavar="SCRIPT", required=True, help="the script to write"
     )
@@ -66,7 +77,25 @@ def add_arguments(command: argparse.ArgumentParser) -> None:
         help="take only the first N attempts of the file; a history without a violation is then "
         "pending",
     )
+    _add_jepsen(command)
     _add_strict(command)
+
+
+def _add_jepsen(command: argparse.ArgumentParser) -> None:
+    command.add_argument(
+        "--independent",
+        action="store_true",
+        help="Jepsen: the history is of jepsen.independent, so that each value is a part of the "
+        "store and a transaction there; nothing is asked of the order between parts",
+    )
+    command.add_argument(
+        "--leave-out",
+        metavar="FUNCTION",
+        action="append",
+        default=[],
+        help="Jepsen: skip a client's operations of this function (such as `read`), which must "
+        "have written nothing; may be repeated",
+    )
 
 
 def _add_strict(command: argparse.ArgumentParser) -> None:
@@ -88,23 +117,50 @@ def _count(text: str) -> int:
 
 
 def run(asked: Any) -> int:
-    """Writes the script and its names, and tells what was done; gives 0. Raises ImportRefusedError
-    where nothing sound can be made of the file, and writes nothing then."""
-    text = _text_of(asked.file)
-    imported = import_text(asked.form, text, asked.first, asked.initial, asked.strict)
-    with open(asked.script, "w", encoding="utf-8", opener=private) as file:
-        file.writelines(f"{line}\n" for line in imported.lines)
-    write_names(imported.names, asked.script)
+    """Writes the script and its names, and prints what was done; returns 0. Raises
+    ImportRefusedError if the file can't be turned into a sound script, and writes nothing then."""
+    with _no_collections():
+        text = _text_of(asked.file)
+        imported = import_text(
+            asked.form,
+            text,
+            asked.first,
+            asked.initial,
+            asked.strict,
+            asked.independent,
+            asked.leave_out,
+        )
+        _write(imported, asked.script)
     say(f"{asked.script}: {imported.about[0]}")
     for line in imported.about[1:]:
         say(f"  {line}")
     if imported.times is not None:
-        write_times(imported.times, asked.script)
         say(f"  begin and end times: {asked.script}{TIMES}")
-    else:
-        with contextlib.suppress(FileNotFoundError):  # of another file's script
-            os.remove(asked.script + TIMES)
     return 0
+
+
+@contextlib.contextmanager
+def _no_collections() -> Iterator[None]:
+    """Keeps Python from looking for cycles among millions of objects: an import makes none."""
+    is_on = gc.isenabled()
+    gc.disable()
+    try:
+        yield
+    finally:
+        if is_on:
+            gc.enable()
+
+
+def _write(imported: Imported, script: str) -> None:
+    """Writes the script, and the files beside it."""
+    with open(script, "w", encoding="utf-8", opener=private) as file:
+        file.writelines(f"{line}\n" for line in imported.lines)
+    write_names(imported.names, script)
+    if imported.times is not None:
+        write_times(imported.times, script)
+    else:
+        with contextlib.suppress(FileNotFoundError):  # left by another file's script
+            os.remove(script + TIMES)
 
 
 def import_text(
@@ -113,20 +169,34 @@ def import_text(
     first: Optional[int] = None,
     initial: Optional[str] = None,
     asks_time: bool = False,
+    is_independent: bool = False,
+    left_out: Collection[str] = (),
 ) -> Imported:
-    """The script of a file's text. Raises ImportRefusedError."""
+    """The script for a file's text. `is_independent` and `left_out` are for Jepsen's forms, as
+    `read_jepsen` has them. Raises ImportRefusedError."""
     chosen = FORMS[form]
     if initial is not None and not chosen.has_initial:
         raise ImportRefusedError(0, f"in {form} the initial value is always nil")
-    recording = chosen.read(text) if initial is None else chosen.read(text, initial)
-    return script_of(recording, first, asks_time, EVERY)
+    more: Dict[str, Any] = {} if initial is None else {"initial": initial}
+    if is_independent or left_out:
+        if not chosen.is_jepsen:
+            raise ImportRefusedError(0, "--independent and --leave-out are for Jepsen's histories")
+        more.update(is_independent=is_independent, left_out=left_out)
+    return script_of(chosen.read(text, **more), first, asks_time, EVERY)
 
 
 def _text_of(path: str) -> str:
+    """The text of a file, which may be compressed by gzip."""
+    name = os.path.basename(path)
     with open(path, "rb") as file:
         whole = file.read()
+    if whole[:2] == GZIP:
+        try:
+            whole = gzip.decompress(whole)
+        except (OSError, EOFError, zlib.error) as error:
+            raise ImportRefusedError(0, f"{name} can't be decompressed: {error}") from error
     try:
         return whole.decode("utf-8-sig")
     except UnicodeDecodeError as error:
         line = whole.count(b"\n", 0, error.start) + 1
-        raise ImportRefusedError(line, f"{os.path.basename(path)} isn't UTF-8") from error
+        raise ImportRefusedError(line, f"{name} isn't UTF-8") from error

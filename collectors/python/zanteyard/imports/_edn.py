@@ -1,7 +1,8 @@
-"""Reads EDN, the text form of Clojure's data: strictly, and with the line of each map.
+"""A strict reader of EDN, the text form of Clojure's data, which keeps the line of each map.
 
-Saved histories are full of what an import has no use for (exceptions, sets of nodes, floats), so
-that all of EDN is read, and what can't be told apart by its text stays as it was written.
+Saved histories are full of data that an import has no use for, such as exceptions, sets of nodes
+and floats. So all of EDN is read, and values whose equality their text doesn't decide stay as they
+were written.
 """
 
 from __future__ import annotations
@@ -12,28 +13,29 @@ from typing import Any, Dict, Iterator, List, Tuple
 
 from ..core.errors import ImportRefusedError
 
-DEEPEST = 100  # forms within forms
+DEEPEST = 100  # levels of nested forms
 SPACE = re.compile(r"(?:[\s,]|;[^\n]*)*")
+REST_OF_LINE = re.compile(r"[ ,\r\t]*(?:\n|\Z)")
 TOKEN = re.compile(r"[^\s,;()\[\]{}\"]+")
 CHARACTER = re.compile(r"\\(?:[^\s\w]|\w+)")
 TEXT = re.compile(r'"((?:[^"\\]|\\.)*)"', re.DOTALL)
 ESCAPE = re.compile(r"\\(?:u([0-9a-fA-F]{4})|(.))", re.DOTALL)
 ESCAPED = {"t": "\t", "r": "\r", "n": "\n", "b": "\b", "f": "\f", '"': '"', "\\": "\\"}
-WHOLE = re.compile(r"[+-]?(?:0|[1-9][0-9]{0,99})N?")
+WHOLE = re.compile(r"[+-]?(?:0|[1-9][0-9]{0,4299})N?")  # as long as Python makes a number of
 CLOSING = {"(": ")", "[": "]", "{": "}"}
 
 
 @dataclass(frozen=True)
 class Keyword:
-    """`:name`"""
+    """A keyword, such as `:name`."""
 
     name: str
 
 
 @dataclass(frozen=True)
 class Opaque:
-    """What is kept as it was written: a symbol, a truth value, a number with a point, a character;
-    a set, and what stands behind a tag."""
+    """Something that is kept as it was written: a symbol, a boolean, a number with a decimal point,
+    a character, a set, or a tag with its value."""
 
     text: str
 
@@ -46,28 +48,52 @@ class EdnMap:
     items: Tuple[Tuple[Any, Any], ...]
 
     def get(self, name: str) -> Any:
-        """What stands at the keyword; None where nothing does."""
+        """The value of this keyword; None if there is none."""
         return next((value for key, value in self.items if key == Keyword(name)), None)
 
 
 class EdnReader:
-    """Values are None for nil, int, str, Keyword, Opaque, EdnMap, and tuples for vectors and lists.
-    Raises ImportRefusedError with the line of what is no EDN."""
+    """Reads EDN values: None for nil, int, str, Keyword, Opaque, EdnMap, and tuples for vectors and
+    lists. Raises ImportRefusedError, with the line, for what isn't EDN."""
 
-    def __init__(self, text: str) -> None:
+    def __init__(self, text: str, at: int = 0, line: int = 1) -> None:
+        """Reads on from that place of the text, which is on that line."""
         self._text = text
-        self._at = 0
-        self._line, self._counted = 1, 0  # the line of the place up to which lines were counted
+        self._at = at
+        self._line, self._counted = line, at  # the line of the place up to which lines were counted
 
     def forms(self) -> Iterator[Tuple[int, Any]]:
-        """Each form at the top, behind the line on which it begins."""
-        while not self._is_over():
-            line = self._line_here()
-            forms = self._form(0)
-            if forms:
-                yield line, forms[0]
+        """The top-level forms, each with the line on which it begins."""
+        while not self.is_over():
+            line = self.line()
+            for form in self.form():
+                yield line, form
 
-    def _is_over(self) -> bool:
+    def form(self) -> List[Any]:
+        """The next form, in a list; an empty list if it was discarded by `#_`."""
+        return self._form(0)
+
+    def sign(self) -> str:
+        """The first character of the next form, once `is_over` has skipped what is before it."""
+        return self._text[self._at]
+
+    def skip(self, count: int) -> None:
+        """Passes so many characters over."""
+        self._at += count
+
+    def ends_line(self) -> bool:
+        """Whether only spaces are left on this line. Then it goes on to the next one."""
+        match = REST_OF_LINE.match(self._text, self._at)
+        if match:
+            self._at = match.end()
+        return match is not None
+
+    def place(self) -> Tuple[int, int]:
+        """How far it has read, and on which line that is."""
+        return self._at, self.line()
+
+    def is_over(self) -> bool:
+        """Whether no form is left. Skips the spaces and comments before the next one."""
         self._at = self._end_of(SPACE)
         return self._at >= len(self._text)
 
@@ -75,19 +101,20 @@ class EdnReader:
         match = pattern.match(self._text, self._at)
         return match.end() if match else self._at
 
-    def _line_here(self) -> int:
+    def line(self) -> int:
+        """The line of the next form, once `is_over` has skipped what is before it."""
         self._line += self._text.count("\n", self._counted, self._at)
         self._counted = self._at
         return self._line
 
     def _refused(self, why: str) -> ImportRefusedError:
-        return ImportRefusedError(self._line_here(), why)
+        return ImportRefusedError(self.line(), why)
 
     def _form(self, depth: int) -> List[Any]:
-        """The next form, in a list; an empty list where it was discarded by `#_`."""
+        """The next form, in a list; an empty list if `#_` discards it."""
         if depth > DEEPEST:
             raise self._refused(f"forms are nested more than {DEEPEST} deep")
-        if self._is_over():
+        if self.is_over():
             raise self._refused("the file ends within a form")
         start = self._text[self._at]
         if start in CLOSING:
@@ -122,8 +149,8 @@ class EdnReader:
         )
 
     def _dispatched(self, depth: int) -> List[Any]:
-        """What begins with `#`: a set, something discarded, or a tag and its value. A tagged map
-        is taken for the map."""
+        """A form that begins with `#`: a set, something discarded, or a tag and its value. A tagged
+        map counts as the map."""
         start = self._at
         self._at += 1
         if self._text.startswith("{", self._at):
@@ -143,11 +170,11 @@ class EdnReader:
         return forms if isinstance(forms[0], EdnMap) else [Opaque(self._text[start : self._at])]
 
     def _many(self, opening: str, depth: int) -> List[Any]:
-        line = self._line_here()
+        line = self.line()
         self._at += 1
         forms: List[Any] = []
         while True:
-            if self._is_over():
+            if self.is_over():
                 raise ImportRefusedError(line, f"the {opening} here isn't closed")
             if self._text[self._at] == CLOSING[opening]:
                 self._at += 1
@@ -155,7 +182,7 @@ class EdnReader:
             forms += self._form(depth + 1)
 
     def _collection(self, opening: str, depth: int) -> Any:
-        line = self._line_here()
+        line = self.line()
         forms = self._many(opening, depth)
         if opening != "{":
             return tuple(forms)
@@ -170,7 +197,7 @@ class EdnReader:
 
 
 def scalar_of(text: str) -> Any:
-    """Of a word without a delimiter in it."""
+    """The value of a word without delimiters."""
     if text == "nil":
         return None
     if text[0] == ":" and len(text) > 1:

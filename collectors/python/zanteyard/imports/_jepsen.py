@@ -1,13 +1,25 @@
-"""Histories of Jepsen: operations that were invoked and completed, each a list of micro-operations
-on registers or on lists, as EDN or JSON."""
+"""Histories of Jepsen, as EDN or JSON: operations that were invoked and completed, each a list of
+micro-operations on registers or on lists."""
 
 from __future__ import annotations
 
-from dataclasses import dataclass, replace
-from typing import Any, Dict, Iterator, List, Optional, Tuple
+from dataclasses import replace
+from typing import (
+    Any,
+    Collection,
+    Dict,
+    Iterator,
+    List,
+    Match,
+    NamedTuple,
+    Optional,
+    Sequence,
+    Tuple,
+)
 
 from ..core.errors import ImportRefusedError
 from ._edn import EdnMap, EdnReader, Keyword
+from ._edn_lines import GROUPS, EdnLines, PlainMicros
 from ._json import JsonReader
 from ._recording import (
     ABORTED,
@@ -26,31 +38,40 @@ from ._recording import (
     token,
 )
 
+READS = (READ, READ_LIST)
 OUTCOMES = {"ok": COMMITTED, "fail": ABORTED, "info": UNKNOWN}
-Micro = Tuple[str, str, Any]  # "r", "w" or "append", the key, and what stands behind it
 
 
-@dataclass(frozen=True)
-class Operation:
+class Operation(NamedTuple):
     """One map of the file."""
 
     line: int
     type: str
     process: str
-    index: Optional[int]
+    given_index: Optional[int]  # `index` is a method of tuples
     time: Optional[int]
-    micros: Tuple[Micro, ...]
+    part: str  # of the store, if the history is of independent ones
+    micros: Sequence[Access]  # a read that found nothing has no value, also of a list
 
 
-def read_jepsen(text: str, form: str, is_of_lists: bool) -> Recording:
-    """The attempts of the file's processes, in the order of their invocations. Raises
-    ImportRefusedError."""
-    operations = _operations(text, is_of_lists)
-    return _Pairs(is_of_lists, _is_json(text)).recording(operations, form)
+def read_jepsen(
+    text: str,
+    form: str,
+    is_of_lists: bool,
+    is_independent: bool = False,
+    left_out: Collection[str] = (),
+) -> Recording:
+    """Reads the attempts of the file's processes, in the order of their invocations. With
+    `is_independent` a client's value is a part of the store and a transaction there; what a process
+    does in one part has then no order with what it does in another. Operations of the functions
+    `left_out` are skipped, and counted. Raises ImportRefusedError."""
+    operations = _Operations(text, is_of_lists, is_independent, left_out)
+    recording = _Pairs().recording(operations.all(), form)
+    return replace(recording, left_out=tuple(sorted(operations.left_out.items())))
 
 
 def _is_json(text: str) -> bool:
-    """A map's first sign tells: JSON has strings there."""
+    """Whether it is JSON: there, a map begins with a string."""
     return text.lstrip()[:1] in ("[", "{") and text.lstrip("[{ \t\r\n")[:1] == '"'
 
 
@@ -58,68 +79,122 @@ def _word(value: Any) -> Optional[str]:
     return value.name if isinstance(value, Keyword) else value if isinstance(value, str) else None
 
 
-def _maps(text: str) -> Iterator[Tuple[int, Any]]:
-    """Each operation's line and map."""
-    if _is_json(text):
-        for line, value in JsonReader(text).elements():
+class _Operations:
+    """The operations of clients, without those of the nemesis."""
+
+    def __init__(
+        self, text: str, is_of_lists: bool, is_independent: bool, left_out: Collection[str]
+    ) -> None:
+        self._text = text
+        self._is_independent = is_independent
+        self.left_out = dict.fromkeys(left_out, 0)  # how many, by function
+        self._is_of_lists = is_of_lists
+        self._is_json = _is_json(text)
+        self._plain = PlainMicros(is_of_lists)
+        self._kinds = (
+            {"r": READ_LIST, "append": APPEND} if is_of_lists else {"r": READ, "w": WRITE}
+        )
+
+    def all(self) -> Iterator[Operation]:
+        """The operations in the file's order."""
+        for line, found in self._maps():
+            if isinstance(found, Match):
+                type, process, index, time, part, value = found.group(*GROUPS)
+                micros = self._plain.of(value)
+                if micros is not None:
+                    yield Operation(
+                        line,
+                        type,
+                        process,
+                        int(index) if index else None,
+                        int(time) if time else None,
+                        part,
+                        micros,
+                    )
+                    continue
+                (found,) = EdnReader(self._text, found.start(), line).form()
+            operation = self._operation(line, found)
+            if operation is not None:
+                yield operation
+
+    def _maps(self) -> Iterator[Tuple[int, Any]]:
+        """Each operation's line and map."""
+        if not self._is_json:
+            yield from EdnLines(self._text, self._is_independent).maps()
+            return
+        for line, value in JsonReader(self._text).elements():
             if not isinstance(value, dict):
                 raise ImportRefusedError(line, "an operation must be an object")
             yield line, value
-        return
-    for line, form in EdnReader(text).forms():
-        for part in form if isinstance(form, tuple) else (form,):
-            if not isinstance(part, EdnMap):
-                raise ImportRefusedError(line, "an operation must be a map")
-            yield part.line, part
 
-
-def _operations(text: str, is_of_lists: bool) -> Iterator[Operation]:
-    """Those of clients; what the nemesis did is left out."""
-    for line, operation_map in _maps(text):
-        process = operation_map.get("process")
+    def _operation(self, line: int, found: Any) -> Optional[Operation]:
+        """The operation in a map; None for one of the nemesis."""
+        process = found.get("process")
         if _word(process) == "nemesis":
-            continue
+            return None
         if not isinstance(process, int) or isinstance(process, bool):
             raise ImportRefusedError(line, "a process must be a whole number or the nemesis")
-        type = _word(operation_map.get("type"))
+        type = _word(found.get("type"))
         if type not in ("invoke", *OUTCOMES):
             raise ImportRefusedError(line, "the type must be invoke, ok, fail or info")
-        if _word(operation_map.get("f")) != "txn":
+        function = _word(found.get("f"))
+        if function in self.left_out:
+            self.left_out[function] += type == "invoke"
+            return None
+        if function != "txn":
             raise ImportRefusedError(
-                line, "a client's operation has a function other than txn: its effect is unknown"
+                line,
+                "a client's operation has a function other than txn: its effect is unknown "
+                "(--leave-out skips a function)",
             )
-        index, time = (_whole(operation_map.get(name), name, line) for name in ("index", "time"))
-        value = operation_map.get("value")
+        index, time = (_whole(found.get(name), name, line) for name in ("index", "time"))
+        value, part = found.get("value"), ""
         has_none = value is None and type in ("fail", "info")
-        micros = () if has_none else tuple(_micros(value, line, is_of_lists))
-        yield Operation(line, type, str(process), index, time, micros)
+        if self._is_independent and not has_none:
+            if not isinstance(value, (tuple, list)) or len(value) != 2:
+                raise ImportRefusedError(line, "the value must be a part and a txn (--independent)")
+            part, value = token(value[0], line, "a part"), value[1]
+            has_none = value is None and type in ("fail", "info")
+        micros = [] if has_none else [*self._micros(value, line)]
+        return Operation(line, type, str(process), index, time, part, micros)
+
+    def _micros(self, value: Any, line: int) -> Iterator[Access]:
+        if not isinstance(value, (tuple, list)):
+            raise ImportRefusedError(line, "the value of a txn must be a list of micro-operations")
+        for micro in value:
+            if not isinstance(micro, (tuple, list)) or len(micro) != 3:
+                raise ImportRefusedError(
+                    line, "a micro-operation must be a function, a key and a value"
+                )
+            function = _word(micro[0])
+            kind = self._kinds.get(function or "")
+            if kind is None or function is None:
+                known = " and ".join(self._kinds)
+                raise ImportRefusedError(line, f"a micro-operation of this form must be {known}")
+            key = token(micro[1], line, "a key")
+            its: Value
+            if kind == READ_LIST:
+                its = _elements(micro[2], line)
+            elif kind == READ:
+                its = optional_token(micro[2], line, "a value")
+            else:
+                its = token(micro[2], line, "a written value")
+            yield Access(kind, key, its, self._text_of(function, key, its))
+
+    def _text_of(self, function: str, key: str, value: Value) -> str:
+        """As the file has it."""
+        between = ", " if self._is_json else " "
+        shown = value if isinstance(value, str) else "null" if self._is_json else "nil"
+        if isinstance(value, tuple):
+            shown = f"[{between.join(value)}]"
+        first = f'"{function}"' if self._is_json else f":{function}"
+        return f"[{between.join((first, key, shown))}]"
 
 
 def _whole(value: Any, name: str, line: int) -> Optional[int]:
     if value is None or (isinstance(value, int) and not isinstance(value, bool)):
         return value
     raise ImportRefusedError(line, f"the {name} must be a whole number")
-
-
-def _micros(value: Any, line: int, is_of_lists: bool) -> Iterator[Micro]:
-    if not isinstance(value, (tuple, list)):
-        raise ImportRefusedError(line, "the value of a txn must be a list of micro-operations")
-    for micro in value:
-        if not isinstance(micro, (tuple, list)) or len(micro) != 3:
-            raise ImportRefusedError(
-                line, "a micro-operation must be a function, a key and a value"
-            )
-        function = _word(micro[0])
-        if function not in ("r", "append" if is_of_lists else "w"):
-            known = "r and append" if is_of_lists else "r and w"
-            raise ImportRefusedError(line, f"a micro-operation of this form must be {known}")
-        key = token(micro[1], line, "a key")
-        if function == "r" and is_of_lists:
-            yield function, key, _elements(micro[2], line)
-        elif function == "r":
-            yield function, key, optional_token(micro[2], line, "a value")
-        else:
-            yield function, key, token(micro[2], line, "a written value")
 
 
 def _elements(value: Any, line: int) -> Optional[Tuple[str, ...]]:
@@ -131,16 +206,15 @@ def _elements(value: Any, line: int) -> Optional[Tuple[str, ...]]:
 
 
 class _Pairs:
-    """Puts invocations and completions together."""
+    """Matches invocations with their completions."""
 
-    def __init__(self, is_of_lists: bool, is_json: bool) -> None:
-        self._is_of_lists = is_of_lists
-        self._is_json = is_json
-        self._attempts: List[Attempt] = []
+    def __init__(self) -> None:
+        self._attempts: List[Attempt] = []  # without names
         self._open: Dict[str, Tuple[int, Operation, int]] = {}  # of each process
         self._unused = 0
 
     def recording(self, operations: Iterator[Operation], form: str) -> Recording:
+        """Raises ImportRefusedError."""
         last_line, goes_back = 0, 0
         latest: Optional[int] = None
         for place, operation in enumerate(operations, 1):
@@ -155,19 +229,22 @@ class _Pairs:
                 self._complete(operation, place)
         for process in [*self._open]:
             _, invoked, _ = self._open[process]
-            self._complete(replace(invoked, type="info"), NEVER)
+            self._complete(invoked._replace(type="info"), NEVER)
         if not self._attempts:
             raise ImportRefusedError(max(1, last_line), "the file has no client operation")
-        return Recording(form, tuple(self._named()), True, self._unused, goes_back)
+        return Recording(
+            form, tuple(self._named()), True, self._unused, time_goes_back=goes_back
+        )
 
     def _named(self) -> Iterator[Attempt]:
-        """By their lines; by their indexes or places where several stand on one line."""
+        """Names attempts by their lines, or by their indexes or places if several are on one
+        line."""
         lines = {attempt.line for attempt in self._attempts}
         for attempt in self._attempts:
             if len(lines) == len(self._attempts):
-                yield replace(attempt, name=f"line {attempt.line}")
+                yield attempt._replace(name=f"line {attempt.line}")
             else:
-                yield replace(attempt, where=f"line {attempt.line}, {attempt.where}")
+                yield attempt._replace(where=f"line {attempt.line}, {attempt.where}")
 
     def _invoke(self, operation: Operation, place: int) -> None:
         if operation.process in self._open:
@@ -177,9 +254,7 @@ class _Pairs:
                 f"process {operation.process} already has an operation in flight, from line {line}",
             )
         self._open[operation.process] = (len(self._attempts), operation, place)
-        self._attempts.append(
-            Attempt("", operation.process, UNKNOWN, (), operation.line)
-        )  # until it ends
+        self._attempts.append(Attempt("", "", UNKNOWN, (), operation.line))  # until it ends
 
     def _complete(self, operation: Operation, place: int) -> None:
         if operation.process not in self._open:
@@ -190,62 +265,46 @@ class _Pairs:
         at, invoked, began = self._open.pop(operation.process)
         outcome = OUTCOMES[operation.type]
         if outcome == COMMITTED or operation.micros:
-            self._check_same(invoked, operation)
-        micros = operation.micros if outcome == COMMITTED else invoked.micros
-        reads = sum(outcome != COMMITTED and micro[0] == "r" and micro[2] is not None
-                    for micro in operation.micros)
-        self._unused += reads
-        accesses = tuple(self._access(micro) for micro in micros
-                         if outcome == COMMITTED or micro[0] != "r")
-        ended = NEVER if outcome == UNKNOWN else place
+            _check_same(invoked, operation)
         done = operation if outcome == COMMITTED else invoked
+        if outcome == COMMITTED:
+            accesses = tuple([
+                it._replace(value=()) if it.value is None and it.kind == READ_LIST else it
+                for it in done.micros
+            ])
+        else:
+            accesses = tuple(it for it in done.micros if it.kind not in READS)
+            self._unused += sum(
+                it.kind in READS and it.value is not None for it in operation.micros
+            )
+        client, where = operation.process, f"process {operation.process}"
+        if invoked.part:  # its keys and its sessions are its own
+            client, where = f"{client} in {invoked.part}", f"{where} in part {invoked.part}"
+            accesses = tuple(it._replace(key=f"{it.key} in {invoked.part}") for it in accesses)
+        number = place if outcome == COMMITTED else began
         self._attempts[at] = Attempt(
-            f"operation {place if outcome == COMMITTED else began}"
-            if done.index is None
-            else f"op {done.index}",
-            operation.process,
+            f"operation {number}" if done.given_index is None else f"op {done.given_index}",
+            client,
             outcome,
             accesses,
             done.line,
-            f"process {operation.process}"
-            + ("" if done.index is None else f", index {done.index}"),
+            where if done.given_index is None else f"{where}, index {done.given_index}",
             began,
-            ended,
+            NEVER if outcome == UNKNOWN else place,
             invoked.time,
             None if outcome == UNKNOWN else operation.time,
         )
 
-    @staticmethod
-    def _check_same(invoked: Operation, completed: Operation) -> None:
-        """A completion has the invocation's micro-operations, but for what was read."""
-        asked = [
-            (micro[0], micro[1], micro[2] if micro[0] != "r" else None) for micro in invoked.micros
-        ]
-        done = [
-            (micro[0], micro[1], micro[2] if micro[0] != "r" else None)
-            for micro in completed.micros
-        ]
-        if asked != done:
-            raise ImportRefusedError(
-                completed.line,
-                f"this isn't the operation that process {completed.process} invoked on line "
-                f"{invoked.line}",
-            )
 
-    def _access(self, micro: Micro) -> Access:
-        function, key, value = micro
-        kind = {"r": READ_LIST if self._is_of_lists else READ, "w": WRITE, "append": APPEND}
-        kept: Value = value
-        if function == "r" and self._is_of_lists:
-            kept = value or ()
-        return Access(kind[function], key, kept, self._text(micro))
-
-    def _text(self, micro: Micro) -> str:
-        function, key, value = micro
-        between = ", " if self._is_json else " "
-        empty = "null" if self._is_json else "nil"
-        shown = empty if value is None else value
-        if isinstance(value, tuple):
-            shown = f"[{between.join(value)}]"
-        first = f'"{function}"' if self._is_json else f":{function}"
-        return f"[{between.join((first, key, shown))}]"
+def _check_same(invoked: Operation, completed: Operation) -> None:
+    """Checks that a completion has the invocation's micro-operations, except for what was read."""
+    is_same = len(invoked.micros) == len(completed.micros) and invoked.part == completed.part
+    if is_same:
+        for asked, done in zip(invoked.micros, completed.micros):
+            is_same &= asked[:2] == done[:2] and (asked[2] == done[2] or asked[0] in READS)
+    if not is_same:
+        raise ImportRefusedError(
+            completed.line,
+            f"this isn't the operation that process {completed.process} invoked on line "
+            f"{invoked.line}",
+        )

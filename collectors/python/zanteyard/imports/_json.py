@@ -1,4 +1,4 @@
-"""Reads JSON strictly, and with the line of each element of an array."""
+"""A strict reader of JSON, which keeps the line of each element of an array."""
 
 from __future__ import annotations
 
@@ -26,8 +26,8 @@ DECODER = json.JSONDecoder(object_pairs_hook=_object, parse_constant=_refuse)
 
 
 class JsonReader:
-    """The values of a text, each with the line on which it begins, from 1. Raises
-    ImportRefusedError with the line of what is no JSON."""
+    """Reads the values of a text, each with the line on which it begins, from 1. Raises
+    ImportRefusedError, with the line, for what isn't JSON."""
 
     def __init__(self, text: str) -> None:
         self._text = text
@@ -35,8 +35,7 @@ class JsonReader:
         self._line, self._counted = 1, 0
 
     def elements(self) -> Iterator[Tuple[int, Any]]:
-        """The elements of the array that the text is; or where it is none, its values, one behind
-        another."""
+        """The elements of the text's array; or, if it is none, its values, one after another."""
         self._skip()
         if not self._text.startswith("[", self._at):
             while self._at < len(self._text):
@@ -55,7 +54,7 @@ class JsonReader:
             raise self._refused("text after the array")
 
     def is_over(self) -> bool:
-        """Whether nothing stands behind what was read."""
+        """Whether the end of the text is reached."""
         return self._at >= len(self._text)
 
     def value(self) -> Tuple[int, Any]:

@@ -1,11 +1,11 @@
-"""What a file of another tool's says that clients did: by value, before anybody knows from which
-transaction a read came."""
+"""What clients did according to another tool's file: by value, before it is known which transaction
+each read came from."""
 
 from __future__ import annotations
 
 import json
 from dataclasses import dataclass
-from typing import Any, Optional, Tuple, Union
+from typing import Any, NamedTuple, Optional, Tuple, Union
 
 from ..core.errors import ImportRefusedError
 from ._edn import Keyword
@@ -17,29 +17,27 @@ NEVER = 1 << 62  # the place of an end that isn't in the file
 Value = Union[None, str, Tuple[str, ...]]
 
 
-@dataclass(frozen=True)
-class Access:
-    """One read or write, in the order in which the client made them. The value is a text by which
-    values are told apart; None where a read found the initial state; of a list its elements."""
+class Access(NamedTuple):
+    """One read or write, in the client's order. `value` is a text that distinguishes values; None
+    if a read found the initial state; for a list, its elements."""
 
     kind: str  # READ, WRITE, APPEND or READ_LIST
     key: str
     value: Value
-    text: str  # as the file has it
+    text: str  # as in the file
 
 
-@dataclass(frozen=True)
-class Attempt:
-    """A transaction that a client began. `began` and `ended` are places in the file, which tell
-    what ended before what began; both 0 where the file says nothing of time. What an attempt of
-    another outcome than COMMITTED has read isn't in its accesses."""
+class Attempt(NamedTuple):
+    """A transaction that a client began. `began` and `ended` are places in the file, which say what
+    ended before what began; both are 0 if the file doesn't say. The reads of an attempt that didn't
+    commit for certain aren't in `accesses`."""
 
     name: str
     client: str
     outcome: str  # COMMITTED, ABORTED or UNKNOWN
     accesses: Tuple[Access, ...]
     line: int
-    where: str = ""  # the rest of what the file calls it
+    where: str = ""  # the rest of its name in the file
     began: int = 0
     ended: int = 0
     began_at: Optional[int] = None  # by the file's clock, in nanoseconds
@@ -48,24 +46,25 @@ class Attempt:
 
 @dataclass(frozen=True)
 class Recording:
-    """A file. The attempts of each client stand in the order in which it began them. Reads of
-    attempts that didn't commit for certain are `unused`."""
+    """The contents of a file. Each client's attempts are in the order in which it began them.
+    `unused` counts the reads of attempts that didn't commit for certain."""
 
     form: str
     attempts: Tuple[Attempt, ...]
     has_times: bool = False
     unused: int = 0
-    time_goes_back: int = 0  # the line at which it does; 0 where it doesn't
+    left_out: Tuple[Tuple[str, int], ...] = ()  # functions that were skipped, each with a count
+    time_goes_back: int = 0  # the line at which it does; 0 if it never does
 
 
 def counted(count: int, what: str) -> str:
-    """As in "1 read", "2 reads"."""
+    """A count with its noun, such as "1 read" or "2 reads"."""
     return f"{count:,} {what}{'' if count == 1 else 's'}"
 
 
 def token(value: Any, line: int, what: str) -> str:
-    """The text by which a key or value is told apart from others. Raises ImportRefusedError where
-    it is none that can be told apart by its text."""
+    """A text that distinguishes a key or value from others. Raises ImportRefusedError if a text
+    can't do that."""
     if isinstance(value, Keyword):
         return f":{value.name}"
     if isinstance(value, str):
@@ -76,5 +75,5 @@ def token(value: Any, line: int, what: str) -> str:
 
 
 def optional_token(value: Any, line: int, what: str) -> Optional[str]:
-    """The same; None where there is none."""
+    """The same; None for None."""
     return None if value is None else token(value, line, what)

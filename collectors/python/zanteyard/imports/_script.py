@@ -1,5 +1,5 @@
-"""Makes a script of a recording whose sources are known: which transactions are offered, in which
-sessions, under which numbers, and the names that they are told by."""
+"""Turns a recording whose sources are known into a script: which transactions are offered, in which
+sessions, with which numbers, and their names."""
 
 from __future__ import annotations
 
@@ -30,17 +30,17 @@ from ._times import EVERY, Times, check_times, part_of, times_of
 
 SESSIONS = 64
 LIMIT = 4096  # transactions that remain at a time
-NEVER_OFFERED = 1_000_000_000  # numbers from here on are those of transactions that don't come
+NEVER_OFFERED = 1_000_000_000  # numbers from here on are those of transactions that never arrive
 ROUND = ["round", 4096, 0, 1, "guided"]
 
 
 def script_of(
     recording: Recording, first: Optional[int] = None, asks_time: bool = False, every: int = EVERY
 ) -> Imported:
-    """The script of the whole recording, or of so many attempts from its begin on, and its times.
-    With `asks_time` it is to be asked about the order of time: then clients may share a session by
-    that, and where there are more transactions than may remain, there are fences at pauses between
-    which at least so many lie. Raises ImportRefusedError where there is none that is sound, or that
+    """The script of the whole recording, or of its first `first` attempts, and its times. With
+    `asks_time` it will be checked for real-time order: then clients may share a session by time,
+    and if there are more transactions than may remain, fences are put at pauses that are at least
+    `every` transactions apart. Raises ImportRefusedError if there is no sound script, or none that
     the auditor can take."""
     if asks_time:
         check_times(recording)
@@ -58,7 +58,7 @@ class _ScriptMaker:
         self._kept = self._front(first) if first is not None else set(range(len(self._attempts)))
         self._times = Times(self._attempts, self._of) if asks_time else None  # of the whole file
         self._every = every
-        self._pauses: List[int] = []  # that are used
+        self._pauses: List[int] = []  # the ones that are used
         self._keys: Dict[str, int] = {}
         self._absent: Dict[object, AuditId] = {}
         self._absent_names: Dict[AuditId, str] = {}
@@ -66,7 +66,7 @@ class _ScriptMaker:
         self._places: Dict[Item, AuditId] = {}
 
     def _front(self, first: int) -> Set[int]:
-        """The first so many, by the line on which they began or stand."""
+        """The first attempts, in the order of their begins, or of their places in the file."""
         order = sorted(range(len(self._attempts)), key=self._begin_of)
         return set(order[:first])
 
@@ -74,7 +74,7 @@ class _ScriptMaker:
         return self._attempts[at].began, at
 
     def imported(self) -> Imported:
-        """All of it."""
+        """The complete result."""
         self._plan = self._planned()
         if self._times is not None and sum(map(len, self._plan.sessions)) > LIMIT:
             self._pauses = self._times.pauses(self._every)
@@ -97,7 +97,8 @@ class _ScriptMaker:
             tuple(sorted(self._plan.by_time)),
             bool(self._pauses),
         )
-        texts = tuple(json.dumps(line, separators=(",", ":")) for line in lines)
+        encode = json.JSONEncoder(separators=(",", ":")).encode
+        texts = tuple(map(encode, lines))
         return Imported(texts, names, tuple(self._about()), self._script_times())
 
     def _script_times(self) -> Optional[ScriptTimes]:
@@ -107,8 +108,8 @@ class _ScriptMaker:
         return times_of(self._recording, ids)
 
     def _lines(self, offered: List[List[Any]]) -> Iterator[List[Any]]:
-        """The script. Where all doesn't fit there is a round at each pause, behind which what is
-        settled is forgotten; else one at the end."""
+        """The lines of the script. If not everything fits, there is a round at each pause, after
+        which what is settled is forgotten; otherwise one round at the end."""
         count = sum(map(len, offered))
         if count > LIMIT and not self._pauses:
             raise ImportRefusedError(0, too_many(count))
@@ -135,8 +136,9 @@ class _ScriptMaker:
         yield ROUND
 
     def _check_room(self, count: int, pause: int) -> None:
-        """For so many transactions in front of that pause, counted from 0."""
-        if count > LIMIT - SESSIONS:  # what remains of the pause before are second fences
+        """Raises ImportRefusedError if there isn't room for this many transactions before this
+        pause, counted from 0."""
+        if count > LIMIT - SESSIONS:  # the previous pause leaves second fences
             line = self._line_at(self._pauses[pause - 1]) if pause else 1
             raise ImportRefusedError(
                 line,
@@ -148,8 +150,8 @@ class _ScriptMaker:
         return next(attempt.line for attempt in self._attempts if attempt.began == place)
 
     def _put_fences(self) -> None:
-        """At each pause every session that has done something makes a fence, one behind another,
-        and then every one that will do something makes a second one."""
+        """Puts fences at each pause: first one for every session that has done something, in a
+        chain, then a second one for every session that will do something."""
         if not self._pauses:
             return
         parts = [self._parts_of(items) for items in self._plan.sessions]
@@ -182,8 +184,8 @@ class _ScriptMaker:
         return parts
 
     def _planned(self) -> Plan:
-        """Each client in a session of its own; where they are too many, one that certainly comes
-        behind all of another one goes on in its session."""
+        """A session for each client. If there are too many clients, one that certainly comes after
+        all of another one shares its session."""
         clients = [items for items in self._items_of_clients().values() if items]
         if not clients:
             raise ImportRefusedError(0, "no transaction was committed: nothing can be checked")
@@ -204,7 +206,8 @@ class _ScriptMaker:
         return plan
 
     def _place(self, items: List[Item], plan: Plan, before: Set[Item]) -> None:
-        """In the session of one that comes before; `before` is all that does in every order."""
+        """Puts a client's items into the session of one that comes before it; `before` is what
+        comes before the items in every order."""
         for number, session in enumerate(plan.sessions):
             is_known = session[-1] in before
             if is_known or (before and self._is_before_in_time(session, items)):
@@ -216,18 +219,18 @@ class _ScriptMaker:
         plan.sessions.append(items[:])
 
     def _is_before_in_time(self, session: List[Item], items: List[Item]) -> bool:
-        """Whether all that the one did had ended when all that the other did began."""
+        """Whether everything in the session had ended when the first of these items began."""
         if self._times is None:
             return False
         last = [self._times.ended[item] for item in session if isinstance(item, int)]
         first = [self._times.began[item] for item in items if isinstance(item, int)]
-        if not last or not first:  # what wrote nothing may stand anywhere
+        if not last or not first:  # what wrote nothing may be anywhere
             return True
         return max(last) < min(first)
 
     def _items_of_clients(self) -> Dict[str, List[Item]]:
-        """Of each client what is offered, in order. Raises ImportRefusedError where a client goes
-        on behind an attempt whose outcome isn't known, and which took effect."""
+        """By client, what is offered, in order. Raises ImportRefusedError if a client goes on after
+        an attempt whose outcome is unknown and which took effect."""
         stubs = self._stubs()
         items_of: Dict[str, List[Item]] = {}
         unknown: Dict[str, int] = {}
@@ -252,7 +255,7 @@ class _ScriptMaker:
         return items_of
 
     def _stubs(self) -> Dict[int, List[Stub]]:
-        """What was read and wasn't there to be read, by its owner."""
+        """The sources of reads that can't be real, by owner."""
         stubs_of: Dict[int, List[Stub]] = {}
         for at in self._of:
             if at in self._kept:
@@ -264,8 +267,8 @@ class _ScriptMaker:
         return stubs_of
 
     def _known_before(self) -> Dict[Item, List[Item]]:
-        """What comes before each transaction in every order: the one before of its client, and
-        those from which it has read."""
+        """What comes before each transaction in every order: its predecessor in the client's order,
+        and those from which it has read."""
         before: Dict[Item, List[Item]] = {}
         for items in self._items_of_clients().values():
             for first, following in zip(items, items[1:]):
@@ -278,7 +281,7 @@ class _ScriptMaker:
         return before
 
     def _offered(self, item: Item) -> Tuple[List[Any], NamedTransaction]:
-        """A transaction as a line has it, and as it is told."""
+        """A transaction as in a line, and its name."""
         if isinstance(item, Stub):
             return self._stub(item)
         if isinstance(item, Fence):
@@ -288,11 +291,14 @@ class _ScriptMaker:
             raise ImportRefusedError(
                 attempt.line, f"a transaction can have at most {LONGEST} reads and {LONGEST} writes"
             )
+        keys = self._keys
         reads = {
-            (self._key(key), *self._source(origin, item)): text
+            (keys.setdefault(key, len(keys) + 1), *self._source(origin)): text
             for (key, origin), text in sourced.reads.items()
         }
-        writes = {self._key(key): text for key, text in sourced.writes.items()}
+        writes = {
+            keys.setdefault(key, len(keys) + 1): text for key, text in sourced.writes.items()
+        }
         texts = [([*read], text) for read, text in sorted(reads.items(), key=ascending)]
         texts += [([key], text) for key, text in sorted(writes.items())]
         offered = [[read for read, _ in texts[: len(reads)]], sorted(writes)]
@@ -301,7 +307,7 @@ class _ScriptMaker:
         )
 
     def _stub(self, stub: Stub) -> Tuple[List[Any], NamedTransaction]:
-        """With the keys that an attempt wrote, where it was aborted."""
+        """A stub as in a line, with the keys that it wrote if it is an aborted attempt."""
         named = named_stub(stub, self._attempts)
         written = written_by(self._attempts[stub.owner]) if stub.kind == ABORTED else {}
         if not written or len(written) > LONGEST:
@@ -311,7 +317,7 @@ class _ScriptMaker:
         return [[], [key for key, _ in texts], ABORTED], named
 
     def _fence(self, fence: Fence) -> List[Any]:
-        """It reads from the one before it, whoever made that."""
+        """A fence as in a line. It reads from the previous fence, whichever session that is in."""
         row = [fence for fences in self._plan.fences for fence in fences]
         at = row.index(fence)
         source = self._places[row[at - 1]] if at else ("init",)
@@ -320,12 +326,13 @@ class _ScriptMaker:
     def _key(self, key: str) -> int:
         return self._keys.setdefault(key, len(self._keys) + 1)
 
-    def _source(self, origin: Origin, reader: Item) -> Tuple[Any, ...]:
-        """As a read has it."""
+    def _source(self, origin: Origin) -> Tuple[Any, ...]:
+        """A source as in a read."""
         if origin is None:
             return ("init",)
-        if not isinstance(origin, Absent) and origin in self._places:
-            return self._places[origin]
+        place = None if isinstance(origin, Absent) else self._places.get(origin)
+        if place is not None:
+            return place
         if isinstance(origin, Absent):
             name = f"a writer of {origin.value} that isn't in the file"
         else:
@@ -334,8 +341,7 @@ class _ScriptMaker:
         return self._never_offered(origin, name)
 
     def _never_offered(self, what: object, name: str) -> AuditId:
-        """The name of a transaction that doesn't come, in a session that isn't open where one is
-        left."""
+        """An id for a transaction that never arrives, in a session that isn't open if possible."""
         session = min(len(self._plan.sessions), SESSIONS - 1)
         id = self._absent.setdefault(
             what, AuditId((session, NEVER_OFFERED + len(self._absent)))
@@ -344,13 +350,13 @@ class _ScriptMaker:
         return id
 
     def _rest(self) -> Tuple[List[Any], NamedTransaction]:
-        """Has the verdict wait for what wasn't imported."""
+        """A transaction that keeps the verdict pending because of what wasn't imported."""
         source = self._never_offered(REST, "the rest of the file")
         read = [self._key(REST), *source]
         return [[read], []], NamedTransaction(PART, COMMITTED)
 
     def _about(self) -> Iterator[str]:
-        """What was done with the file, in words."""
+        """Sentences about what was done with the file."""
         kept = [self._attempts[at] for at in self._kept]
         count = sum(isinstance(item, int) for item in self._places)
         yield f"{counted(count, 'transaction')} in {counted(len(self._plan.sessions), 'session')}"
@@ -364,10 +370,18 @@ class _ScriptMaker:
             taken = {at for at in places if at in self._of or Stub(at, ABORTED) in self._places}
             if places:
                 left = len(places) - len(taken)
-                yield (
-                    f"{counted(len(places), 'attempt')} {about}: {left} left out, because nobody "
-                    "read from them"
-                )
+                them = "it" if (left or len(places)) == 1 else "them"
+                words = f"left out, because nobody read from {them}"
+                if not left:
+                    words = f"in the script, because somebody read from {them}"
+                elif taken:
+                    words = f"{left} {words}"
+                yield f"{counted(len(places), 'attempt')} {about}: {words}"
+        for function, skipped in self._recording.left_out:
+            yield (
+                f"{counted(skipped, 'operation')} of {function} left out: if they wrote anything, "
+                "the verdict may be wrong"
+            )
         if self._recording.unused:
             yield (
                 f"{counted(self._recording.unused, 'read')} not used, of attempts that failed or "
@@ -386,7 +400,7 @@ class _ScriptMaker:
 
 
 def too_many(count: int) -> str:
-    """Why so many transactions can't be judged at once."""
+    """Says why this many transactions can't be checked at once."""
     return (
         f"the file has {count:,} transactions, and at most {LIMIT:,} can be checked at once "
         "without fences, which this history lacks: take the first of them (--first N)"

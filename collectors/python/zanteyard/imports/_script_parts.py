@@ -1,4 +1,4 @@
-"""What a script of a recording is made of: items in sessions, fences, lines, and names."""
+"""The parts of a recording's script: items in sessions, fences, lines, and names."""
 
 from __future__ import annotations
 
@@ -16,41 +16,41 @@ LONGEST = 256  # transactions of a line, and reads or writes of a transaction
 
 @dataclass(frozen=True)
 class Fence:
-    """One that a session makes at a pause: as its first there, or its second."""
+    """A fence of a session at a pause: its first one there, or its second."""
 
     pause: int  # from 1
     session: int
     is_first: bool
 
     def name(self) -> str:
-        """How it is told."""
+        """Its name in reports."""
         return f"{'before' if self.is_first else 'after'} pause {self.pause} in {self.session}"
 
 
-Item = Union[int, Stub, Fence]  # an attempt's place, or what wrote nothing, or a fence
+Item = Union[int, Stub, Fence]  # an attempt's place, a stub, or a fence
 
 
 @dataclass(frozen=True)
 class Imported:
-    """A script, the names of what it is about, and what was done with the file in words."""
+    """A script, its names, and sentences about what was done."""
 
     lines: Tuple[str, ...]
     names: ScriptNames
     about: Tuple[str, ...]
-    times: Optional[ScriptTimes] = None  # where the file tells when its transactions ran
+    times: Optional[ScriptTimes] = None  # if the file says when its transactions ran
 
 
 @dataclass
 class Plan:
-    """What is offered: of each session its items in order, and whose they are."""
+    """What is offered: the items of each session, in order."""
 
     sessions: List[List[Item]] = field(default_factory=list)
-    shared: int = 0  # clients that go on in the session of another one
-    by_time: Set[int] = field(default_factory=set)  # sessions in which one does by the file's time
-    fences: List[List[Fence]] = field(default_factory=list)  # of each pause, in their order
+    shared: int = 0  # clients that go on in another one's session
+    by_time: Set[int] = field(default_factory=set)  # sessions that are shared by time
+    fences: List[List[Fence]] = field(default_factory=list)  # of each pause, in order
 
     def places(self) -> Dict[Item, AuditId]:
-        """Of each item its session and number."""
+        """The session and number of each item."""
         return {
             item: AuditId((session, number))
             for session, items in enumerate(self.sessions)
@@ -64,7 +64,7 @@ def ascending(named_read: Tuple[Sequence[Any], str]) -> Tuple[int, ...]:
 
 
 def all_before(before: Dict[Item, List[Item]], end: Item) -> Set[Item]:
-    """Whatever leads there."""
+    """Everything from which a path leads to `end`, including `end`."""
     seen: Set[Item] = {end}
     waiting = [end]
     while waiting:
@@ -76,13 +76,13 @@ def all_before(before: Dict[Item, List[Item]], end: Item) -> Set[Item]:
 
 
 def offers(session: int, first: int, transactions: List[Any]) -> Iterator[List[Any]]:
-    """The lines that offer a session's transactions, but for so many that were offered before."""
+    """The lines that offer a session's transactions from this number on."""
     for start in range(first, len(transactions), LONGEST):
         yield ["offer", session, start, transactions[start : start + LONGEST]]
 
 
 def written_by(attempt: Attempt) -> Dict[str, str]:
-    """Of each key that it wrote, what the file has for that."""
+    """For each key that it wrote, the file's text of the writes."""
     texts_of: Dict[str, List[str]] = {}
     for access in attempt.accesses:
         if access.kind in (WRITE, APPEND):

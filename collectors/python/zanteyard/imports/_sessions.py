@@ -35,7 +35,7 @@ NO_INITIAL = "this write writes the initial value of keys (--initial names anoth
 def access_of(
     kind: str, key: str, value: Optional[str], text: str, initial: str, line: int
 ) -> Access:
-    """A read that found the initial value, which may not be written, has no value."""
+    """A read or write. A read of the initial value, which may not be written, has no value."""
     if kind == WRITE and (value is None or value == initial):
         raise ImportRefusedError(line, NO_INITIAL if value else "a write has no value")
     return Access(kind, key, None if value == initial else value, text)
@@ -43,7 +43,7 @@ def access_of(
 
 @dataclass
 class _RecordedTransaction:
-    """One that is being read."""
+    """A transaction that is being read."""
 
     session: str
     number: str
@@ -54,14 +54,14 @@ class _RecordedTransaction:
 
 
 class _RecordedTransactions:
-    """Puts the lines of transactions together. A session has one at a time."""
+    """Puts the lines of transactions together. A session has one transaction at a time."""
 
     def __init__(self) -> None:
         self._all: List[_RecordedTransaction] = []
-        self._last: Dict[str, _RecordedTransaction] = {}  # of each session
+        self._last: Dict[str, _RecordedTransaction] = {}  # by session
 
     def at(self, session: str, number: str, line: int) -> _RecordedTransaction:
-        """The transaction that a line is of; a new one where it isn't the session's last."""
+        """The transaction of a line; a new one if it isn't the session's last."""
         last = self._last.get(session)
         if last is None or last.number != number:
             last = _RecordedTransaction(session, number, line)
@@ -72,11 +72,11 @@ class _RecordedTransactions:
         return last
 
     def last_number(self, session: str) -> Optional[str]:
-        """Of the session's last transaction; None where it has none."""
+        """The number of the session's last transaction; None if it has none."""
         return self._last[session].number if session in self._last else None
 
     def recording(self, form: str, last_line: int) -> Recording:
-        """Reads of what didn't commit for certain are left out, and counted."""
+        """The recording. Reads of what didn't commit for certain are left out and counted."""
         if not self._all:
             raise ImportRefusedError(max(1, last_line), "the file has no transaction")
         unused = 0
@@ -97,8 +97,8 @@ class _RecordedTransactions:
 
 
 def read_csv(text: str, initial: str = "") -> Recording:
-    """Rows of a session, a number in it, an operation, a key and a value; `initial` is the value
-    that a key is read as before it is written. Raises ImportRefusedError."""
+    """Reads rows of a session, a transaction's number, an operation, a key and a value. `initial`
+    is the value that a key has before its first write. Raises ImportRefusedError."""
     rows = csv.reader(io.StringIO(text, newline=""), strict=True)
     transactions = _RecordedTransactions()
     line = 0
@@ -147,10 +147,10 @@ def _csv_row(
 
 
 def read_polysi(text: str, initial: str = "0") -> Recording:
-    """Lines `r(key,value,session,transaction)` and `w(..)`, whole numbers all; a session's lines
-    stand in its order. Raises ImportRefusedError."""
+    """Reads lines `r(key,value,session,transaction)` and `w(..)`, all whole numbers. A session's
+    lines are in its order. Raises ImportRefusedError."""
     transactions = _RecordedTransactions()
-    sessions: Dict[str, str] = {}  # of each transaction
+    sessions: Dict[str, str] = {}  # by transaction
     number = 0
     for number, line in enumerate(text.split("\n"), 1):
         if not line.strip():
@@ -180,8 +180,8 @@ def read_polysi(text: str, initial: str = "0") -> Recording:
 
 
 def read_dbcop(text: str, initial: str = "0") -> Recording:
-    """An object whose `data` is a list of sessions, or that list: each a list of transactions with
-    `events` and `success`. Raises ImportRefusedError."""
+    """Reads an object whose `data` is a list of sessions, or that list: each a list of transactions
+    with `events` and `success`. Raises ImportRefusedError."""
     recorded = _RecordedTransactions()
     last_line = 0
     for session, (line, transactions) in enumerate(_dbcop_sessions(text)):
@@ -197,7 +197,7 @@ def read_dbcop(text: str, initial: str = "0") -> Recording:
 
 
 def _dbcop_sessions(text: str) -> Iterator[Tuple[int, Any]]:
-    """Each session's line, and what it is; where they stand in an object, the object's line."""
+    """Each session with its line; if they are in an object, with the object's line."""
     reader = JsonReader(text)
     if text.lstrip()[:1] == "[":
         yield from reader.elements()

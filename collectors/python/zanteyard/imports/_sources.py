@@ -1,7 +1,9 @@
-"""From whom each read came: the values of a recording are looked up among those that were written.
+"""Finds the transaction from which each read came, by looking its value up among those that were
+written.
 
-What is made of it explains exactly the orders that the recording's own values have; docs/IMPORT.md
-argues why, case by case. Where a value doesn't tell its writer the file is refused.
+The resulting history is explained by exactly the orders that explain the recording's own values;
+docs/IMPORT.md argues why, case by case. If a value doesn't identify its writer, the file is
+refused.
 """
 
 from __future__ import annotations
@@ -18,9 +20,9 @@ DRAFT = "draft"
 
 @dataclass(frozen=True)
 class Stub:
-    """What wrote nothing that a committed transaction may read: an attempt that was aborted, or of
-    the owner what it overwrote itself (DRAFT); or, of a read of what the owner's own writes
-    exclude, no writer at all (ELSEWHERE). The owner is an attempt's place in the recording."""
+    """A source that no committed transaction may read from: an attempt that was aborted (ABORTED),
+    an owner's write that it overwrote itself (DRAFT), or no writer at all, because the owner's own
+    writes exclude the value (ELSEWHERE). The owner is an attempt's place in the recording."""
 
     owner: int
     kind: str  # ABORTED, DRAFT or ELSEWHERE
@@ -28,7 +30,7 @@ class Stub:
 
 @dataclass(frozen=True)
 class Absent:
-    """Who wrote a value that nobody in the file has written."""
+    """The writer of a value that nobody in the file has written."""
 
     key: str
     value: str
@@ -39,25 +41,50 @@ Origin = Union[None, int, Stub, Absent]  # None for the initial state, else an a
 
 @dataclass
 class Sourced:
-    """What an attempt did, by source. `texts` tell each read and write as the file has it."""
+    """What an attempt did, by source, each read and write with its text in the file."""
 
     reads: Dict[Tuple[str, Origin], str]
     writes: Dict[str, str]
 
 
+class Chain:
+    """The longest list of a key so far in which the writer of each element is known, in whole
+    groups. What was recorded for it needn't be recorded again for a list that begins alike."""
+
+    def __init__(self) -> None:
+        self.elements: Tuple[str, ...] = ()
+        self.last: Dict[int, Origin] = {0: None}  # the last one's writer, by their number
+        self.owners: Set[Origin] = set()
+
+    def common(self, front: Tuple[str, ...]) -> int:
+        """The number of elements that the list has in common with this one: all of either, if they
+        are whole groups, or none."""
+        count = min(len(front), len(self.elements))
+        if count in self.last and front[:count] == self.elements[:count]:
+            return count
+        return 0
+
+    def add(self, elements: Tuple[str, ...], owner: int) -> None:
+        """Adds elements after the last one."""
+        self.elements += elements
+        self.last[len(self.elements)] = owner
+        self.owners.add(owner)
+
+
 class Sources:
-    """Of a recording's attempts that took effect, by their places. An attempt of unknown outcome is
-    among them where somebody has read what it wrote."""
+    """The sources of a recording's attempts that took effect, by their places. These include an
+    attempt of unknown outcome if somebody has read what it wrote."""
 
     def __init__(self, recording: Recording) -> None:
-        """Raises ImportRefusedError where a value that was read doesn't tell who wrote it."""
+        """Raises ImportRefusedError if a value that was read doesn't identify its writer."""
         self._attempts = recording.attempts
         self._writers: Dict[Tuple[str, str], List[int]] = {}
-        self._last: Dict[Tuple[int, str], str] = {}  # of an attempt and a key, its last write
+        self._last: Dict[Tuple[int, str], str] = {}  # last write of an attempt to a key
         self._appended: Dict[Tuple[int, str], List[str]] = {}
         for at, attempt in enumerate(self._attempts):
             for access in attempt.accesses:
                 self._note_write(at, access)
+        self._chains: Dict[str, Chain] = {}
         self.of: Dict[int, Sourced] = {
             at: Sourced({}, self._writes_of(at))
             for at, attempt in enumerate(self._attempts)
@@ -87,8 +114,11 @@ class Sources:
         return written
 
     def _took_effect(self, at: int) -> Sourced:
-        """Somebody has read what it wrote."""
-        return self.of.setdefault(at, Sourced({}, self._writes_of(at)))
+        """Records that an attempt took effect, since somebody has read what it wrote."""
+        sourced = self.of.get(at)
+        if sourced is None:
+            sourced = self.of[at] = Sourced({}, self._writes_of(at))
+        return sourced
 
     def _look_up(self, at: int) -> None:
         own: Dict[str, Tuple[str, ...]] = {}
@@ -103,7 +133,7 @@ class Sources:
                 self._list(at, access, own.get(access.key, ()))
 
     def _read(self, at: int, access: Access, origin: Origin) -> None:
-        """Notes that the read came from there."""
+        """Records that the read came from there."""
         self.of[at].reads.setdefault((access.key, origin), access.text)
         if isinstance(origin, int):
             self._took_effect(origin)
@@ -119,8 +149,8 @@ class Sources:
             self._read(at, access, self._writer(at, access, access.value))
 
     def _writer(self, at: int, access: Access, value: str) -> Origin:
-        """Who wrote the value that this attempt has read. Raises ImportRefusedError where several
-        may have."""
+        """The writer of a value that this attempt has read. Raises ImportRefusedError if there are
+        several candidates."""
         writers = self._writers.get((access.key, value), [])
         others = [writer for writer in writers if writer != at]
         if len(others) > 1 or (access.kind == READ_LIST and len(writers) > 1):
@@ -144,33 +174,47 @@ class Sources:
         return writer
 
     def _list(self, at: int, access: Access, own: Tuple[str, ...]) -> None:
-        """A list tells each of its writers' order: who appended an element has read the key from
-        who appended the one before."""
-        assert isinstance(access.value, tuple)
-        front = access.value[: len(access.value) - len(own)]
-        if access.value != (*front, *own):
+        """Looks up a list, which reveals the order of its writers: the writer of each element has
+        read the key from the writer of the element before."""
+        value = access.value
+        assert isinstance(value, tuple)
+        size = len(value) - len(own)
+        if own and (size < 0 or value[size:] != own):
             self._read(at, access, Stub(at, ELSEWHERE))
             return
-        before: Origin = None
-        for origin, elements in self._groups(at, access, front):
+        front = value[:size]
+        chain = self._chains.setdefault(access.key, Chain())
+        known = 0 if at in chain.owners else chain.common(front)  # it can't read its own there
+        if known == size:
+            self._read(at, access, chain.last[size])
+            return
+        goes_on = known == len(chain.elements)
+        before = chain.last[known]
+        for origin, elements in self._groups(at, access, front, known, chain):
             if isinstance(origin, Stub):
                 self._read(at, access, origin)
                 return
             if isinstance(origin, int):
-                sentence = f"appended {elements} after that, as {self._attempts[at].name} read"
+                sentence = (
+                    f"appended {' '.join(elements)} after that, as {self._attempts[at].name} read"
+                )
                 self._took_effect(origin).reads.setdefault((access.key, before), sentence)
                 if isinstance(before, int):
                     self._took_effect(before)
+                if goes_on:
+                    chain.add(elements, origin)
+            else:
+                goes_on = False
             before = origin
         self._read(at, access, before)
 
     def _groups(
-        self, at: int, access: Access, front: Tuple[str, ...]
-    ) -> Iterator[Tuple[Origin, str]]:
-        """The writers of a list's elements, one behind another, each with its elements; a Stub
-        where a list can't be what whole transactions appended."""
-        seen: Set[Origin] = set()
-        place = 0
+        self, at: int, access: Access, front: Tuple[str, ...], known: int, chain: Chain
+    ) -> Iterator[Tuple[Origin, Tuple[str, ...]]]:
+        """The writers of a list's elements from that place on, in order, each with its elements; a
+        Stub if whole transactions can't have appended the list."""
+        seen: Set[Origin] = {*chain.owners} if known else set()
+        place = known
         while place < len(front):
             origin = self._writer(at, access, front[place])
             count = 1
@@ -180,7 +224,7 @@ class Sources:
                 if front[place : place + count] != tuple(group):
                     origin = Stub(origin, DRAFT)
             if origin in seen and not isinstance(origin, Stub):
-                origin = Stub(at, ELSEWHERE)  # an element twice
+                origin = Stub(at, ELSEWHERE)  # an element that occurs twice
             seen.add(origin)
-            yield origin, " ".join(front[place : place + count])
+            yield origin, front[place : place + count]
             place += count

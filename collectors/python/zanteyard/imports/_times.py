@@ -1,6 +1,6 @@
-"""The order of time in a recording: when each transaction began and ended, and pauses, moments at
-which nothing that is offered was in flight. What ended before a pause comes before what began
-behind it."""
+"""Real-time order in a recording: when each transaction began and ended, and the pauses, moments at
+which nothing that is offered was in flight. What ended before a pause comes before what began after
+it."""
 
 from __future__ import annotations
 
@@ -12,11 +12,11 @@ from ..explain._script_times import ScriptTimes
 from ._recording import NEVER, Attempt, Recording
 from ._sources import Sourced
 
-EVERY = 512  # transactions between two pauses that are used, at least
+EVERY = 512  # transactions between two pauses, at least
 
 
 def check_times(recording: Recording) -> None:
-    """Raises ImportRefusedError where the recording doesn't tell what ended before what began."""
+    """Raises ImportRefusedError if the recording doesn't say what ended before what began."""
     if not recording.has_times:
         raise ImportRefusedError(0, f"{recording.form} records no times, which --strict needs")
     if recording.time_goes_back:
@@ -27,8 +27,8 @@ def check_times(recording: Recording) -> None:
 
 
 def times_of(recording: Recording, ids: Mapping[int, AuditId]) -> ScriptTimes:
-    """When these attempts began and ended: in nanoseconds where all tell it, and else as places in
-    the file."""
+    """When these attempts began and ended: in nanoseconds if that is known of all, otherwise as
+    places in the file."""
     attempts = {id: recording.attempts[at] for at, id in ids.items()}
     are_told = all(
         attempt.began_at is not None and (attempt.ended_at is not None or attempt.ended == NEVER)
@@ -44,8 +44,8 @@ def times_of(recording: Recording, ids: Mapping[int, AuditId]) -> ScriptTimes:
 
 
 class Times:
-    """When the transactions that are offered began, and by when they had taken effect; as places
-    in the file."""
+    """When the offered transactions began, and by when they had taken effect, as places in the
+    file."""
 
     def __init__(self, attempts: Sequence[Attempt], of: Mapping[int, Sourced]) -> None:
         self.began = {at: attempts[at].began for at in of}
@@ -53,8 +53,8 @@ class Times:
         self._bound(of)
 
     def _bound(self, of: Mapping[int, Sourced]) -> None:
-        """Whoever was read from had taken effect before the reader did; so an attempt of unknown
-        outcome had by the end of each that has read from it."""
+        """Bounds the ends: a source had taken effect before its reader did, so an attempt of
+        unknown outcome had taken effect by the end of each attempt that read from it."""
         readers: Dict[int, List[int]] = {}
         for at, sourced in of.items():
             for _, origin in sourced.reads:
@@ -72,8 +72,8 @@ class Times:
                             if isinstance(origin, int) and origin in of]
 
     def pauses(self, every: int = EVERY) -> List[int]:
-        """Places such that each transaction had ended before, or began there or later; at least so
-        many transactions lie between two of them."""
+        """Places at which nothing is in flight: each transaction ended before, or began there or
+        later. At least `every` transactions are between two of them."""
         places: List[int] = []
         latest, count = 0, 0
         for began, at in sorted((began, at) for at, began in self.began.items()):
@@ -86,5 +86,5 @@ class Times:
 
 
 def part_of(place: int, pauses: Sequence[int]) -> int:
-    """In front of how many pauses it doesn't lie."""
+    """The number of pauses at or before this place."""
     return sum(place >= pause for pause in pauses)

@@ -1,2 +1,2 @@
-"""The file by which an audit goes on after its process or its machine has failed (docs/JOURNAL.md):
-its records, what they say, and when they are written."""
+"""The file by which an audit continues after its process or machine has failed (docs/JOURNAL.md):
+its records, their contents, and when they are written."""

@@ -1,12 +1,11 @@
-"""What a journal's records say: a checkpoint, and behind it what was done since.
+"""The contents of a journal's records: a checkpoint, and what was done since.
 
-Each record is a letter and what follows it. A checkpoint is the audit's head, the names of the keys
-that aren't in front of it, the violations that were told, what attempts did that were aborted, of
-which a program keeps that they are there and no more, and the lines by which a program is brought
-where another one stood; its last record says that it is whole. Behind it come lines that
-were answered ok, the names of keys in front of the first line that has them, how many rounds were
-told and the like, and what was told of a violation; and later checkpoints, each as one record, so
-that it is there whole or not at all.
+Each record is a letter and a text. A checkpoint consists of the audit's head, the names of the keys
+that no earlier record has, the reported violations, what aborted attempts did (the program itself
+remembers only that they exist), and the lines that restore a program's state. Its last record says
+that it is complete. It is followed by the lines that were answered ok, the names of keys before the
+first line that uses them, counts such as the number of reported rounds, and reported violations. A
+later checkpoint is a single record, so that it exists as a whole or not at all.
 """
 
 from __future__ import annotations
@@ -23,11 +22,11 @@ from ._records import record, records
 HEAD, KEYS, SAVED, WHOLE = b"H", b"K", b"S", b"W"
 LINE, FIGURES, VIOLATED, CHECKPOINT = b"L", b"F", b"V", b"C"
 UNDONE = b"A"
-RESUME, FORM = b'["resume",', b",2]"  # in an earlier version's journals the latter is missing
+RESUME, FORM = b'["resume",', b",2]"  # an earlier version's journals lack the latter
 
 
 class Violation(NamedTuple):
-    """The first violated report of an audit: of which audit of the run, and the reply."""
+    """The first violated report of an audit: which audit of the run it was, and the reply."""
 
     audit: int
     reply: List[Any]
@@ -35,12 +34,13 @@ class Violation(NamedTuple):
 
 @dataclass
 class Head:
-    """Of an audit: how many sessions its program has, and how many transactions it may hold, the
-    run's name, which audit of the run it is, and where it began, if that was while clients went on;
-    and so far, how many rounds were told, how many reads were left out at most, whether sessions
-    handed in what they did, the sessions that several clients had, each with what these began
-    with, the promise that it asks for, how many reads were of versions from before at most, and
-    which store it is about, once a client has told."""
+    """Describes an audit: the number of sessions of its program, how many transactions it may hold,
+    the run's name, which audit of the run it is, and, if clients were running when it began, what
+    it covers (`coverage`). The rest describes its state: `rounds` were reported; at most `left_out`
+    reads were left out, and at most `from_before` were of versions from before; `is_of_sessions`
+    says whether sessions handed in what they did; `joined` has the sessions that several clients
+    had, each with the first transaction of each of them; `store` is the store that it is about,
+    once a client has said so."""
 
     sessions: int
     limit: int
@@ -63,26 +63,26 @@ class Head:
         from_before: int = 0,
         store: Optional[List[str]] = None,
     ) -> None:
-        """As a later record has them; in earlier versions' journals the last two are missing."""
+        """Takes the values of a later record. An earlier version's journals lack the last two."""
         self.rounds, self.left_out, self.is_of_sessions = rounds, left_out, is_of_sessions
         self.from_before, self.store = from_before, store
 
 
 @dataclass
 class Kept:
-    """All that a journal says. A program that is given the lines, each of which it answers ok,
-    stands where the last one stood; `saved` of them are the checkpoint's."""
+    """The whole contents of a journal. A program that is given `lines`, and answers ok to each, has
+    the state of the last one. The first `saved` of them belong to the checkpoint."""
 
     head: Head
-    names: List[str] = field(default_factory=list)  # of keys, by their numbers
+    names: List[str] = field(default_factory=list)  # of keys, by number
     violations: List[Violation] = field(default_factory=list)
     lines: List[bytes] = field(default_factory=list)
-    undone: List[Any] = field(default_factory=list)  # sessions and numbers, each with its form
+    undone: List[Any] = field(default_factory=list)  # [session, number, the line's form] each
     saved: int = 0
     is_whole: bool = False  # the checkpoint was read to its end
 
     def take(self, kind: bytes, text: bytes) -> None:
-        """A record behind the head."""
+        """Takes a record that follows the head."""
         if (kind == SAVED) == self.is_whole and kind in (SAVED, LINE):
             raise ValueError("a line is in the wrong place")
         if kind == SAVED or kind == LINE:
@@ -107,8 +107,8 @@ class Kept:
 
 
 def kept_in(journal: Journal, has_names: bool = True) -> Kept:
-    """What its records say together, with the names of keys or without. Raises JournalDamagedError
-    where they don't fit."""
+    """What the records say together, with or without the names of keys. Raises JournalDamagedError
+    if they contradict each other."""
     texts = journal.read()
     begins = [at for at, text in enumerate(texts) if text[:1] == CHECKPOINT]
     last = begins[-1] if begins else 0
@@ -132,7 +132,7 @@ def kept_in(journal: Journal, has_names: bool = True) -> Kept:
 
 
 def _each(texts: Iterable[bytes]) -> Iterator[bytes]:
-    """With those that a checkpoint consists of in its place."""
+    """The records, each checkpoint replaced by the records in it."""
     for text in texts:
         if text[:1] == CHECKPOINT:
             yield from (nested for nested, _ in records(text, len(CHECKPOINT)))
@@ -141,7 +141,7 @@ def _each(texts: Iterable[bytes]) -> Iterator[bytes]:
 
 
 def _of_this_version(line: bytes) -> bytes:
-    """So that what comes behind it may tell what was aborted."""
+    """The line in this version's form, so that lines after it may list aborted attempts."""
     if line.startswith(RESUME) and line.count(b",") == 2:
         return line[:-1] + FORM
     return line
@@ -154,7 +154,8 @@ def checkpoint(
     saved: Sequence[bytes],
     undone: Sequence[Any] = (),
 ) -> List[bytes]:
-    """As records' texts; the names of those keys that are in front of it nowhere."""
+    """A checkpoint, as the texts of its records. `names` is the record of the key names that no
+    earlier record has."""
     return [
         HEAD + _text(_plain(head)),
         names,
@@ -166,7 +167,7 @@ def checkpoint(
 
 
 def _plain(head: Head) -> Dict[str, Any]:
-    """As earlier versions read it too, where these know what is asked for."""
+    """The head as earlier versions can read it, too, if they know its promise."""
     its = {**vars(head)}
     if head.promise == SERIALIZABLE.name:
         del its["promise"]
@@ -174,22 +175,22 @@ def _plain(head: Head) -> Dict[str, Any]:
 
 
 def later(texts: Iterable[bytes]) -> bytes:
-    """A checkpoint as one record's text, behind another one."""
+    """A checkpoint as the text of a single record, to follow another one."""
     return CHECKPOINT + b"".join(map(record, texts))
 
 
 def keys(first: int, names: Sequence[str]) -> bytes:
-    """Of the keys from this number on."""
+    """The record of the key names from this number on."""
     return KEYS + _text([first, names])
 
 
 def line(text: bytes) -> bytes:
-    """That was answered ok."""
+    """The record of a line that was answered ok."""
     return LINE + text
 
 
 def figures(*now: Any) -> bytes:
-    """What of the head has changed, as it takes them."""
+    """The record of the head's changed values, in the order of `Head.take_figures`."""
     return FIGURES + _text(now)
 
 

@@ -1,8 +1,8 @@
-"""A journal's file: it is locked, begun anew by one step, and else only appended to.
+"""A journal's file: locked, rewritten atomically, and otherwise only appended to.
 
-What is appended outlives this process as soon as it is written, and the machine only from the next
-beginning anew on: that alone is flushed to the disk. Beside the file at PATH stand PATH.lock, which
-stays, and for moments PATH.new.
+An appended record survives the end of this process at once. It survives a failure of the machine
+only after the file has been rewritten, since only then is it flushed to the disk. Next to the file
+at PATH are PATH.lock, which stays, and PATH.new, which exists briefly.
 """
 
 from __future__ import annotations
@@ -26,21 +26,21 @@ from ._records import record, records
 VERSION = 2
 NAME = b"zanteyard journal "
 FIRST_LINE = NAME + b"%d\n" % VERSION
-EARLIER = NAME + b"1\n"  # in which nothing tells what was aborted; it is as long
+EARLIER = NAME + b"1\n"  # doesn't record what was aborted; has the same length
 FLAGS = os.O_RDWR | os.O_APPEND | os.O_CLOEXEC
 logger = logging.getLogger("zanteyard")
 
 
 class Journal:
-    """For one thread at a time. Every call raises JournalError where the file can't be written or
-    read; then nothing half-written is left in it."""
+    """A journal file, for one thread at a time. Every call raises JournalError if the file can't be
+    written or read; nothing half-written remains in it then."""
 
     def __init__(self, path: str) -> None:
-        """Raises JournalInUseError where another auditor has it, and JournalError also where
-        others may read or write its folder."""
-        self.path = os.path.realpath(path)  # one lock, whatever links lead there
+        """Raises JournalInUseError if another auditor uses it, and JournalError also if other users
+        may read or write its folder."""
+        self.path = os.path.realpath(path)  # one lock, whatever links lead to it
         self.size = 0  # bytes of the file's whole records
-        self._is_torn = False  # it has more
+        self._is_torn = False  # the file has bytes after them
         self._file: Optional[int] = None
         self._lock: Optional[int] = None
         _journals.add(self)
@@ -58,12 +58,12 @@ class Journal:
 
     @property
     def is_there(self) -> bool:
-        """Whether there is a file to go on with."""
+        """Whether there is a file to continue from."""
         return os.path.lexists(self.path)
 
     def read(self) -> List[bytes]:
-        """The texts of all records. What was cut off at the end is left out, which the log tells,
-        and goes as the next are appended. Raises JournalDamagedError and JournalVersionError."""
+        """The texts of all records. An incomplete record at the end is left out, which is logged,
+        and removed by the next `append`. Raises JournalDamagedError and JournalVersionError."""
         self._let_go()
         try:
             self._file = os.open(self.path, FLAGS)
@@ -88,13 +88,13 @@ class Journal:
         return texts
 
     def append(self, texts: Iterable[bytes]) -> None:
-        """Behind all that is there, by one write."""
+        """Adds records at the end, with one write."""
         assert self._file is not None
         text = b"".join(map(record, texts))
         try:
             if self._is_torn:
-                os.ftruncate(self._file, self.size)  # that asks for no room
-            self._is_torn = True  # where an interrupt comes in between
+                os.ftruncate(self._file, self.size)  # this needs no space
+            self._is_torn = True  # in case an interrupt comes in between
             _write(self._file, text)
             self.size += len(text)
             self._is_torn = False
@@ -103,7 +103,8 @@ class Journal:
             self._fail("can't be written", error)
 
     def begin_anew(self, texts: Iterable[bytes]) -> None:
-        """In place of all that is there: the file is the one or the other, whatever happens."""
+        """Replaces the whole contents. Whatever happens, the file has either the old or the new
+        ones."""
         new, file = f"{self.path}.new", None
         try:
             file = os.open(new, FLAGS | os.O_CREAT | os.O_TRUNC, 0o600)
@@ -121,7 +122,7 @@ class Journal:
             self._fail("can't be rewritten", error)
 
     def set_aside(self) -> str:
-        """What is there stays under another name, which this gives."""
+        """Renames the file and returns its new name."""
         self._let_go()
         names = (f"{self.path}.damaged{more}" for more in ("", *(f".{at}" for at in range(2, 100))))
         aside = next((name for name in names if not os.path.lexists(name)), f"{self.path}.damaged")
@@ -132,14 +133,14 @@ class Journal:
         return aside
 
     def close(self) -> None:
-        """Another auditor may have it. May be called again."""
+        """Releases the journal for other auditors. May be called again."""
         self._let_go()
         if self._lock is not None:
             os.close(self._lock)
             self._lock = None
 
     def _cut_back(self) -> None:
-        """To the last whole record."""
+        """Cuts the file back to its last whole record."""
         assert self._file is not None
         try:
             os.ftruncate(self._file, self.size)
@@ -163,7 +164,7 @@ def _write(file: int, text: bytes) -> None:
 
 
 def flush_folder(path: str) -> None:
-    """So that the machine finds the new file under its name."""
+    """Flushes the folder, so that the new file's name survives a failure of the machine."""
     folder = os.open(path, os.O_RDONLY | os.O_CLOEXEC)
     try:
         os.fsync(folder)
@@ -175,7 +176,7 @@ def _remove(path: str) -> None:
     try:
         os.unlink(path)
     except OSError:
-        pass  # it harms nobody: the next beginning anew empties it
+        pass  # harmless: the next `begin_anew` empties it
 
 
 def _other_version(text: bytes) -> str:
@@ -188,7 +189,8 @@ def _other_version(text: bytes) -> str:
 
 
 def _leave_all() -> None:
-    """In a child that was forked, which would keep the lock where its parent is killed."""
+    """Closes all journals in a forked child. Otherwise it would keep the lock after its parent is
+    killed."""
     for journal in list(_journals):
         journal.close()
 

@@ -1,4 +1,4 @@
-"""Where the lines of a journal lead: what was taken in and isn't forgotten, as a history."""
+"""Turns the lines of a journal into a history: what was taken in and not forgotten."""
 
 from __future__ import annotations
 
@@ -15,21 +15,21 @@ LAST = b'["last",'
 
 @dataclass
 class State:
-    """Of each session how many transactions are gone, those that remain as lines have them, and
-    whether it is closed; of each key the last gone writer; and with which transactions sessions
-    came back since the checkpoint."""
+    """The state that the lines lead to: for each session how many transactions are gone, those that
+    remain, in the form of lines, and whether it is closed; for each key its last writer that is
+    gone; and the transactions with which sessions returned since the checkpoint."""
 
     gone: List[int] = field(default_factory=list)
     remaining: List[List[Any]] = field(default_factory=list)
     closed: List[bool] = field(default_factory=list)
     last: Dict[int, AuditId] = field(default_factory=dict)
-    joined: List[AuditId] = field(default_factory=list)  # what sessions came back with
+    joined: List[AuditId] = field(default_factory=list)  # with which sessions returned
 
     def take(self, word: str, *parts: Any) -> None:
         if word == "resume":
             self.remaining = [[] for _ in range(parts[0])]
         elif word == "marks":
-            self.gone, self.closed = parts[:2]  # behind them, what has begun
+            self.gone, self.closed = parts[:2]  # followed by what has begun
         elif word == "last":
             self.last.update((key, AuditId((session, number))) for key, session, number in parts[0])
         elif word == "offer":
@@ -42,7 +42,7 @@ class State:
             raise ValueError(f"unknown line {word}")
 
     def join(self, session: int, txns: List[Any]) -> None:
-        """A new one, or one that was closed."""
+        """Opens a new session, or one that was closed."""
         if session == len(self.gone):
             self.gone.append(0)
             self.closed.append(False)
@@ -53,8 +53,8 @@ class State:
         self.remaining[session] += txns
 
     def put_undone(self, undone: Iterable[Sequence[Any]]) -> None:
-        """What attempts did that were aborted, which the lines of a checkpoint have as idle ones:
-        of each the session, the number, and its form in a line."""
+        """Puts in what aborted attempts did, which a checkpoint's lines have as idle transactions.
+        Each entry is a session, a number and the transaction's form in a line."""
         for session, number, txn in undone:
             self.remaining[session][number - self.gone[session]] = txn
 
@@ -63,8 +63,8 @@ class State:
         return [gone + len(txns) for gone, txns in zip(self.gone, self.remaining)]
 
     def history(self, names: Sequence[str]) -> History:
-        """By the keys' names; without what only the clients' processes knew, as values and
-        statements."""
+        """The history, with the keys' names. It lacks what only the clients' processes knew, such
+        as values and statements."""
         return [[_logged(txn, names) for txn in txns] for txns in self.remaining]
 
     def base(self, names: Sequence[str]) -> Dict[str, AuditId]:
@@ -72,8 +72,8 @@ class State:
 
 
 def state_of(lines: Sequence[bytes], has_last: bool = True) -> State:
-    """With the last gone writers, of which there may be very many, or without. Raises
-    JournalDamagedError where there is no such line."""
+    """The state after these lines; without the last writers that are gone, of which there may be
+    very many, if `has_last` is false. Raises JournalDamagedError if a line is malformed."""
     state = State()
     try:
         for line in lines:
@@ -96,5 +96,6 @@ def _logged(txn: Sequence[Any], names: Sequence[str]) -> Logged:
 
 
 def _name(key: int, names: Sequence[str]) -> str:
-    """A key that only the lines have, as of who wrote them by hand, has its number's."""
+    """The key's name. A key that only the lines have, such as lines written by hand, is named by
+    its number."""
     return names[key] if key < len(names) else str(key)

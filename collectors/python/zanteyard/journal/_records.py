@@ -1,11 +1,11 @@
-"""Records of an append-only file, of which it is known where one was cut off and where one is
-damaged.
+"""Records of an append-only file, made so that an incomplete record and a damaged one can be told
+apart.
 
-A record is three whole numbers of four bytes, the low byte first, and then its text: how long the
-text is, the text's CRC-32, and the CRC-32 of these two numbers. A process that is killed as it
-writes leaves a front of a record at the end of the file; anything else that doesn't fit is damage,
-as of a disk, of a machine that went down, or of another program that wrote there. The checksums
-find what came by accident, and nothing that somebody did on purpose.
+A record is three integers of four bytes, low byte first, followed by its text: the length of the
+text, the CRC-32 of the text, and the CRC-32 of these two integers. A process that is killed while
+writing leaves the beginning of a record at the end of the file. Anything else that doesn't fit is
+damage: by a disk, by a machine that went down, or by another program that wrote to the file. The
+checksums find accidental damage, not deliberate changes.
 """
 
 from __future__ import annotations
@@ -28,8 +28,8 @@ def record(text: bytes) -> bytes:
 
 
 def records(content: bytes, at: int) -> Iterator[Tuple[bytes, int]]:
-    """The texts from this place on, each with the place behind it, up to one that was cut off.
-    Raises JournalDamagedError where one is damaged."""
+    """The texts from this position on, each with the position after it, up to an incomplete record.
+    Raises JournalDamagedError if one is damaged."""
     while at + BEFORE <= len(content):
         length, sum_of_text = HEAD.unpack_from(content, at)
         (sum_of_head,) = CHECK.unpack_from(content, at + HEAD.size)

@@ -1,4 +1,4 @@
-"""What a journal is given as an audit goes on, and when what it has is written anew."""
+"""What an audit writes to its journal as it goes on, and when the journal is rewritten."""
 
 from __future__ import annotations
 
@@ -22,14 +22,14 @@ from ._entries import (
 from ._file import Journal
 
 TELLS_ABORTED = b'"%s"' % ABORTED.encode()
-GROWS = 1 << 20  # bytes that a file grows by, or as much as it had, before it is written anew
+GROWS = 1 << 20  # bytes a file grows by, or its own size if more, before it is rewritten
 
 
 class JournalWriter:
-    """For one thread at a time; every call raises JournalError where the journal can't be written.
-    `head` tells of the audit, and `names` are those of the keys, which grow; `kept` is what the
-    journal says, where it is gone on with. `left_out`, `is_of_sessions`, `from_before` and `store`
-    are the head's, by now."""
+    """Writes a journal; for one thread at a time. Every call raises JournalError if the journal
+    can't be written. `head` describes the audit, `names` is the growing list of the keys' names,
+    and `kept` is what a continued journal says. `left_out`, `is_of_sessions`, `from_before` and
+    `store` are the head's current values."""
 
     def __init__(
         self,
@@ -40,25 +40,25 @@ class JournalWriter:
     ) -> None:
         self.journal = journal
         self._head, self._names = head, names
-        self.rounds = kept.head.rounds if kept else 0  # that were told, by whichever program
+        self.rounds = kept.head.rounds if kept else 0  # reported rounds, by all programs
         self.left_out = kept.head.left_out if kept else 0
         self.is_of_sessions = kept.head.is_of_sessions if kept else False
         self.from_before = kept.head.from_before if kept else 0
         self.store = kept.head.store if kept else None
         self.violations: List[Violation] = list(kept.violations) if kept else []
-        self._noted = len(kept.names) if kept else 0  # names that the journal has
+        self._noted = len(kept.names) if kept else 0  # how many names the journal has
         self._figures = self._figures_by_now()  # as the journal has them
-        self.changes = len(kept.lines) - kept.saved if kept else 0  # lines behind the checkpoint
-        # What attempts did that were aborted, as lines have it: a program gives out that they are
-        # there, and no more.
+        self.changes = len(kept.lines) - kept.saved if kept else 0  # lines after the checkpoint
+        # What aborted attempts did, in the form of lines: a program's saved state says only that
+        # they exist.
         self._undone: Dict[AuditId, Any] = {}
         if kept is not None:
             self._undone.update(
                 (AuditId((session, number)), txn) for session, number, txn in kept.undone
             )
             self._note_undone(kept.lines[kept.saved :])
-        self._has_begun = kept is not None  # it tells of this audit
-        self._due = 0  # the file's size at which it is written anew; at first so, where it is old
+        self._has_begun = kept is not None  # it has a checkpoint of this audit
+        self._due = 0  # the size at which the file is rewritten; an old one is rewritten first
 
     @property
     def limit(self) -> int:
@@ -67,7 +67,7 @@ class JournalWriter:
 
     @property
     def promise(self) -> Promise:
-        """Which the audit asks for."""
+        """The promise that the audit checks."""
         return ASKED[self._head().promise]
 
     @property
@@ -75,11 +75,12 @@ class JournalWriter:
         return self._has_begun and self.journal.size > self._due
 
     def kept(self) -> Optional[Kept]:
-        """What it says of this audit, but for the keys' names; None before the first checkpoint."""
+        """What the journal says about this audit, without the keys' names; None before the first
+        checkpoint."""
         return kept_in(self.journal, has_names=False) if self._has_begun else None
 
     def note_changes(self, lines: Sequence[bytes]) -> None:
-        """Lines that were answered ok."""
+        """Notes lines that were answered ok."""
         self._note([*map(line, lines)])
         self.changes += len(lines)
         self._note_undone(lines)
@@ -93,34 +94,34 @@ class JournalWriter:
                 self._undone.update((AuditId((session, number)), txn) for number, txn in undone)
 
     def _undone_of(self, saved: Sequence[bytes]) -> List[Any]:
-        """Of what remains by these."""
+        """The aborted attempts that remain in this saved state."""
         if self._undone:
             _, gone, *_ = json.loads(saved[1])
             self._undone = {id: txn for id, txn in self._undone.items() if id[1] >= gone[id[0]]}
         return [[*id, txn] for id, txn in self._undone.items()]
 
     def note_report(self, violation: Optional[List[Any]]) -> None:
-        """One more round, which was answered so if it was violated."""
+        """Notes one more round, and its reply if it was violated."""
         self.rounds += 1
         if violation is not None:
             self.note_violation(violation)
         self.note_figures()
 
     def note_figures(self) -> None:
-        """Where they have changed, and nothing else has."""
+        """Writes changed values if nothing else has to be written."""
         if self._has_begun:
             self._note([])
 
     def note_violation(self, reply: List[Any]) -> None:
-        """The first of the audit, which stays true."""
+        """Notes the first violation of the audit, which stays true."""
         audit = self._head().audit
         if all(violation.audit != audit for violation in self.violations):
             self.violations.append(Violation(audit, reply))
             self._note([violated(self.violations[-1])])
 
     def note_checkpoint(self, saved: Sequence[bytes]) -> None:
-        """By what a program gives out: behind all that is there, until that is longer than what is
-        of use. What is flushed to the disk is dear."""
+        """Writes a checkpoint of a program's saved state. It is appended until the file is longer
+        than it needs to be, because flushing a rewritten file to the disk is expensive."""
         head, count, now = self._head(), len(self._names), self._figures_by_now()
         head.take_figures(*now)
         its_undone = self._undone_of(saved)
@@ -133,7 +134,7 @@ class JournalWriter:
     def _append_checkpoint(
         self, head: Head, count: int, saved: Sequence[bytes], its_undone: Sequence[Any]
     ) -> bool:
-        """Whether there is room for it behind what is there."""
+        """Appends it if there is room, and returns whether there was."""
         if not self._has_begun:
             return False
         names = keys(self._noted, self._names[self._noted : count])
@@ -144,7 +145,8 @@ class JournalWriter:
         return has_room
 
     def _note(self, entries: List[bytes]) -> None:
-        """By one write, with what else has changed; in front, since a write may be cut off."""
+        """Writes these entries and whatever else has changed, with one write. The changes come
+        first, since a write may be cut off."""
         count, now = len(self._names), self._figures_by_now()
         if now != self._figures:
             entries.insert(0, figures(*now))

@@ -1,4 +1,4 @@
-"""One audit of a live run: what waits is taken in, rounds tell of it, and cuts make room."""
+"""One audit of a live run: it takes in what waits, runs rounds, and makes room by cuts."""
 
 from __future__ import annotations
 
@@ -23,14 +23,14 @@ from ._fragments import fragments
 from ._told import ClientTold, RoundTold, Teller
 
 logger = logging.getLogger("zanteyard")
-MEANWHILE = 0.04  # seconds, in which more transactions come while a round is searched
+MEANWHILE = 0.04  # seconds during which more transactions arrive while a round is searched
 AnyAuditor = Union[Auditor, AuditorApart]
 
 
 class Audit:
-    """For one thread at a time, but for `outcome`. `counted` is how many transactions had been
-    handed in as it began, and `earlier` are those that ended before it; `closed` are the sessions
-    of which nothing more comes, if they don't come back."""
+    """One audit, for one thread at a time, except `outcome`. `counted` is how many transactions had
+    been handed in when it began, `earlier` are the outcomes of the audits before it, and `closed`
+    are the sessions that have ended and may return."""
 
     def __init__(
         self,
@@ -52,23 +52,23 @@ class Audit:
         self.began = time.monotonic()
         self.why_no_cut: Optional[str] = None  # what was wrong with the last meeting
         self.taken_in = 0
-        self._told_of = 0  # of these, in the last round
-        self._behind = 0.0  # seconds that one of them waited, at most, since the last round
+        self._told_of = 0  # how many of these the last round covered
+        self._behind = 0.0  # the longest that one of them waited since the last round, in seconds
         self.report: Optional[Report] = None
-        self.left_out = 0  # reads whose source the audit isn't about
-        self.from_before = 0  # reads of versions that were there before this audit
+        self.left_out = 0  # reads whose source the audit doesn't cover
+        self.from_before = 0  # reads of versions from before this audit
         self._pending: Tuple[Pending, ...] = ()
         self._is_collectors_own = False
-        self.missing: Optional[MissingError] = None  # what may have been done, and never comes
+        self.missing: Optional[MissingError] = None  # what may have been done and will never arrive
         self._tenancy = tenancy or Tenancy()
         self._closed: Set[int] = {*closed}
-        # What waits with its session, which is to join behind a fence that isn't taken in yet.
+        # By session, what waits for the session to join after a fence that isn't taken in yet.
         self._held: Dict[int, List[HandedIn]] = {}
-        self._is_searched = False  # a round, while which no session joins
+        self._is_searched = False  # a round; no session joins meanwhile
 
     @property
     def handed_in(self) -> int:
-        """By clients, and by meetings."""
+        """How many transactions clients and meetings have handed in."""
         return self._backlog.counted - self._counted
 
     @property
@@ -77,7 +77,7 @@ class Audit:
 
     @property
     def has_news(self) -> bool:
-        """Whether more was taken in than a round has told of."""
+        """Whether something was taken in after the last round."""
         return self.taken_in > self._told_of
 
     def outcome(self, has_ended: bool, failure: Optional[Exception]) -> Outcome:
@@ -104,17 +104,17 @@ class Audit:
 
     @property
     def reserve(self) -> int:
-        """Room for a meeting's own transactions."""
+        """Room that is kept for a meeting's own transactions."""
         return 4 * max(1, self._auditor.sessions - len(self._closed))
 
     def take_in_all(self, count: int) -> None:
-        """So many of what waits."""
+        """Takes in this many waiting transactions."""
         while count > 0 and not self.is_violated:
             count -= self.take_in(count)
 
     def take_in(self, most: int = LONGEST) -> int:
-        """What waits, up to so many; gives how many these were. Raises FullError where there is no
-        room, and what the auditor raises."""
+        """Takes in what waits, at most this many, and returns how many it took. Raises FullError if
+        there is no room, and what the auditor raises."""
         held = sum(map(len, self._held.values()))
         free = self._auditor.limit - self._auditor.remaining - self.reserve
         self._backlog.leave_room(free - held)
@@ -126,7 +126,7 @@ class Audit:
         return len(waiting)
 
     def _take_in_what_fits(self) -> None:
-        """What waits, if there is room without a cut."""
+        """Takes in what waits, if there is room without a cut."""
         held = sum(map(len, self._held.values()))
         free = self._auditor.limit - self._auditor.remaining - self.reserve - held
         if free > 0:
@@ -148,7 +148,8 @@ class Audit:
             self._backlog.note_taken(session, number)
 
     def _close(self, session: int) -> None:
-        """Behind all that it did; an earlier process may have closed it."""
+        """Closes the session after everything that it did. An earlier process may have closed it
+        already."""
         is_there = session not in self._closed and session < self._auditor.sessions
         if is_there and not self._auditor.closed[session]:
             self._backlog.put_ends(self._auditor.written_last[session])
@@ -163,7 +164,7 @@ class Audit:
     # sessions that join
 
     def _without_held(self, taken: Sequence[HandedIn]) -> List[HandedIn]:
-        """What waits until its session has joined is held."""
+        """Holds back what has to wait until its session has joined; returns the rest."""
         ready: List[HandedIn] = []
         for handed_in in taken:
             _, session, number, _ = handed_in
@@ -179,9 +180,9 @@ class Audit:
         return session in self._closed or session >= self._auditor.sessions
 
     def _let_join(self) -> None:
-        """Those whose fences have read from what was taken in; one may have read from another's,
-        and those that are new join in the order of their numbers. None while a round is
-        searched."""
+        """Lets sessions join whose fences read from something taken in. One may have read from
+        another's fence, and new sessions join in the order of their numbers. None joins while a
+        round is searched."""
         if self._is_searched:
             return
         while not self.is_violated:
@@ -200,7 +201,8 @@ class Audit:
         return is_next and (source is None or self._backlog.is_taken(*source))
 
     def _fence_of(self, session: int) -> Optional[StoreId]:
-        """What the first of a session that is to join has read; None where it is no fence's."""
+        """The fence that the first transaction of a joining session has read; None if it read
+        none."""
         logged = self._held[session][0][3]
         logged = unpacked(logged) if type(logged) is bytes else logged
         sources = [source for key, source in logged.reads if key == FENCE and source != "init"]
@@ -220,7 +222,8 @@ class Audit:
             self._take(held[start : start + LONGEST])
 
     def drop_held(self) -> None:
-        """What still waits to join: no audit wants it any more, so that nobody keeps it."""
+        """Drops what still waits to join. No audit wants it any more, so its senders needn't keep
+        it."""
         for _, session, number, _ in (
             handed_in for held in self._held.values() for handed_in in held
         ):
@@ -228,7 +231,7 @@ class Audit:
         self._held.clear()
 
     def _why_held(self) -> Optional[str]:
-        """What still waits to join, in words."""
+        """A message about what still waits to join; None if nothing does."""
         for session in sorted(self._held):
             source = self._fence_of(session)
             if source is not None and not self._backlog.is_taken(*source):
@@ -237,7 +240,7 @@ class Audit:
         return f"session {min(self._held)} never joined" if self._held else None
 
     def vacant(self) -> Dict[int, int]:
-        """The sessions that may come back, each with the number of its next transaction."""
+        """The sessions that may return, each with the number of its next transaction."""
         if not self._closed:
             return {}
         received = self._auditor.received
@@ -248,17 +251,17 @@ class Audit:
         return {session: number for session, number in following.items() if number is not None}
 
     def covers(self, session: int, number: int) -> bool:
-        """Whether this audit is about the transaction."""
+        """Whether this audit covers the transaction."""
         return self._covered(session, number) is not None
 
     def _covered(self, session: int, number: int) -> Optional[int]:
-        """The transaction's number in this audit; None where it isn't audited."""
+        """The transaction's number in this audit; None if it isn't audited."""
         if session >= max(SESSIONS, self._auditor.sessions):
             return None
         return self._coverage.number(session, number)
 
     def called(self, id: AuditId) -> str:
-        """How a transaction of the audit is told: with its client, where its session had others."""
+        """The transaction's name in reports, with its client if the session had several."""
         number = self._coverage.number_there(*id)
         return self._tenancy.called(id, id[1] if number is None else number)
 
@@ -286,12 +289,14 @@ class Audit:
     # rounds
 
     def is_round_due(self, seconds: float) -> bool:
-        """One comes so many seconds after the last, where anything was done."""
+        """Whether a round is due: something is new, and this many seconds have passed since the
+        last round."""
         return self.has_news and time.monotonic() - self._figures.told_at >= seconds
 
     def run_round(self, no_cut: Optional[str] = None, goes_on: bool = False) -> None:
-        """Over all that was taken in, with a cut behind it, but where there is a reason for none;
-        then it is told. It may go on with what waits while the round is made."""
+        """Runs a round over everything taken in so far, and a cut after it unless `no_cut` gives a
+        reason against that; then reports the round. With `goes_on`, it takes in more during the
+        search."""
         no_cut, count = no_cut or self.why_no_cut, self.taken_in
         wrong = self._go_on_while_it_is_made() if goes_on else None
         self.report = report = self._auditor.last_round()
@@ -315,7 +320,8 @@ class Audit:
             self._let_join()
 
     def _go_on_while_it_is_made(self) -> Optional[Exception]:
-        """Takes in what waits until the report is there. What that raises is told behind it."""
+        """Takes in what waits until the report is ready. Returns the first error, to be raised
+        after the report."""
         wrong: Optional[Exception] = None
         self._auditor.begin_round()
         self._is_searched = True
@@ -337,7 +343,8 @@ class Audit:
         return dict(Counter(read.source[0] for read in reads))
 
     def _cut(self, report: Report) -> Tuple[Optional[Cut], str]:
-        """What was forgotten; or None, and why, if that isn't told by the verdict."""
+        """What was forgotten; or None and the reason, which is empty if the verdict is the
+        reason."""
         if report.kind not in (SERIAL, PENDING):
             return None, ""
         try:
@@ -357,18 +364,19 @@ class Audit:
     # its end
 
     def find_held(self) -> None:
-        """Why something that was handed in was never taken in."""
+        """Raises AuditLostError if something that was handed in was never taken in."""
         why = self._why_held()
         if why is not None and not self.is_violated:
             raise AuditLostError(why)
 
     def find_pending(self) -> None:
-        """What is still pending, and for whom."""
+        """Finds the reads that are still pending."""
         if self.report is not None and self.report.kind == PENDING:
             self._pending = tuple(never_came(self._auditor.history, self._auditor.marks))
 
     def find_whose(self) -> None:
-        """Whether the collector's own transactions alone are violated, and the clients' aren't."""
+        """Finds out whether only the collector's own transactions are violated, and not the
+        clients'."""
         if self.is_violated:
             self._is_collectors_own = is_collectors_own(self._auditor)
         if self._is_collectors_own:

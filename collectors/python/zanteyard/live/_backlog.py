@@ -1,4 +1,4 @@
-"""What clients have handed in, until the auditor has taken it in."""
+"""What clients have handed in and the auditor hasn't taken in yet."""
 
 from __future__ import annotations
 
@@ -9,15 +9,15 @@ from typing import Any, Dict, Iterable, List, Optional, Sequence, Set, Tuple
 from ..core._own_keys import FLAG, is_own
 from ..core._records import Logged
 
-# When it came by the monotonic clock, the session, the transaction's number (None where nothing
-# more of the session comes), and what was logged. A plain tuple of plain values is nothing to the
-# clients' garbage collector, which would otherwise take its time from them.
+# When it arrived by the monotonic clock, the session, the transaction's number (None for the end of
+# the session), and what was logged. A plain tuple of plain values is no work for the clients'
+# garbage collector.
 HandedIn = Tuple[float, int, Optional[int], Any]
-DROPPED = -1  # in place of a session: what other processes couldn't hand over is counted there
+DROPPED = -1  # in place of a session: counts what other processes couldn't hand over
 
 
 def keys_written_unseen(logged: Logged) -> Sequence[str]:
-    """The keys that were written by who hadn't read them."""
+    """The keys that the transaction wrote without reading them."""
     if not logged.writes:
         return ()
     read = dict(logged.reads)
@@ -25,75 +25,77 @@ def keys_written_unseen(logged: Logged) -> Sequence[str]:
 
 
 class Backlog:
-    """For threads. One thread at a time counts for a session: it has that one's turn."""
+    """A queue from many threads to the auditor's. Whoever holds a session's turn counts its
+    transactions."""
 
     def __init__(self, most: int) -> None:
         self.most = most
-        self.room = most  # how many may wait by now, before clients wait
-        # Keys that were written by who hadn't read them, and not read since. Changed by who has a
-        # session's turn, and by a meeting that holds all.
+        self.room = most  # how many may wait now, before clients have to wait
+        # Keys whose last writer didn't read them and that nobody has read since. Changed by the
+        # holder of a session's turn, and by a meeting, which holds all turns.
         self._unseen: Set[str] = set()
-        # Keys that sessions wrote last which have ended. For the auditor's thread.
+        # Keys whose last writer's session has ended. For the auditor's thread.
         self._ends: Set[str] = set()
         self._waiting: queue.SimpleQueue[HandedIn] = queue.SimpleQueue()
         self._next_numbers: Dict[int, int] = {}
-        self._taken: Dict[int, int] = {}  # of each session the number behind the last so taken
-        self._closed: Set[int] = set()  # whose end was taken
-        # Of each session when it was asked for what it had done, by the monotonic clock, as the
-        # audit began: an end from before is one in the audit before.
+        self._taken: Dict[int, int] = {}  # for each session, the number after the last one taken
+        self._closed: Set[int] = set()  # sessions whose end was taken
+        # For each session, when the current audit began and asked it what it had done, by the
+        # monotonic clock. An end from before that time belongs to the previous audit.
         self.reopened: Dict[int, float] = {}
-        self._counts: Dict[int, int] = {}  # by session, of all audits
+        self._counts: Dict[int, int] = {}  # by session, over all audits
         self._dropping = threading.Lock()
 
     def count(self, session: int, number: int, unseen: Iterable[str] = ()) -> None:
-        """A transaction, whether or not an audit is about it."""
-        count = self._counts.get(session, 0) + 1  # from here on no interrupt comes in between
+        """Counts a transaction, whether or not an audit covers it."""
+        count = self._counts.get(session, 0) + 1  # no interrupt can come between the next two
         self._next_numbers[session], self._counts[session] = number + 1, count
         if unseen:
             self._unseen.update(unseen)
 
     def count_missed(self, session: int, number: int) -> None:
-        """Once, where it isn't known whether it was counted."""
+        """Counts a transaction if it isn't known whether it was counted, and wasn't."""
         if self.next_number(session) <= number:
             self.count(session, number)
 
     def count_dropped(self, count: int) -> None:
-        """So many transactions that another process did and couldn't hand over."""
+        """Counts transactions that another process did and couldn't hand over."""
         with self._dropping:
             self._counts[DROPPED] = self._counts.get(DROPPED, 0) + count
 
     @property
     def counted(self) -> int:
-        """How many transactions were handed in, by clients and by meetings, in all audits."""
+        """How many transactions clients and meetings have handed in, over all audits."""
         return sum(list(self._counts.values()))
 
     def next_number(self, session: int) -> int:
-        """Behind the last that was handed in."""
+        """The number after the last transaction handed in."""
         return self._next_numbers.get(session, 0)
 
     def put(self, handed_in: HandedIn) -> None:
         self._waiting.put(handed_in)
 
     def take(self, most: int) -> List[HandedIn]:
-        """What waits, up to so many; nobody else may take any meanwhile."""
+        """Takes what waits, at most this many. For one thread at a time."""
         return [self._waiting.get() for _ in range(min(len(self), most))]
 
     def note_taken(self, session: int, number: Optional[int]) -> None:
-        """Nobody needs it any more: the auditor has it, or no audit wants it."""
+        """Notes that a transaction, or the session's end, is no longer needed: the auditor has it,
+        or no audit wants it."""
         if number is None:
             self._closed.add(session)
         else:
             self._taken[session] = number + 1
 
     def is_taken(self, session: int, number: Optional[int]) -> bool:
-        """Whether nobody needs it any more, nor what came before."""
+        """Whether neither this transaction nor an earlier one is needed any more."""
         if number is None:
             return session in self._closed
         return self._taken.get(session, 0) > number
 
     def begin_behind(self, session: int, number: int, count: int) -> None:
-        """By what an earlier process has taken in: so many of this session, up to before this
-        number."""
+        """Continues from an earlier process, which took in `count` transactions of this session,
+        all with numbers below `number`."""
         self._next_numbers[session] = self._taken[session] = number
         self._counts[session] = count
 
@@ -110,25 +112,28 @@ class Backlog:
         return len(self) > self.room
 
     def leave_room(self, free: int) -> None:
-        """No more may wait than can be taken in."""
+        """Lowers the number that may wait to what can be taken in."""
         self.room = max(0, min(self.most, free))
 
     def take_unseen(self) -> Set[str]:
-        """The keys that were written unseen; from here on they count as read."""
+        """Returns the keys that were written without being read, and counts them as read from now
+        on."""
         keys, self._unseen = self._unseen, set()
         return keys
 
     def put_unseen(self, keys: Iterable[str]) -> None:
-        """Those that weren't read after all."""
+        """Puts keys back that weren't read after all."""
         self._unseen.update(keys)
 
     def take_ends(self) -> Set[str]:
-        """The keys that sessions wrote last which have ended; from here on they count as read."""
+        """Returns the keys last written by sessions that have ended, and counts them as read from
+        now on."""
         keys, self._ends = self._ends, set()
         return keys
 
     def put_ends(self, keys: Iterable[str]) -> None:
-        """As of a session that ends, or that weren't read after all. If nobody read nor overwrote
-        them, nothing would say where its last transaction stands, and no fence be settled. Those of
-        fences and marks are read by each meeting."""
+        """Adds keys of a session that ends, or puts keys back that weren't read after all. If
+        nobody read or overwrote such a key, its session's last transaction would have no place in
+        the order, and no fence would ever be settled. The keys of fences and marks are left out,
+        since each meeting reads them."""
         self._ends.update(key for key in keys if not is_own(key) or key.startswith(FLAG))

@@ -1,4 +1,4 @@
-"""While it is found out what killed processes did, no meeting and no other audit begins."""
+"""Keeps meetings and new audits waiting until it is known what killed processes did."""
 
 from __future__ import annotations
 
@@ -6,7 +6,8 @@ import threading
 
 
 class CrashSearches:
-    """While it is found out what killed processes did; for threads."""
+    """A context that is active while somebody finds out what a killed process did. For several
+    threads."""
 
     def __init__(self) -> None:
         self._count, self._changed = 0, threading.Condition()

@@ -1,4 +1,4 @@
-"""What clients have handed in, as the auditor takes it: a session's transactions at a time."""
+"""Groups what clients have handed in, by session, for the auditor."""
 
 from __future__ import annotations
 
@@ -8,9 +8,9 @@ from ..program._intake import Fragment
 
 
 def fragments(offers: Iterable[Tuple[int, Optional[int], Any]]) -> List[Fragment]:
-    """Of each session that is among them, (session, number of the first, transactions); without
-    those that have no number. Behind one that is missing another fragment begins, which the auditor
-    refuses: were what follows it told by its number, that might look like a violation."""
+    """For each session in `offers`: (session, first number, transactions). Transactions without a
+    number are left out. After a gap in a session's numbers a new fragment begins, which the auditor
+    refuses: accepting it could make a serial run look violated."""
     cut: List[Fragment] = []
     last: Dict[int, Tuple[int, int, List[Any]]] = {}
     for session, number, logged in offers:

@@ -1,11 +1,10 @@
-"""An auditor that goes along with clients as they run: rounds, meetings and cuts, in a thread of
-its own.
+"""An auditor that runs next to its clients: rounds, meetings and cuts, in a thread of its own.
 
-Clients hand in what they did and go on. Where room asks for it there is a meeting
-(`session/_quiesce.py`), after which the auditor can forget what stands in front of its fence. Where
-an audit can't go on, as when the auditor was killed or can't keep up, it ends with its outcome; by
-the policy another one begins of what is done from then on (`core/_window.py`), or nothing more is
-audited. The clients go on in either case.
+Clients hand in what they did and go on. When room becomes short there is a meeting
+(`session/_quiesce.py`), after which the auditor can forget what comes before the meeting's fence.
+An audit ends with its outcome if it can't go on, for example because its program was killed or
+can't keep up. Depending on the policy, another audit then covers what is done from that moment on
+(`core/_window.py`), or nothing more is audited. The clients go on in both cases.
 """
 
 from __future__ import annotations
@@ -40,45 +39,48 @@ from ._session_pool import SessionPool
 from ._told import ClientTold, RoundTold, Tell, Teller
 
 logger = logging.getLogger("zanteyard")
-PAUSE = 0.04  # seconds, in which more transactions come: a line each would cost the clients more
-# Seconds to the next meeting at least, where clients wait for one, or there are few sessions left:
-# behind one that failed, or not. Behind each more of which no cut comes it's twice as long, since
-# meetings hold clients up, and take room.
+PAUSE = 0.04  # seconds to collect transactions: one line each would slow clients down
+# The shortest time to the next meeting, in seconds, if clients wait for one or few sessions are
+# left: after a failed meeting, and after a successful one. It doubles with each meeting without a
+# cut, because meetings hold clients up and take room.
 SOON, SOON_AGAIN = 0.05, 0.5
-LONGEST_PAUSE = 30.0  # seconds between two attempts to start an auditor that can't be started
-STOPPING = 120.0  # seconds for what was handed in to be audited, as it is stopped
-GIVING_UP = 1.0  # the same, where an exception ends it
+LONGEST_PAUSE = 30.0  # seconds between two attempts to start an auditor
+STOPPING = 120.0  # seconds for auditing the rest when it is stopped
+GIVING_UP = 1.0  # the same if an exception ends it
 EARLIER = "an earlier audit of this run ended in a process that no longer exists"
 
 
 class LiveAuditor(ForProcesses):
-    """Audits clients while they run: as many as come, and 64 at a time. For threads.
+    """Audits clients while they run: any number of them, 64 at a time. Safe for use by several
+    threads.
 
-    The auditor is an Auditor, or, so that clients are held up less, an AuditorApart. The name of
-    the run, `run_name`, is the auditor's where none is given. After `every` so many transactions
-    there is a meeting (after a quarter of that where the last one failed), which waits up to
-    `patience` seconds for clients' transactions; `seconds` after the last round there is one where
-    anything was done. A client that did nothing for `idle` seconds goes without a session, which
-    others may have. What nobody has is closed at the next meeting, and comes back for another
-    client when it is forgotten: that one joins, by a fence, as it comes, and so does one for whom a
-    session more is made. At most `most` transactions may wait to be taken in before clients wait.
-    `policy` says what gives way. `journal` and `round_seconds` are as an Auditor's, for one that
-    has none yet. What the store promises is what the auditor was told; under snapshot isolation
-    there are twice as many meetings. Where all sessions are `elsewhere`, and what they do is kept
-    there until it is taken in, as behind a StreamServer, the auditor may be one that goes on by a
-    journal.
+    `auditor` is an Auditor, or an AuditorApart, which holds clients up less. `run_name` is the name
+    of the run, by default the auditor's.
 
-    With `redacts`, what is told of a violation has keys and the form of statements, and neither
-    their constants nor values; sessions of this process keep none either. An AuditClient has the
-    same, for what leaves its process.
+    A meeting takes place after `every` transactions (after a quarter of that if the last one
+    failed), and waits up to `patience` seconds for clients' transactions. `seconds` after the last
+    round there is another one, if anything was done. A client that has done nothing for `idle`
+    seconds loses its session to others until it needs one. A session without a client is closed at
+    the next meeting, and can be used again once it is forgotten. Its next client joins by a fence,
+    and so does the client of an additional session. At most `most` transactions may wait to be
+    taken in before clients have to wait. `policy` says what gives way.
+
+    `journal` and `round_seconds` are as in Auditor, for an auditor that has no journal yet. The
+    auditor also determines the promise; under snapshot isolation there are twice as many meetings.
+    Set `elsewhere` if all sessions are in other processes, which keep what they did until it is
+    taken in, as with a StreamServer: then the auditor may be one that continues a journal.
+
+    With `redacts`, reports of violations have keys and the form of statements, but no constants and
+    no values, and this process's sessions keep none. AuditClient has the same option for what
+    leaves its process.
 
     Each round is a line at level INFO of the log `zanteyard`, and so is each client's first
-    transaction. In the auditor's thread `tell` is called with each round's line, and where another
-    audit begins; `on_round` with a RoundTold, and `on_client` with a ClientTold. What fails is told
-    by `outcome`, and never raised to who runs transactions.
+    transaction. The auditor's thread calls `tell` with each round's line and when another audit
+    begins, `on_round` with a RoundTold, and `on_client` with a ClientTold. Errors appear in
+    `outcome`, and are never raised in the clients' calls.
     """
 
-    EVERY = 2560  # where one meeting fails there is room for two more
+    EVERY = 2560  # if one meeting fails, there is room for two more
 
     def __init__(
         self,
@@ -108,14 +110,14 @@ class LiveAuditor(ForProcesses):
         self.auditor = auditor
         self.is_named = run_name is not None or auditor.is_named
         self.token, self.redacts = auditor.token, redacts
-        # Has what was logged as bytes while it waits.
+        # Packs what was logged while it waits.
         self._packed = auditor.packed if isinstance(auditor, AuditorApart) else None
         self._teller = Teller(tell, on_round, on_client)
-        if auditor.promise.is_split:  # there is half the room
+        if auditor.promise.is_split:  # half the room
             every = min(every, self.EVERY // 2)
         self._pace = Pace(every, seconds, idle, patience)
         self._backlog, self._pool = Backlog(most), SessionPool(auditor.sessions)
-        # This process's clients, and each other process's.
+        # This process's clients; other processes add theirs.
         self._coordinator = QuiesceCoordinator([self._group], self._pool, self._backlog)
         now = time.monotonic()
         self._figures = Figures(told_at=now, cut_at=now)
@@ -129,16 +131,16 @@ class LiveAuditor(ForProcesses):
         self._thread.start()
 
     def session(self, store: Store, patience: float = PATIENCE) -> Session:
-        """The session of a new client, which asks the store for so many seconds for an outcome that
-        isn't known. Raises ValueError where as many clients have one each as can at a time; else,
-        where none is left in the policy's time, the client goes on unaudited. Where the client is
-        to join, it may raise what comes meanwhile and isn't of the store, as of a handler of
-        SIGALRM."""
-        if is_forked(self):  # threads that have its locks don't run here
+        """A session for a new client. `patience` is how many seconds it asks the store for an
+        unknown outcome. Raises ValueError if as many clients as possible have a session. If no
+        session becomes free within the policy's time, the client goes on unaudited. While the
+        client joins, exceptions that don't come from the store are raised, such as those of a
+        handler of SIGALRM."""
+        if is_forked(self):  # the threads that hold its locks don't exist here
             return Session(self, 0, store, self.run_name, patience)
         if not self.auditor.has_sessions:
             self.auditor.note_sessions()
-        owed: List[Place] = []  # of which no session is made yet
+        owed: List[Place] = []  # places that no session has yet
         try:
             place = self._pool.take(self.policy.wait, owed) or self._without_place()
             if place is None:
@@ -149,8 +151,8 @@ class LiveAuditor(ForProcesses):
             raise
 
     def stop(self, seconds: float = STOPPING) -> Outcome:
-        """Audits all that was handed in, and gives the outcome; after so many seconds, what is
-        known. May be called again."""
+        """Audits everything that was handed in and returns the outcome; after this many seconds,
+        what is known by then. May be called again."""
         self._is_stopping = True
         self._thread.join(seconds)
         if self._thread.is_alive():
@@ -162,7 +164,7 @@ class LiveAuditor(ForProcesses):
         return self
 
     def __exit__(self, kind: Optional[type], *_: object) -> None:
-        """As `stop` does; at once, where an exception ends it."""
+        """As `stop`. If an exception ends the block, it doesn't wait for the rest to be audited."""
         if kind is not None:
             self.lose(AuditLostError(f"it was abandoned ({kind.__name__})"))
         self.stop(STOPPING if kind is None else GIVING_UP)
@@ -170,7 +172,7 @@ class LiveAuditor(ForProcesses):
     # what sessions call
 
     def take(self, session: int, number: int, logged: Logged) -> None:
-        """Hands in what a transaction did; waits for room as long as the policy says."""
+        """Hands in what a transaction did. Waits for room as long as the policy says."""
         what = self._packed(logged) if self._packed else logged
         unseen = keys_written_unseen(logged)
         self._hand_in(time.monotonic(), session, number, unseen, what)
@@ -178,12 +180,12 @@ class LiveAuditor(ForProcesses):
             self._wait_for_room()
 
     def miss(self, session: int, number: int, error: Exception) -> None:
-        """It isn't known whether a session has handed in what it did under this number."""
+        """Records that it is unknown whether this transaction was handed in."""
         self._backlog.count_missed(session, number)
         self.lose(error)
 
     def take_close(self, session: int) -> None:
-        """Nothing more of this session comes."""
+        """The session does nothing more."""
         if not self._drops():
             self._backlog.put((time.monotonic(), session, None, None))
 
@@ -195,20 +197,20 @@ class LiveAuditor(ForProcesses):
             time.sleep(pause)
 
     def _no_room(self) -> str:
-        """Why clients would have to wait."""
+        """A message that says why clients would have to wait."""
         waits, room = f"{len(self._backlog)} transactions are waiting", self._backlog.room
-        if room < self._backlog.most:  # it may be quick, and hold as many as it can
+        if room < self._backlog.most:  # it may be fast enough, and be full
             why = self._audit.why_no_cut or "the next cut hasn't been made"
             return f"the auditor has room for {room} more transactions, but {waits}: {why}"
         slow = slowness_of(getattr(self.auditor, "path", ""))
         return f"the auditor can't keep up: {waits}{slow}"
 
     def _renew(self, session: Session) -> Optional[Place]:
-        # Where nothing is audited nobody waits for it.
+        # If nothing is audited, nobody waits for a place.
         place = self._pool.take(0.0 if self._drops() else self.policy.wait)
         if place is None:
             self._lose_for_a_client()
-        elif session.place is not None:  # which has ended for this audit
+        elif session.place is not None:  # its place has ended for this audit
             self._give_back(session.place)
         return place or session.place or self._pool.take_unaudited()
 
@@ -232,23 +234,24 @@ class LiveAuditor(ForProcesses):
                 if self._lost and not self.is_violated and not self._begin_anew():
                     break
             self._conclude()
-        except Exception as error:  # told by who asks: a thread's own error would be lost
+        except Exception as error:  # appears in the outcome; raised in a thread it would be lost
             self.lose(error)
         finally:
             self._failure, self._has_ended = (None if self.is_violated else self._lost), True
-            if not self._is_stopping:  # else another process may go on with them
+            if not self._is_stopping:  # else another process may continue with them
                 self._pool.end()
             self._group.end()
             for call in self._at_end:
                 call()
 
     def _pause(self) -> None:
-        """Nobody is woken for what waits: that would cost a client more than its whole log."""
+        """Waits for more to arrive. Clients don't wake this thread: that would cost them more than
+        their whole log."""
         if len(self._backlog) < LONGEST and not self._is_stopping:
             time.sleep(PAUSE)
 
     def _guarded(self, deed: Callable[[], object]) -> None:
-        """What fails here ends the audit."""
+        """Runs a step; an error in it ends the audit."""
         try:
             deed()
         except Exception as error:
@@ -268,15 +271,16 @@ class LiveAuditor(ForProcesses):
             self._pool.come_back(audit.vacant())
 
     def _is_meeting_due(self) -> bool:
-        """Where room asks for it: at a violation nothing is lost by a later one."""
-        if self._crash_searches.is_going_on:  # what that did is to be handed in before
+        """Whether a meeting is due, which depends on room only. A later meeting doesn't hide a
+        violation."""
+        if self._crash_searches.is_going_on:  # what the killed process did must be handed in first
             return False
         if self._coordinator.new >= self._pace.until_meeting(bool(self._audit.why_no_cut)):
             return True
         return time.monotonic() >= self._may_meet_at and self._pool.wants_meeting
 
     def _meet(self) -> None:
-        """With a round behind it, over what came up to its end."""
+        """Holds a meeting, and then a round over everything that arrived before its end."""
         audit, patience = self._audit, self._pace.patience_of(is_last=not self._has_room())
         met, cuts = (
             self._coordinator.meet(min(patience, self.policy.wait), self._pace.idle),
@@ -287,22 +291,22 @@ class LiveAuditor(ForProcesses):
         self._in_vain += 1
         audit.why_no_cut = met.failure
         audit.take_in_all(met.came)
-        if audit.is_violated:  # by a round that was to make room
+        if audit.is_violated:  # found by a round that was to make room
             return
         before = self.cuts
         audit.run_round(goes_on=True)
         if self.cuts > cuts:
             self._in_vain, self._may_meet_at = 0, time.monotonic() + SOON_AGAIN
         if self.cuts == before and audit.why_no_cut is None:
-            audit.why_no_cut = "no fence was settled"  # so that another meeting comes soon
+            audit.why_no_cut = "no fence was settled"  # so that the next meeting comes soon
 
     def _has_room(self) -> bool:
-        """For as many transactions more as come before the next meeting, if this one fails."""
+        """Whether there is room for what arrives before the next meeting, should this one fail."""
         remain = self.auditor.remaining + len(self._backlog)
         return remain + self._pace.soon < self.auditor.limit
 
     def _conclude(self) -> None:
-        """The last round of this audit, over all that was handed in while it went on."""
+        """Runs the last round of this audit, over everything that was handed in to it."""
         audit = self._audit
         self._guarded(lambda: audit.take_in_all(len(self._backlog)))
         if not audit.is_violated and audit.has_news:
@@ -315,7 +319,7 @@ class LiveAuditor(ForProcesses):
         return self._next_audit(Coverage.of_all(self.auditor.sessions))
 
     def _resumed_audit(self) -> Audit:
-        """Where another process has taken in what the journal tells."""
+        """The audit of a journal that another process has begun."""
         auditor: Any = self.auditor
         coverage = auditor.coverage or Coverage.of_all(auditor.sessions)
         for session, count in enumerate(auditor.received):
@@ -331,7 +335,7 @@ class LiveAuditor(ForProcesses):
         if FENCE in auditor.base:
             self._pool.let_join()
         audit.taken_in, audit.report = sum(auditor.received), auditor.violation
-        if auditor.failure is not None:  # it had sessions in the process that is gone
+        if auditor.failure is not None:  # its sessions were in the process that is gone
             audit.missing = MissingError(str(auditor.failure))
         self._coordinator.start_anew()
         return audit
@@ -339,7 +343,7 @@ class LiveAuditor(ForProcesses):
     # another audit
 
     def _begin_anew(self) -> bool:
-        """Whether another audit has begun."""
+        """Begins another audit, and returns whether it has begun."""
         self._conclude()
         if self.is_violated or self._cant_begin():
             return False
@@ -364,15 +368,15 @@ class LiveAuditor(ForProcesses):
             time.sleep(max(0.0, min(PAUSE, ends - time.monotonic())))
 
     def _start_anew(self) -> None:
-        """Only what is sent to the store from some moment on is audited; what was on its way then
-        is left out, as if it had been read by nobody."""
+        """Begins an audit of what is sent to the store from some moment on. What is in flight at
+        that moment is left out, and reads from it aren't checked."""
         why, coordinator = self._lost, self._coordinator
         ended = self._audit.outcome(True, why)
         self._backlog.clear()
         self._audit.drop_held()
-        # Nobody waits for room: processes are asked.
+        # Nobody waits for room while processes are asked.
         coordinator.is_meeting, self._backlog.room = True, self._backlog.most
-        self._lost = None  # nothing is dropped from here on: what has ended is known by its number
+        self._lost = None  # nothing is dropped from now on; what has ended is known by its number
         try:
             self._pool.grow()
             self.auditor.sessions = sessions = self._pool.sessions
@@ -391,7 +395,7 @@ class LiveAuditor(ForProcesses):
         logger.warning("another audit begins, %s; the last one ended: %s", self.name, why)
 
     def _next_audit(self, coverage: Coverage, before: Optional[Outcome] = None) -> Audit:
-        """Behind this outcome of the last one, if there was any."""
+        """The next audit, after the previous one with this outcome, if there was one."""
         more = (self._backlog, self._figures, self._teller, self.run_name, coverage)
         tenancy = self._pool.tenancy
         if before is None:
@@ -401,5 +405,5 @@ class LiveAuditor(ForProcesses):
         return Audit(self.auditor, *more, counted, earlier, tenancy)
 
     def _called(self, id: AuditId) -> str:
-        """How a transaction of the audit is told: whose it was, where its session had others."""
+        """The transaction's name in reports, with its client if the session had several."""
         return self._audit.called(id)

@@ -1,4 +1,4 @@
-"""What is known of a live audit by now."""
+"""What is known of a live audit so far."""
 
 from __future__ import annotations
 
@@ -16,26 +16,26 @@ from ._session_pool import SessionPool
 
 
 class LiveFigures(LocalSessions):
-    """Read from any thread."""
+    """May be read by any thread."""
 
     auditor: AnyAuditor
-    _audit: Audit  # the one that goes on, or the last
+    _audit: Audit  # the current one, or the last
     _backlog: Backlog
     _pool: SessionPool
     _coordinator: QuiesceCoordinator
     _figures: Figures
-    _lost: Optional[Exception] = None  # why no more is audited, until another audit begins
-    _failure: Optional[Exception] = None  # the same, once nothing more is audited for good
+    _lost: Optional[Exception] = None  # why nothing is audited until another audit begins
+    _failure: Optional[Exception] = None  # why nothing more is audited at all
     _is_stopping = _has_ended = False
 
     @property
     def outcome(self) -> Outcome:
-        """What came of it by now, of this audit and of those that ended before it as one."""
+        """The outcome so far, of this audit and all earlier ones together."""
         return self._audit.outcome(self._has_ended, self._failure).whole
 
     @property
     def name(self) -> str:
-        """Of this audit: the run's, with a number from the second on."""
+        """The name of this audit: the run's, with a number from the second audit on."""
         return self._audit.name
 
     @property
@@ -45,7 +45,7 @@ class LiveFigures(LocalSessions):
 
     @property
     def report(self) -> Optional[Report]:
-        """What the last round of this audit said; None before the first."""
+        """The report of this audit's last round; None before the first."""
         return self._audit.report
 
     @property
@@ -55,12 +55,13 @@ class LiveFigures(LocalSessions):
 
     @property
     def is_violated(self) -> bool:
-        """That stays so, whatever comes."""
+        """Whether a violation was found, which is final."""
         return self._audit.is_violated
 
     @property
     def is_over(self) -> bool:
-        """Nothing more is audited: a violation was found, or the audit has ended for good."""
+        """Whether nothing more is audited: a violation was found, or the audit has ended for
+        good."""
         return self.is_violated or self._has_ended
 
     @property
@@ -75,42 +76,42 @@ class LiveFigures(LocalSessions):
 
     @property
     def left_out(self) -> int:
-        """How many reads of this audit weren't checked, since it isn't about their source."""
+        """How many of this audit's reads weren't checked, because it doesn't cover their source."""
         return self._audit.left_out
 
     @property
     def rounds(self) -> int:
-        """How many there were, in all audits."""
+        """The number of rounds in all audits."""
         return self._figures.rounds
 
     @property
     def cuts(self) -> int:
-        """How many times something was forgotten, in all audits."""
+        """The number of cuts in all audits."""
         return self._figures.cuts
 
     @property
     def meetings(self) -> int:
-        """How many there were, in all audits, those that failed too."""
+        """The number of meetings in all audits, including failed ones."""
         return self._coordinator.meetings
 
     @property
     def lag(self) -> float:
-        """For how many seconds a transaction waited to be taken in, at most."""
+        """The longest that a transaction waited to be taken in, in seconds."""
         return self._figures.lag
 
     @property
     def told_behind(self) -> float:
-        """The same of what was taken in between the last round and the one before."""
+        """The same for what was taken in between the last two rounds."""
         return self._figures.told_behind
 
     @property
     def figures(self) -> Figures:
-        """Over all audits."""
+        """Counters over all audits."""
         return self._figures
 
     @property
     def counted(self) -> int:
-        """How many transactions were handed in, by clients and by meetings, in all audits."""
+        """How many transactions clients and meetings have handed in, in all audits."""
         return self._backlog.counted
 
     @property
@@ -120,20 +121,20 @@ class LiveFigures(LocalSessions):
 
     @property
     def sessions_left(self) -> int:
-        """How many clients more may have a session by now."""
+        """How many more clients may have a session now."""
         return self._pool.free
 
     @property
     def missing(self) -> Optional[MissingError]:
-        """What may have been done in this audit, and never comes."""
+        """What may have been done in this audit and will never arrive."""
         return self._audit.missing
 
     @property
     def lost(self) -> Optional[Exception]:
-        """Why no more is audited, until another audit begins."""
+        """Why nothing is audited until another audit begins."""
         return self._lost
 
     @property
     def has_ended(self) -> bool:
-        """Whether nothing more is audited for good."""
+        """Whether nothing more is audited at all."""
         return self._has_ended

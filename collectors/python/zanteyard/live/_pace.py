@@ -1,15 +1,15 @@
-"""When rounds and meetings of a live audit come."""
+"""How often a live audit has rounds and meetings."""
 
 from __future__ import annotations
 
 from dataclasses import dataclass
 
-PATIENT = 30  # times as long a meeting waits where the next one may come too late
+PATIENT = 30  # factor by which a meeting waits longer if the next one may be too late
 
 
 @dataclass
 class Pace:
-    """`LiveAuditor` says what each of these is."""
+    """The settings of the same names in `LiveAuditor`."""
 
     every: int
     seconds: float
@@ -18,13 +18,14 @@ class Pace:
 
     @property
     def soon(self) -> int:
-        """How many transactions come before the next meeting where one fails."""
+        """How many transactions may come before the next meeting if one fails."""
         return max(1, self.every // 4)
 
     def until_meeting(self, has_failed: bool) -> int:
-        """How many transactions come before the next meeting, behind one that has failed or not."""
+        """How many transactions may come before the next meeting, depending on whether the last one
+        failed."""
         return self.soon if has_failed else self.every
 
     def patience_of(self, is_last: bool) -> float:
-        """For how many seconds a meeting waits: longer, where the next one may come too late."""
+        """How many seconds a meeting waits: longer if the next one may be too late."""
         return PATIENT * self.patience if is_last else self.patience

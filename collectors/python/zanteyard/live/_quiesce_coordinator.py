@@ -1,4 +1,4 @@
-"""Has the sessions of all processes meet; `session/_quiesce.py` says what a meeting is."""
+"""Holds meetings of the sessions of all processes; `session/_quiesce.py` says what a meeting is."""
 
 from __future__ import annotations
 
@@ -11,12 +11,12 @@ from ..session._quiesce import QuiesceMissed, Wait
 from ._backlog import Backlog
 from ._session_pool import SessionPool
 
-READS = 200  # of one transaction; the auditor takes 256
-COMING = 0.2  # seconds for a client that was given a session to have it
+READS = 200  # reads of one transaction; the auditor takes 256
+COMING = 0.2  # seconds for a client to start using a session that it was given
 
 
 class QuiesceGroup(Protocol):
-    """The sessions of one process, here or elsewhere; `Group` says what each call does."""
+    """The sessions of one process, here or elsewhere; `SessionGroup` says what each call does."""
 
     @property
     def is_here(self) -> bool:
@@ -54,29 +54,29 @@ class QuiesceGroup(Protocol):
         ...
 
     def edges(self) -> Optional[Sequence[Tuple[Any, ...]]]:
-        """None where it doesn't answer: then none of its sessions is audited."""
+        """None if the process doesn't answer; then none of its sessions is audited."""
 
     def reopen(self) -> None:
         ...
 
 
 class Met(NamedTuple):
-    """What came of a meeting. `failure` says why there was none; None where all have met. `came` is
-    how many transactions waited to be taken in as clients went on: no read of these has a source
-    that isn't among them, or was taken in before."""
+    """The result of a meeting. `failure` says why it failed; None if all sessions have met. `came`
+    is how many transactions were waiting to be taken in when clients went on: the source of each of
+    their reads is among them or was taken in before."""
 
     failure: Optional[str]
     came: int
 
 
 class QuiesceCoordinator:
-    """For the auditor's thread, but for `groups`, to which any may add its own."""
+    """For the auditor's thread, except `groups`, to which any thread may add."""
 
     def __init__(self, groups: List[QuiesceGroup], places: SessionPool, backlog: Backlog) -> None:
         self.groups, self._pool, self._backlog = groups, places, backlog
         self.meetings = 0
-        self.is_meeting = False  # clients wait for it, and so for nothing else
-        self._counted = 0  # transactions, as the last one ended
+        self.is_meeting = False  # clients wait for the meeting, and so for nothing else
+        self._counted = 0  # transactions handed in when the last one ended
         self._kept: List[Place] = []  # by the last one, for clients that come
 
     @property
@@ -85,17 +85,18 @@ class QuiesceCoordinator:
         return self._backlog.counted - self._counted
 
     def start_anew(self) -> None:
-        """As if a meeting had just ended."""
+        """Counts from now on, as if a meeting had just ended."""
         self._counted = self._backlog.counted
 
     def go_on(self, remaining: int) -> None:
-        """Where another process has taken in so many that aren't forgotten. Were these not counted,
-        an auditor's process that is killed more often than meetings come would never have one."""
+        """Continues after another process, with this many transactions that it took in and that
+        aren't forgotten. If they didn't count, an auditor that is killed more often than meetings
+        are due would never have one."""
         self._counted = self._backlog.counted - remaining
 
     def meet(self, patience: float, idle: float) -> Met:
-        """Waits so many seconds for clients' transactions; who was idle for so many goes without a
-        session."""
+        """Holds a meeting. It waits `patience` seconds for clients' transactions. Clients that were
+        idle for `idle` seconds lose their sessions."""
         self._wait_for_who_comes()
         self.meetings, self.is_meeting = self.meetings + 1, True
         groups, places = list(self.groups), self._pool.lend()
@@ -106,7 +107,7 @@ class QuiesceCoordinator:
                 self._close(places)
         except QuiesceMissed as error:
             failure = str(error)
-        except Exception as error:  # the store's: a client will meet it too
+        except Exception as error:  # an error of the store, which a client will meet, too
             failure = f"the meeting failed ({str(error).strip() or type(error).__name__})"
         finally:
             self.is_meeting, came = False, len(self._backlog)
@@ -117,8 +118,9 @@ class QuiesceCoordinator:
         return Met(failure, came)
 
     def _wait_for_who_comes(self) -> None:
-        """Who goes on where another client has left is to be found by the call for its session:
-        else nothing would say that what was done there is behind the fence."""
+        """Waits for clients that were just given a session of another client. The meeting must find
+        them by the call for that session; otherwise nothing would show that what was done there
+        comes before the fence."""
         self._pool.keep()
         ends = time.monotonic() + COMING
         while time.monotonic() < ends:
@@ -128,7 +130,7 @@ class QuiesceCoordinator:
             time.sleep(COMING / 100)
 
     def _close(self, places: Sequence[Place]) -> None:
-        """What nobody has: all of it is behind the fence."""
+        """Closes the places that nobody has; everything done there comes before the fence."""
         kept = {place.number for place in self._kept}
         for number in self._pool.close(place for place in places if place.number not in kept):
             self._backlog.put((time.monotonic(), number, None, None))
@@ -136,9 +138,10 @@ class QuiesceCoordinator:
     def _hold(
         self, groups: Sequence[QuiesceGroup], places: List[Place], patience: float, idle: float
     ) -> Optional[str]:
-        """Says why there is none. Places that clients give back are added to these."""
+        """Holds all sessions. Returns the reason if that fails. Adds places that clients give back
+        to `places`."""
         number, ends = self.meetings, time.monotonic() + patience
-        # What is here is done while others work.
+        # The local group comes last, so that it works while others do.
         meeting = sorted(
             (group for group in groups if group.has_sessions), key=lambda group: group.is_here
         )
@@ -158,14 +161,14 @@ class QuiesceCoordinator:
             unread.update(flags)
             self._pool.lend_taken(given_back)
             places.extend(given_back)
-        late = self._pool.lend()  # whose clients left while others were called
+        late = self._pool.lend()  # their clients left while others were called
         if late:
             places.extend(late)
             leading.begin_flag(number, [place for place in late if place.is_due])(ends)
             unread.update(place.number for place in late if place.has_flag)
         self._lead(leading, unread, ends)
         self._pool.let_join()
-        self._kept = self._pool.spare(places)  # which are to be behind the fence, then
+        self._kept = self._pool.spare(places)  # places that then come before the fence
         passing = [
             group.begin_pass_on(number, self._kept if group is leading else [])
             for group in meeting
@@ -175,8 +178,8 @@ class QuiesceCoordinator:
         return None
 
     def _lead(self, leading: QuiesceGroup, unread: Set[int], ends: float) -> None:
-        """Has the leader read what nobody has read: flags of these sessions, and of those that have
-        ended, first, with as many keys as there is room for."""
+        """Has the leader read what nobody has read. First come the flags of `unread` and those of
+        ended sessions, with as many keys as there is room for."""
         gone = self._backlog.take_ends()
         flags = sorted({f"{FLAG}{session}" for session in unread}.union(filter(is_own, gone)))
         unread_keys = self._backlog.take_unseen().union(gone)
@@ -186,7 +189,7 @@ class QuiesceCoordinator:
         lists += [rest[start : start + READS] for start in range(0, len(rest), READS)]
         try:
             leading.begin_lead(self.meetings, [batch for batch in lists if batch])(ends)
-        except BaseException:  # they are to be read at the next meeting
+        except BaseException:  # to be read at the next meeting
             self._backlog.put_unseen(keys)
             self._backlog.put_ends(gone)
             raise

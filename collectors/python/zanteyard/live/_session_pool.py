@@ -11,43 +11,44 @@ from ..core._tenancy import Tenancy
 from ..core._window import SESSIONS
 from ..session._place import Place
 
-SPARE = 8  # that are to be there for clients that come, where there are enough
-# Seconds for a new one to join. Behind that it may never do so, as where nobody knows whether its
-# first fence is there; and then there are no newer ones.
+SPARE = 8  # sessions kept for clients that come, if there are enough
+# Seconds for a new session to join. After that it may never do so, for example if it is unknown
+# whether its first fence was written. Then no newer sessions can join.
 JOINING = 0.5
 
 
 class SessionPool:
-    """For threads. Who wants a place while a meeting has them all waits for its end. A place is
-    left for one client: whoever had it gives it back once, and who gives it back as well, as an
-    answer that comes late, gives nothing.
+    """The places that no client has; safe for use by several threads. If a meeting has them all, a
+    client that wants one waits for its end. A place is given to one client at a time. It is taken
+    back once; a second attempt, such as from a late answer, has no effect.
 
-    Of those that nobody has some are open in the auditor, and the next client goes on there; when
-    the clients have met these are closed. What was closed comes back once nothing of it remains:
-    its next client joins with a fence, as one does in a session that is new. A new one is the next
-    number, so that no other is given out until it has joined."""
+    Some free places are open in the auditor, and the next client continues there. After a meeting
+    these are closed. A closed place can be used again once nothing of it remains: its next client
+    joins with a fence. So does the client of a new session. A new session has the next number, so
+    no other new one is given out until it has joined.
+    """
 
     def __init__(self, sessions: int) -> None:
-        self.sessions = sessions  # by now, with one that hasn't joined yet
-        self.tenancy = Tenancy()  # which clients had them
+        self.sessions = sessions  # including one that hasn't joined yet
+        self.tenancy = Tenancy()  # which clients had which sessions
         self._left: Deque[Place] = deque(Place(number) for number in range(sessions))
-        self._back: Deque[Place] = deque()  # which the next client is to join
-        self._ended: Dict[int, Place] = {}  # by number, closed, and not forgotten yet
-        self._lent: Dict[int, Place] = {}  # by number, to meetings
+        self._back: Deque[Place] = deque()  # to be joined by their next clients
+        self._ended: Dict[int, Place] = {}  # by number: closed, and not forgotten yet
+        self._lent: Dict[int, Place] = {}  # by number: lent to meetings
         self._taken: Set[int] = set()  # the numbers that clients have
-        self._changed = threading.Condition()  # around those
+        self._changed = threading.Condition()  # guards the above
         self._is_lending = False
-        self._can_join = False  # this audit has a fence to join behind
-        self._new: Optional[int] = None  # which hasn't joined yet
+        self._can_join = False  # this audit has a fence to join after
+        self._new: Optional[int] = None  # the new session that hasn't joined yet
         self._new_at = 0.0  # when it was given out, by the monotonic clock
         self._waiting = 0  # clients
-        self._without = 0  # clients that went without one, since this audit began
+        self._without = 0  # clients that got none since this audit began
         self._has_ended = False  # nothing more is audited
         self._next_unaudited = max(SESSIONS, sessions)
 
     def take(self, seconds: float, owed: Optional[List[Place]] = None) -> Optional[Place]:
-        """One that is left, or None, where none is there after so many seconds. It is the last of
-        those that are `owed` then, whatever interrupt comes."""
+        """A place; None if none becomes free within this many seconds. It is also appended to
+        `owed`, so that it isn't lost if an interrupt comes."""
         owed = [] if owed is None else owed
         with self._changed:
             self._waiting += 1
@@ -66,20 +67,21 @@ class SessionPool:
             return place
 
     def take_unaudited(self) -> Place:
-        """One that no audit is about, for a client for whom none is left."""
+        """A place that no audit covers, for a client that gets no other."""
         with self._changed:
             self._without += 1
             self._next_unaudited += 1
             return Place(self._next_unaudited - 1, is_audited=False)
 
     def end(self) -> None:
-        """Nothing more is audited: no place comes for who waits, and nobody has to join."""
+        """Ends the pool, since nothing more is audited: nobody waits for a place or has to join."""
         with self._changed:
             self._has_ended, self._new = True, None
             self._changed.notify_all()
 
     def give_back(self, places: Iterable[Place]) -> None:
-        """Of clients. What has ended for this audit isn't left for anybody, until it comes back."""
+        """Takes back places of clients. One that has ended for this audit isn't free until it
+        returns."""
         with self._changed:
             for place in places:
                 if place.number in self._taken:
@@ -88,7 +90,7 @@ class SessionPool:
             self._changed.notify_all()
 
     def put_back(self, places: Iterable[Place]) -> None:
-        """Which were taken, and by an interrupt nobody has."""
+        """Takes back places that an interrupt has left without an owner."""
         with self._changed:
             for place in places:
                 self._taken.discard(place.number)
@@ -96,22 +98,23 @@ class SessionPool:
             self._changed.notify_all()
 
     def drop(self, numbers: Iterable[int]) -> None:
-        """Clients that had these are lost, or have others: nobody has them in this audit."""
+        """Records that nobody has these in this audit: their clients are lost, or have other
+        places."""
         with self._changed:
             self._taken.difference_update(numbers)
 
     def keep(self) -> None:
-        """What is left and open, until `take_back`, for a meeting."""
+        """Keeps open places back for a meeting, until `take_back`."""
         with self._changed:
             self._is_lending = True
 
     def coming(self, there: Iterable[int]) -> Set[int]:
-        """The numbers that clients have who aren't among these yet."""
+        """The numbers that clients have and that aren't in `there` yet."""
         with self._changed:
             return self._taken.difference(there)
 
     def lend(self) -> List[Place]:
-        """All that are left and open, to a meeting, until `take_back`."""
+        """Lends all open places to a meeting, until `take_back`."""
         with self._changed:
             self._is_lending, places = True, list(self._left)
             self._lent.update((place.number, place) for place in places)
@@ -119,7 +122,7 @@ class SessionPool:
         return places
 
     def lend_taken(self, places: Iterable[Place]) -> None:
-        """To the meeting as well: clients that were idle have given them back."""
+        """Also lends the meeting the places that idle clients have given back."""
         with self._changed:
             for place in places:
                 if place.number in self._taken:
@@ -127,9 +130,9 @@ class SessionPool:
                     self._lent[place.number] = place
 
     def spare(self, places: Iterable[Place]) -> List[Place]:
-        """Of those that are lent, those that stay open for clients that come: what is closed comes
-        back behind a cut alone, and nobody knows when there is one. So half of what clients don't
-        have can be had at any time, and a few where there are few."""
+        """The lent places that stay open for clients that come. A closed place returns only after a
+        cut, and nobody knows when that is. So half of the places without clients stay available,
+        and a few if there are few."""
         with self._changed:
             lent = [
                 place
@@ -141,8 +144,8 @@ class SessionPool:
             return lent[: max(0, SPARE - joining, half)]
 
     def close(self, places: Iterable[Place]) -> List[int]:
-        """Of those that are lent, those of which all is behind a meeting's fence: nothing more of
-        them comes, until they come back. Gives their numbers."""
+        """Marks those lent places as ended that have done nothing after the meeting's fence, and
+        returns their numbers."""
         with self._changed:
             lent = [
                 place
@@ -154,8 +157,8 @@ class SessionPool:
             return [place.number for place in lent]
 
     def take_back(self, places: Iterable[Place], is_over: bool = True) -> None:
-        """What was lent to a meeting that is over; or what was lent by it to a process which has
-        answered since. What that hasn't answered yet stays lent."""
+        """Takes back what was lent to a meeting that is over, or what a process has answered for
+        since then. What a process hasn't answered for stays lent."""
         with self._changed:
             self._is_lending = self._is_lending and not is_over
             for place in places:
@@ -166,43 +169,43 @@ class SessionPool:
 
     @property
     def taken(self) -> int:
-        """How many clients have one."""
+        """How many clients have a place."""
         return len(self._taken)
 
     @property
     def are_all_taken(self) -> bool:
-        """Whether as many clients have one as can at a time."""
+        """Whether as many clients have a place as possible."""
         return len(self._taken) >= SESSIONS
 
     @property
     def free(self) -> int:
-        """How many clients more may have one by now."""
+        """How many more clients may have a place now."""
         with self._changed:
             return len(self._left) + (self._may_join() if self._can_join else 0)
 
-    # sessions that join, and come back
+    # sessions that join and return
 
     @property
     def new(self) -> Optional[int]:
-        """The number that is to join next, while it hasn't."""
+        """The number that is to join next; None if there is none."""
         return self._new
 
     def note_joined(self, number: int) -> None:
-        """What it did first was handed in."""
+        """Notes that the new session's first transaction was handed in."""
         with self._changed:
             if self._new == number:
                 self._new = None
             self._changed.notify_all()
 
     def let_join(self) -> None:
-        """This audit has a fence, behind which clients join."""
+        """Lets clients join from now on: this audit has a fence."""
         with self._changed:
             self._can_join = True
             self._changed.notify_all()
 
     def come_back(self, vacant: Mapping[int, int]) -> None:
-        """The sessions of which nothing remains, each with the number of its next transaction.
-        Those for which somebody may have used that already stay ended."""
+        """Makes sessions available of which nothing remains, each with the number of its next
+        transaction. If somebody may already have used that number, the session stays ended."""
         with self._changed:
             for number, following in vacant.items():
                 place = self._ended.get(number)
@@ -215,7 +218,7 @@ class SessionPool:
 
     @property
     def wants_meeting(self) -> bool:
-        """Whether somebody waits for what a meeting would bring, or may soon have to."""
+        """Whether somebody needs what a meeting would free, or may soon need it."""
         with self._changed:
             if not self._can_join:
                 return self._waiting > 0 and not self._left
@@ -225,8 +228,8 @@ class SessionPool:
     # another audit, in which all are open
 
     def begin_anew(self, place: Place) -> None:
-        """Another audit has this in place of the one of this number that nobody has, or that was
-        lent and isn't answered for."""
+        """Uses this place in another audit, in place of the one with its number that nobody has, or
+        that was lent and not answered for."""
         with self._changed:
             if place.number in self._nobodys():
                 self._lent.pop(place.number, None)
@@ -235,8 +238,8 @@ class SessionPool:
             self._changed.notify_all()
 
     def grow(self) -> None:
-        """The audit that begins has sessions for the clients that went without one, as far as there
-        may be more; and nobody joins the one before any more, which didn't know of these."""
+        """Adds sessions for the clients that got none, as far as possible. Nobody joins the
+        previous audit any more, which didn't know these sessions."""
         with self._changed:
             self._can_join, self._new = False, None
             for _ in range(min(self._without, SESSIONS - self.sessions)):
@@ -246,7 +249,7 @@ class SessionPool:
             self._changed.notify_all()
 
     def reopen(self) -> None:
-        """All that is closed is open in the audit that begins."""
+        """Opens everything that is closed, for the audit that begins."""
         with self._changed:
             ended = [place for place in self._ended.values() if _is_over(place)]
             for place in [*self._back, *ended]:
@@ -258,7 +261,7 @@ class SessionPool:
             self._changed.notify_all()
 
     def nobodys(self) -> Set[int]:
-        """The numbers of places that are neither left nor a client's."""
+        """The numbers of places that are neither free nor a client's."""
         with self._changed:
             return self._nobodys()
 
@@ -267,16 +270,16 @@ class SessionPool:
             return [place.number for place in [*self._left, *self._back]]
 
     def edges(self) -> List[Tuple[Any, ...]]:
-        """As a Group's: nothing runs in these."""
+        """As `SessionGroup.edges`; nothing runs in these."""
         with self._changed:
             places = [*self._left, *self._back, *filter(_is_over, self._ended.values())]
             return [(place.number, place.begun, place.begun, place.unknown) for place in places]
 
-    # where another process of the auditor goes on
+    # continuing in another process of the auditor
 
     def nobodys_by_now(self) -> Tuple[List[Place], int]:
-        """Those that are left, and those that are lent and not told of to anybody yet, or answered
-        for; and the number of the next one that no audit is about."""
+        """The free places and the lent ones that no process has been told about, or that were
+        answered for; and the number of the next place that no audit covers."""
         with self._changed:
             lent = [place for place in self._lent.values() if not place.is_lent]
             places = [*self._left, *self._back, *self._ended.values(), *lent]
@@ -285,7 +288,7 @@ class SessionPool:
     def go_on(
         self, left: Iterable[Place], taken: Iterable[int], lent: Iterable[Place], unaudited: int
     ) -> None:
-        """With these alone; before any client comes."""
+        """Continues with exactly these, before any client connects."""
         with self._changed:
             places = [*left]
             self._left = deque(place for place in places if not (place.is_ended or place.must_join))
@@ -299,14 +302,14 @@ class SessionPool:
             if self.sessions > joined:
                 self._new = self.sessions - 1
 
-    # for who has the lock
+    # the caller holds the lock
 
     def _is_any_left(self) -> bool:
         may_join = self._can_join and (bool(self._back) or self._may_grow())
         return may_join or (bool(self._left) and not self._is_lending)
 
     def _may_join(self) -> int:
-        """How many by now, one behind the other."""
+        """How many may join now, one after another."""
         is_stuck = self._new is not None and time.monotonic() > self._new_at + JOINING
         return len(self._back) + (0 if is_stuck else max(0, SESSIONS - self.sessions))
 
@@ -314,7 +317,7 @@ class SessionPool:
         return self._new is None and self.sessions < SESSIONS
 
     def _next(self) -> Place:
-        """In a session of its own, where there is one."""
+        """A free place: if possible, one in which no other client has been since it was closed."""
         if self._can_join and self._back:
             return self._back.popleft()
         if self._can_join and self._may_grow():
@@ -337,16 +340,16 @@ class SessionPool:
         elif place.must_join and self._can_join:
             self._back.append(place)
         else:
-            if place.must_join:  # in the audit before
+            if place.must_join:  # that was in the previous audit
                 place.is_due, place.must_join = True, False
             self._left.append(place)
 
 
 def _is_behind(place: Place) -> bool:
-    """Whether all that was done in it is behind the meeting's fence, and it is still open."""
+    """Whether everything done in it comes before the meeting's fence, and it is still open."""
     return not (place.is_lent or place.is_due or place.is_ended)
 
 
 def _is_over(place: Place) -> bool:
-    """Whether nobody may do more in it than is known."""
+    """Whether no further transaction can turn up in it."""
     return all(end <= place.begun for _, end in place.unknown)

@@ -1,5 +1,4 @@
-"""What a live audit tells as it goes on: as values to who asks for them, and as lines of the
-log."""
+"""What a live audit reports as it goes on: values for its callers, and lines in the log."""
 
 from __future__ import annotations
 
@@ -13,10 +12,9 @@ Tell = Callable[[str], object]
 
 
 class RoundTold(NamedTuple):
-    """A round, and what became of it: over so many `transactions`, which came at a `rate` a second,
-    and of which one waited for `behind` seconds to be taken in, at most. `remaining` transactions
-    aren't forgotten after it. Where there was no cut, `no_cut` says why, if there is more to say
-    than that the verdict leaves none."""
+    """A round and its result: it covered `transactions`, which arrived at `rate` per second, and
+    one of which waited up to `behind` seconds to be taken in. `remaining` transactions aren't
+    forgotten after it. If there was no cut, `no_cut` says why, unless the verdict is the reason."""
 
     report: Report
     transactions: int
@@ -41,7 +39,7 @@ class RoundTold(NamedTuple):
 
 
 class ClientTold(NamedTuple):
-    """A client's first transaction: a session `joins` with it, goes on, or begins."""
+    """A client's first transaction: with it a session joins, goes on, or begins."""
 
     client: int
     session: int
@@ -57,7 +55,8 @@ class ClientTold(NamedTuple):
 
 
 class Teller:
-    """For the auditor's thread. What a caller's function raises is told once, and harms nothing."""
+    """Reports; for the auditor's thread. An exception of a caller's function is logged once, and
+    has no other effect."""
 
     def __init__(
         self,
@@ -85,7 +84,7 @@ class Teller:
             return
         try:
             function(told)
-        except BaseException as error:  # in this thread nothing but the audit would be ended by it
+        except BaseException as error:  # only the audit would end with it in this thread
             if not self._has_failed:
                 self._has_failed = True
                 logger.error("can't report a round: %r", error)

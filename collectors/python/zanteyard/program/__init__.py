@@ -1,2 +1,2 @@
-"""The proved programs as child processes: lines to them and replies from them, and the auditor that
-takes in what sessions did."""
+"""The proved programs as child processes, the lines to them and their replies, and the auditor,
+which takes in what sessions did."""

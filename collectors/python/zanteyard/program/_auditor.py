@@ -1,4 +1,4 @@
-"""The program cobra_audit, started with pipes on both ends, and what was given to it."""
+"""The program cobra_audit, started with pipes on both ends, and a record of what it was given."""
 
 from __future__ import annotations
 
@@ -40,27 +40,28 @@ logger = logging.getLogger("zanteyard")
 
 
 class Auditor(Rounds):
-    """The program cobra_audit. For threads: each call is one line and its reply. What sessions hand
-    in (`take`) never raises; all other calls raise ProgramEndedError where the program is gone and
-    RefusedError where it refuses a line.
+    """The program cobra_audit. Safe for use by several threads: each call is one line and its
+    reply. What sessions hand in (`take`) never raises. All other calls raise ProgramEndedError if
+    the program is gone and RefusedError if it refuses a line.
 
-    `sessions` are 1 to 64 at first, and as many as `join` has made them later; at most `limit`
-    transactions may remain, which is 4,096 at most.
-    `program` is the file to start. `run_name` is beside each value that sessions write: each run
-    needs one of its own, and has it where none is given. `script` names a file to which every line
-    goes that the program was given, so that it can be given them again. `policy` says how long
-    sessions wait. `journal` names a file that isn't there yet (docs/JOURNAL.md): where the program
-    dies, another one is brought where it stood. Then all calls raise JournalError where the journal
-    can't be written. A round whose search takes more than `round_seconds`, 60 where none are given,
-    is skipped, and told as spent. `promise` is "serializable" or "snapshot" (docs/PROMISES.md);
-    under the latter there is room for half as many."""
+    `sessions` is the initial number of sessions, 1 to 64; `join` adds more. At most `limit`
+    transactions may remain, which is 4,096 at most. `program` is the file to start. `run_name` is
+    stored next to each value that sessions write; each run needs its own, and gets one by default.
+    `script` names a file for every line that the program is given, so that the lines can be
+    replayed. `policy` says how long sessions wait. `journal` names a file that doesn't exist yet
+    (docs/JOURNAL.md): if the program dies, another one is started and brought to the same state.
+    With a journal, all calls raise JournalError if it can't be written. A round whose search takes
+    longer than `round_seconds` (60 by default) is skipped and reported as spent. `promise` is
+    "serializable" or "snapshot" (docs/PROMISES.md). With "snapshot" there is room for half as many
+    transactions.
+    """
 
-    rewriting: Optional[Rewriting] = None  # of a finished history, where it is asked about another
-    # promise than serializability
+    rewriting: Optional[Rewriting] = None  # For a finished history, if another promise than
+    # serializability is checked
 
     @classmethod
     def asked(cls, sessions: int, limit: int, program: str, rewriting: Rewriting) -> Auditor:
-        """One that is asked about the rewriting's promise."""
+        """An auditor that checks the rewriting's promise."""
         auditor = cls.__new__(cls)
         auditor.rewriting = rewriting if rewriting.promise != SERIALIZABLE else None
         Auditor.__init__(auditor, sessions, limit, program)
@@ -76,12 +77,12 @@ class Auditor(Rounds):
         round_seconds: Optional[float] = None,
         promise: Optional[str] = None,
     ) -> Auditor:
-        """Goes on with the audit of this journal, whose process is gone: `received`, `closed`,
-        `history` and `violation` tell where it stands. What clients did that isn't received is to
-        be offered again, from there on. Of an audit whose sessions were in that process it isn't
-        known what they did last: then `outcome` is violated or incomplete, and `last_round` tells
-        of what is received. It asks for the promise that it asked for before; raises JournalError
-        if that isn't `promise`, and if there is no journal that can be believed."""
+        """Continues the audit of this journal after its process has gone. `received`, `closed`,
+        `history` and `violation` say where it stands. What clients did after `received` must be
+        offered again. If the audit's sessions were in that process, their last transactions are
+        unknown: then `outcome` is violated or incomplete, and `last_round` reports on what was
+        received. The audit checks the same promise as before; raises JournalError if that isn't
+        `promise`, or if there is no valid journal."""
         reopened_audit = reopened(journal, promise)
         head = reopened_audit.kept.head
         try:
@@ -93,14 +94,14 @@ class Auditor(Rounds):
             raise
 
     def _start(self, coverage: Optional[Coverage]) -> None:
-        self.coverage, self.left_out = coverage, 0  # reads whose source the audit isn't about
+        self.coverage, self.left_out = coverage, 0  # reads whose source the audit doesn't cover
         self.from_before = 0
         self.numbers: Dict[str, int] = {FENCE: 0}
-        self.names = [FENCE]  # of each key, by its name; and the other way
+        self.names = [FENCE]  # key names by number, and numbers by name
         self.history = [[] for _ in range(self.sessions)]  # what was taken in and isn't forgotten
-        self.marks = [0] * self.sessions  # how many of each session are forgotten
-        self.closed = [False] * self.sessions  # which nothing more comes of
-        # Of each key that a forgotten transaction wrote, the last that did.
+        self.marks = [0] * self.sessions  # how many transactions of each session are forgotten
+        self.closed = [False] * self.sessions  # sessions that have ended
+        # The last forgotten writer of each key that has one.
         self.base: Dict[str, AuditId] = {}
         self._tenancy = Tenancy()  # of clients, by their first transactions
         self._have_no_round()
@@ -121,7 +122,7 @@ class Auditor(Rounds):
         self._open()
 
     def _open(self) -> None:
-        """Raises ProgramTooOldError where the program doesn't know of what was aborted."""
+        """Raises ProgramTooOldError if the program can't read about aborted transactions."""
         try:
             self.ask(["open", self.sessions, self.limit, FORM])
         except BadLineError as error:
@@ -138,19 +139,20 @@ class Auditor(Rounds):
         return program
 
     def _head(self) -> Head:
-        """For the journal."""
+        """The head of the journal."""
         coverage = asdict(self.coverage) if self.coverage is not None else None
         plain = (self.sessions, self.limit, self.run_name, self.audits, coverage)
         more = (self._tenancy.joined(), self.promise.name, self.from_before, self._store())
         return Head(*plain, 0, 0, False, *more)
 
     def _store(self) -> Optional[List[str]]:
-        """Which this run is about, as the journal has it; None where no client has told it yet."""
+        """The store that this run is about, in the journal's form; None until a client has
+        identified it."""
         identity = self.audited_store.identity
         return [*identity] if identity is not None else None
 
     def _go_on_by(self, reopened_audit: Reopened) -> None:
-        """Where the program of this journal stood."""
+        """Restores the state of this journal's program."""
         self.journal = reopened_audit.journal.path  # from the next audit on
         kept, state = reopened_audit.kept, reopened_audit.state
         self.audits, self.left_out = kept.head.audit, kept.head.left_out
@@ -172,11 +174,11 @@ class Auditor(Rounds):
             self.failure = AuditLostError(UNKNOWN)
         self.program = self._started(reopened_audit)
         self._keep(kept.lines)
-        self.ask(["save", "marks"])  # when that is answered it is there
+        self.ask(["save", "marks"])  # once this is answered, the state is restored
 
     @property
     def received(self) -> List[int]:
-        """How many transactions of each session were taken in, those that are forgotten too."""
+        """How many transactions of each session were taken in, including forgotten ones."""
         return [gone + len(txns) for gone, txns in zip(self.marks, self.history)]
 
     @property
@@ -233,13 +235,13 @@ class Auditor(Rounds):
     def _offer_of(self, fragment: Tuple[Any, ...], joins: bool = False) -> str:
         session, first, txns, *_ = fragment
         where = ["offer", session, first]
-        if joins:  # as a new one, or as one that comes back
+        if joins:  # as a new session, or as one that returns
             where = ["join", session] if session >= self.sessions else ["join", session, first]
         return written([*where, [*map(self.txn, txns)]])
 
     def _keep_history(self, fragment: Tuple[Any, ...], joins: bool = False) -> None:
         session, _, txns, left_out, from_before = fragment
-        if session == len(self.history):  # which has joined
+        if session == len(self.history):  # a new session has joined
             self.marks.append(0)
             self.closed.append(False)
             self.history.append([])
@@ -250,12 +252,12 @@ class Auditor(Rounds):
         self.history[session] += txns
         self.left_out += left_out
         self.from_before += from_before
-        if self.is_resumed:  # there are no sessions that count them
+        if self.is_resumed:  # no sessions count them
             self.taken_in += len(txns)
 
     @property
     def written_last(self) -> List[Sequence[str]]:
-        """Of each session the keys that its last transaction wrote, if that isn't forgotten."""
+        """For each session the keys that its last transaction wrote, unless that is forgotten."""
         return [self._writes(txns[-1]) if txns else () for txns in self.history]
 
     def _writes(self, logged: Logged) -> Sequence[str]:
@@ -289,8 +291,8 @@ class Auditor(Rounds):
         return refused
 
     def _note_figures(self, left_out: int, from_before: int) -> None:
-        """In the journal with the lines that leave out so many reads more, and have so many more
-        from before, if these are taken; and the store that they are about."""
+        """Passes to the journal how many more reads these lines leave out and have from before, if
+        the lines are taken; and the store."""
         if isinstance(self.program, SupervisedProgram):
             keeping = self.program.keeping
             keeping.left_out = self.left_out + left_out
@@ -306,8 +308,8 @@ class Auditor(Rounds):
                 self.program.keeping.note_figures()
 
     def _covered(self, fragment: Fragment) -> Tuple[Any, ...]:
-        """The fragment as the audit sees it, how many reads were left out, and how many are of
-        versions that were there before."""
+        """The fragment as the audit sees it, how many reads were left out, and how many read
+        versions from before."""
         session, first, txns = fragment
         left_out = 0
         if self.coverage is not None:
@@ -323,8 +325,8 @@ class Auditor(Rounds):
         return self.coverage.moved(logged)
 
     def txn(self, logged: Any) -> List[Any]:
-        """A transaction as lines have it. What an attempt did that was aborted counts for nothing,
-        and one that did nothing is told like any other that is idle."""
+        """A transaction as lines have it. What an aborted attempt did has no effect; one that did
+        nothing looks like any other idle transaction."""
         did_read, did_write = logged.did
         reads = sorted(
             (self.key_number(key), *(() if source == "init" else source))
@@ -336,24 +338,24 @@ class Auditor(Rounds):
         return [*plain, ABORTED] if logged.is_undone else plain
 
     def key_number(self, key: str) -> int:
-        """Which stands for the key in lines; a new one, where it has none yet."""
+        """The number that stands for the key in lines; a new one, if it has none yet."""
         known = self.numbers.get(key)
         if known is not None:
             return known
         with self.lock:
-            if key not in self.numbers:  # another thread may have come first
-                self.names.append(key)  # first: after an interrupt no two keys have one number
+            if key not in self.numbers:  # another thread may have been faster
+                self.names.append(key)  # first, so that an interrupt can't give two keys one number
                 self.numbers[key] = len(self.names) - 1
             return self.numbers[key]
 
     def close(self, session: int) -> None:
-        """Nothing more of this session comes, unless it joins again."""
+        """Closes the session: it does nothing more, unless it joins again."""
         self.ask(["close", session])
         self.closed[session] = True
 
     def truncate(self) -> Cut:
-        """Has the auditor forget what the last round found settled. The lines keep in which order
-        what remains stands to it. Raises NoCutError where nothing is."""
+        """Has the auditor forget what the last round found settled. The lines keep the order
+        between that and what remains. Raises NoCutError if nothing is settled."""
         text = written(["truncate"])
         with self._between_rounds():
             self._begin_to_ask()
@@ -379,7 +381,7 @@ class Auditor(Rounds):
         for session, count in Counter(session for session, _ in gone).items():
             del self.history[session][:count]
             self.marks[session] += count
-        for session, number in begun:  # what these have read is forgotten with their begins
+        for session, number in begun:  # their reads are forgotten with their begins
             at = number - self.marks[session]
             self.history[session][at] = self._without_reads(self.history[session][at])
         self._tenancy.forget(self.marks)
@@ -389,8 +391,8 @@ class Auditor(Rounds):
         return logged._replace(reads=())
 
     def called(self, id: AuditId) -> str:
-        """How a transaction is told: by what its client began with, where its session had others;
-        a live audit tells it by that client's number."""
+        """The transaction's name in reports, with its client's first transaction if the session had
+        several clients. A live audit shows the client's number instead."""
         return self.live_called(id) if self.live_called else self._tenancy.called_by_first(id)
 
     def _end_program(self) -> Optional[int]:

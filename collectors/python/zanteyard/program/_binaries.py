@@ -1,7 +1,7 @@
-"""Where the auditor's program is, and what is known of how it was made.
+"""Where the auditor's program is, and how it was built.
 
-A wheel has the program inside, in the folder `bin` of this package, beside a note of what was
-proved (`made.json`, which package.sh writes). In a clone it is where the prover's build puts it.
+A wheel contains the program in the folder `bin` of this package, next to a note of what was proved
+(`made.json`, which package.sh writes). In a clone it is in the prover's output folder.
 """
 
 from __future__ import annotations
@@ -16,8 +16,8 @@ from ..core.errors import ProgramMissingError
 
 AUDITOR = "cobra_audit"
 CHECKER = "cobra_check"  # checks stored replies
-ENVIRONMENT = "COBRA_AUDIT"  # the environment's name for a program that comes before all others
-CHECKER_ENVIRONMENT = "COBRA_CHECK"  # the same of the checker
+ENVIRONMENT = "COBRA_AUDIT"  # the environment variable that names another program to use
+CHECKER_ENVIRONMENT = "COBRA_CHECK"  # the same for the checker
 PACKAGE = os.path.dirname(os.path.abspath(__file__))
 PACKED = os.path.join(PACKAGE, "bin")
 NOTE = os.path.join(PACKED, "made.json")
@@ -26,24 +26,24 @@ BUILT = os.path.join(CRATES, AUDITOR, "out", AUDITOR)
 CHECKER_BUILT = os.path.join(CRATES, CHECKER, "out", CHECKER)
 
 
-# What is built without proofs has its checks compiled in, and nothing optimized.
+# A build without proofs has run-time checks and no optimization.
 SLOW = "some 300 times slower than a proved one"
 
 
 @dataclass(frozen=True)
 class ProgramOrigin:
-    """How a program was made. `is_proved` is None where nobody noted it."""
+    """How a program was built. `is_proved` is None if there is no note."""
 
     path: str
     is_proved: Optional[bool]
     kit: str = ""
     commit: str = ""
-    is_as_noted: bool = True  # whether the file has the sum that the note says
+    is_as_noted: bool = True  # whether the file's hash is the one in the note
 
     def sentence(self) -> str:
-        """In words, for `--version`."""
+        """A line for `--version`."""
         if self.is_proved is None:
-            return f"{self.path}: not known whether it was proved"
+            return f"{self.path}: unknown whether it was proved"
         if not self.is_as_noted:
             return f"{self.path}: NOT THE FILE THAT WAS PACKED (its sha256 differs)"
         if not self.is_proved:
@@ -52,13 +52,13 @@ class ProgramOrigin:
 
 
 def program_path(environment: Mapping[str, str] = os.environ) -> str:
-    """The program that would be started, whether or not it is there: the one that the environment
-    names, else the one that came with the package, else the one that a clone has built."""
+    """The program that would be started, even if it doesn't exist: the one in the environment
+    variable, else the package's, else the clone's build."""
     return _path(environment, ENVIRONMENT, AUDITOR, BUILT)
 
 
 def checker_path(environment: Mapping[str, str] = os.environ) -> str:
-    """The same of the program that checks stored replies."""
+    """The same for the program that checks stored replies."""
     return _path(environment, CHECKER_ENVIRONMENT, CHECKER, CHECKER_BUILT)
 
 
@@ -71,17 +71,17 @@ def _path(environment: Mapping[str, str], name: str, program: str, built: str) -
 
 
 def find_program(environment: Mapping[str, str] = os.environ) -> str:
-    """The same; raises ProgramMissingError where there is none that can be started."""
+    """As `program_path`, but raises ProgramMissingError if that can't be started."""
     return _started(program_path(environment), ENVIRONMENT)
 
 
 def find_checker(environment: Mapping[str, str] = os.environ) -> str:
-    """The program that checks stored replies; raises ProgramMissingError."""
+    """The program that checks stored replies. Raises ProgramMissingError if it can't be started."""
     return _started(checker_path(environment), CHECKER_ENVIRONMENT)
 
 
 def _started(path: str, name: str) -> str:
-    """The path, where a program is there that can be started."""
+    """The path, if it is a program that can be started."""
     if not os.path.isfile(path):
         raise ProgramMissingError(
             f"{path} is missing: install the wheel, build the program (see README.md), or set "
@@ -93,7 +93,7 @@ def _started(path: str, name: str) -> str:
 
 
 def origin_of(path: str) -> ProgramOrigin:
-    """What is known of this program."""
+    """How this program was built, as far as it is known."""
     if os.path.dirname(path) != PACKED or not os.path.isfile(NOTE):
         return ProgramOrigin(path, None)
     with open(NOTE, encoding="utf-8") as file:
@@ -105,7 +105,7 @@ def origin_of(path: str) -> ProgramOrigin:
 
 
 def slowness_of(path: str) -> str:
-    """Words for whoever finds this program slow: it may be for want of proofs. Else empty."""
+    """A remark for whoever finds this program slow, if it was built without proofs. Else empty."""
     try:
         is_proved = origin_of(path).is_proved
     except (OSError, ValueError, KeyError):
@@ -122,4 +122,4 @@ def sha256_of(path: str) -> str:
     return digest.hexdigest()
 
 
-PROGRAM = program_path()  # where nothing else is asked for
+PROGRAM = program_path()  # the default

@@ -1,5 +1,5 @@
-"""`zanteyard check-report SCRIPT REPLIES`: has stored replies checked by a program of its own,
-which makes no search and doesn't believe the auditor (`cobra_check`, docs/FORMATS.md)."""
+"""`zanteyard check-report SCRIPT REPLIES`: has a separate program check stored replies, which runs
+no search and doesn't rely on the auditor (`cobra_check`, docs/FORMATS.md)."""
 
 from __future__ import annotations
 
@@ -24,14 +24,14 @@ def add_arguments(command: argparse.ArgumentParser) -> None:
 
 
 def run(asked: argparse.Namespace) -> int:
-    """Checks, and writes what the program tells. Raises ZanteyardError."""
+    """Runs the check. The checker prints its own output. Raises ZanteyardError."""
     with open(asked.script, "rb") as script, open(asked.replies, "rb") as replies:
         return check(script, replies)
 
 
 def by_turns(script: IO[bytes], replies: IO[bytes]) -> Iterator[Tuple[bytes, bytes]]:
-    """Each line of the script with its reply. Raises ZanteyardError where a reply has no line;
-    a line without a reply comes with an empty one, which the program tells."""
+    """Each line of the script with its reply, which is empty if it is missing; the checker reports
+    that. Raises ZanteyardError if there are more replies than lines."""
     for line in script:
         yield line, replies.readline()
     if replies.readline():
@@ -39,7 +39,7 @@ def by_turns(script: IO[bytes], replies: IO[bytes]) -> Iterator[Tuple[bytes, byt
 
 
 def check(script: IO[bytes], replies: IO[bytes]) -> int:
-    """Has the replies checked, and gives the exit status."""
+    """Has the replies checked, and returns the exit status."""
     program = subprocess.Popen([find_checker()], stdin=subprocess.PIPE)
     assert program.stdin is not None
     with contextlib.suppress(BrokenPipeError), program.stdin as lines:

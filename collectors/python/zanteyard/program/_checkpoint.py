@@ -1,4 +1,4 @@
-"""How a program gives out what it keeps, and how another one begins with that (docs/FORMATS.md)."""
+"""How a program hands out its state, and how another one starts from it (docs/FORMATS.md)."""
 
 from __future__ import annotations
 
@@ -7,26 +7,26 @@ from typing import Generator, List, Sequence
 
 from ..core.errors import JournalError, ProgramEndedError, ZanteyardError
 
-Answers = Generator[List[bytes], List[bytes], List[bytes]]  # gives lines, and is sent their answers
+Answers = Generator[List[bytes], List[bytes], List[bytes]]  # yields lines, is sent their answers
 
 OK, RESUMED = b'["ok"]', b'["resumed"]'
 REFUSED, NO_MEMORY = b'["no",', b'["no",16,'
 BAD_LINE = b'["no",1,"BadLine"]'
-EMPTY = b",[]]"  # what an answer without any ends with
+EMPTY = b",[]]"  # how an empty answer ends
 MARKS, LAST = b'["save","marks"]', b'["last",'
-KEYS = 1 << 64  # below this
-NUMBERS = 1 << 48  # at most this
-TRIES = 3  # where a line is refused for want of memory
+KEYS = 1 << 64  # keys are below this
+NUMBERS = 1 << 48  # numbers are at most this
+TRIES = 3  # if a line is refused because memory ran out
 
 
 def saved_lines(limit: int) -> Answers:
-    """The lines by which another program begins where this one stands. Raises JournalError where
-    it can't say. All that is left to ask is asked at once, each part from where it ended."""
+    """The lines that bring another program to this one's state. Raises JournalError if the program
+    can't say. In each step all unfinished parts are requested at once, each from where it ended."""
     last: List[bytes] = []
     remaining: List[bytes] = []
     (marks,) = yield from _answers([MARKS])
-    sessions = len(json.loads(marks)[1])  # those that have joined, too
-    ends_at = {-1: 0, **dict.fromkeys(range(sessions), 0)}  # keys, and each session's numbers
+    sessions = len(json.loads(marks)[1])  # including those that have joined
+    ends_at = {-1: 0, **dict.fromkeys(range(sessions), 0)}  # of keys; of each session
     while ends_at:
         answers = yield from _answers([_part(*each) for each in ends_at.items()])
         for part, answer in zip([*ends_at], answers):
@@ -47,23 +47,23 @@ def _part(session: int, at: int) -> bytes:
 
 
 def _end_of(answer: bytes) -> int:
-    """The key, or the number, behind the last one told."""
-    if answer.startswith(LAST):  # there may be very many, and the last one is enough
+    """The number after the last key or transaction in the answer."""
+    if answer.startswith(LAST):  # may be very long: only its last entry is parsed
         return int(answer[answer.rindex(b"[") + 1 :].partition(b",")[0]) + 1
     _, _, first, txns = json.loads(answer)
     return int(first) + len(txns)
 
 
 def standing_lines(sessions: int) -> List[bytes]:
-    """What tells of each session how many are gone, whether it is closed, and how many were taken
-    in: what is asked of it is behind all that may be."""
+    """Lines that ask how many transactions of each session are gone, whether it is closed, and how
+    many were taken in. The start is past the last possible number, so the answers are empty."""
     return [MARKS, *(_part(session, NUMBERS) for session in range(sessions))]
 
 
 def is_standing(
     answers: Sequence[bytes], gone: List[int], closed: List[bool], received: List[int]
 ) -> bool:
-    """Whether a program that answers those lines so is there."""
+    """Whether these answers to those lines mean that the program has this state."""
     marks, *ends = map(json.loads, answers)
     wanted = [["offer", session, number, []] for session, number in enumerate(received)]
     return bool(marks[:3] == ["marks", gone, closed] and ends == wanted)
@@ -82,7 +82,7 @@ def _answers(lines: List[bytes]) -> Answers:
 
 
 def why_not_resumed(answer: bytes, path: str) -> ZanteyardError:
-    """By what a line was answered in place of ok."""
+    """The error for a line that wasn't answered ok."""
     if answer.startswith(NO_MEMORY):
         return ProgramEndedError("cobra_audit has no memory for the state that it was to load")
     message = answer.decode(errors="replace")

@@ -1,4 +1,4 @@
-"""What an auditor takes from sessions, and what users call, wherever its program is."""
+"""What an auditor takes from sessions and what users call, whichever process runs its program."""
 
 from __future__ import annotations
 
@@ -23,39 +23,39 @@ from ._resuming import Reopened
 
 
 LIMIT = 4096  # the most transactions that may remain
-# Of a round: how many nodes of the search it may look at, how deep the search is split, and how
-# many workers share it. The next is tried where one hasn't decided.
+# The efforts of a round: how many nodes its search may look at, the depth at which the search is
+# split, and how many workers share it. If one effort doesn't decide, the next one follows.
 EFFORTS = ((4096, 0, 1), (65536, 4, max(1, min(16, os.cpu_count() or 1))))
-GUIDED = "guided"  # the search that each round asks for: it finds more than the plain one
+GUIDED = "guided"  # the search that each round uses; it finds more than the plain one
 SECONDS = 60.0  # for the answer to a line that no client waits for
-ROUND_SECONDS = 60.0  # that a round's search may take, where nothing else is asked for
-# A search is looked for again after an eighth of the time that it has taken, in these bounds.
+ROUND_SECONDS = 60.0  # the default limit of a round's search
+# A search is polled again after an eighth of the time that it has taken, within these bounds.
 SHARE, LEAST_PAUSE, LONGEST_PAUSE = 8, 0.0005, 0.02
-LATEST = 10.0  # seconds after which an answer that no client waits for isn't waited for any more
+LATEST = 10.0  # seconds after which a late answer is given up, even if no client waits for it
 Effort = Tuple[int, int, int]  # nodes, depth, workers
-Fragment = Tuple[int, int, Sequence[Any]]  # session, number of the first, transactions
+Fragment = Tuple[int, int, Sequence[Any]]  # session, first number, transactions
 logger = logging.getLogger("zanteyard")
 
 
 def pause_after(seconds: float) -> float:
-    """After how many seconds more a search is looked for again that has taken so many."""
+    """Seconds until a search that has taken `seconds` so far is polled again."""
     return min(LONGEST_PAUSE, max(LEAST_PAUSE, seconds / SHARE))
 
 
 def fresh_name() -> str:
-    """A run's name that no other run has."""
+    """A name for a run that no other run has."""
     return f"{time.strftime('%Y-%m-%d %H:%M:%S')} {secrets.token_hex(6)}"
 
 
 class Intake:
-    """What an auditor does wherever its program is: it takes what sessions hand in when the store
-    has answered. That never raises, and waits no longer than the policy says. What can't be taken
-    in ends the audit, which `failure` and the log tell."""
+    """The part of an auditor that doesn't depend on where its program runs. It takes what sessions
+    hand in after the store has answered. That never raises and waits no longer than the policy
+    says. If something can't be taken in, the audit ends; `failure` and the log say why."""
 
-    history: History  # of each session what was taken in and isn't forgotten
-    has_sessions = False  # which hand in to it
-    from_before = 0  # reads of versions that were there before this audit
-    live_called: Optional[AuditNaming] = None  # how a live audit tells transactions
+    history: History  # for each session, what was taken in and isn't forgotten
+    has_sessions = False  # that hand in to it
+    from_before = 0  # reads of versions from before this audit
+    live_called: Optional[AuditNaming] = None  # how a live audit names transactions
 
     def __init__(
         self,
@@ -83,17 +83,17 @@ class Intake:
         self.policy, self.is_named = policy, run_name is not None
         self.run_name: str = run_name if run_name is not None else fresh_name()
         self.made_in = os.getpid()
-        self.token = secrets.token_hex(12)  # of this run alone, also where its name isn't
+        self.token = secrets.token_hex(12)  # unique to this run, even if its name isn't
         self.audited_store = AuditedStore()
         self.audits = 0
         self._waiting: Deque[Tuple[Any, ...]] = deque()
-        self.is_ended = False  # by who has made it
-        self.lock = threading.RLock()  # what is kept here follows the replies in their order
-        self._rounds = threading.RLock()  # one round at a time, each of its caller's
+        self.is_ended = False  # by its owner
+        self.lock = threading.RLock()  # the state here follows the replies in their order
+        self._rounds = threading.RLock()  # one round at a time, for one caller
         self._begin_count()
         self._start(None)
 
-    # what each kind has of its own
+    # what each kind does in its own way
 
     def _start(self, coverage: Optional[Coverage]) -> None:
         raise NotImplementedError
@@ -104,9 +104,9 @@ class Intake:
     def offer_all(
         self, fragments: Sequence[Fragment], joining: Container[int] = ()
     ) -> List[Fragment]:
-        """Several fragments, each (session, number of the first, transactions): gives those for
-        which there was no room. Of these sessions they are what they join with, as an Auditor's
-        `join` says; each stands once among the fragments."""
+        """Offers several fragments, each (session, first number, transactions), and returns those
+        for which there was no room. For the sessions in `joining` the fragment is what they join
+        with, as in an Auditor's `join`; each of these has one fragment."""
         raise NotImplementedError
 
     def _prepare(self, kind: str, session: int, *offered: Any) -> Any:
@@ -118,31 +118,31 @@ class Intake:
         raise NotImplementedError
 
     def _wait_for_take(self, seconds: float) -> None:
-        """Until its answer can be read. Raises ProgramLateError, and may then be called again, as
-        after an interrupt."""
+        """Waits until its answer can be read. Raises ProgramLateError. May be called again after
+        that, and after an interrupt."""
         raise NotImplementedError
 
     def _end_take(self, kind: str, asked: Any, seconds: float) -> Optional[RefusedError]:
-        """Reads the answer, and gives what it refuses."""
+        """Reads the answer, and returns the refusal in it, if any."""
         raise NotImplementedError
 
     def _give_up(self) -> None:
-        """The program would answer what nobody asks any more."""
+        """Gives the program up, since it would answer what nobody asks any more."""
         raise NotImplementedError
 
-    # What is sent and what is read for it are in step, but for between these two. An interrupt
-    # that comes there would have the next one who asks take an answer for its own that isn't.
+    # Requests and answers are in step except between these two calls. If an interrupt came there,
+    # the next caller could take an answer that isn't its own.
 
     _is_in_step = True
-    _why_out = ""  # where it was no interrupt
+    _why_out = ""  # the reason, if it was no interrupt
 
     def _leave_step(self) -> None:
-        """For who has the lock."""
+        """Marks the start of a request. The caller holds the lock."""
         self._still_in_step()
         self._is_in_step = False
 
     def _still_in_step(self) -> None:
-        """Raises ProgramEndedError where it has been left before and for good."""
+        """Raises ProgramEndedError if an earlier request was never completed."""
         if not self._is_in_step:
             self._give_up()
             raise ProgramEndedError(
@@ -150,33 +150,34 @@ class Intake:
             )
 
     def _be_in_step(self) -> None:
-        """An answer was read to its end, and what it says is kept."""
+        """Marks that an answer was read completely and its contents kept."""
         self._why_out = ""
         self._is_in_step = True
 
-    # Rounds are searched beside the lines that come meanwhile.
+    # Rounds are searched while more lines arrive.
 
     def _begin_search(self, efforts: Sequence[Effort]) -> None:
-        """Of a round; one that nobody waits for any more is skipped."""
+        """Starts the search of a round. An open round that nobody waits for is skipped."""
         raise NotImplementedError
 
     def _await_report(self, seconds: float) -> bool:
-        """Whether it is there, after so many seconds at most."""
+        """Whether the report is ready; waits at most this many seconds."""
         raise NotImplementedError
 
     def _take_report(self) -> Report:
-        """Which is there."""
+        """Returns the report, which is ready."""
         raise NotImplementedError
 
     def begin_round(self, efforts: Sequence[Effort] = EFFORTS) -> None:
-        """Before the `last_round` that tells of it: what is offered in between isn't in it."""
+        """Begins the round that the next `last_round` reports. What is offered in between isn't
+        part of it."""
         with self._rounds:
             self._begin_search(efforts)
             self._is_round_begun = True
 
     def has_round(self, seconds: float) -> bool:
-        """Whether nobody has to wait for the report of the round that was begun, after so many
-        seconds at most."""
+        """Whether the report of the round that was begun is ready; waits at most this many
+        seconds."""
         try:
             return self._await_report(seconds)
         except BaseException:
@@ -184,25 +185,25 @@ class Intake:
             raise
 
     def last_round(self, efforts: Sequence[Effort] = EFFORTS) -> Report:
-        """As `round`, over what was taken in by now, whatever was lost; or the round that was
-        begun. Sessions hand in while it is searched, and nobody joins."""
+        """As `round`, for what has been taken in so far, even if something was lost; or for the
+        round that was begun. During the search sessions can hand in, but none can join."""
         with self._rounds:
             if not self._is_round_begun:
                 self._begin_search(efforts)
             self._is_round_begun = False  # after an interrupt another one is begun
             began = time.monotonic()
             while not self.has_round(0.0):
-                time.sleep(pause_after(time.monotonic() - began))  # others take the lock
+                time.sleep(pause_after(time.monotonic() - began))  # others can take the lock
             return self._take_report()
 
     def note_sessions(self) -> None:
-        """In the journal, if there is one: where this process ends, nobody knows what they did
-        last. Raises JournalError."""
+        """Records, also in the journal, that sessions hand in: if this process ends, their last
+        transactions are unknown. Raises JournalError."""
         self.has_sessions = True
 
     def keep_journal(self, path: str, round_seconds: Optional[float] = None) -> None:
-        """From now on, as if it had been given at the start; nothing may have been offered yet.
-        Raises JournalError, and then the auditor is as ended."""
+        """Adds a journal to an auditor that hasn't been used yet. Raises JournalError; the auditor
+        has then ended."""
         with self.lock:
             self._check_end()
             if self.journal is not None or self.is_in_use:
@@ -221,63 +222,62 @@ class Intake:
         return self.audits > 1 or self.handed_in > 0 or any(self.received)
 
     def called(self, id: AuditId) -> str:
-        """How a transaction is told."""
+        """The transaction's name in reports."""
         return self.live_called(id) if self.live_called else f"{id[0]}.{id[1]}"
 
-    received: Any  # how many transactions of each session were taken in, forgotten ones too
+    received: Any  # how many transactions of each session were taken in, including forgotten ones
     marks: Any  # how many of each session are forgotten
 
     @property
     def violation(self) -> Optional[Report]:
-        """What the journal, if there is one, says of the first round that was violated: that stays
-        so, whatever is told later."""
+        """The journal's first violated report, if there is a journal and a violation: it stays
+        true, whatever is reported later."""
         return None
 
     # what users call
 
     def offer(self, session: int, number: int, *logged: Any) -> None:
-        """Transactions that follow one another, the first of this number. Raises FullError where
-        there is no room."""
+        """Offers consecutive transactions, the first with this number. Raises FullError if there is
+        no room."""
         if self.offer_all([(session, number, logged)]):
             raise FullError(f"no room for transaction {number} of session {session}")
 
     def join(self, session: int, number: int, *logged: Any) -> None:
-        """Lets a session join with its first transactions: a new one, whose number is that of the
-        sessions so far, from 0 on; or one that was closed and of which nothing remains (`vacant`),
-        from where it has ended. The first is a fence that reads from one that remains, or from the
-        last that is forgotten; else it raises NotAnchoredError. Raises FullError where there is no
-        room."""
+        """Lets a session join with its first transactions. It is a new session, whose number is the
+        next one from 0 on, or a closed one of which nothing remains (`vacant`), which continues
+        where it ended. Its first transaction must be a fence that reads from a remaining fence or
+        from the last one forgotten; otherwise NotAnchoredError is raised. Raises FullError if there
+        is no room."""
         if self.offer_all([(session, number, logged)], (session,)):
             raise FullError(f"no room for transaction {number} of session {session}")
 
     @property
     def vacant(self) -> List[int]:
-        """The sessions that are closed and of which nothing remains, which may come back."""
+        """The closed sessions of which nothing remains, which may return."""
         raise NotImplementedError
 
     def round(self, efforts: Sequence[Effort] = EFFORTS) -> Report:
-        """The report of a round over all that sessions have handed in. One that ends spent is given
-        again with the next effort: then it tells of the last. One whose search takes more than
-        `round_seconds` is skipped, and told as spent. Raises why, where something that sessions did
-        was lost: `outcome` tells what is known all the same."""
+        """The report of a round over everything that sessions have handed in. If an effort is spent
+        without a result, the next one is tried; the report is that of the last. A round whose
+        search takes longer than `round_seconds` is skipped and reported as spent. If something that
+        sessions did was lost, the reason is raised; `outcome` still says what is known."""
         self._take_in()
         if self.failure is not None:
             raise self.failure
         return self.last_round(efforts)
 
     def start_anew(self, coverage: Optional[Coverage] = None) -> None:
-        """Another program, which knows nothing of what the one before it was given. By a Coverage,
-        numbers count from where the audit begins. Raises ProgramEndedError behind `end`."""
+        """Starts a new audit with a new program. With a Coverage, numbers count from the beginning
+        of that audit. Raises ProgramEndedError after `end`."""
         with self.lock:
             self._check_end()
             self._end_program()
             self._begin_count()
-            self._be_in_step()  # with another program
+            self._be_in_step()  # with the new program
             self._start(coverage)
 
     def end(self) -> Optional[int]:
-        """Ends the program, and gives its status, or None where that isn't known. May be called
-        again."""
+        """Ends the program, and returns its status, or None if unknown. May be called again."""
         self.is_ended = True
         with self.lock:
             return self._end_program()
@@ -288,25 +288,25 @@ class Intake:
     # what sessions call
 
     def meet_store(self, identity: StoreIdentity) -> None:
-        """Raises StoreUnfitError where that isn't the store that this run is about, which is the
-        first that is told."""
+        """Raises StoreUnfitError if this isn't the store that the run is about, which is the first
+        one identified."""
         self.audited_store.meet(identity)
 
     def _begin_count(self) -> None:
         self.failure: Optional[Exception] = None
         self.taken_in, self._is_round_begun = 0, False
-        # Of each session the number behind the last one that was counted, and how many were.
+        # For each session, the number after the last one counted, and how many were counted.
         self._seen: Dict[int, Tuple[int, int]] = {}
-        self._late: Any = None  # what was asked for a session and isn't answered yet, since when
+        self._late: Any = None  # a session's request that isn't answered yet, and when it was sent
 
     def take(self, session: int, number: int, logged: Logged) -> None:
-        """Hands in what a transaction did; waits as long as the policy says."""
+        """Hands in what a transaction did. Waits as long as the policy says."""
         self._count(session, number)
         self._hand_in(("offer", session, number, logged))
 
     def _count(self, session: int, number: int) -> None:
-        """Once, also of what is missed after it was handed in; one thread at a time for a
-        session."""
+        """Counts a transaction once, even if it is both handed in and missed. For one thread at a
+        time per session."""
         seen, count = self._seen.get(session, (0, 0))
         if seen <= number:
             self._seen[session] = (number + 1, count + 1)
@@ -316,13 +316,13 @@ class Intake:
         return sum(count for _, count in list(self._seen.values()))
 
     def miss(self, session: int, number: int, error: Exception) -> None:
-        """It isn't known whether a session has handed in what it did under this number."""
+        """Records that it is unknown whether this transaction was handed in."""
         self._count(session, number)
         self._waiting.clear()
-        self._fail(error)  # what was asked already is answered before a round is
+        self._fail(error)  # requests that were already sent are answered before a round
 
     def take_close(self, session: int) -> None:
-        """Nothing more of this session comes."""
+        """The session does nothing more."""
         self._hand_in(("close", session))
 
     def _hand_in(self, what: Tuple[Any, ...]) -> None:
@@ -332,14 +332,14 @@ class Intake:
         taken: List[bool] = []
         ends = time.monotonic() + self.policy.wait
         try:
-            if take(self.lock, self.policy.wait, taken):  # else who has it takes it in
+            if take(self.lock, self.policy.wait, taken):  # else the holder of the lock takes it in
                 self._take_in(ends)
         finally:
             give_back(self.lock, taken)
 
     def _take_in(self, ends: Optional[float] = None) -> None:
-        """All that waits; until then. What isn't answered by then is asked for by who comes next,
-        and those don't wait."""
+        """Takes in everything that waits, until the time `ends`. An answer that isn't there by then
+        is read by the next caller, without waiting for it again."""
         with self.lock:
             while self.failure is None and (self._late or self._waiting):
                 try:
@@ -360,7 +360,7 @@ class Intake:
         what = self._waiting[0]
         asked = self._prepare(*what)
         self._leave_step()
-        with suppress(IndexError):  # what was missed meanwhile has emptied it
+        with suppress(IndexError):  # `miss` may have emptied it meanwhile
             self._waiting.popleft()
         self._begin_take(asked)
         self._late = (what, asked, time.monotonic())
@@ -371,8 +371,8 @@ class Intake:
             raise ProgramEndedError("the auditor was closed")
 
     def _end_late(self, seconds: float) -> None:
-        """The answer to what was asked for a session; raises ProgramLateError, and may then be
-        called again."""
+        """Reads the answer to a session's request. Raises ProgramLateError, and may then be called
+        again."""
         (kind, *_), asked, _ = self._late
         self._still_in_step()
         self._wait_for_take(seconds)
@@ -386,7 +386,7 @@ class Intake:
             raise refusal
 
     def _lose(self, error: Exception) -> None:
-        """Nothing more is audited but what was taken in by now."""
+        """Ends the audit: it covers only what has been taken in so far."""
         self._late = None
         self._waiting.clear()
         self._fail(error)
@@ -397,7 +397,7 @@ class Intake:
             logger.error("auditing has stopped: %s", error)
 
     def outcome(self) -> Outcome:
-        """After a round over all that was handed in. Raises nothing."""
+        """The outcome after a round over everything that was handed in. Raises nothing."""
         report = None
         try:
             self._take_in()
@@ -418,7 +418,7 @@ class Intake:
 def never_came(
     history: History, marks: Optional[Sequence[int]] = None
 ) -> Iterator[Pending]:
-    """The reads of a history that name transactions which aren't in it, each a Pending."""
+    """The reads of a history that name transactions which aren't in it."""
     marks = marks or [0] * len(history)
     for session, txns in enumerate(history):
         for number, logged in enumerate(txns, marks[session]):

@@ -1,4 +1,4 @@
-"""Lines to cobra_audit, its replies, and the script in which the lines are kept."""
+"""Sends lines to cobra_audit, reads its replies, and keeps the lines in a script."""
 
 from __future__ import annotations
 
@@ -29,8 +29,8 @@ TOO_OLD = (
     f"is older than this package: it doesn't read scripts of version {FORM}, which name aborted "
     "writers. Rebuild it, or name another program"
 )
-SHOWN = 160  # characters of a line that is refused
-WAITS = (0.1, 0.5)  # seconds after which a line that was answered NoMemory is given again
+SHOWN = 160  # characters of a refused line
+WAITS = (0.1, 0.5)  # seconds until a line that was answered NoMemory is sent again
 ENDED = "cobra_audit was closed"
 logger = logging.getLogger("zanteyard")
 KINDS: Mapping[str, Type[RefusedError]] = {
@@ -48,7 +48,7 @@ def written(line: Sequence[Any]) -> str:
 
 
 def refusal_of(text: str, reply: Sequence[Any]) -> Optional[RefusedError]:
-    """Of the line, if this reply refuses it."""
+    """The error for this line, if the reply refuses it."""
     if reply[0] != "no":
         return None
     short = text if len(text) <= SHOWN else f"{text[:SHOWN]} .."
@@ -56,23 +56,23 @@ def refusal_of(text: str, reply: Sequence[Any]) -> Optional[RefusedError]:
 
 
 class Lines(Intake):
-    """For threads: each call is one line and its reply."""
+    """Safe for use by several threads: each call is one line and its reply."""
 
     script_path: Optional[str]
     script_failure: Optional[OSError]  # why the script lacks lines
-    script: Any = None  # a raw file, whose `write` tells how much it took
+    script: Any = None  # an unbuffered file, whose `write` returns how much it took
     program: Union[Pipes, SupervisedProgram, None] = None
 
     def _open_script(self) -> None:
-        """Of a second audit the script is beside the first one's, with its number behind the
-        name."""
+        """Opens the script. That of a later audit is next to the first one's, with the audit's
+        number appended."""
         if self.script_path is not None:
             behind = f".{self.audits}" if self.audits > 1 else ""
             self.script = open(f"{self.script_path}{behind}", "wb", 0, opener=private)
 
     def ask(self, line: Sequence[Any]) -> List[Any]:
-        """The reply to a line as docs/FORMATS.md has them; one that is refused for want of memory
-        is given again."""
+        """The reply to a line of docs/FORMATS.md. A line that is refused because memory ran out is
+        sent again."""
         text = written(line)
         with self.lock:
             self._begin_to_ask()
@@ -91,7 +91,8 @@ class Lines(Intake):
     def _settled(
         self, text: str, reply: List[Any], seconds: float = SECONDS
     ) -> Tuple[List[Any], Optional[RefusedError]]:
-        """The reply once the line isn't refused for want of memory, and what it refuses."""
+        """The reply and the refusal in it, after repeating a line that was refused because memory
+        ran out."""
         for wait in WAITS:
             if reply[0] != "no" or reply[2] != "NoMemory" or wait > seconds:
                 break
@@ -100,7 +101,7 @@ class Lines(Intake):
         return reply, refusal_of(text, reply)
 
     def _replies_to(self, texts: Sequence[str], is_kept: bool = True) -> List[List[Any]]:
-        """To lines that are given one after another, and kept in the script. Raises
+        """The replies to lines that are sent one after another and kept in the script. Raises
         ProgramLateError if that takes too long. The caller has called `_begin_to_ask`."""
         self._give(texts, is_kept)
         try:
@@ -126,7 +127,7 @@ class Lines(Intake):
         self.program.ask(lines)
 
     def _keep(self, lines: Sequence[bytes]) -> None:
-        """In the script; a file that can't be written harms nobody but who wants to read it."""
+        """Writes lines to the script. If that fails, only the script suffers."""
         if self.script is not None and self.script_failure is None:
             try:
                 text = b"".join(line + b"\n" for line in lines)

@@ -1,5 +1,4 @@
-"""A program that answers line by line over pipes, and that nobody waits for longer than was
-said."""
+"""A program that answers line by line over pipes, with a time limit for each wait."""
 
 from __future__ import annotations
 
@@ -12,14 +11,14 @@ from typing import Iterable, List, NoReturn
 from ..core.errors import ProgramEndedError, ProgramLateError
 
 
-ENDING = 5.0  # seconds for a program to end by itself, once its input has ended
+ENDING = 5.0  # seconds for a program to end by itself after its input has ended
 
 
 class Pipes:
-    """For one thread at a time. What an interrupt leaves half done may have an answer be read for
-    another line: from then on, and once it was killed, every call raises ProgramEndedError."""
+    """For one thread at a time. After an interrupt in the middle of a write or a read, and after
+    `kill`, every call raises ProgramEndedError, since an answer could belong to another line."""
 
-    program = "cobra_audit"  # how it is told
+    program = "cobra_audit"  # its name in messages
 
     def __init__(self, path: str) -> None:
         pipe = subprocess.PIPE
@@ -31,10 +30,10 @@ class Pipes:
         assert self.process.stdin and self.process.stdout and self.process.stderr
         self.input, self.output = self.process.stdin, self.process.stdout
         self.errors = self.process.stderr
-        self.rest = b""  # what was read behind the last whole line
-        self.unsent = memoryview(b"")  # of lines
-        self.found: List[bytes] = []  # answers that nobody has yet
-        self.is_in_step = True  # of what was written and read nothing is half noted
+        self.rest = b""  # what was read after the last whole line
+        self.unsent = memoryview(b"")  # rest of the lines that aren't written yet
+        self.found: List[bytes] = []  # answers that nobody has taken yet
+        self.is_in_step = True  # no write or read was interrupted halfway
         self.waits = select.poll()
         self.waits.register(self.output, select.POLLIN | select.POLLHUP)
         self.takes = select.poll()
@@ -42,31 +41,30 @@ class Pipes:
         os.set_blocking(self.input.fileno(), False)
 
     def ask(self, lines: Iterable[bytes]) -> None:
-        """Bytes without their ends, each of which is answered once."""
+        """Queues lines, as bytes without line ends. Each gets one answer."""
         self.still_in_step()
         self.unsent = memoryview(bytes(self.unsent) + b"".join(line + b"\n" for line in lines))
 
     def answers(self, count: int, seconds: float) -> List[bytes]:
-        """So many, in the order in which was asked; raises as `wait` does."""
+        """The next `count` answers, in the order of their lines. Raises what `wait` raises."""
         self.wait(count, seconds)
         answers, self.found = self.found[:count], self.found[count:]
         return answers
 
     def taken(self) -> List[bytes]:
-        """All that are there by now."""
+        """All answers that have arrived so far."""
         taken, self.found = self.found, []
         return taken
 
     def still_in_step(self) -> None:
-        """Raises ProgramEndedError where it isn't known any more to which line an answer
-        belongs."""
+        """Raises ProgramEndedError if answers can't be matched to lines any more."""
         if not self.is_in_step:
             self.kill()
             self.tell_end()
 
     def wait(self, count: int, seconds: float) -> None:
-        """Until so many answers are there. Raises ProgramEndedError; or ProgramLateError after so
-        many seconds, and may then be called again, as after an interrupt."""
+        """Waits for this many answers. Raises ProgramEndedError, or ProgramLateError after this
+        many seconds. May be called again after the latter, and after an interrupt."""
         self.still_in_step()
         until = time.monotonic() + seconds
         try:
@@ -80,7 +78,7 @@ class Pipes:
             raise ProgramEndedError(f"can't reach {self.program}: {error}") from error
 
     def write(self, until: float) -> None:
-        """What the program takes, unless answers have to be read first."""
+        """Writes what the program accepts, unless answers have to be read first."""
         try:
             self.is_in_step = False
             self.unsent = self.unsent[os.write(self.input.fileno(), self.unsent[:65536]) :]
@@ -105,22 +103,22 @@ class Pipes:
         self.is_in_step = True
 
     def left(self, until: float) -> int:
-        """Milliseconds, as `poll` wants them."""
+        """Milliseconds, for `poll`."""
         return max(0, int(1000 * (until - time.monotonic())))
 
     def tell_end(self) -> NoReturn:
-        status, error = self.end(), self.error
-        raise ProgramEndedError(f"{self.program} ended with status {status}: {error}")
+        words = f"{self.program} ended with status {self.end()}"
+        raise ProgramEndedError(f"{words}: {self.error}" if self.error else words)
 
-    error = ""  # what it told as it ended
+    error = ""  # what it wrote on standard error
 
     def kill(self) -> None:
-        """What it has answered by now isn't read any more."""
+        """Kills the program. Its answers so far aren't read any more."""
         self.is_in_step = False
         self.process.kill()
 
     def end(self) -> int:
-        """Ends the program, and gives its status; may be called again."""
+        """Ends the program, and returns its status. May be called again."""
         for pipe in (self.input, self.output):
             try:
                 pipe.close()

@@ -1,4 +1,4 @@
-"""Where an audit begins that has a journal, and where one is gone on with."""
+"""Begins an audit with a journal, or continues one."""
 
 from __future__ import annotations
 
@@ -20,7 +20,7 @@ logger = logging.getLogger("zanteyard")
 
 @dataclass
 class Reopened:
-    """A journal that another program left, what it says, and where that leads."""
+    """A journal that another program left, its contents, and the state that they lead to."""
 
     journal: Journal
     kept: Kept
@@ -36,8 +36,7 @@ class Reopened:
 
 
 def reopened(path: str, promise: Optional[str] = None) -> Reopened:
-    """Raises JournalError where there is none, none that can be believed, or one of an audit that
-    asks for another promise."""
+    """Raises JournalError if there is no valid journal, or if its audit checks another promise."""
     journal = Journal(path)
     try:
         if not journal.is_there:
@@ -70,8 +69,8 @@ def journaled(
     head: Callable[[], Head],
     names: Sequence[str],
 ) -> SupervisedProgram:
-    """A program whose audit goes on by this journal, or begins one. One that is there already isn't
-    written over, but by a later audit of the same run."""
+    """A program whose audit continues this journal, or begins a new one. An existing journal isn't
+    overwritten, except by a later audit of the same run."""
     if isinstance(journal, Reopened):
         keeping = JournalWriter(journal.journal, head, names, journal.kept)
         return SupervisedProgram(program, keeping, journal.kept)
@@ -89,7 +88,7 @@ def journaled(
 
 
 def _earlier(journal: Journal, run_name: str) -> List[Violation]:
-    """What earlier audits of this run were told, which is kept."""
+    """The violations that earlier audits of this run reported, which are kept."""
     if not journal.is_there:
         return []
     try:

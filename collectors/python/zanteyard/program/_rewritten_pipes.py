@@ -1,4 +1,4 @@
-"""A program that is asked about another promise than serializability, by what it is given."""
+"""A program that checks another promise than serializability, through rewritten lines."""
 
 from __future__ import annotations
 
@@ -16,8 +16,8 @@ NO_ROOM = ["no", 8, "Backlog"]
 
 
 class _Asked(NamedTuple):
-    """A line, and how many lines the program was given for it; or its answer, where the program
-    was given none."""
+    """A line, and how many lines the program was given for it; or its answer, if the program was
+    given none."""
 
     line: List[Any]
     given: int
@@ -25,8 +25,9 @@ class _Asked(NamedTuple):
 
 
 class RewrittenPipes(Pipes):
-    """For one thread at a time. Lines and answers are those of docs/PROMISES.md. `ask` raises
-    CantBeAskedError for a line that can't be asked, and gives the program nothing then."""
+    """Takes the lines and returns the answers of docs/PROMISES.md; for one thread at a time. `ask`
+    raises CantBeAskedError for a line that the promise doesn't allow, and gives the program nothing
+    then."""
 
     def __init__(self, path: str, rewriting: Rewriting) -> None:
         super().__init__(path)
@@ -71,7 +72,7 @@ class RewrittenPipes(Pipes):
 
 
 def begun(path: str, promise: Promise = SERIALIZABLE, is_kept: bool = False) -> Pipes:
-    """A program that is asked about this promise; `is_kept`, if what it has may be given out."""
+    """Starts a program that checks this promise; with `is_kept`, one whose state can be saved."""
     if promise == SERIALIZABLE:
         return Pipes(path)
     return RewrittenPipes(path, KeptRewriting(promise) if is_kept else Rewriting(promise))

@@ -14,22 +14,23 @@ from ._lines import Lines, refusal_of, written
 from ._searched_round import COLLECT, REPORT, SKIP, SearchedRound
 from ._supervised import SupervisedProgram
 
-COLLECTED = b'["collect","wait"]'  # which has the same reply whenever a script is read
-SPENT = "spent"  # that nothing was decided
+COLLECTED = b'["collect","wait"]'  # has the same reply whenever a script is replayed
+SPENT = "spent"  # nothing was decided
 
 
 class Rounds(Lines):
-    """For threads, but for the caller's of `begin_round`."""
+    """Safe for use by several threads, except that one thread at a time begins a round and takes
+    its report."""
 
     def _have_no_round(self, told: int = 0) -> None:
-        """With a new program; so many rounds were told before."""
+        """Initial state with a new program; `told` rounds were reported before."""
         self.effort = EFFORTS[0]  # of the last round
-        self._efforts: Deque[Effort] = deque()  # to be tried where it is spent
+        self._efforts: Deque[Effort] = deque()  # to be tried if this one is spent
         self._search: Optional[SearchedRound] = None
-        self._may_be_open = False  # a round, for whatever has come between
-        self._report: Optional[Report] = None  # which nobody has yet
-        self._told = told  # rounds
-        self._uncounted = 0  # of these, which the program doesn't count
+        self._may_be_open = False  # a round, after an interrupt
+        self._report: Optional[Report] = None  # ready, but not yet taken
+        self._told = told  # reported rounds
+        self._uncounted = 0  # reported rounds that the program doesn't count
 
     def _begin_search(self, efforts: Sequence[Effort]) -> None:
         with self.lock:
@@ -65,7 +66,7 @@ class Rounds(Lines):
     def _has_report(self) -> bool:
         with self.lock:
             if self._report is None:
-                if self._search is None:  # in a process that is gone, or an interrupt has ended it
+                if self._search is None:  # its process is gone, or an interrupt has ended it
                     self._begin_search(EFFORTS)
                 self._look()
             return self._report is not None
@@ -100,8 +101,8 @@ class Rounds(Lines):
 
     @contextmanager
     def _between_rounds(self, is_wanted: bool = True) -> Iterator[None]:
-        """With the lock; while no round is open, if that is wanted: the report of one that was
-        stays for its caller."""
+        """Holds the lock, and if `is_wanted`, waits until no round is open. The report of an ended
+        round stays for its caller."""
         if not is_wanted:
             with self.lock:
                 yield
@@ -122,7 +123,8 @@ class Rounds(Lines):
         return self._collect() if line == COLLECT else self.ask(line)
 
     def _collect(self) -> List[Any]:
-        """The script has it once, behind what came while it was searched."""
+        """Asks for the report. The script has this line once, after everything that arrived during
+        the search."""
         text = written(COLLECT)
         with self.lock:
             self._begin_to_ask()

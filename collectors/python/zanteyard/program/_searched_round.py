@@ -1,5 +1,4 @@
-"""One round of cobra_audit, whose search goes on beside the lines that come meanwhile
-(docs/FORMATS.md)."""
+"""One round of cobra_audit, which goes on searching while more lines arrive (docs/FORMATS.md)."""
 
 from __future__ import annotations
 
@@ -9,10 +8,10 @@ from typing import Any, Callable, List, Optional, Sequence
 from ..core.errors import BadLineError, NoMemoryError, ProgramTooOldError
 from ._intake import pause_after
 
-Ask = Callable[[Sequence[Any]], List[Any]]  # gives a line, and has its reply; raises RefusedError
+Ask = Callable[[Sequence[Any]], List[Any]]  # returns the reply to a line; raises RefusedError
 BEGIN, COLLECT, SKIP = ["begin"], ["collect"], ["skip"]
 REPORT = "report"
-WAITS = (0.1, 0.5)  # seconds after which a search that was refused memory is given again
+WAITS = (0.1, 0.5)  # seconds until a search that ran out of memory is tried again
 TOO_OLD = (
     "this cobra_audit is older than the package and can't search while it reads lines: rebuild it, "
     "or name another program"
@@ -20,11 +19,11 @@ TOO_OLD = (
 
 
 class SearchedRound:
-    """For one thread at a time. It is about what was taken in as this was made, which begins it.
-    Each call raises what `ask` does."""
+    """A round over what has been taken in when this object is made; for one thread at a time. Each
+    call raises what `ask` raises."""
 
     def __init__(self, ask: Ask, asked: Sequence[Any], seconds: float) -> None:
-        """What is behind the word in a line of a round; the search may take so many seconds."""
+        """`asked` is what follows the word in a round's line. The search may take `seconds`."""
         self._ask, self._search, self._seconds = ask, ["search", *asked], seconds
         self._waits, self.is_skipped, self._is_late = [*WAITS], False, False
         self._began = time.monotonic()
@@ -35,9 +34,9 @@ class SearchedRound:
             raise ProgramTooOldError(TOO_OLD) from error
 
     def look(self) -> Optional[List[Any]]:
-        """The report, if the search has ended. One that takes too long is skipped: then the round
-        is over, and `is_skipped`. Raises NoMemoryError where it was refused memory again and again,
-        and the round is over, too."""
+        """The report, if the search has ended. A search that takes too long is skipped; then the
+        round is over and `is_skipped` is set. Raises NoMemoryError after running out of memory
+        repeatedly; then the round is over, too."""
         try:
             reply = self._ask(COLLECT)
         except NoMemoryError as error:
@@ -48,7 +47,8 @@ class SearchedRound:
         if self._is_late:
             self._ask(SKIP)
             self.is_skipped = True
-        # At the next look only: the program may have been stopped, and not have searched at all.
+        # Takes effect at the next look: the program may have been stopped and not have searched at
+        # all.
         self._is_late = time.monotonic() > self._began + self._seconds
         return None
 
@@ -60,5 +60,5 @@ class SearchedRound:
         self._ask(self._search)
 
     def pause(self, seconds: float) -> None:
-        """Until the next look, for so many seconds at most."""
+        """Waits until the next look, at most this many seconds."""
         time.sleep(max(0.0, min(seconds, pause_after(time.monotonic() - self._began))))

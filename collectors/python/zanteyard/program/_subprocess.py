@@ -1,6 +1,9 @@
-"""An auditor in a process of its own. The threads of a Python program run one at a time, so that
-whatever is done there with a log on its way to cobra_audit is taken from the clients; here they
-hand over what was logged, as bytes, and the rest is done beside them."""
+"""An auditor in a process of its own.
+
+The threads of a Python program run one at a time, so preparing a log for cobra_audit would take
+time from the clients. Here they only hand over what was logged, as bytes; the rest is done in the
+other process.
+"""
 
 from __future__ import annotations
 
@@ -40,16 +43,16 @@ START = (
     "from zanteyard.program._subprocess_server import serve; serve(int(sys.argv[2]))"
 )
 UNREACHABLE = "can't reach the process between this one and cobra_audit"
-TRIES = 3  # processes that are started for one call
-MORE = 30.0  # seconds for an answer, beside what the program may take for its own
+TRIES = 3  # processes started for one call
+MORE = 30.0  # seconds for an answer, added to what the program may take
 logger = logging.getLogger("zanteyard")
 
 
 class AuditorApart(Intake):
-    """In place of an Auditor: calls go to one in another process, and their results come from
-    there. For threads. Raises ProgramEndedError where that process can't be reached. With a journal
-    another one is started then, where it is a call that waits for it; what goes on there are lines'
-    logs, since statements and values are in no journal."""
+    """Has the calls of an Auditor, and forwards them to one in another process; safe for use by
+    several threads. Raises ProgramEndedError if that process can't be reached. If there is a
+    journal, a call that has to wait for an answer starts another process instead. That one
+    continues without statements and values, since a journal has none."""
 
     process: Any = None
     _connection: Any = None
@@ -63,7 +66,7 @@ class AuditorApart(Intake):
         self._begin_process("open", *settings, *files, *more, self._store_to_note())
 
     def _begin_process(self, name: str, *arguments: Any) -> None:
-        """With this call."""
+        """Starts the process with this call."""
         self._connection, theirs = Pipe()
         descriptor = str(theirs.fileno())
         self.process = subprocess.Popen(
@@ -98,16 +101,17 @@ class AuditorApart(Intake):
             raise why
 
     def _start_again(self, error: ProgramEndedError) -> None:
-        """Another process goes on by the journal."""
+        """Starts another process that continues from the journal."""
         self._end_program()
-        why = str(error).rstrip(": ")  # a pipe's end has no words
+        why = str(error).rstrip(": ")  # the end of a pipe has no text
         logger.warning("%s; another one continues from %s", why, self.journal)
         self._be_in_step()
         files = (self.script_path, self.journal, self.round_seconds)
         self._begin_process("resume", self.path, *files)
 
     def _ask_again(self, name: str, *arguments: Any) -> Any:
-        """What a process was asked that has ended. It may have done that, and told nobody."""
+        """Repeats a call whose process has ended. That process may have completed the call without
+        answering."""
         if name == "offer_all":
             received = self._ask("get", "received")
             fragments, joining, *store = arguments
@@ -124,7 +128,7 @@ class AuditorApart(Intake):
             if remaining < self.remaining:
                 fence = self._ask("get", "base")[FENCE]
                 return Cut(fence, self.remaining - remaining), remaining
-            self._ask("last_round")  # by which a cut is found
+            self._ask("last_round")  # this finds a cut
         return self._ask(name, *arguments)
 
     def _ask(self, name: str, *arguments: Any, seconds: Optional[float] = None) -> Any:
@@ -147,13 +151,13 @@ class AuditorApart(Intake):
         return result
 
     def _give_up(self) -> None:
-        """What it has answered by now isn't read any more."""
+        """Kills the process. Its answers so far aren't read any more."""
         self._is_in_step = False
         if self.process is not None:
             self.process.kill()
 
     def _send(self, packed: Any, seconds: float = SECONDS) -> None:
-        """Where nothing of it is taken for so many seconds, that process is given up."""
+        """Sends a call. If the process accepts nothing for this many seconds, it is given up."""
         try:
             self._limit_sending(seconds)
             self._connection.send_bytes(packed)
@@ -166,15 +170,15 @@ class AuditorApart(Intake):
             raise ProgramUnreachableError(self._why_out) from error
 
     def _limit_sending(self, seconds: float) -> None:
-        """How long what is sent may wait for room on its way."""
+        """Limits how long a send may wait for room."""
         whole = int(seconds)
         limit = struct.pack("ll", whole, max(1, int(1e6 * (seconds - whole))))
         with socket.socket(fileno=os.dup(self._connection.fileno())) as same:
             same.setsockopt(socket.SOL_SOCKET, socket.SO_SNDTIMEO, limit)
 
     def _wait(self, seconds: float) -> None:
-        """Until an answer is there. Raises ProgramLateError, and may then be called again, as after
-        an interrupt."""
+        """Waits until an answer has arrived. Raises ProgramLateError. May be called again after
+        that, and after an interrupt."""
         try:
             if not self._connection.poll(seconds):
                 raise ProgramLateError(f"{UNREACHABLE}: it didn't answer for {seconds:.3g} s")
@@ -182,7 +186,7 @@ class AuditorApart(Intake):
             raise ProgramUnreachableError(f"{UNREACHABLE}: {error}") from error
 
     def _receive(self) -> Tuple[bool, Any]:
-        """Whether it failed, and the result, or why."""
+        """Whether the call failed, and its result or its error."""
         try:
             is_failed, result, log_lines = self._connection.recv()
         except (OSError, EOFError, pickle.UnpicklingError) as error:
@@ -201,7 +205,7 @@ class AuditorApart(Intake):
         return ForkingPickler.dumps(call), session, *offered[:1]
 
     def _begin_take(self, asked: Any) -> None:
-        self._send(asked[0], self.policy.wait / 2)  # waited twice where a part of it has gone
+        self._send(asked[0], self.policy.wait / 2)  # if a part has been sent, it waits twice
 
     def _wait_for_take(self, seconds: float) -> None:
         self._wait(seconds)
@@ -209,7 +213,7 @@ class AuditorApart(Intake):
     def _end_take(self, kind: str, asked: Any, seconds: float) -> Optional[RefusedError]:
         is_failed, result = self._receive()
         if is_failed:
-            failure: RefusedError = result  # whatever it is, it was read to its end
+            failure: RefusedError = result  # of whatever class, it was read completely
             return failure
         if kind == "offer":
             refused, self._figures = result
@@ -227,7 +231,7 @@ class AuditorApart(Intake):
     def offer_all(
         self, fragments: Sequence[Fragment], joining: Container[int] = ()
     ) -> List[Fragment]:
-        """Their transactions may be packed."""
+        """As Intake has it; the transactions may be packed."""
         joins = [session for session, _, _ in fragments if session in joining]
         plain = [*map(self._plain, fragments)]
         refused, self._figures = self._call("offer_all", plain, joins, self._store_to_note())
@@ -235,7 +239,7 @@ class AuditorApart(Intake):
         return [fragment for fragment in fragments if fragment[0] in refused]
 
     def _store_to_note(self) -> Optional[StoreIdentity]:
-        """For the journal, if there is one."""
+        """The store, if there is a journal."""
         return self.audited_store.identity if self.journal is not None else None
 
     @property
@@ -263,8 +267,8 @@ class AuditorApart(Intake):
 
     @staticmethod
     def packed(logged: Logged) -> Any:
-        """As bytes, which leave nothing to the clients' garbage collector. What can't be made such
-        is left as it is, for offer_all to tell."""
+        """The transaction as bytes, which are no work for the clients' garbage collector. What
+        can't be packed is returned as it is; `offer_all` will report it."""
         try:
             return as_bytes(logged)
         except ValueError:
@@ -348,6 +352,6 @@ class AuditorApart(Intake):
 
 
 def _end(fragment: Fragment) -> int:
-    """The number behind its last transaction."""
+    """The number after its last transaction."""
     _, first, txns = fragment
     return first + len(txns)

@@ -1,4 +1,5 @@
-"""The process between the clients' and cobra_audit: it answers the calls of an AuditorApart."""
+"""The process between the clients' process and cobra_audit: it answers the calls of an
+AuditorApart."""
 
 from __future__ import annotations
 
@@ -20,8 +21,8 @@ logger = logging.getLogger("zanteyard")
 
 
 class OfPacked(Auditor):
-    """An Auditor of transactions that are packed, and that stay so in its history: of which audit
-    of its run, and where that began."""
+    """An Auditor that is given packed transactions and keeps them packed in its history. `audits`
+    and `coverage` say which audit of its run it is, and where that began."""
 
     def __init__(
         self,
@@ -60,7 +61,7 @@ class OfPacked(Auditor):
 
 
 class Telling(logging.Handler):
-    """Keeps the log's lines, with their levels."""
+    """Collects the log's lines with their levels."""
 
     def __init__(self, lines: List[Tuple[int, str]]) -> None:
         super().__init__()
@@ -75,10 +76,10 @@ class Served:
 
     def __init__(self) -> None:
         self.auditor: Any = None  # an OfPacked, once it is opened
-        self.told: List[Tuple[int, str]] = []  # lines of the log that are told with an answer
+        self.told: List[Tuple[int, str]] = []  # log lines to send with the next answer
 
     def _tell_log(self) -> None:
-        """Where there is a journal: the clients' process tells what becomes of programs."""
+        """With a journal, sends log lines about restarted programs to the clients' process."""
         logger.addHandler(Telling(self.told))
         logger.setLevel(logging.INFO)
         logger.propagate = False
@@ -111,7 +112,7 @@ class Served:
     def resume(
         self, program: str, script: Optional[str], journal: str, round_seconds: Optional[float]
     ) -> None:
-        """In place of a process that is gone. Its script stays as it is, beside the new one."""
+        """Replaces a process that is gone. Its script stays, next to the new one."""
         self._tell_log()
         script = script and f"{script}.resumed"
         more = (program, script, RATHER_LOSE_THE_AUDIT, round_seconds)
@@ -123,19 +124,19 @@ class Served:
         joining: Sequence[int],
         store: Optional[StoreIdentity] = None,
     ) -> Any:
-        """The sessions whose transactions there was no room for, and the figures. They are about
-        this store, which a journal has, too."""
+        """Returns the sessions for whose transactions there was no room, and the figures. `store`
+        is the store that they are about, which the journal records, too."""
         if store is not None:
             self.auditor.audited_store.first(store)
         refused = {session for session, _, _ in self.auditor.offer_all(fragments, joining)}
         return refused, self._figures()
 
     def last_round(self) -> Any:
-        """The report, and the figures."""
+        """The report and the figures."""
         return self.auditor.last_round(), self._figures()
 
     def _figures(self) -> Tuple[int, int, int]:
-        """How many reads were left out, how many were of versions from before, and how many
+        """How many reads were left out, how many read versions from before, and how many
         transactions remain."""
         auditor = self.auditor
         return auditor.left_out, auditor.from_before, auditor.remaining
@@ -162,9 +163,9 @@ class Served:
 
 
 def serve(descriptor: int) -> None:
-    """Answers calls until there are no more."""
+    """Answers calls until the connection is closed."""
     signal.signal(signal.SIGINT, signal.SIG_IGN)  # it ends when the clients' process does
-    gc.freeze()  # what is there by now stays
+    gc.freeze()  # the objects made so far stay
     calls, served = Connection(descriptor), Served()
     while True:
         try:

@@ -1,9 +1,10 @@
-"""The program cobra_audit with a journal: where it dies, another one is brought where it stood.
+"""The program cobra_audit with a journal: if it dies, another one is started and brought to the
+same state.
 
-In the place of Pipes, with the same calls. A line's answer is told when what it changed is in the
-journal. So a program that is given what the journal has stands where everybody was told that the
-one before it stood; a line that wasn't answered by then is given to it as if for the first time,
-and nothing else that the one before it did is believed.
+It has the calls of Pipes. A line's answer is passed on only after its effect is in the journal. So
+a program that is given the journal's lines has the state that all callers know of. A line that
+wasn't answered by then is given to it as a new one, and nothing else that the dead program did
+counts.
 """
 
 from __future__ import annotations
@@ -34,11 +35,11 @@ from ._checkpoint import (
 from ._pipes import Pipes
 from ._rewritten_pipes import begun
 
-Talk = Generator[List[bytes], List[bytes], None]  # gives lines, and is sent their answers
+Talk = Generator[List[bytes], List[bytes], None]  # yields lines, and is sent their answers
 
 MOST = 8  # programs that may die over one line, or over one round
-SILENT = 45.0  # seconds in which a program answers a line: no line waits for a search
-PAUSE, LONGEST_PAUSE = 0.02, 0.5  # seconds before the third; twice as many before each next
+SILENT = 45.0  # seconds for a program to answer a line, which never waits for a search
+PAUSE, LONGEST_PAUSE = 0.02, 0.5  # seconds before the third program; doubled for each further one
 CHANGES = (b'["offer",', b'["close",', b'["join",')
 OPEN, TRUNCATE = b'["open",', b'["truncate"'
 BEGIN, SEARCH, COLLECT, SKIP = b'["begin"', b'["search",', b'["collect"', b'["skip"'
@@ -49,9 +50,10 @@ logger = logging.getLogger("zanteyard")
 
 
 class SupervisedProgram:
-    """For one thread at a time. Beside what Pipes raises, `wait` and `answers` raise JournalError
-    where the journal can't be written, or doesn't fit; then it is over, since nothing is told that
-    isn't there, but reports. A program that answers nothing for long is replaced, too."""
+    """For one thread at a time. In addition to what Pipes raises, `wait` and `answers` raise
+    JournalError if the journal can't be written or doesn't fit. Then it is over, since nothing
+    except reports is passed on without being in the journal. A program that stays silent for too
+    long is replaced, too."""
 
     def __init__(
         self,
@@ -59,19 +61,19 @@ class SupervisedProgram:
         keeping: JournalWriter,
         kept: Optional[Kept] = None,
     ) -> None:
-        """`kept` is what the journal says, where it is gone on with."""
+        """`kept` is the journal's contents, if it continues one."""
         self.path, self.keeping = path, keeping
         self.restarts, self.made_in = 0, os.getpid()
-        self._given: Deque[bytes] = deque()  # lines whose answers weren't told
-        self._sent = 0  # so many of these
-        self._found: Deque[bytes] = deque()  # answers that nobody has yet
-        self._talk: Optional[Talk] = None  # of its own, while nothing of the caller's is sent
+        self._given: Deque[bytes] = deque()  # lines whose answers weren't passed on
+        self._sent = 0  # how many of these were sent
+        self._found: Deque[bytes] = deque()  # answers that nobody has taken yet
+        self._talk: Optional[Talk] = None  # its own exchange, during which no caller's line is sent
         self._asked = 0  # lines of it that were sent last
-        self._last_round: Optional[bytes] = None  # by which a cut may have been found
+        self._last_round: Optional[bytes] = None  # which may have found a cut
         self._lacks_cut = False  # that round was another program's
-        # Behind how many of the journal's changes it was, where that is known.
+        # After how many of the journal's changes it was, if known.
         self._round_at: Optional[int] = None
-        # The lines by which a round is open, and its search goes on; and behind how many changes.
+        # The lines by which a round was opened and searched; and after how many changes.
         self._open: List[bytes] = []
         self._open_at = 0
         self._deaths = 0  # since a line was answered
@@ -86,7 +88,7 @@ class SupervisedProgram:
     def _program(self) -> Pipes:
         return begun(self.path, self.keeping.promise, is_kept=True)
 
-    # as Pipes
+    # the calls of Pipes
 
     @property
     def process(self) -> object:
@@ -129,11 +131,11 @@ class SupervisedProgram:
         self._why_over = str(error)
         self.kill()
 
-    # its conversation with the program
+    # the exchange with the program
 
     def _go_on(self, until: float) -> None:
-        """Sends what may be sent, and takes what is answered. Raises ProgramLateError at that time,
-        and may then be called again."""
+        """Sends what may be sent, and takes what is answered. Raises ProgramLateError at the time
+        `until`, and may then be called again."""
         try:
             if self._is_down:
                 self._start(until)
@@ -156,13 +158,13 @@ class SupervisedProgram:
             raise
 
     def _give(self) -> None:
-        """Lines that change what was taken in go one behind the other, any other one by itself."""
+        """Sends consecutive lines that change the state together, and any other line alone."""
         if self._talk is not None or self._sent == len(self._given):
             return
         lines = [*takewhile(_is_change, islice(self._given, self._sent, None))]
         if self._sent and not (lines and _is_change(self._given[0])):
             return
-        self._is_in_step = False  # else an interrupt would have them given twice
+        self._is_in_step = False  # else an interrupt could make it send them twice
         if not lines and self._lacks_cut and self._given[0].startswith(TRUNCATE):
             self._begin(self._find_cut())
         else:
@@ -193,7 +195,7 @@ class SupervisedProgram:
             self._begin(self._checkpoint())
 
     def _settle(self, given: bytes, answer: bytes) -> None:
-        """A line's answer, when what it changed is noted."""
+        """Handles a line's answer, after its effect is noted."""
         if answer.startswith(REPORTED):
             self._tell(self._reported(given, answer))
         elif answer.startswith(CUT) or (answer == OK and given.startswith(OPEN)):
@@ -203,7 +205,7 @@ class SupervisedProgram:
             self._tell(answer)
 
     def _note_round(self, given: bytes, answer: bytes) -> None:
-        """What of a round another program would have to be told."""
+        """Remembers what another program needs to know about the open round."""
         if answer == OK and given.startswith(BEGIN):
             self._open, self._open_at, self._round_deaths = [given], self.keeping.changes, 0
         elif answer == OK and given.startswith(SEARCH):
@@ -215,15 +217,15 @@ class SupervisedProgram:
             del self._open[1:]
 
     def _tell(self, answer: bytes) -> None:
-        """To the first line."""
+        """Passes the answer to the first line on."""
         self._given.popleft()
         self._sent -= 1
         self._found.append(answer)
         self._deaths = 0
 
     def _reported(self, given: bytes, answer: bytes) -> bytes:
-        """A report as it is told: rounds are counted over all programs. It is told also where it
-        can't be noted."""
+        """The report with its number, which counts the rounds of all programs. It is passed on even
+        if it can't be noted."""
         kind = answer.split(b'"', 4)[3]
         number = self.keeping.rounds + 1
         answer = b"%s%d%s" % (REPORTED, number, answer[answer.index(b",", len(REPORTED)) :])
@@ -238,7 +240,7 @@ class SupervisedProgram:
         return answer
 
     def _note_told(self, violation: Optional[List[Any]]) -> None:
-        """One round more."""
+        """Notes one more round."""
         try:
             self.keeping.note_report(violation)
         except JournalError as error:
@@ -263,7 +265,7 @@ class SupervisedProgram:
             self._talk = None
 
     def _checkpoint(self, answer: Optional[bytes] = None) -> Talk:
-        """Then tells this answer."""
+        """Writes a checkpoint, then passes this answer on."""
         saved = yield from saved_lines(self.keeping.limit)
         is_last = self._round_at == self.keeping.changes  # nothing has come since that round
         self.keeping.note_checkpoint(saved)
@@ -273,9 +275,9 @@ class SupervisedProgram:
             self._tell(answer)
 
     def _find_cut(self) -> Talk:
-        """By the last round, given again to a program that has what was there then, and no more:
-        what another one had found is gone with it. Where what came since is in a checkpoint, that
-        is in the round, too."""
+        """Finds the last round's cut again, since the program that found it is gone. The round is
+        repeated by a program that has only what was there at that time. Changes since then that are
+        already in a checkpoint become part of the round."""
         assert self._last_round is not None
         kept, at = self.keeping.kept(), self._round_at
         behind: List[bytes] = kept.lines[kept.saved + at :] if kept and at is not None else []
@@ -289,11 +291,12 @@ class SupervisedProgram:
             yield from self._begun_with(behind)
         self._lacks_cut = False
         reply = json.loads(answer)
-        if reply[2] == "violated":  # by what came since; the next round tells it
+        if reply[2] == "violated":  # through later lines; the next round reports it
             self.keeping.note_violation([reply[0], self.keeping.rounds, *reply[2:]])
 
     def _begun_with(self, lines: List[bytes], *more: bytes) -> Answers:
-        """These lines are answered ok; what more are."""
+        """Gives these lines, which must be answered ok; returns the answers to the lines in
+        `more`."""
         answers = yield [*lines, *more]
         wrong = [answer for answer in answers[: len(lines)] if answer != OK]
         wrong += [answer for answer in answers[len(lines) :] if answer.startswith(REFUSED)]
@@ -305,7 +308,7 @@ class SupervisedProgram:
         began = time.monotonic()
         state = state_of(kept.lines, has_last=False)
         lines = kept.lines
-        if self._open:  # so that it is about what it was begun with
+        if self._open:  # the round must be about what it was begun with
             begun = kept.saved + self._open_at
             lines = [*lines[:begun], *self._open, *lines[begun:]]
         answers = yield from self._begun_with(lines, *standing_lines(len(state.gone)))
@@ -317,7 +320,7 @@ class SupervisedProgram:
     # programs that die
 
     def _die(self, error: ProgramEndedError) -> None:
-        """Another one is started, if not too many have died over the same line or round."""
+        """Starts another program, unless too many have died over the same line or round."""
         self._is_in_step = False
         self._deaths += 1
         self._round_deaths += bool(self._open)
@@ -350,5 +353,5 @@ class SupervisedProgram:
 
 
 def _is_change(line: bytes) -> bool:
-    """Of what was taken in."""
+    """Whether the line changes what was taken in."""
     return line.startswith(CHANGES)

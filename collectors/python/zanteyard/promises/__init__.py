@@ -1,3 +1,3 @@
-"""What a store promises besides serializability, asked of the proved auditor of serializability by
-rewriting what it is given: snapshot isolation, strict serializability, and what follows from the
-same rewritings (docs/PROMISES.md)."""
+"""Checks promises other than serializability with the proved auditor of serializability, by
+rewriting its input: snapshot isolation, strict serializability, and what follows from the same
+rewritings (docs/PROMISES.md)."""

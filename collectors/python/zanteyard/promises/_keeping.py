@@ -1,13 +1,14 @@
-"""What an audit keeps, as it was offered and as the auditor has it.
+"""The saved state of an audit: translates between the history as it was offered and as the auditor
+holds it.
 
-A journal has the history as it was offered, each transaction under its own number, and so outlives
-the way in which the auditor is asked. Where transactions are split, a cut may forget the begin of
-one and not its commit: such a transaction has *begun*, and it stands in `["marks",..]` behind the
+A journal has the history as it was offered, with each transaction's own number, so it doesn't
+depend on how the auditor is asked. If transactions are split, a cut may forget a transaction's
+begin and not its commit. Such a transaction has *begun*; it is listed in `["marks",..]` after the
 other two parts, as `[session,number]`. Its reads are forgotten.
 
-The last gone writers of stars aren't kept. A star is read by its transaction's own commit alone, so
-that only those of begun transactions are asked for, and these follow from what the transaction
-writes.
+The last forgotten writers of star keys aren't saved. A star key is read only by its transaction's
+own commit. So these writers are needed only for begun transactions, and follow from what the
+transaction writes.
 """
 
 from __future__ import annotations
@@ -19,14 +20,14 @@ from ._rewriting import Rewriting, last_writers
 from ._split import LONGEST, begin_half, commit_half, split_transactions, star
 
 MOST = 1 << 48  # numbers of transactions are at most this
-ENDS = ("resumed", "open")  # with which a hand-over is over
+ENDS = ("resumed", "open")  # the lines that end a hand-over
 Halves = Sequence[Any]
 
 
 class KeptRewriting(Rewriting):
-    """One whose audit can be given out, and gone on with by what was given out."""
+    """A rewriting whose audit can be saved, and continued from what was saved."""
 
-    _begun: Optional[Dict[int, int]] = None  # while it is handed over: of sessions, which number
+    _begun: Optional[Dict[int, int]] = None  # while it is handed over: by session
 
     def asked(self, line: List[Any]) -> List[List[Any]]:
         if not self.promise.is_split:
@@ -77,14 +78,14 @@ class KeptRewriting(Rewriting):
 
 
 def _saving(line: Sequence[Any]) -> List[Any]:
-    """Of a session, from the begin of that number on."""
+    """The line that asks for the rest of a session, from this transaction's begin on."""
     if line[1] != "remain":
         return [*line]
     return [*line[:3], min(MOST, begin_half(line[3]))]
 
 
 def _given_out(reply: Sequence[Any]) -> List[Any]:
-    """The same, of transactions as they were offered."""
+    """The same reply about the transactions as they were offered."""
     if reply[0] == "marks":
         _, marks, closed = reply
         begun = [[at, mark // 2] for at, mark in enumerate(marks) if mark % 2]
@@ -95,12 +96,13 @@ def _given_out(reply: Sequence[Any]) -> List[Any]:
     first = at // 2
     transactions = [] if not at % 2 else [[[], halves[0][1]]]
     rest = halves[at % 2 :]
-    pairs = zip(rest[::2], rest[1::2])  # the begin of one whose commit is told later is left out
+    pairs = zip(rest[::2], rest[1::2])  # leaves out a last begin whose commit is in the next reply
     return ["offer", session, first, [*transactions, *map(_whole, pairs)]]
 
 
 def _whole(pair: Tuple[Halves, Halves]) -> List[Any]:
-    """The transaction that was split so. Raises JournalError if these are no two halves."""
+    """The transaction that was split into this pair. Raises JournalError if they don't belong
+    together."""
     (reads, stars), (own, keys) = pair
     if [*map(star, keys)] != stars or [read[0] for read in own] != stars:
         raise JournalError("the auditor's saved state differs from what it was given")

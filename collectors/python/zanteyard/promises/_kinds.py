@@ -1,27 +1,27 @@
-"""The promises that can be asked for, and their words."""
+"""The promises that can be checked, and their texts."""
 
 from __future__ import annotations
 
 from dataclasses import dataclass
 from typing import Mapping, Tuple
 
-EVENTS = ("begin", "commit")  # what stands behind a transaction's numbers in answers on snapshots
+EVENTS = ("begin", "commit")  # follow a transaction's numbers in answers about snapshots
 
 
 @dataclass(frozen=True)
 class Promise:
-    """One promise, and how it is asked for. `name` is how the command line has it; `title` is the
+    """A promise, and how it is checked. `name` is its name on the command line; `title` is the
     field's term."""
 
     name: str
     title: str
-    is_split: bool = False  # a transaction begins and commits, which are asked about apart
-    has_stars: bool = False  # of two writers of a key one commits before the other begins
-    is_timed: bool = False  # what had ended before another began comes before it
+    is_split: bool = False  # a transaction's begin and commit are separate events
+    has_stars: bool = False  # of two writers of a key, one commits before the other begins
+    is_timed: bool = False  # a transaction that ended before another one began comes before it
     keeps_sessions: bool = True
 
     def sentence(self, kind: str) -> str:
-        """A verdict of this kind in words."""
+        """A sentence for a verdict of this kind."""
         return SENTENCES[_form(self)][kind]
 
 
@@ -44,8 +44,8 @@ GENERALIZED = Promise(
 )
 WITHOUT_SESSIONS: Mapping[Promise, Promise] = {SERIALIZABLE: SESSIONLESS, SNAPSHOT: GENERALIZED}
 ASKED: Mapping[str, Promise] = {each.name: each for each in (SERIALIZABLE, SNAPSHOT, STRICT)}
-LIVE = (SERIALIZABLE.name, SNAPSHOT.name)  # that can be asked for while clients run
-# All, each before those that it is no weaker than; and which ones follow at once from each.
+LIVE = (SERIALIZABLE.name, SNAPSHOT.name)  # can be checked while clients run
+# All promises, each before those that it implies; and what follows directly from each.
 ALL: Tuple[Promise, ...] = (
     STRICT,
     SERIALIZABLE,
@@ -67,13 +67,13 @@ IMPLIED: Mapping[Promise, Tuple[Promise, ...]] = {
 
 
 def weaker(promise: Promise) -> Tuple[Promise, ...]:
-    """All that who keeps this one keeps too, itself left out."""
+    """The promises that this one implies, without itself."""
     found = {at for each in IMPLIED[promise] for at in (each, *weaker(each))}
     return tuple(each for each in ALL if each in found)
 
 
 def stronger(promise: Promise) -> Tuple[Promise, ...]:
-    """All that nobody keeps who doesn't keep this one, itself left out."""
+    """The promises that imply this one, without itself."""
     return tuple(each for each in ALL if promise in weaker(each))
 
 

@@ -1,9 +1,9 @@
-"""Lines and replies of docs/FORMATS.md between whoever asks about a promise and the auditor of
-serializability. Both sides speak of a transaction by its own number; where it is split, answers
-say `"begin"` or `"commit"` behind that.
+"""Translates lines and replies of docs/FORMATS.md between a caller that asks about a promise and
+the auditor of serializability.
 
-This is the one place where histories are split: once the auditor's own program does it, `asked` and
-`told` hand everything on as it is.
+On both sides a transaction has its own number. If it is split, answers say `"begin"` or `"commit"`
+after it. Histories are split nowhere else: once the auditor's program does it itself, `asked` and
+`told` can pass everything on unchanged.
 """
 
 from __future__ import annotations
@@ -15,8 +15,12 @@ from ._kinds import EVENTS, SERIALIZABLE, Promise
 from ._split import KEYS, LONGEST, NUMBERS, begin_half, split_transactions
 from ._times import TIME_KEYS, Timeline
 
-LIMIT, SESSIONS = 4096, 64  # the most of the auditor
+LIMIT, SESSIONS = 4096, 64  # the auditor's limits
 PARTS = "a script of several parts doesn't say which promise it is about"
+ASKS_ITSELF = (
+    'the script asks for snapshot isolation itself: leave "snapshot" out of its first line, and '
+    "ask by --promise snapshot"
+)
 REFUSED = {
     "resume": "a script that continues another one can be asked only about serializability: "
     f"{PARTS}",
@@ -27,19 +31,19 @@ REFUSED = {
 
 
 class Rewriting:
-    """Of one run of the auditor. Not for several threads."""
+    """The rewriting of one run of the auditor; not for several threads."""
 
     def __init__(
         self, promise: Promise = SERIALIZABLE, timeline: Optional[Timeline] = None
     ) -> None:
         self.promise = promise
         self._timeline = timeline if promise.is_timed else None
-        self._room = 0  # of the auditor's limit, what no line that was asked takes
-        self.has_less_room = False  # than the script's `open` asks for
+        self._room = 0  # the part of the auditor's limit that no line has used
+        self.has_less_room = False  # than the script's `open` requests
 
     def asked(self, line: List[Any]) -> List[List[Any]]:
-        """The lines that ask the same of the auditor: one, or two for an offer of many. Raises
-        CantBeAskedError for what can't be asked under this promise."""
+        """The lines with the same meaning for the auditor: one, or two for a long offer. Raises
+        CantBeAskedError if the line isn't possible with this promise."""
         if self._timeline is None and not self.promise.is_split:
             return [line]
         word = line[0] if line and isinstance(line[0], str) else ""
@@ -52,7 +56,9 @@ class Rewriting:
         return [line]
 
     def _opening(self, line: List[Any]) -> List[Any]:
-        """With room for two of each, as far as the auditor has it."""
+        """The opening line, with room for two of each transaction, up to the auditor's limit."""
+        if len(line) > 4:
+            raise CantBeAskedError(ASKS_ITSELF)
         if len(line) < 3 or not is_number(line[2]):
             return line
         limit = line[2]
@@ -74,7 +80,7 @@ class Rewriting:
         if not self.promise.is_split:
             return [[*line[:-1], transactions]]
         if len(transactions) > LONGEST:
-            return [line]  # which is too long, as the auditor says
+            return [line]  # too long, which the auditor reports
         self._room -= 2 * len(transactions)
         has_stars = self.promise.has_stars
         halves = [*split_transactions(session, first, transactions, has_stars)]
@@ -85,7 +91,8 @@ class Rewriting:
         return lines
 
     def _check_keys(self, session: int, first: int, transactions: Sequence[Any]) -> None:
-        """What the rewriting has no room for."""
+        """Raises CantBeAskedError for keys and numbers that collide with what the rewriting
+        adds."""
         most_keys = TIME_KEYS if self._timeline is not None else KEYS
         for number, (reads, keys, *_) in enumerate(transactions, first):
             called = f"{session}.{number}"
@@ -109,13 +116,14 @@ class Rewriting:
                     )
 
     def has_room(self, lines: Sequence[Sequence[Any]]) -> bool:
-        """Whether there is room for all that was asked, where it takes several lines: of these
-        either all are given, or none."""
+        """Whether there is room for all lines of one request, so that either all of them are sent,
+        or none."""
         return len(lines) < 2 or self._room >= 0
 
     def told(self, line: Sequence[Any], replies: Sequence[List[Any]]) -> List[Any]:
-        """The reply to the line, of those to the lines that were asked for it. That to a cut has
-        one part more where transactions are split: those whose begins alone are forgotten."""
+        """The reply to the line, from the replies to the lines that replaced it. If transactions
+        are split, the reply to a cut has one more part: the transactions of which only the begins
+        are forgotten."""
         reply = next((each for each in replies if each[0] == "no"), replies[-1])
         if not self.promise.is_split:
             return reply
@@ -142,12 +150,12 @@ class Rewriting:
 
 
 def is_number(value: Any) -> bool:
-    """As lines have them."""
+    """Whether it is a number as in lines."""
     return type(value) is int and 0 <= value < 1 << 64
 
 
 def is_of_transactions(line: Sequence[Any]) -> bool:
-    """Whether it has the form of an offer or a join; what hasn't is left to the auditor."""
+    """Whether it has the form of an offer or a join. Anything else is left to the auditor."""
     if len(line) not in ((4,) if line[0] == "offer" else (3, 4)):
         return False
     if not all(map(is_number, line[1:-1])) or not isinstance(line[-1], list):
@@ -171,7 +179,7 @@ def _is_read(read: Any) -> bool:
 
 
 def _event(session: int, number: int) -> List[Any]:
-    """What a half stands for."""
+    """The event that a half stands for."""
     return [session, number // 2, EVENTS[number % 2]]
 
 
@@ -203,7 +211,7 @@ def _item(item: Sequence[Any]) -> List[Any]:
 
 
 def _cut(reply: Sequence[Any]) -> List[Any]:
-    """A transaction is gone once its commit is."""
+    """A cut of whole transactions: one is gone when its commit is gone."""
     _, fence, gone, last = reply
     commits = [[session, number // 2] for session, number in gone if number % 2]
     whole = {(session, number) for session, number in commits}
@@ -216,7 +224,7 @@ def _cut(reply: Sequence[Any]) -> List[Any]:
 
 
 def last_writers(last: Sequence[Sequence[int]]) -> Iterator[List[int]]:
-    """The last gone writers of keys that transactions write themselves."""
+    """The last forgotten writers of the keys that transactions write themselves."""
     for key, session, number in last:
         if key < KEYS and number % 2:
             yield [key, session, number // 2]
@@ -236,5 +244,5 @@ def _state(reply: Sequence[Any]) -> List[Any]:
 
 
 def ids_of(part: Sequence[Any]) -> List[Any]:
-    """A choice or an arc without the words that say which event of a transaction is meant."""
+    """A choice or an arc without the words that name a transaction's event."""
     return [it for it in part if it not in EVENTS]

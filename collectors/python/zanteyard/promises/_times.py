@@ -1,8 +1,9 @@
-"""The order of time as reads: what had ended before another transaction began comes before it.
+"""Expresses real-time order by reads: a transaction that ended before another one began comes
+before it.
 
-Each transaction writes a key of its own, and one that begins later reads it there. Of those that
-had ended it reads the latest alone: the others had ended before one of these began. Each such key
-has one writer, so that no choice arises.
+Each transaction writes a key of its own, which transactions that begin later read. Each reads only
+the latest of those that had ended, since the others had ended before one of these began. Each such
+key has one writer, so no choice arises.
 """
 
 from __future__ import annotations
@@ -11,14 +12,15 @@ from bisect import bisect_left
 from itertools import accumulate
 from typing import Any, Dict, List, Mapping, Optional, Sequence, Tuple
 
-TIME_KEYS = 1 << 62  # keys of scripts that are asked about time are below it
+TIME_KEYS = 1 << 62  # keys of scripts that are checked with times are below this
 NUMBERS = 1 << 48  # of a session's transactions
 Id = Tuple[int, int]
-Span = Tuple[int, Optional[int]]  # when it began, and when it ended if that is known
+Span = Tuple[int, Optional[int]]  # when it began, and when it ended, or None if unknown
 
 
 class Timeline:
-    """Of transactions whose begins are known. In nanoseconds, or whatever one clock counts."""
+    """The times of transactions whose begins are known, in nanoseconds or any other unit of one
+    clock."""
 
     def __init__(self, spans: Mapping[Id, Span]) -> None:
         self.spans = dict(spans)
@@ -26,15 +28,15 @@ class Timeline:
         ended: List[Tuple[int, Id]] = sorted(ends)
         self._ends: List[int] = [end for end, _ in ended]
         self._ids: List[Id] = [id for _, id in ended]
-        # Of so many that ended first, when the last of them began.
+        # For each count of transactions that ended first, when the last of them began.
         begins: List[int] = [spans[id][0] for id in self._ids]
         self._last_begins: List[int] = list(accumulate(begins, max))
         self._latest: Dict[Id, Sequence[Id]] = {id: self._latest_of(id) for id in self.spans}
         self._read = {source for sources in self._latest.values() for source in sources}
 
     def _latest_of(self, id: Id) -> Sequence[Id]:
-        """Those that had ended before it began, but for those that had before another of them
-        began."""
+        """Those that had ended before it began, without those that had ended before another one of
+        them began."""
         began, _ = self.spans[id]
         count = bisect_left(self._ends, began)
         if not count:
@@ -43,7 +45,7 @@ class Timeline:
         return self._ids[first:count]
 
     def rewritten(self, id: Id, transaction: Sequence[Any]) -> List[Any]:
-        """A transaction of a line, which then keeps the order of time."""
+        """A transaction of a line, extended so that it keeps the real-time order."""
         reads, keys, *undone = transaction
         sources = sorted([time_key(source), *source] for source in self._latest.get(id, ()))
         own = [time_key(id)] if id in self._read else []
@@ -51,13 +53,13 @@ class Timeline:
 
 
 def time_key(id: Id) -> int:
-    """The key of a transaction's own that those read which begin later."""
+    """The transaction's own key, which later ones read."""
     return TIME_KEYS + id[0] * NUMBERS + id[1]
 
 
 def mistake_in(spans: Mapping[Id, Span]) -> Optional[str]:
-    """What can't be of times: that one ends before it begins, or before the one before it of its
-    session began."""
+    """What is impossible about these times: a transaction that ends before it begins, or before its
+    predecessor in the session began. None if nothing is."""
     for id, (began, end) in sorted(spans.items()):
         if end is not None and end < began:
             return f"{id[0]}.{id[1]} ended before it began"
@@ -73,7 +75,7 @@ UNITS: Mapping[str, Sequence[Tuple[int, str]]] = {
 
 
 def told_gap(gap: int, unit: str) -> str:
-    """A time of so many of these units, for a person: `3 ms`; empty if the unit is none of time."""
+    """A time in these units for a person, such as `3 ms`; empty if the unit is no unit of time."""
     for size, word in UNITS.get(unit, ()):
         if gap >= size:
             amount = gap / size

@@ -1,2 +1,2 @@
-"""Clients in other processes, and on other machines: over a socket of one machine, or by streams of
-a Redis. `zanteyard.remote.streams` is imported by name, since it needs redis-py."""
+"""Clients in other processes and on other machines, over a local socket or over streams of a Redis.
+Import `zanteyard.remote.streams` by name, since it needs redis-py."""

@@ -1,4 +1,4 @@
-"""A process of clients of a live audit; `_server.py` says how it has part in it."""
+"""A process of clients of a live audit; `_server.py` says how it takes part."""
 
 from __future__ import annotations
 
@@ -31,16 +31,18 @@ LEAVING = 30.0  # seconds for sessions to end their transactions
 
 
 class AuditClient(LocalSessions):
-    """In place of a LiveAuditor, in a process of clients: theirs is behind the AuditServer at this
-    path; or, where the address is a redis:// or rediss:// URL, behind the StreamServer of the audit
-    of this name in that Redis, which has the same `key`: the path of a file, or else what the
-    environment's ZANTEYARD_KEY says. `leave` ends it, once its sessions do nothing more. What a
-    process did last that is killed is found in its notes (`core/_crash_notes.py`,
-    `_stream_client.py`).
-    Raises OSError where nobody is there, ProgramEndedError where nobody answers, and
-    OtherVersionError where the auditor's process is of a version that this one doesn't understand;
-    KeyFileError, an OSError, if the key can't be used. With `redacts` no values and no constants of
-    statements leave this process, nor are they in notes. For threads."""
+    """Stands in for a LiveAuditor in a process of clients. `address` is the path of an
+    AuditServer's socket; or a redis:// or rediss:// URL, for the StreamServer of the audit with
+    this name in that Redis. The latter needs the server's `key`: the path of a file, by default the
+    value of the environment variable ZANTEYARD_KEY. Call `leave` when the sessions do nothing more.
+    If the process is killed, its last transactions are recovered from its notes
+    (`core/_crash_notes.py`, `_stream_client.py`).
+
+    Raises OSError if there is no server, ProgramEndedError if it doesn't answer, OtherVersionError
+    if the versions of the two processes don't fit, and KeyFileError, an OSError, if the key can't
+    be used. With `redacts`, neither values nor constants of statements leave this process or get
+    into its notes. Safe for use by several threads.
+    """
 
     def __init__(
         self,
@@ -54,7 +56,7 @@ class AuditClient(LocalSessions):
         self._messages = self._door.messages
         run_name, self.is_named, self.token, most, policy = self._door.welcome()
         super().__init__(run_name, Policy(*policy))
-        self._notes: Dict[Any, int] = {}  # by which number the auditor's process knows them
+        self._notes: Dict[Any, int] = {}  # the numbers by which the auditor's process knows them
         self._count, self._noting = 0, threading.Lock()
         _forked.add(self)
         self._outbox = Outbox(self._messages, most)
@@ -63,7 +65,7 @@ class AuditClient(LocalSessions):
         coming = self._requests.coming
         self._calls = QuiesceCalls(self._group, self._messages, self._outbox, coming)
         self._is_over = self._is_gone = False  # the audit, and the auditor's process
-        self._renewed = 0.0  # when a session was asked for in vain, in place of one that had ended
+        self._renewed = 0.0  # when a session that had ended was last refused another place
         self._deeds: Dict[str, Callable[..., None]] = {
             "call": self._calls.put,
             "left": self._requests.take_answer,
@@ -78,21 +80,21 @@ class AuditClient(LocalSessions):
 
     @property
     def sessions(self) -> List[Session]:
-        """Those of this process."""
+        """The sessions of this process."""
         return self._group.sessions
 
     @property
     def is_over(self) -> bool:
-        """Nothing more is audited: a violation was found, or the audit has ended for good, or the
-        auditor's process is gone."""
+        """Whether nothing more is audited: a violation was found, the audit has ended for good, or
+        the auditor's process is gone."""
         return self._is_over
 
     def session(self, store: Store, patience: float = PATIENCE) -> Session:
-        """The session of a new client, which asks the store for so many seconds for an outcome that
-        isn't known. Raises as a LiveAuditor's does, and ProgramEndedError where nothing more is
-        audited, or nobody answers."""
-        seconds = ANSWERING + self.policy.wait  # in which a meeting may have all that are left
-        owed: List[Place] = []  # of which no session is made yet
+        """A session for a new client. `patience` is how many seconds it asks the store for an
+        unknown outcome. Raises what `LiveAuditor.session` raises, and ProgramEndedError if nothing
+        more is audited or nobody answers."""
+        seconds = ANSWERING + self.policy.wait  # a meeting may have all free places for that long
+        owed: List[Place] = []  # places that no session has yet
         try:
             owed += filter(None, [self._requests.asked("join", True, seconds=seconds)])
             if owed:
@@ -109,9 +111,9 @@ class AuditClient(LocalSessions):
         raise ValueError("no session is free: all have clients")
 
     def leave(self, seconds: float = LEAVING) -> None:
-        """Hands over what is left, and gives its sessions back; waits for a meeting that holds
-        them. Where one is still in a transaction after so many seconds, the process is as lost as
-        if it had ended. May be called again."""
+        """Hands over what is left and gives the sessions back. Waits for a meeting that holds them.
+        If a session is still in a transaction after this many seconds, the process counts as lost.
+        May be called again."""
         if self._calls.is_leaving:
             return
         self._calls.is_leaving, ends = True, time.monotonic() + seconds
@@ -154,10 +156,10 @@ class AuditClient(LocalSessions):
     # what sessions call
 
     def meet_store(self, identity: StoreIdentity) -> None:
-        """Raises StoreUnfitError where it isn't the store that the audit is about; not where
-        nothing more is audited. Where the auditor's process doesn't say so in time it is told, in
-        front of all that is done there, that this goes on: then it takes none of that, if it is
-        another one."""
+        """Raises StoreUnfitError if this isn't the audit's store, unless nothing more is audited.
+        If the auditor's process doesn't answer in time, the client goes on. The auditor's process
+        is told so before anything that the client then does; if it is another store, it takes in
+        none of that."""
         if self._is_over or self._store_answers.meet(identity, self.policy.wait):
             return
         try:
@@ -166,13 +168,13 @@ class AuditClient(LocalSessions):
             self._lose(f"unknown whether this is the audit's store: {error}")
 
     def take(self, session: int, number: int, logged: Logged) -> None:
-        """Hands over what a transaction did; waits for room as long as the policy says."""
+        """Hands over what a transaction did. Waits for room as long as the policy says."""
         self.take_packed(session, number, logged, None)
 
     def take_packed(
         self, session: int, number: int, logged: Logged, packed: Optional[bytes]
     ) -> None:
-        """The same, where it may be bytes already."""
+        """The same; `packed` is what was logged as bytes, if it is packed already."""
         if self._outbox.lost is not None or self._is_gone:
             self._outbox.dropped += 1
             return
@@ -185,18 +187,18 @@ class AuditClient(LocalSessions):
         self._wait_for_room()
 
     def miss(self, session: int, number: int, error: Exception) -> None:
-        """It isn't known whether a session has handed in what it did under this number."""
-        if self._outbox.lost is None:  # first: who has heard of it alone wouldn't look for why
+        """Records that it is unknown whether this transaction was handed in."""
+        if self._outbox.lost is None:  # first, so that the reason is known before the loss
             self._lose(str(error))
         self._outbox.put_behind("missed", session, number)
 
     def take_close(self, session: int) -> None:
-        """Nothing more of this session comes."""
+        """The session does nothing more."""
         self._outbox.put_close(session)
 
     def _wait_for_room(self) -> None:
-        """Not in a meeting, which wants the session's turn, and in which nothing is told of what
-        was taken in."""
+        """Waits for room, except during a meeting: that needs the session's turn, and nothing is
+        reported as taken in meanwhile."""
         ends, sessions = time.monotonic() + self.policy.wait, len(self.sessions)
         while self._outbox.is_full(sessions) and not self._goes_on():
             if time.monotonic() > ends:
@@ -206,11 +208,11 @@ class AuditClient(LocalSessions):
             time.sleep(PAUSE / 8)
 
     def _goes_on(self) -> bool:
-        """Whether nobody waits for room."""
+        """Whether nobody has to wait for room."""
         return self._is_over or self._outbox.lost is not None or self._group.gate.locked()
 
     def _lose(self, why: str) -> None:
-        """Nothing more of this process is audited, until another audit begins."""
+        """Ends the auditing of this process until another audit begins."""
         self._outbox.lose(why)
         logger.error("auditing has stopped: %s", why)
 
@@ -219,8 +221,8 @@ class AuditClient(LocalSessions):
         return self._calls.is_leaving
 
     def _renew(self, session: Session) -> Optional[Place]:
-        """Where none is left the client goes on unaudited; at most once a second somebody is asked
-        then."""
+        """Another place for a session that has ended. If there is none, the client goes on
+        unaudited, and asks again at most once a second."""
         if session.place is not None and time.monotonic() < self._renewed + 1:
             place: Place = session.place
             return place
@@ -231,7 +233,7 @@ class AuditClient(LocalSessions):
             if self._outbox.lost is None and not self._is_over:
                 self._lose("no session is free for a client")
             return session.place or self._requests.ask("overflow", seconds=wait)
-        if session.place is not None and session.place.is_audited:  # which has ended
+        if session.place is not None and session.place.is_audited:  # its place has ended
             self._give_back(session.place)
         return answer
 
@@ -244,7 +246,8 @@ class AuditClient(LocalSessions):
         return answer
 
     def _notes_of(self, store: Store) -> Any:
-        """The auditor's process is told first where they are, and how the store is asked."""
+        """The session's notes. The auditor's process is told first where they are and how the store
+        is asked."""
         with self._noting:
             self._count += 1
             which = self._count
@@ -257,14 +260,14 @@ class AuditClient(LocalSessions):
         self._notes[notes] = which
         asks = self._door.asks(StoreCalls(store).asks())
         if not self._messages.tell("noted", which, asks, seconds=ANSWERING):
-            self._messages.tell("noted", which, None, seconds=ANSWERING)  # it can't be told how
+            self._messages.tell("noted", which, None, seconds=ANSWERING)  # `asks` can't be sent
         if self._is_gone:
             notes.end()
         return notes
 
     def _forget(self, notes: Any) -> None:
-        """Once all is handed over that it tells of, and its place is given back, the auditor's
-        process removes the files."""
+        """Gives the notes up. The auditor's process removes the files once everything in them has
+        been handed over and the session's place has been given back."""
         which = self._notes.pop(notes, None)
         notes.let_go()
         if which is not None:
@@ -302,7 +305,7 @@ class AuditClient(LocalSessions):
         self._is_over = True
 
     def _note_gone(self) -> None:
-        """The auditor's process can't be reached: clients go on."""
+        """Records that the auditor's process can't be reached. The clients go on."""
         self._is_over = self._is_gone = True
         self._requests.end()
         self._store_answers.end()
@@ -310,19 +313,19 @@ class AuditClient(LocalSessions):
             notes.end()
 
     def _mark_fork(self) -> None:
-        """A child may go on in this process's sessions, behind its end and unseen: where that is
-        found killed, the audit ends. It is marked before the child is there."""
+        """Marks that this process forks, before it does. The child may use the sessions unnoticed
+        after this process has ended. If this process is then found killed, the audit ends."""
         if self._is_gone and self._calls.is_leaving:
             return  # it has left, or is such a child
         try:
             self._door.note_fork()
         except OSError:
             for notes in list(self._notes):
-                notes.remove()  # which tells the same
+                notes.remove()  # which has the same effect
 
     def _be_forked(self) -> None:
-        """In a child of the process, in which nothing is audited: it must neither keep the
-        connection open, by whose end the parent's is seen, nor write the parent's notes."""
+        """Takes a forked child out of the audit. It must not keep the connection open, whose end
+        says that the parent has ended, nor write to the parent's notes."""
         self._is_over = self._is_gone = True
         self._calls.is_leaving = True
         self._requests.has_ended = True

@@ -1,4 +1,4 @@
-"""A process of clients, as the auditor's process hears it."""
+"""A process of clients, seen from the auditor's process."""
 
 from __future__ import annotations
 
@@ -17,18 +17,18 @@ from ..session._place import Place
 from ._crash_recovery import CrashedProcess, LostError, Noted, handed_in
 from ._remote_sessions import RemoteGroup
 
-NEW = 4.0  # seconds in which a new client waits for a meeting that has all that are left
+NEW = 4.0  # seconds that a new client waits for a meeting that has all free places
 HANDED_IN = "its last transactions were taken from its notes"
 logger = logging.getLogger("zanteyard")
 
 
 class ClientProcess:
-    """What it tells is taken in by a thread of its own, which ends once it has left. All that it
-    sends comes in the order in which it was sent. Each kind has its own `messages`, and its own way
-    in which it is found dead."""
+    """A process of clients. A thread of its own takes in what it sends, in the order in which it
+    was sent, and ends after the process has left. Each kind of connection has its own class, with
+    its `messages` and its way of noticing that the process is dead."""
 
-    is_dead = True  # it is known, where it isn't heard of any more
-    is_left_to_others = False  # another process of the auditor's is to hear the rest
+    is_dead = True  # once nothing arrives any more, the process is known to be dead
+    is_left_to_others = False  # another process of the auditor is to continue with it
 
     def __init__(self, live: LiveAuditor, messages: Any) -> None:
         self._live, self.messages = live, messages
@@ -53,46 +53,47 @@ class ClientProcess:
             "store": self._take_store,
         }
 
-    # what each kind has of its own
+    # what each kind does in its own way
 
     def _most(self) -> int:
         """How many of a session's transactions may be on their way."""
         raise NotImplementedError
 
     def _take_next(self) -> None:
-        """The next that it sends. Raises EOFError or OSError where it isn't heard of any more."""
+        """Takes in its next message. Raises EOFError or OSError if it can't be reached any more."""
         raise NotImplementedError
 
     def _noted(self) -> Noted:
-        """What it noted. Raises LostError where that can't be known."""
+        """Its notes. Raises LostError if they can't be read."""
         raise NotImplementedError
 
     def _end(self) -> None:
-        """Nothing more comes of it."""
+        """Cleans up after it; nothing more arrives from it."""
         raise NotImplementedError
 
     def _take_noted(self, which: int, asks: Any) -> None:
-        """How the store is asked of what is noted there."""
+        """Remembers how to ask the store about the transactions in these notes."""
         raise NotImplementedError
 
     def _forget(self, which: int) -> None:
-        """All is there that these notes tell of, and their session does nothing more."""
+        """Removes these notes: everything in them has arrived, and their session does nothing
+        more."""
         raise NotImplementedError
 
-    notes_path = ""  # where it makes files for them
+    notes_path = ""  # the path of its notes' files
 
     @property
     def is_given_up(self) -> bool:
-        """What it told by now is heard, and nothing more."""
+        """Whether only what it has sent so far is taken in, and nothing more."""
         return False
 
     def tell_end(self) -> None:
-        """Nothing more is audited. Nobody waits for a process that is stuck."""
+        """Tells it that nothing more is audited. Nobody waits for a process that is stuck."""
         if not self.group.has_left:
             threading.Thread(target=self.messages.tell, args=("over",), daemon=True).start()
 
     def lose(self, why: str) -> None:
-        """It is gone without a word, which ends the audit if it may have done anything."""
+        """Records that it has vanished. The audit ends if it may have done anything."""
         if self.group.had_sessions:
             message = f"the client process with sessions {self.group.told()} was lost"
             message = f"{message}, and their last transactions are unknown"
@@ -115,7 +116,7 @@ class ClientProcess:
                 places = self.group.places()
                 self.group.leave()
                 self._find_out(places, str(error) or "it ended without leaving")
-        except Exception as error:  # it says that it is lost, or sent what isn't known
+        except Exception as error:  # it reports that it is lost, or sent something unknown
             self.lose(str(error) or type(error).__name__)
             live.drop_places(self.group.numbers())
             self.group.leave()
@@ -127,10 +128,10 @@ class ClientProcess:
         run = (FORM, VERSION, live.run_name, live.is_named, live.token)
         self.messages.send("welcome", *run, self._most(), astuple(live.policy), self.notes_path)
 
-    # what it did, where it is killed
+    # what it did, if it is killed
 
     def _find_out(self, places: Sequence[Place], why: str) -> None:
-        """Hands in what it did last, and gives its places back; else the audit ends."""
+        """Hands in what it did last and takes its places back. If that fails, the audit ends."""
         lent, ended = self.group.lent(), self.group.ended
         try:
             noted = self._noted()
@@ -169,8 +170,8 @@ class ClientProcess:
     def _take_logged(
         self, logged: Sequence[Tuple[float, int, Optional[int], Any, Any]], dropped: int
     ) -> None:
-        """And then answers. What isn't answered yet counts as on its way, so that clients there
-        wait for room, or don't."""
+        """Takes in transactions, then answers. Until the answer they count as on their way, which
+        makes clients there wait for room."""
         for came, session, number, unseen, packed in logged:
             self._take_one(came, session, number, unseen, packed)
         if dropped:
@@ -194,7 +195,7 @@ class ClientProcess:
             time.sleep(PAUSE / 4)
 
     def _take_loss(self, why: str) -> None:
-        """It goes on, and what it did from then on isn't known."""
+        """It goes on, but what it did from then on is unknown."""
         self._live.lose(AuditLostError(why))
 
     def _take_end(self, why: str) -> None:
@@ -203,11 +204,12 @@ class ClientProcess:
     # its sessions
 
     def _begin_join(self, asked: int, is_new: bool) -> None:
-        """Who joins may have to wait, while a meeting calls this process."""
+        """Starts a thread, since a joining client may have to wait while a meeting calls its
+        process."""
         threading.Thread(target=self._join, args=(asked, is_new), daemon=True).start()
 
     def _join(self, asked: int, is_new: bool) -> None:
-        """A session that is left, for a new client, or for one whose session has ended."""
+        """Gives a free session to a new client, or to one whose session has ended."""
         live = self._live
         place = live.take_place(max(NEW, live.policy.wait) if is_new else live.policy.wait)
         if place is None:
@@ -227,12 +229,12 @@ class ClientProcess:
         self.messages.tell("left", asked, astuple(self._live.take_unaudited()))
 
     def _take_store(self, known: Any, shown: Any) -> None:
-        """Which store a client there has; it is told which one the audit is about."""
+        """Notes the store of one of its clients, and tells it which store the audit is about."""
         first = self._live.audited_store.first(checked(known, shown))
         self.messages.tell("store", *first)
 
     def _take_assumed(self, known: Any, shown: Any) -> None:
-        """It goes on in this store, as it hasn't been told in time whether it may."""
+        """Checks the store in which it goes on after getting no answer in time."""
         self._live.audited_store.meet(checked(known, shown))
 
     def _take_back(self, place: Sequence[Any]) -> None:
@@ -241,7 +243,7 @@ class ClientProcess:
         self._live.give_back([given_back])
 
     def _take_leave(self, places: Sequence[Sequence[Any]]) -> None:
-        """Its sessions are left for others; so are those that it was to join, and didn't."""
+        """Takes back its sessions, and those that it was to join and didn't."""
         numbers, returned = self.group.numbers(), [Place(*place) for place in places]
         known = {place.number for place in returned}
         unused = [
@@ -252,7 +254,7 @@ class ClientProcess:
         )
         self.group.leave()
         self._live.give_back([*returned, *unused])
-        self._live.drop_places(numbers)  # of those that have ended
+        self._live.drop_places(numbers)  # those of sessions that have ended
         for number in numbers:
-            if number not in known:  # it was told too late that it had this, and did nothing there
+            if number not in known:  # it learned of this too late, and did nothing there
                 self._live.take_close(number)

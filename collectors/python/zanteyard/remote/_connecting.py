@@ -1,5 +1,5 @@
-"""How a process of clients comes in to the auditor's: by a socket of one machine, or by streams of
-a Redis."""
+"""Connects a process of clients to the auditor's process, over a local socket or over streams of a
+Redis."""
 
 from __future__ import annotations
 
@@ -21,28 +21,31 @@ ANSWERING = 5.0  # seconds for an answer of the auditor's process
 
 
 class Door(Protocol):
-    """`messages` go both ways, and the first that comes is the auditor's welcome."""
+    """A connection to the auditor's process. `messages` go both ways; the first one that arrives is
+    the auditor's welcome."""
 
     messages: Any
 
     def welcome(self) -> Any:
-        """Raises ProgramEndedError where nobody answers, and OtherVersionError."""
+        """The auditor's welcome. Raises ProgramEndedError if nobody answers, and
+        OtherVersionError."""
 
     def notes(self, which: int, outbox: Outbox) -> Any:
-        """Where a session notes what it does, as Notes do. Raises OSError."""
+        """The notes of a session, with the calls of CrashNotes. Raises OSError."""
 
     def asks(self, asks: Any) -> Any:
-        """What the auditor's process is told of how a store is asked, as plain values."""
+        """What to tell the auditor's process about asking a store, as plain values."""
 
     def note_fork(self) -> None:
-        """Before it is done. Raises OSError where it can't be noted."""
+        """Records a fork before it happens. Raises OSError if that fails."""
 
 
 def door_to(address: str, audit: str, key: Optional[str]) -> Door:
-    """A URL is a Redis's, with the audit of this name there; else it is a socket's path. Raises
-    OSError where nobody is there, KeyFileError if the key's file can't be used."""
+    """Connects to the audit of this name in the Redis if `address` is a URL, and else to the socket
+    at this path. Raises OSError if there is no server, and KeyFileError if the key's file can't be
+    used."""
     if "://" in address:
-        from ._stream_client import StreamDoor  # redis-py needn't be there else
+        from ._stream_client import StreamDoor  # only here, since redis-py is optional
 
         return StreamDoor(address, audit, shared_key(key))
     return SocketDoor(address)
@@ -71,7 +74,7 @@ class SocketDoor:
     def welcome(self) -> Any:
         try:
             *welcome, self._notes_path = welcomed(self.messages)
-            with contextlib.suppress(OSError):  # it isn't there: notes fail, which they tell
+            with contextlib.suppress(OSError):  # a missing one makes notes fail, which is reported
                 check_folder(os.path.dirname(self._notes_path))
         except BaseException:
             self.messages.close()
@@ -79,8 +82,8 @@ class SocketDoor:
         return welcome
 
     def notes(self, which: int, outbox: Outbox) -> CrashNotes:
-        """In files. Nobody waits for it where they fail: they aren't there then, which tells the
-        same."""
+        """Notes in files. If writing them fails, that is reported without waiting; the missing
+        files say the same."""
         tell = functools.partial(outbox.put_behind, "unnoted")
         sent: Dict[int, int] = outbox.sent
         return CrashNotes(f"{self._notes_path}-{which}", sent, tell)

@@ -1,11 +1,11 @@
-"""What a process of clients did that was killed, as its notes and the store tell it.
+"""Recovers what a killed process of clients did, from its notes and from the store.
 
-Each number that it may have used is handed in, once: what had come from itself by then isn't looked
-for; what was answered is logged as it would have been; the store is asked for what was on its way
-to it; an attempt of which nothing was sent to be committed did nothing. What can't be found out is
-logged with its writes alone, as the last of its session (docs/COLLECTORS.md). Where a client itself
-didn't know what it had done, as one that had read what a forked child wrote, that is lost, unless
-the store says that nothing of it was committed.
+Each number that it may have used is handed in once. Transactions that had arrived already are
+skipped. Those that were answered are logged as they would have been. For a commit that was on its
+way, the store is asked for the outcome. An attempt whose commit wasn't sent did nothing. A
+transaction whose outcome can't be found out is logged with its writes only, as the last of its
+session (docs/COLLECTORS.md). If a client itself didn't know what it had done, for example because
+it read what a forked child wrote, recovery fails, unless the store says that nothing was committed.
 """
 
 from __future__ import annotations
@@ -21,20 +21,20 @@ from ..core._records import Logged, StoreId, as_bytes, undone, unpacked
 from ..live._backlog import keys_written_unseen
 from ..session._place import Place
 
-SECONDS = 5.0  # in which the store is asked for one outcome
+SECONDS = 5.0  # seconds for asking the store for one outcome
 NOTHING = Logged((), (), "aborted")
-Noted = Dict[int, List[Tuple[CrashNote, Any]]]  # of each session, with how the store is asked
+Noted = Dict[int, List[Tuple[CrashNote, Any]]]  # by session; each with how to ask the store
 logger = logging.getLogger("zanteyard")
 
 
 class LostError(Exception):
-    """Its notes don't tell what it did, and why."""
+    """Its notes don't say what it did; the message says why."""
 
 
 class CrashedProcess:
-    """`notes` are what it noted of each session, each with how the store is asked. Where it isn't
-    known that the process `is_dead`, but only that it isn't heard of, nobody ends what the store is
-    still about, and what it may have begun behind its notes is left open."""
+    """A process that was killed. `notes` are its notes by session, each with how to ask the store.
+    If the process may still be alive (`is_dead` is false) and merely doesn't answer, nothing in the
+    store is ended, and what it may have begun after its notes is left open."""
 
     def __init__(
         self,
@@ -44,24 +44,25 @@ class CrashedProcess:
         is_dead: bool = True,
     ) -> None:
         self.notes, self.run_name, self.is_dead = notes, run_name, is_dead
-        self.next_number = next_number  # of each session, behind what was handed in
-        # Sessions and numbers of what was noted before it was sent, and wasn't answered.
+        self.next_number = next_number  # of a session, after what was handed in
+        # Transactions that were noted before they were sent, and weren't answered.
         self._unanswered: Set[StoreId] = set()
 
     def told(self, place: Place) -> Sequence[Tuple[int, Logged]]:
-        """What the session did, which nobody has handed in: numbers, and what is to be logged. The
-        place is then as it would have been given back, or ended. Where it was to be joined nothing
-        is handed in but behind the fence of that, which may not be there. Raises LostError."""
+        """What the session did and nobody has handed in: numbers, and what is to be logged.
+        Afterwards the place is as if it had been given back, or has ended. If its client was to
+        join, only what follows its fence is handed in, and the fence may be missing. Raises
+        LostError."""
         begun, transactions = place.begun, self._told(place)
         if not place.must_join:
             return transactions
         if transactions and transactions[0][1].outcome == "committed":
             place.must_join = False
             return transactions
-        if self.is_dead and not place.is_ended:  # what is aborted has left nothing
+        if self.is_dead and not place.is_ended:  # aborted attempts have left nothing
             place.begun = max(begun, transactions[0][0]) if transactions else begun
-            # Where no answer was noted nobody else has this name: the store may have been asked of
-            # an attempt before, and a fence may be overwritten by others by then.
+            # Without a noted answer, nobody else may get this name: the store's answer may be about
+            # an earlier attempt, and others may have overwritten the fence since.
             if (place.number, place.begun) in self._unanswered:
                 place.leave_open(place.begun)
                 place.begun, place.is_ended = place.begun + 1, True
@@ -77,7 +78,7 @@ class CrashedProcess:
         for note, _ in self.notes.get(place.number, ()):
             if note.outcome == "unknown" and note.is_last and note.number < first:
                 place.leave_open(note.number)
-                place.is_ended = note.number == last  # and it had no time to tell that
+                place.is_ended = note.number == last  # the process had no time to say so
         if place.is_ended:
             return transactions
         for number in range(first, last + 1):
@@ -90,22 +91,22 @@ class CrashedProcess:
                 place.is_ended = True
                 if number < last:
                     raise LostError(
-                        "its notes go on after a transaction whose outcome can't be found out"
+                        "its notes continue after a transaction whose outcome can't be found out"
                     )
                 return transactions if self.is_dead else without_end(transactions)
         if not self.is_dead:
             place.leave_open(last + 1)
             place.is_ended = True
             return without_end(transactions)
-        # One more may have begun, of which nothing was sent to be committed.
+        # One more may have begun whose commit wasn't sent.
         place.begun = last + 2
         return [*transactions, (last + 1, NOTHING)]
 
     def sorted_out(
         self, session: int, first: int
     ) -> Tuple[Dict[int, Tuple[CrashNote, Any]], Dict[int, CrashNote]]:
-        """By number, from the first on: what was noted before a commit was sent, with how the
-        store is asked, and what was noted when it was answered."""
+        """By number, from `first` on: the notes from before a commit was sent, with how to ask the
+        store, and the notes of its answer."""
         before: Dict[int, Tuple[CrashNote, Any]] = {}
         answered: Dict[int, CrashNote] = {}
         for note, how in self.notes.get(session, ()):
@@ -114,7 +115,7 @@ class CrashedProcess:
             id = StoreId((session, note.number))
             if note.outcome is None:
                 before[note.number] = (note, how)
-                answered.pop(note.number, None)  # of an attempt to join before
+                answered.pop(note.number, None)  # of an earlier attempt to join
                 self._unanswered.add(id)
             else:
                 answered[note.number] = note
@@ -124,7 +125,7 @@ class CrashedProcess:
     def logged(
         self, number: int, before: Optional[Tuple[CrashNote, Any]], answered: Optional[CrashNote]
     ) -> Optional[Logged]:
-        """None for a fence of which nobody knows whether it is there."""
+        """What is to be logged; None for a fence that may or may not exist."""
         if answered is None:
             return NOTHING if before is None else self.asked(*before)
         if answered.unclear is not None and answered.outcome != "aborted":
@@ -143,11 +144,11 @@ class CrashedProcess:
         return writes_alone(unpacked(before[0].packed))
 
     def asked(self, note: CrashNote, how: Any) -> Optional[Logged]:
-        """What was sent to be committed and not answered."""
+        """What is to be logged of a transaction whose commit was sent and not answered."""
         assert note.packed is not None
         logged = unpacked(note.packed)
         if not logged.writes:
-            return NOTHING  # whether what it has read is to be checked isn't known
+            return NOTHING  # whether its reads should be checked is unknown
         outcome, overwritten = find_out(how, note.ticket, SECONDS, self.is_dead)
         called = f"transaction {note.session}.{note.number} of a killed process"
         logger.info("%s was %s, says the store", called, outcome)
@@ -160,7 +161,7 @@ class CrashedProcess:
         if outcome == "committed" and overwritten is not None and len(logged.writes) == 1:
             return logged._replace(reads=[(logged.writes[0], self.source(overwritten))])
         if outcome == "committed" and FENCE not in logged.writes:
-            return logged  # without what it has read
+            return logged  # without its reads
         if FENCE in logged.writes:
             if outcome == "committed":
                 raise LostError("what its fence read is unknown")
@@ -175,7 +176,7 @@ class CrashedProcess:
 
 
 def in_files(asks: Dict[str, Any]) -> Noted:
-    """What was noted in these files. Raises LostError where they aren't there."""
+    """The notes in these files. Raises LostError if any are missing."""
     noted: Noted = {}
     for path, how in asks.items():
         notes = notes_of(path)
@@ -187,9 +188,9 @@ def in_files(asks: Dict[str, Any]) -> Noted:
 
 
 def without_end(transactions: List[Tuple[int, Logged]]) -> List[Tuple[int, Logged]]:
-    """Where the session is closed behind these: what did nothing, or flags that nobody reads any
-    more, would say no more by being there, and nothing would say where they stand. Of a flag that
-    is known to be there no more is known: what it has read is the flag before it."""
+    """Drops the last transactions of a session that is closed after them, if they did nothing or
+    only touched flags that nobody will read. They would add nothing, and nothing would determine
+    their place in the order. A flag that exists has only read the flag before it."""
     while transactions and is_without_use(transactions[-1][1]):
         transactions.pop()
     return transactions
@@ -201,7 +202,7 @@ def is_without_use(logged: Logged) -> bool:
 
 
 def undone_alone(id: StoreId, logged: Logged) -> Logged:
-    """What was noted, where nothing of it was committed."""
+    """What is to be logged of a noted transaction that wasn't committed."""
     reads, writes = undone(id, logged.reads, logged.writes, FENCE)
     if not (reads or writes):
         return NOTHING
@@ -219,7 +220,7 @@ def writes_alone(logged: Logged) -> Logged:
 def handed_in(
     transactions: Iterable[Tuple[int, Logged]]
 ) -> Iterable[Tuple[float, int, Sequence[str], bytes]]:
-    """As a process hands it over: when it came, the number, the keys that were written unseen, and
-    what was logged, as bytes."""
+    """Transactions as a process hands them over: when they arrived, the number, the keys that were
+    written without being read, and what was logged, as bytes."""
     for number, logged in transactions:
         yield time.monotonic(), number, keys_written_unseen(logged), as_bytes(logged)

@@ -1,7 +1,7 @@
-"""The stores that a daemon may ask what became of a commit: those that it was started with.
+"""The stores that a daemon may ask about a commit's outcome: only those that it was started with.
 
-A client tells only which table of which kind of store it had. Nobody who can write to the Redis can
-have the daemon open a connection that it wasn't started for, nor run a statement of theirs.
+A client names only the kind of its store and the table. Someone who can write to the Redis can't
+make the daemon open a connection that it wasn't started for, or run a statement of theirs.
 """
 
 from __future__ import annotations
@@ -14,8 +14,9 @@ POSTGRES = "postgres"
 
 
 class ListedStores:
-    """`dsns` are of PostgreSQL, each with the `tables` of collectors. Raises ZanteyardError if one
-    can't be understood, without its words, since they may have a password."""
+    """`dsns` are PostgreSQL connection strings, each for all `tables` of collectors. Raises
+    ZanteyardError if one can't be parsed; the message doesn't quote it, since it may contain a
+    password."""
 
     def __init__(self, dsns: Sequence[str] = (), tables: Sequence[str] = ("zanteyard",)) -> None:
         self._words: List[Any] = []
@@ -37,8 +38,8 @@ class ListedStores:
                 raise ZanteyardError(told) from None
 
     def asks(self, told: Any) -> Any:
-        """How that is asked, in the form of `core._commit_status`: each of the list in turn. None
-        where the list has none."""
+        """How to ask about that, in the form of `core._commit_status`: each listed store in turn.
+        None if none is listed."""
         if not isinstance(told, (tuple, list)) or len(told) != 2 or told[0] != POSTGRES:
             return None
         tables = [table for table in self._tables if table == told[1]]

@@ -1,8 +1,8 @@
-"""What a process of the auditor's knows beside its journal of clients behind streams, in a file
-that outlives it: who has which session, and up to which message each has been heard.
+"""What the auditor's process knows, in addition to its journal, about clients behind streams, in a
+file that survives it: who has which session, and up to which message each client has been heard.
 
-It is written before a client is told of a place, so that no place is given twice; and it is brought
-to the disk, with the journal, before anything is trimmed from a stream.
+It is written before a client is told about a place, so that no place is given out twice. It is
+flushed to the disk, with the journal, before anything is trimmed from a stream.
 """
 
 from __future__ import annotations
@@ -23,11 +23,12 @@ VERSION = 1
 
 @dataclass
 class LiveState:
-    """`left` are the places that nobody has, `clients` has of each process what its StreamProcess
-    tells, `missing` says what may have been done and never comes, and `failure` why the audit has
-    ended, where no other one has begun yet. `form` is that of what clients are told, by this
-    `version`; and it was written so many times, with this one. `store` is the one that the audit is
-    about, as its identity's two texts, once a client has told."""
+    """The contents of the file. `left` are the places that nobody has. `clients` has what each
+    StreamProcess knows of its process. `missing` says what may have been done and will never
+    arrive, and `failure` why the audit has ended, if no other one has begun yet. `form` is the
+    version of the messages to clients, and `version` that of the package. `written` counts the
+    writes, including this one. `store` is the identity, as two texts, of the store that the audit
+    is about, once a client has sent it."""
 
     audit: str
     run_name: str
@@ -47,13 +48,13 @@ class LiveState:
 
 
 class StateFile:
-    """For who has the lock around the state."""
+    """The file; for the holder of the state's lock."""
 
     def __init__(self, journal: str) -> None:
         self.journal, self.path = os.path.abspath(journal), os.path.abspath(f"{journal}.live")
 
     def write(self, state: LiveState) -> None:
-        """Raises JournalError where it can't be written."""
+        """Raises JournalError if it can't be written."""
         new = f"{self.path}.new"
         try:
             file = os.open(new, os.O_WRONLY | os.O_CREAT | os.O_TRUNC | os.O_CLOEXEC, 0o600)
@@ -62,12 +63,12 @@ class StateFile:
                 opened.flush()
                 os.fsync(file)
             os.rename(new, self.path)
-            flush_folder(os.path.dirname(self.path))  # else an older one may come back
+            flush_folder(os.path.dirname(self.path))  # else an older file could come back
         except OSError as error:
             raise JournalError(f"can't write {self.path}: {error}") from error
 
     def read(self) -> LiveState:
-        """Raises JournalError where it isn't there, or can't be believed."""
+        """Raises JournalError if it doesn't exist or isn't valid."""
         try:
             with open(self.path, "rb") as file:
                 texts = [text for text, _ in records(file.read(), 0)]
@@ -75,13 +76,13 @@ class StateFile:
             version, fields = marshal.loads(text)
             if version != VERSION:
                 raise ValueError(f"it has version {version}")
-            earlier: Dict[str, Any] = {"form": 0, "version": "unknown"}  # than these were noted
+            earlier: Dict[str, Any] = {"form": 0, "version": "unknown"}  # before these were noted
             return LiveState(**{**earlier, **fields})
         except (OSError, ValueError, TypeError, EOFError, JournalDamagedError) as error:
             raise JournalError(f"can't continue from {self.path}: {error}") from error
 
     def bring_to_disk(self) -> None:
-        """All that the journal has by now. Raises JournalError."""
+        """Flushes the journal to the disk. Raises JournalError."""
         try:
             file = os.open(self.journal, os.O_RDONLY | os.O_CLOEXEC)
             try:
@@ -93,8 +94,8 @@ class StateFile:
 
 
 def identity(journal: str) -> str:
-    """Of its lock, which stays: a copy of the folder has another one, though it has its path on a
-    machine of the same name. Raises JournalError."""
+    """The identity of the journal's lock file, which is never replaced. A copy of the folder has a
+    different one, even at the same path on a machine with the same name. Raises JournalError."""
     try:
         status = os.stat(f"{journal}.lock")
     except OSError as error:

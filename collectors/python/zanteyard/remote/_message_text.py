@@ -1,8 +1,7 @@
-"""What messages over a Redis look like: JSON, of plain values, within bounds.
+"""The form of messages over a Redis: JSON of plain values, within bounds.
 
-What was logged is kept as bytes in a process, and written out in a message, so that nobody reads
-another one's bytes but by this. Whatever a text is, reading it takes time and memory in proportion
-to its length.
+What was logged is kept as bytes in each process and spelled out in a message, so that no process
+unpacks another one's bytes. Reading any text takes time and memory in proportion to its length.
 """
 
 from __future__ import annotations
@@ -14,19 +13,19 @@ from typing import Any, Dict, List, Tuple
 from ..core._records import Logged, as_bytes
 
 LONGEST = 1 << 24  # bytes of a message
-DEEPEST = 12  # lists in one another
-GREATEST = 1 << 63  # a number's size is below this
-LOGGED = "logged"  # of an object: the fields of what was logged, null where nothing is
+DEEPEST = 12  # levels of nested lists
+GREATEST = 1 << 63  # limit of a number's absolute value
+LOGGED = "logged"  # key of an object with the fields of what was logged, null if nothing was
 FIELDS = len(Logged._fields)
 LISTS = [Logged._fields.index(name) for name in ("reads", "writes", "tried_reads", "tried_writes")]
 
 
 class NoMessageError(ValueError):
-    """It is no message, or one past the bounds."""
+    """It is no message, or exceeds a bound."""
 
 
 def text_of(message: Any) -> bytes:
-    """Raises TypeError or ValueError if it has other than plain values."""
+    """Raises TypeError or ValueError if it has other than plain values, or is too long."""
     text = _ENCODER.encode(message).encode("ascii")
     if len(text) > LONGEST:
         raise ValueError(f"it has {len(text)} bytes; the limit is {LONGEST}")
@@ -34,7 +33,8 @@ def text_of(message: Any) -> bytes:
 
 
 def message_of(text: bytes) -> Any:
-    """A tuple, of tuples, that isn't empty and begins with a word. Raises NoMessageError."""
+    """The message: a tuple that begins with a word, with tuples for lists. Raises
+    NoMessageError."""
     if len(text) > LONGEST:
         raise NoMessageError(f"it has {len(text)} bytes")
     try:
@@ -47,7 +47,7 @@ def message_of(text: bytes) -> Any:
 
 
 def _written_out(value: Any) -> Dict[str, Any]:
-    """Bytes are what this process has logged."""
+    """Spells out bytes, which are what this process has logged."""
     if not isinstance(value, bytes):
         raise TypeError(f"{type(value).__name__} isn't a plain value")
     return {LOGGED: marshal.loads(value) if value else None}
@@ -71,7 +71,8 @@ def _logged(value: Dict[str, Any]) -> Any:
 
 
 def _frozen(value: List[Any], deep: int) -> Tuple[Any, ...]:
-    """Lists as tuples, no more than so many in one another, with no number past the bounds."""
+    """The list as a tuple. Raises NoMessageError if it is nested more than `deep` levels or has a
+    number beyond the bounds."""
     if not deep:
         raise NoMessageError("its lists are nested too deeply")
     _freeze(value, deep)
@@ -79,7 +80,7 @@ def _frozen(value: List[Any], deep: int) -> Tuple[Any, ...]:
 
 
 def _freeze(value: List[Any], deep: int) -> None:
-    """What is in it."""
+    """Does so for its elements."""
     for at, each in enumerate(value):
         kind = type(each)
         if kind is list:

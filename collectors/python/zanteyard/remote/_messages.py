@@ -12,12 +12,12 @@ from typing import Any, List
 
 from ..core._locks import give_back, take
 
-SENDING = 30.0  # seconds in which the other end has to take what is sent
-HANDING_ON = 0.25  # seconds for what others send
+SENDING = 30.0  # seconds for the other end to accept a message
+HANDING_ON = 0.25  # seconds to wait for other threads' messages
 
 
 class Messages:
-    """Each is several plain values. Any thread may send, and one receives."""
+    """Sends and receives messages of plain values. Any thread may send; one receives."""
 
     def __init__(self, connection: Connection) -> None:
         self._connection, self._lock = connection, threading.Lock()
@@ -27,8 +27,8 @@ class Messages:
             same.setsockopt(socket.SOL_SOCKET, socket.SO_SNDTIMEO, seconds)
 
     def send(self, *message: Any, seconds: float = SENDING) -> None:
-        """Waits so many seconds for what others send. Raises OSError where the other end is gone or
-        takes nothing."""
+        """Sends a message. Waits up to `seconds` for other threads' messages. Raises OSError if the
+        other end is gone or accepts nothing."""
         text, taken = marshal.dumps(message), []  # type: bytes, List[bool]
         try:
             if not take(self._lock, seconds, taken):
@@ -44,8 +44,8 @@ class Messages:
             give_back(self._lock, taken)
 
     def _hang_up(self) -> None:
-        """What would be sent from here on would be read as the rest of what was cut off, as by a
-        time that was up, or by Ctrl-C: the other end is to see an end of it."""
+        """Shuts the connection down. After a message that was cut off, by a timeout or Ctrl-C, the
+        next one would be read as its rest."""
         try:
             with socket.socket(fileno=os.dup(self._connection.fileno())) as same:
                 same.shutdown(socket.SHUT_RDWR)
@@ -53,23 +53,23 @@ class Messages:
             pass  # it is closed
 
     def tell(self, *message: Any, seconds: float = SENDING) -> bool:
-        """Whether it could be sent."""
+        """Sends a message and returns whether that succeeded."""
         try:
             self.send(*message, seconds=seconds)
-        except (OSError, TypeError, ValueError):  # it is closed, or no plain value
-            return False  # who listens will find out why
+        except (OSError, TypeError, ValueError):  # it is closed, or has other than plain values
+            return False  # the receiving thread will find out why
         return True
 
     def hand_on(self, *message: Any) -> None:
-        """In front of all that is sent later. Raises OSError."""
+        """Sends a message before all that are sent later. Raises OSError."""
         self.send(*message, seconds=HANDING_ON)
 
     def receive(self) -> Any:
-        """The next one, a tuple. Raises EOFError or OSError where the other end is gone."""
+        """The next message, a tuple. Raises EOFError or OSError if the other end is gone."""
         return marshal.loads(self._connection.recv_bytes())
 
     def comes(self, seconds: float) -> bool:
-        """Whether one comes within so many seconds."""
+        """Whether a message arrives within this many seconds."""
         return self._connection.poll(seconds)
 
     def close(self) -> None:

@@ -12,54 +12,56 @@ from ..core._records import Logged, as_bytes
 from ..live._backlog import keys_written_unseen
 from ._messages import Messages
 
-# When it came, the session, the number (None where nothing more of the session comes), the keys
-# that were written unseen, and what was logged, as bytes.
+# When it was done, the session, the number (None for the end of the session), the keys that were
+# written without being read, and what was logged, as bytes.
 Packed = Tuple[float, int, Optional[int], Sequence[str], bytes]
 
 
 class Outbox:
-    """Keeps it until it is sent. While `lost` says why, nothing more is put. For threads."""
+    """Keeps what sessions did until it is sent. While `lost` gives a reason, nothing more should be
+    put in. Safe for use by several threads."""
 
     def __init__(self, messages: Messages, most: int) -> None:
-        """At most so many transactions a session are on their way, before clients wait."""
+        """At most `most` transactions per session are on their way before clients have to wait."""
         self._messages, self._most = messages, most
         self._waiting: queue.SimpleQueue[Packed] = queue.SimpleQueue()
         self._behind: queue.SimpleQueue[Tuple[Any, ...]] = queue.SimpleQueue()
-        self._sending = threading.Lock()  # so that what one session did is sent in its order
+        self._sending = threading.Lock()  # keeps the order of what one session did
         self._wake = threading.Event()  # somebody waits for room
         self._sent = self._taken = 0
-        self.sent: Dict[int, int] = {}  # of each session the number behind the last that was sent
-        self.dropped = 0  # transactions that are done and not handed over: they count all the same
+        self.sent: Dict[int, int] = {}  # for each session, the number after the last one sent
+        self.dropped = 0  # transactions that are done and not handed over; they still count
         self.lost: Optional[str] = None
         self._told_lost: Optional[str] = None
 
     def put(
         self, session: int, number: int, logged: Logged, packed: Optional[bytes] = None
     ) -> None:
-        """Raises ValueError where it can't be made bytes, which it may have been already."""
+        """Raises ValueError if it can't be packed. `packed` is what was logged as bytes, if it is
+        packed already."""
         unseen = keys_written_unseen(logged)
         packed = as_bytes(logged) if packed is None else packed
         self._waiting.put((time.monotonic(), session, number, unseen, packed))
 
     def put_close(self, session: int) -> None:
-        """Nothing more of this session comes."""
+        """The session does nothing more."""
         self._waiting.put((time.monotonic(), session, None, (), b""))
 
     def put_behind(self, *message: Any) -> None:
-        """A message that is sent when all that was done by now has been."""
+        """A message that is sent after everything done so far."""
         self._behind.put(message)
 
     def lose(self, why: str) -> None:
-        """Nothing more is handed over, until `begin_anew`."""
+        """Hands nothing over from now on, until `begin_anew`."""
         self.lost = why
         self._wake.set()
 
     def begin_anew(self) -> None:
-        """What ends from here on is handed over; what has ended is known by its number."""
+        """Hands over what ends from now on. What has ended already is known by its number."""
         self.lost = None
 
     def is_full(self, sessions: int) -> bool:
-        """Whether clients have to wait. From half of that on all is sent at once."""
+        """Whether clients have to wait. From half of the limit on, everything is sent at once."""
         most = self._most * sessions
         if self._waiting.qsize() > most // 2:
             self._wake.set()
@@ -67,19 +69,19 @@ class Outbox:
 
     @property
     def on_their_way(self) -> int:
-        """How many transactions were sent, and not taken in yet."""
+        """How many transactions were sent and not taken in yet."""
         return self._sent - self._taken
 
     def note_taken(self, count: int) -> None:
         self._taken += count
 
     def pause(self, seconds: float) -> None:
-        """Until then, or until somebody waits for room."""
+        """Waits this many seconds, or until somebody waits for room."""
         self._wake.wait(seconds)
         self._wake.clear()
 
     def send_all(self) -> None:
-        """Raises OSError where the auditor's process is gone."""
+        """Sends everything. Raises OSError if the auditor's process is gone."""
         with self._sending:
             behind = _taken_from(self._behind, self._behind.qsize())
             while self.dropped or not self._waiting.empty():
@@ -88,7 +90,7 @@ class Outbox:
             if lost is not None and self._told_lost is not lost:
                 self._told_lost = lost
                 self._messages.send("lost", lost)
-            for message in behind:  # what was missed among them: by then it is known why
+            for message in behind:  # including reports of missed ones, whose reason is sent by now
                 self._messages.send(*message)
 
     def _send(self, logged: List[Packed]) -> None:

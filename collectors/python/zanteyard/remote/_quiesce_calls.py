@@ -1,4 +1,4 @@
-"""What meetings in the auditor's process have the sessions of this one do."""
+"""Runs the calls that meetings in the auditor's process make to this process's sessions."""
 
 from __future__ import annotations
 
@@ -15,21 +15,21 @@ from ._outbox import Outbox
 
 IncomingCall = Tuple[
     int, str, Sequence[Any]
-]  # its number, 0 where no answer is wanted; name; arguments
+]  # its number, or 0 if no answer is wanted; name; arguments
 
 
 class QuiesceCalls:
-    """Runs calls one after another in a thread of their own; any may put them."""
+    """Runs calls one after another in a thread of their own; any thread may add them."""
 
     def __init__(
         self, group: SessionGroup, messages: Messages, outbox: Outbox, coming: Set[int]
     ) -> None:
-        """`coming` are the numbers of sessions that were given to clients here, who may not have
-        them yet."""
+        """`coming` are the numbers of sessions that were given to clients of this process and may
+        not have reached them yet."""
         self._group, self._messages, self._outbox = group, messages, outbox
         self._coming = coming
         self._waiting: queue.SimpleQueue[Optional[IncomingCall]] = queue.SimpleQueue()
-        self.is_leaving = False  # it takes part in no meeting any more
+        self.is_leaving = False  # it takes part in no further meeting
         self._deeds: Dict[str, Callable[..., Any]] = {
             "edges": self._edges,
             "flag": lambda meeting, places: self._group.share(meeting, places, "flag"),
@@ -48,7 +48,7 @@ class QuiesceCalls:
         self._waiting.put(None)
 
     def run_all(self) -> None:
-        """Until the end; then all sessions go on."""
+        """Runs calls until `end`; then all sessions go on."""
         for number, name, arguments in iter(self._waiting.get, None):
             try:
                 self._run(number, name, arguments)
@@ -87,7 +87,7 @@ class QuiesceCalls:
         while not self._coming <= there and time.monotonic() < ends:
             time.sleep(COMING / 100)
             there.update(self._group.numbers())
-        self._coming.clear()  # no other one is given out meanwhile
+        self._coming.clear()  # nothing is given out meanwhile
 
     def _edges(self, _: Sequence[Place]) -> List[Tuple[Any, ...]]:
         self._outbox.begin_anew()

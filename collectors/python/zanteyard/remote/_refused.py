@@ -1,4 +1,4 @@
-"""What was found in the Redis, and is none of the audit's."""
+"""Counts messages in the Redis that don't belong to the audit."""
 
 from __future__ import annotations
 
@@ -11,7 +11,7 @@ logger = logging.getLogger("zanteyard")
 
 
 class Refused:
-    """Counts it. For threads."""
+    """A counter, safe for use by several threads."""
 
     def __init__(self) -> None:
         self.total, self._lock = 0, threading.Lock()

@@ -1,4 +1,4 @@
-"""The sessions of another process, as meetings use them: by calls over its connection."""
+"""The sessions of another process, as meetings use them: through calls over its connection."""
 
 from __future__ import annotations
 
@@ -13,13 +13,13 @@ from ..session._quiesce import QuiesceMissed, Wait
 from ._messages import Messages
 
 LEFT = "a process has left"
-PATIENCE = 5.0  # seconds for an answer, beside those that the call may take
+PATIENCE = 5.0  # seconds for an answer, added to those of the call itself
 
 
 @dataclass
 class _OutgoingCall:
-    """What was asked: the places that are lent for it, and once it is there the answer, which is
-    the result, what failed, and whether that is a meeting that was missed."""
+    """A call: the places that are lent for it, and its answer once that arrives: the result, the
+    failure, and whether the failure is a missed meeting."""
 
     name: str
     lent: Sequence[Place]
@@ -28,7 +28,8 @@ class _OutgoingCall:
 
 
 class RemoteGroup:
-    """In place of a Group. For threads; `take_answer` is for the one that listens."""
+    """Has the calls of a SessionGroup; safe for use by several threads. `take_answer` is for the
+    thread that receives."""
 
     is_here = False
     patience = PATIENCE
@@ -40,27 +41,26 @@ class RemoteGroup:
         give_back: Callable[[Iterable[Place]], None],
         leave: Callable[[Iterable[Place]], object] = list,
     ) -> None:
-        """A call waits so many seconds beside its own; what is lent for one whose answer comes
-        later, or is never looked at, is given back then, and the places of who was idle are
-        left."""
+        """A call waits `wait` seconds longer than it may take. If its answer arrives later or isn't
+        used, `give_back` returns what was lent, and `leave` the places of idle clients."""
         self._messages, self._wait, self._give_back, self._leave = messages, wait, give_back, leave
         self._numbers: Dict[int, Place] = {}  # its places, as they were given to it
-        self._untold: Set[int] = set()  # of these, of which it wasn't told yet
-        self.ended: Set[int] = set()  # of these, of which it has told that nothing more comes
-        self.asked_at = 0.0  # when `edges` was answered last, by the monotonic clock
+        self._untold: Set[int] = set()  # of these, the ones that it hasn't been told about
+        self.ended: Set[int] = set()  # of these, the ones that it says have ended
+        self.asked_at = 0.0  # when `edges` was last answered, by the monotonic clock
         self._had_ended: Set[int] = set()  # of `ended`, by then
         self._has_left = False
-        self._changed = threading.Condition()  # around what follows
+        self._changed = threading.Condition()  # guards the following
         self._calls: Dict[int, _OutgoingCall] = {}
-        self._unread: List[_OutgoingCall] = []  # that are answered
+        self._unread: List[_OutgoingCall] = []  # answered
         self._asked = 0
 
     def add(self, place: Place) -> None:
-        self.ended.discard(place.number)  # as it was in an audit before
+        self.ended.discard(place.number)  # that was in an earlier audit
         self._numbers[place.number] = replace(place)
 
     def add_untold(self, place: Place) -> None:
-        """It is to be told of this one."""
+        """Adds a place that it is still to be told about."""
         self._untold.add(place.number)
         self.add(place)
 
@@ -68,8 +68,8 @@ class RemoteGroup:
         self._untold.discard(number)
 
     def note_joined(self, number: int, transaction: Optional[int]) -> None:
-        """It has told of this transaction there, or, by None, that nothing more comes; or has told
-        of it before it had this place."""
+        """Notes that a transaction of this session has arrived, or with None, the session's end. It
+        may be from before the process got this place."""
         place = self._numbers.get(number)
         if place is not None and transaction is not None and transaction >= place.begun:
             place.must_join = False
@@ -78,7 +78,7 @@ class RemoteGroup:
         self._numbers.pop(number, None)
 
     def places(self) -> List[Place]:
-        """As they were given to it."""
+        """Its places, as they were given to it."""
         return list(self._numbers.values())
 
     def lent(self) -> List[Place]:
@@ -86,7 +86,7 @@ class RemoteGroup:
         with self._changed:
             return [place for call in self._calls.values() for place in call.lent]
 
-    # where another process of the auditor goes on
+    # continuing in another process of the auditor
 
     @property
     def asked(self) -> int:
@@ -94,7 +94,7 @@ class RemoteGroup:
         return self._asked
 
     def open_calls(self) -> List[Tuple[int, str, List[Tuple[Any, ...]]]]:
-        """Those that aren't answered: number, name, and the places that are lent for them."""
+        """The unanswered calls: number, name, and the places that are lent for each."""
         with self._changed:
             return [
                 (asked, call.name, [astuple(place) for place in call.lent])
@@ -102,7 +102,7 @@ class RemoteGroup:
             ]
 
     def given_back(self) -> List[Place]:
-        """Of its places, in answers that weren't looked at yet."""
+        """Its places that came back in answers that weren't used yet."""
         with self._changed:
             answers = [
                 call.answer[0] for call in self._unread if call.name == "gather" and call.answer
@@ -116,7 +116,7 @@ class RemoteGroup:
         ended: Iterable[int],
         calls: Iterable[Tuple[int, str, Sequence[Place]]],
     ) -> None:
-        """With these places, and these calls that nobody waits for any more."""
+        """Continues with these places, and with these calls, whose answers nobody waits for."""
         self._asked = asked
         for place in places:
             self.add(place)
@@ -126,7 +126,7 @@ class RemoteGroup:
         )
 
     def leave(self) -> None:
-        """Nothing more is answered."""
+        """Ends it; nothing more is answered."""
         with self._changed:
             self._has_left = True
             self._changed.notify_all()
@@ -137,7 +137,7 @@ class RemoteGroup:
 
     @property
     def had_sessions(self) -> bool:
-        """Also where it has left."""
+        """Whether it had sessions, even if it has left."""
         return bool(self._numbers)
 
     @property
@@ -156,7 +156,7 @@ class RemoteGroup:
         )
 
     def told(self) -> str:
-        """The numbers of its sessions, also where it has left, in words."""
+        """The numbers of its sessions, for a message; even if it has left."""
         return ", ".join(map(str, sorted(self._numbers)))
 
     def begin_gather(
@@ -182,7 +182,7 @@ class RemoteGroup:
         return self._begin("pass_on", meeting, lent=places)
 
     def release(self) -> None:
-        """Nobody waits for what was asked for this meeting any more."""
+        """Ends the meeting; nobody waits for its answers any more."""
         with self._changed:
             for call in self._calls.values():
                 call.is_late = True
@@ -230,7 +230,7 @@ class RemoteGroup:
             self._leave_idle(call, result)
 
     def _leave_idle(self, call: _OutgoingCall, result: Any) -> None:
-        """Whose clients have given back their places, as they were idle, has none of them."""
+        """Takes the places that idle clients have given back."""
         if call.name == "gather" and result:
             places = [Place(*place) for place in result[1]]
             for place in places:
@@ -238,7 +238,8 @@ class RemoteGroup:
             self._leave(places)
 
     def _begin(self, name: str, *arguments: Any, lent: Sequence[Place] = ()) -> Wait[Any]:
-        """Gives what waits for the answer, until then and a little longer."""
+        """Sends a call. Returns a function that waits for the answer until the given time and a
+        little longer."""
         call = _OutgoingCall(name, lent)
         sent = (*arguments, [astuple(place) for place in lent])
         with self._changed:
@@ -251,7 +252,7 @@ class RemoteGroup:
                 place.is_lent = True  # until it is answered
         if not self._messages.tell("call", asked, name, sent, seconds=self.patience):
             with self._changed:
-                if not self._has_left:  # else it isn't known whether it had got it
+                if not self._has_left:  # else it may have received the call
                     del self._calls[asked]
                     for place in lent:
                         place.is_lent = False

@@ -1,13 +1,13 @@
-"""Lets processes of clients into a live audit.
+"""Lets other processes of clients into a live audit.
 
-The process that has the LiveAuditor lets the others in by an AuditServer, a socket in the file
-system. In each of those an AuditClient stands in the LiveAuditor's place: its sessions run there,
-over connections of their own; what they did is handed over some twenty-five times a second; and
-meetings hold them and run their flags by calls over the same socket. All messages of a process come
-in the order in which they were sent, so that whatever was done before a call was answered has been
-handed over by then. No client sends or receives anything: threads beside them do, and where these
-can't the client goes on. What a process did that is killed is found in its notes, which are in a
-folder beside the socket; both are removed at the end.
+The process with the LiveAuditor has an AuditServer, a socket in the file system. In each other
+process an AuditClient stands in for the LiveAuditor: its sessions run there, over their own
+connections. What they did is handed over about twenty-five times a second. Meetings hold the
+sessions and have their flags written, by calls over the same socket. All messages of a process
+arrive in order; so whatever was done before a call was answered has been handed over by then.
+Clients themselves neither send nor receive: other threads do, and if those fail the client goes on.
+The last transactions of a killed process are recovered from its notes, which are in a folder next
+to the socket. Both are removed at the end.
 """
 
 from __future__ import annotations
@@ -30,26 +30,26 @@ CLOSING = 30.0  # seconds for all processes to leave
 
 
 class AuditServer:
-    """A socket at this path, through which an AuditClient comes in. Who can open it is believed,
-    which is this user alone. Raises OSError where there can be no socket, as where another server
-    has it, and FolderUnfitError where somebody else has the folder
-    of its notes. For threads."""
+    """A socket at this path for AuditClients. Only this user can open it, and whoever can is
+    trusted. Raises OSError if the socket can't be made, for example because another server uses it,
+    and FolderUnfitError if the folder for the notes belongs to somebody else. Safe for use by
+    several threads."""
 
     def __init__(self, live: LiveAuditor, path: str) -> None:
         self.path, self._live = path, live
         self._processes: List[SocketProcess] = []
         self._is_closing, self._count = False, 0
-        # The folder in which processes note what they do, whichever folders they run in.
+        # The folder for the processes' notes. It is absolute, since they may run in other folders.
         self.notes = os.path.abspath(f"{path}.notes")
         try:
             Client(path, "AF_UNIX").close()
         except ConnectionRefusedError:
-            os.unlink(path)  # it is left of a server that was killed
+            os.unlink(path)  # left by a server that was killed
         except FileNotFoundError:
             pass
         self._listener = Listener(path, "AF_UNIX", backlog=64)
         os.chmod(path, 0o600)
-        shutil.rmtree(self.notes, ignore_errors=True)  # it is left, too
+        shutil.rmtree(self.notes, ignore_errors=True)  # left, too
         try:
             os.mkdir(self.notes, 0o700)
         except OSError as error:
@@ -60,28 +60,29 @@ class AuditServer:
         self._thread.start()
 
     def _refuse_others_notes(self) -> None:
-        """What is there under their name couldn't be removed."""
+        """Raises FolderUnfitError if another user's folder, which couldn't be removed, has their
+        name."""
         try:
             check_folder(self.notes)
         except FolderUnfitError:
             self._listener.close()
             raise
         except OSError:
-            pass  # there is nothing; the log tells why
+            pass  # it doesn't exist; the log says why
 
     def close(self, patience: float = CLOSING) -> None:
-        """Lets nobody in any more, and waits for so many seconds until all have left; before the
-        LiveAuditor is stopped, so that it takes in all that they did. Who is still there is
-        lost. May be called again."""
+        """Admits no further process and waits up to this many seconds for all to leave. Those that
+        remain are lost. Call it before the LiveAuditor is stopped, so that everything they did is
+        taken in. May be called again."""
         if self._is_closing:
             return
         self._is_closing = True
         try:
-            Client(self.path, "AF_UNIX").close()  # who is waited for
+            Client(self.path, "AF_UNIX").close()  # the thread is waiting for a connection
             self._thread.join(patience)
             self._listener.close()
         except OSError:
-            pass  # the socket's file is gone, so that nobody comes
+            pass  # the socket's file is gone, so nobody can connect
         self._tell_end()
         until = time.monotonic() + patience
         for process in self._processes:
@@ -98,14 +99,14 @@ class AuditServer:
 
     @property
     def clients(self) -> int:
-        """How many processes of clients are heard."""
+        """How many processes of clients are connected."""
         return sum(process.thread.is_alive() for process in list(self._processes))
 
     def _let_in(self) -> None:
         while True:
             try:
                 connection: Any = self._listener.accept()
-            except OSError:  # as where too many files are open; who asked is told by its own end
+            except OSError:  # such as too many open files; the client sees the connection end
                 time.sleep(PAUSE)
                 continue
             if self._is_closing:
@@ -120,6 +121,6 @@ class AuditServer:
             process.thread.start()
 
     def _tell_end(self) -> None:
-        """Nothing more is audited: clients see it by `is_over`."""
+        """Tells clients that nothing more is audited; they see it in `is_over`."""
         for process in list(self._processes):
             process.tell_end()

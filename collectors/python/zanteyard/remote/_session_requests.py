@@ -1,4 +1,4 @@
-"""Sessions that no client has, asked of the auditor's process."""
+"""Requests sessions that no client has from the auditor's process."""
 
 from __future__ import annotations
 
@@ -12,29 +12,30 @@ from ..core.errors import ProgramLateError
 from ..session._place import Place
 from ._messages import Messages
 
-PlaceAnswer = Tuple[int, Optional[Sequence[Any]]]  # the request's number, and a place or none
+PlaceAnswer = Tuple[int, Optional[Sequence[Any]]]  # the request's number, and a place or None
 
 
 class SessionRequests:
-    """For threads: one is asked for at a time."""
+    """Safe for use by several threads; one request at a time."""
 
     def __init__(self, messages: Messages) -> None:
         self._messages, self._asking = messages, threading.Lock()
         self._asked, self.has_ended = 0, False
         self._answers: queue.SimpleQueue[Optional[PlaceAnswer]] = queue.SimpleQueue()
-        # The numbers of open ones that were given to clients here, who may not have them yet.
+        # The numbers of open places that were given to clients here and may not have reached them
+        # yet.
         self.coming: Set[int] = set()
 
     def ask(self, kind: str, *more: Any, seconds: float) -> Optional[Place]:
-        """A place by a message of this kind: "join" for one that is left, "overflow" for one that
-        no audit is about. None where none is left, or nobody answers within so many seconds."""
+        """A place: a free one for the kind "join", one that no audit covers for "overflow". None if
+        none is free, or if nobody answers within this many seconds."""
         try:
             return self.asked(kind, *more, seconds=seconds)
         except ProgramLateError:
             return None
 
     def asked(self, kind: str, *more: Any, seconds: float) -> Optional[Place]:
-        """The same. Raises ProgramLateError where nobody answers within so many seconds."""
+        """The same, but raises ProgramLateError if nobody answers in time."""
         late = ProgramLateError(f"the auditor's process didn't answer for {seconds:g} s")
         taken: List[bool] = []
         try:
@@ -47,13 +48,14 @@ class SessionRequests:
                 raise late
             try:
                 return self._answer(time.monotonic() + seconds)
-            except queue.Empty:  # it is given back as it comes
+            except queue.Empty:  # it is given back when it arrives
                 raise late from None
         finally:
             give_back(self._asking, taken)
 
     def take_answer(self, *answer: Any) -> None:
-        """The request's number, and a place or None. What nobody waits for is given back."""
+        """Takes an answer: the request's number, and a place or None. A place that nobody waits for
+        is given back."""
         place = Place(*answer[1]) if answer[1] is not None else None
         if place is not None and place.is_audited and not place.must_join:
             self.coming.add(place.number)
@@ -65,7 +67,7 @@ class SessionRequests:
                 self._asking.release()
 
     def end(self) -> None:
-        """Nothing more is answered."""
+        """Ends it; nothing more is answered."""
         self.has_ended = True
         self._answers.put(None)
 
@@ -82,7 +84,7 @@ class SessionRequests:
         while True:
             answer = self._answers.get(timeout=max(0.001, ends - time.monotonic()))
             if answer is None:
-                self._answers.put(None)  # for who asks next
+                self._answers.put(None)  # for the next caller
                 return None
             asked, place = answer
             if asked == self._asked:

@@ -1,4 +1,4 @@
-"""A process of clients of the same machine, behind a socket in the file system."""
+"""A process of clients on the same machine, connected by a socket in the file system."""
 
 from __future__ import annotations
 
@@ -16,13 +16,13 @@ from ._client_process import ClientProcess
 from ._crash_recovery import LostError, Noted, in_files
 from ._messages import Messages
 
-ENDING = 5.0  # seconds for a process to be seen dead, once its connection has ended
-PEER = struct.Struct("iII")  # its number, its user's and its group's
+ENDING = 5.0  # seconds to notice that a process is dead after its connection has ended
+PEER = struct.Struct("iII")  # the process's, the user's and the group's number
 
 
 def watched(connection: Connection) -> Optional[int]:
-    """A descriptor that tells when the process at the other end has ended; None where there is none
-    of it, so that it can't be known."""
+    """A descriptor that becomes readable when the process at the other end has ended; None if the
+    system has none."""
     try:
         with socket.socket(fileno=os.dup(connection.fileno())) as same:
             peer = same.getsockopt(socket.SOL_SOCKET, socket.SO_PEERCRED, PEER.size)
@@ -32,24 +32,24 @@ def watched(connection: Connection) -> Optional[int]:
 
 
 def remove(path: str) -> None:
-    """A session's notes."""
+    """Removes a session's notes."""
     for which in range(2):
         with suppress(OSError):
             os.unlink(f"{path}.{which}")
 
 
 class SocketProcess(ClientProcess):
-    """Its notes are files, and its end is seen."""
+    """Its notes are files, and the auditor can see that it has ended."""
 
     def __init__(self, live: LiveAuditor, connection: Connection, notes: str) -> None:
-        """What it notes of its sessions is behind this path."""
+        """`notes` is the path of its sessions' notes, without their numbers."""
         super().__init__(live, Messages(connection))
         self.notes_path, self._connection = notes, connection
-        self._asks: Dict[str, Any] = {}  # of each of its notes' paths how the store is asked
+        self._asks: Dict[str, Any] = {}  # by path of its notes: how to ask the store
         self._watch = watched(connection)
 
     def _most(self) -> int:
-        """Of all, half of what may wait here."""
+        """Together, half of what may wait here."""
         return max(1, self._live.most_waiting // (2 * self._live.auditor.sessions))
 
     def _take_next(self) -> None:
@@ -58,8 +58,8 @@ class SocketProcess(ClientProcess):
         self._deeds[kind](*rest)
 
     def _wait(self) -> None:
-        """Until it sends something. Raises EOFError where it has ended, and somebody else keeps its
-        end of the connection open."""
+        """Waits for a message. Raises EOFError if the process has ended while somebody else keeps
+        its end of the connection open."""
         if self._watch is not None:
             ready = wait([self._connection, self._watch])
             if self._connection not in ready and not self._connection.poll(0):
@@ -71,13 +71,14 @@ class SocketProcess(ClientProcess):
         if os.path.exists(f"{self.notes_path}{FORKED}"):
             raise LostError("it forked, and its child may still use its sessions")
         there = {path[:-2] for path in glob.glob(f"{glob.escape(self.notes_path)}-*.0")}
-        # Of a session that it had begun to make, and in which nothing was done, it hasn't told.
+        # It hasn't reported the notes of a session that was just being made, in which nothing was
+        # done.
         if any(notes_of(path) for path in there - {*self._asks}):
             raise LostError("some of its transactions couldn't be noted")
         return in_files(self._asks)
 
     def _is_dead(self) -> bool:
-        """It may take a while, behind the end of its connection."""
+        """Whether it is dead, which can become visible a while after the end of its connection."""
         return self._watch is not None and bool(wait([self._watch], ENDING))
 
     def _end(self) -> None:

@@ -1,4 +1,4 @@
-"""Which store the audit is about, as the auditor's process says it."""
+"""Which store the audit is about, as the auditor's process says."""
 
 from __future__ import annotations
 
@@ -10,16 +10,16 @@ from ..core._store_identity import AuditedStore, StoreIdentity, checked
 
 
 class StoreAnswers:
-    """For threads. It is asked once: what is answered stays so."""
+    """Asks once and remembers the answer; safe for use by several threads."""
 
     def __init__(self, messages: Any) -> None:
         self._messages, self._audited = messages, AuditedStore()
         self._has_answered, self._has_ended = threading.Event(), False
 
     def meet(self, identity: StoreIdentity, seconds: float) -> bool:
-        """Raises StoreUnfitError where that isn't the audit's store. False where nobody answers
-        within so many seconds. Where nothing more is answered any is let in: nothing of it is
-        audited."""
+        """Raises StoreUnfitError if this isn't the audit's store. Returns False if nobody answers
+        within this many seconds. Once nothing more is answered, any store is accepted, since
+        nothing of it is audited."""
         if not (self._has_answered.is_set() or self._has_ended):
             ends = time.monotonic() + seconds
             self._messages.tell("store", *identity, seconds=seconds)
@@ -34,6 +34,6 @@ class StoreAnswers:
         self._has_answered.set()
 
     def end(self) -> None:
-        """Nothing more is answered."""
+        """Ends it; nothing more is answered."""
         self._has_ended = True
         self._has_answered.set()

@@ -1,4 +1,4 @@
-"""How a process of clients comes in by streams of a Redis, and what it notes there."""
+"""Connects a process of clients over streams of a Redis, and writes its notes there."""
 
 from __future__ import annotations
 
@@ -14,11 +14,11 @@ from ._stream_messages import HELLO, ClientsEnd
 from ._stream_names import HERE
 
 
-GOING = 1.0  # seconds for the Redis to forget who wasn't let in
+GOING = 1.0  # seconds for the Redis to forget a process that wasn't admitted
 
 
 class StreamDoor:
-    """Raises OSError where the Redis can't be reached."""
+    """A connection over streams. Raises OSError if the Redis can't be reached."""
 
     def __init__(self, url: str, audit: str, key: bytes) -> None:
         client = secrets.token_hex(8)
@@ -34,7 +34,8 @@ class StreamDoor:
         self.messages.begin()
 
     def _go_away(self) -> None:
-        """As if it had never come: else each try would leave a client that lives on."""
+        """Removes its traces, as if it had never come; otherwise each attempt would leave a client
+        that seems to live on."""
         self.messages.close()
         names, client = self.messages.names, self.messages.client
         self._link.ask([("HDEL", names.clients, client), ("DEL", names.up(client))], GOING)
@@ -48,15 +49,17 @@ class StreamDoor:
             self._go_away()
             raise
         self._link.close()
-        self._wait = welcome[-1][0]  # of the policy
+        self._wait = welcome[-1][0]  # the policy's wait
         return welcome
 
     def asks(self, asks: Any) -> Any:
-        """The kind of store and its table; which server that is the daemon was told as it began."""
+        """The kind of store and its table only: the daemon was told which server that is when it
+        started."""
         return (asks[0], asks[-1]) if asks is not None and asks[0] == "postgres" else None
 
     def notes(self, which: int, outbox: Outbox) -> StreamNotes:
-        """Their order among all that the process tells says that nothing of them is missing."""
+        """Notes in the stream. Their numbering with the other messages shows whether any are
+        missing."""
         return StreamNotes(self.messages, which, self._wait, lambda: outbox.lost)
 
     def note_fork(self) -> None:
@@ -65,8 +68,9 @@ class StreamDoor:
 
 
 class StreamNotes:
-    """In the place of Notes. What is about to be committed is there before the store is told so,
-    but where Redis takes longer than clients wait: then it comes later, if this process lives."""
+    """Has the calls of CrashNotes. A note about a commit is in the stream before the store gets the
+    commit, unless Redis takes longer than clients wait; then it arrives later, if this process
+    lives."""
 
     has_failed = False
 
@@ -85,11 +89,11 @@ class StreamNotes:
             self._messages.appender.flush(note, self._wait)
 
     def fail(self, error: Exception) -> None:
-        """It isn't known what is about to be committed."""
+        """Records that it is unknown what is about to be committed."""
         self._messages.put("unnoted", str(error))
 
     def remove(self) -> None:
-        """Nothing of this process can be believed any more, where it is killed."""
+        """Records that the notes of this process are incomplete, should it be killed."""
         self._messages.put("unnoted", "some transactions weren't audited")
 
     def end(self) -> None:

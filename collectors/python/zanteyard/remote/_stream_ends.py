@@ -1,11 +1,12 @@
 """The two ends of a stream of messages in a Redis.
 
-One process appends to a stream, and gives each message its number, from 1 without a gap, as the
-entry's id. Redis takes an id once, and only behind those that it has: so where an answer was lost
-the message is given again, and where a Redis has lost what it had, all that the other end hasn't
-confirmed is. What was confirmed is forgotten here, and trimmed there by who reads it.
+One process appends to a stream and numbers its messages from 1 without gaps; the number is the
+entry's id. Redis accepts each id once, and only above those that it has. So a message whose answer
+was lost is sent again; and if a Redis has lost entries, everything that the other end hasn't
+confirmed is sent again. Confirmed messages are dropped by the writer and trimmed from the stream by
+the reader.
 
-Each entry is signed. Whoever reads deletes one that isn't, and counts it.
+Each entry is signed. The reader deletes entries with a wrong signature, and counts them.
 """
 
 from __future__ import annotations
@@ -26,31 +27,31 @@ from ..core._shared_key import Signer
 from ..core.errors import StrangeRedisError
 from ._message_text import LONGEST, NoMessageError, message_of, text_of
 
-MOST = 512  # entries that are sent, or read, at once
-AGAIN = 0.25  # seconds after which a Redis that can't be reached is tried again
-ENDING = 1.0  # seconds for another thread to see that nothing is asked any more
+MOST = 512  # entries that are sent or read at once
+AGAIN = 0.25  # seconds until a Redis that can't be reached is tried again
+ENDING = 1.0  # seconds for another thread to notice the end
 FIELD, SIGNATURE = b"m", b"s"  # of an entry: the message, and its signature
 NUMBERED = re.compile(rb"([1-9][0-9]{0,18})-0")  # an entry's id
 logger = logging.getLogger("zanteyard")
 
 
 class Gap(Exception):
-    """Messages are missing that nobody gives again, and which."""
+    """Messages are missing and won't be sent again; the text says which."""
 
 
 class RedisLink:
-    """A connection that is opened as it is needed. For threads, one after another."""
+    """A connection that is opened on demand. Several threads may use it, one at a time."""
 
     def __init__(self, url: str) -> None:
         self.url, self._asking = url, threading.RLock()
         self._connection: Any = None
         self._tried = float("-inf")
-        self.is_up = True  # it answered when it was asked last
+        self.is_up = True  # it answered the last request
         self._has_ended = False
 
     def ask(self, commands: List[Command], seconds: float) -> Optional[List[Any]]:
-        """The answers, with errors among them; None where it can't be reached in so many
-        seconds."""
+        """The answers to these commands, which may include errors. None if the Redis can't be
+        reached within this many seconds."""
         with self._asking:
             if not self.open(seconds):
                 return None
@@ -60,14 +61,14 @@ class RedisLink:
             except (redis.RedisError, *BROKEN) as error:
                 self.fail(error)
                 return None
-            except BaseException as error:  # answers may come that nobody waits for any more
+            except BaseException as error:  # later answers would belong to nobody
                 self.close()
                 if self._has_ended and isinstance(error, Exception):
-                    return None  # redis-py fails in several ways where another thread has closed it
+                    return None  # redis-py fails in various ways if another thread has closed it
                 raise
             if not self.is_up:
                 logger.info("the Redis with the audit's streams is reachable again")
-            self.is_up = True  # one that hangs takes connections, and answers nothing
+            self.is_up = True  # only an answer shows that: a Redis that hangs accepts connections
             if self._has_ended:
                 self.close()
             return replies
@@ -89,7 +90,7 @@ class RedisLink:
         except (redis.RedisError, *BROKEN) as error:
             self.fail(error)
             return False
-        except (ValueError, TypeError):  # whose words may have a part of the password
+        except (ValueError, TypeError):  # their texts may contain a part of the password
             self.fail("redis-py can't read its URL")
             return False
         return True
@@ -101,8 +102,8 @@ class RedisLink:
         self.is_up, self._tried = False, time.monotonic()
 
     def end(self) -> None:
-        """For good. Who is asking by another thread then isn't answered, and closes what it has:
-        redis-py's connections aren't for two threads at once."""
+        """Closes it for good. If another thread is waiting for an answer, that thread closes the
+        connection, since redis-py's connections aren't for two threads at once."""
         self._has_ended = True
         interrupt(self._connection)
         if self._asking.acquire(timeout=ENDING):
@@ -118,9 +119,9 @@ class RedisLink:
 
 
 class Appender:
-    """The end that writes. For threads: who flushes sends what others have put as well. Where the
-    stream is gone that had been there, `is_over(link, seconds)`, if it is given, says whether that
-    is for good, or None where it can't be found out; else it is made again."""
+    """The writing end. Safe for use by several threads; one that flushes also sends what others
+    have put. If an existing stream has disappeared, `is_over(link, seconds)`, if given, says
+    whether that is final (None: unknown). If it isn't, the stream is made again."""
 
     def __init__(
         self,
@@ -132,21 +133,21 @@ class Appender:
         self.key, self._link, self._is_over = key, RedisLink(url), is_over
         self.signer = signer
         self._sending, self._numbering = threading.Lock(), threading.Lock()
-        self._kept: Deque[Tuple[int, bytes, bytes]] = deque()  # what isn't confirmed, signed
-        self.last = 0  # number that was given
-        self.there = 0  # up to which Redis has all
+        self._kept: Deque[Tuple[int, bytes, bytes]] = deque()  # not confirmed yet, with signatures
+        self.last = 0  # the last number given
+        self.there = 0  # Redis has everything up to here
         self.confirmed = 0
         self._may_make = True  # the stream
         self.is_gone = False
         self.is_barred = False  # something else has the stream's name
 
     def begin_behind(self, number: int) -> None:
-        """Where another process has written before: from the next number on."""
+        """Continues after another process: the next number is `number` + 1."""
         self.last = self.there = self.confirmed = number
 
     def put(self, *message: Any) -> int:
-        """Gives its number. Raises TypeError or ValueError where it is no plain value, or is too
-        long."""
+        """Adds a message and returns its number. Raises TypeError or ValueError if it has other
+        than plain values or is too long."""
         text = text_of(message)
         with self._numbering:
             self.last += 1
@@ -154,7 +155,7 @@ class Appender:
             return self.last
 
     def confirm(self, number: int) -> None:
-        """The other end has all up to this one for good."""
+        """The other end has everything up to this number for good."""
         with self._numbering:
             self.confirmed = max(self.confirmed, number)
             while self._kept and self._kept[0][0] <= number:
@@ -165,8 +166,8 @@ class Appender:
         return self._link.is_up
 
     def flush(self, number: int, seconds: float, insists: bool = False) -> bool:
-        """Whether Redis has all up to this number, within so many seconds. Where it couldn't be
-        reached just before, it is waited for by who insists alone."""
+        """Whether Redis has everything up to this number within this many seconds. If Redis
+        couldn't be reached just before, only a caller that `insists` waits."""
         ends = time.monotonic() + seconds
         while not self.is_gone and self.there < number:
             if not (insists or self._link.is_up):
@@ -187,8 +188,8 @@ class Appender:
         return not self.is_gone and self.there >= number
 
     def go_on(self, seconds: float) -> None:
-        """Where Redis couldn't be reached it is tried again, and what waits is sent: else who
-        doesn't insist would never try again."""
+        """Tries a Redis again that couldn't be reached, and sends what waits. Callers that don't
+        insist would never try again."""
         taken: List[bool] = []
         try:
             if take(self._sending, seconds, taken) and not (self._link.is_up or self.is_gone):
@@ -201,7 +202,7 @@ class Appender:
         self.is_gone = True
         self._link.end()
 
-    # for who has the lock
+    # the caller holds the lock
 
     def _send(self, seconds: float) -> bool:
         if not self._link.is_open and not self._find_place(seconds):
@@ -219,7 +220,7 @@ class Appender:
             if is_of_another_type(answer):
                 return self._give_up(answer)
             if isinstance(answer, redis.ResponseError) and "equal or smaller" not in str(answer):
-                self._link.fail(answer)  # it has no memory left, or takes no writes
+                self._link.fail(answer)  # it is out of memory, or read-only
                 return False
             self.there = number
         self._may_make = False
@@ -230,8 +231,8 @@ class Appender:
         return ("XADD", self.key, *only, f"{number}-0", FIELD, text, SIGNATURE, signature)
 
     def _find_place(self, seconds: float) -> bool:
-        """After the connection was lost: up to where Redis has it, which may be less than it had.
-        """
+        """After a lost connection: finds out up to which number Redis has the stream, which may be
+        less than it had before."""
         replies = self._link.ask([("XINFO", "STREAM", self.key)], seconds)
         if replies is None:
             return False
@@ -248,13 +249,13 @@ class Appender:
         return True
 
     def _give_up(self, error: object) -> bool:
-        """Something else has the stream's name, and stays there."""
+        """Something else has the stream's name, and keeps it."""
         logger.error("%r can't be used as a stream of the audit: %s", self.key, error)
         self.is_gone = self.is_barred = True
         return False
 
     def _is_lost(self, seconds: float) -> bool:
-        """The stream isn't there any more."""
+        """The stream has disappeared. Returns whether it may be made again."""
         is_over = self._is_over(self._link, seconds) if self._is_over is not None else False
         if is_over is not False:
             self.is_gone = bool(is_over)
@@ -264,9 +265,9 @@ class Appender:
 
 
 class Reader:
-    """The end that reads. For one thread. `opens(number, text, signature)` gives the message, or
-    raises NoMessageError if nobody who has the key has sent it; `refuse(count)` is told of those.
-    """
+    """The reading end, for one thread. `opens(number, text, signature)` returns the message, or
+    raises NoMessageError if it wasn't sent by someone with the key. `refuse(count)` is called with
+    the number of such entries."""
 
     def __init__(
         self,
@@ -276,20 +277,19 @@ class Reader:
         refuse: Callable[[int], object] = bool,
         has_gaps: bool = False,
     ) -> None:
-        """Where it `has_gaps` what is missing isn't waited for."""
+        """With `has_gaps`, missing messages aren't waited for."""
         self.key, self.last, self._has_gaps = key, 0, has_gaps
         self._opens, self._refuse = opens, refuse
         self._link = RedisLink(url)
         self._found: Deque[Tuple[int, Any]] = deque()
-        self.read_at = time.monotonic()  # when Redis has answered last
+        self.read_at = time.monotonic()  # when Redis last answered
 
     @property
     def is_up(self) -> bool:
         return self._link.is_up
 
     def receive(self, seconds: float) -> Optional[Tuple[int, Any]]:
-        """The next message's number, and the message; None where none has come in time. Raises
-        Gap."""
+        """The next message's number, and the message; None if none arrives in time. Raises Gap."""
         if not self._found:
             self._read(seconds)
         if not self._found:
@@ -331,7 +331,7 @@ class Reader:
 
 
 def opened(id: bytes, fields: Any, opens: Callable[[int, bytes, bytes], Any]) -> Tuple[int, Any]:
-    """An entry's number, and its message. Raises NoMessageError."""
+    """An entry's number and its message. Raises NoMessageError."""
     numbered = NUMBERED.fullmatch(id)
     if numbered is None or not fields or len(fields) != 4 or [*fields[::2]] != [FIELD, SIGNATURE]:
         raise NoMessageError("it isn't an entry of the audit")
@@ -342,7 +342,7 @@ def opened(id: bytes, fields: Any, opens: Callable[[int, bytes, bytes], Any]) ->
 
 
 def opener(*signers: Signer) -> Callable[[int, bytes, bytes], Any]:
-    """What one of these has signed."""
+    """A function that opens what one of these has signed."""
 
     def opens(number: int, text: bytes, signature: bytes) -> Any:
         if not any(signer.is_signed(number, text, signature) for signer in signers):
@@ -359,8 +359,9 @@ def is_of_another_type(reply: object) -> bool:
 def asked(
     link: RedisLink, commands: List[Command], seconds: float, of_any_type: bool = False
 ) -> List[Any]:
-    """Raises OSError where Redis can't be reached, or refuses one of them; StrangeRedisError if
-    something else has the name of what they are about, unless it may be `of_any_type`."""
+    """The answers. Raises OSError if Redis can't be reached or refuses a command, and
+    StrangeRedisError if a key has a value of another type, unless that is allowed by
+    `of_any_type`."""
     replies = link.ask(commands, seconds)
     if replies is None:
         raise OSError("the Redis with the audit's streams can't be reached")

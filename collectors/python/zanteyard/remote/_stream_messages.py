@@ -1,9 +1,9 @@
-"""In the place of a connection between two processes of one machine: messages over two streams of a
-Redis, between a client's process and the auditor's.
+"""Messages between a client process and the auditor's over two streams of a Redis, with the calls
+of a local connection.
 
-Whoever sends keeps a message until the other end has taken it for good, so that a Redis that was
-away, or has lost what it had, costs time alone while both processes live. The auditor's end tells
-the client's up to which message all is taken for good, and up to which it has heard.
+The sender keeps a message until the other end has taken it for good. So while both processes live,
+a Redis that is away or loses data costs only time. The auditor's end tells the client's up to which
+message everything is taken for good, and up to which it has heard.
 """
 
 from __future__ import annotations
@@ -19,17 +19,17 @@ from ._message_text import NoMessageError
 from ._stream_ends import AGAIN, Appender, Gap, Reader, RedisLink, opener
 from ._stream_names import StreamKeys
 
-SENDING = 2.0  # seconds in which Redis has to take what is sent, before it is left for later
+SENDING = 2.0  # seconds for Redis to take a message before it is left for later
 BEAT = 1.0  # seconds between two signs of life
-UNHEARD = 60  # of these, after which none is given any more that nobody hears
-PAUSE = 0.25  # seconds in which the other end is listened to
+UNHEARD = 60  # signs of life that nobody has heard, after which no more are sent
+PAUSE = 0.25  # seconds of listening to the other end
 KEPT, BYE, BEATS, HELLO = "kept", "bye", "beat", "hello"
-BEFORE = (HELLO, BEATS)  # what a process may tell before it is let in
-UP, DOWN = "client to auditor", "auditor to client"  # what a signature is for
+BEFORE = (HELLO, BEATS)  # what a process may send before it is admitted
+UP, DOWN = "client to auditor", "auditor to client"  # purposes of signatures
 
 
 class StreamMessages:
-    """Each message is several plain values. Any thread may send, and one receives."""
+    """Messages of plain values. Any thread may send, and one receives."""
 
     def __init__(self, appender: Appender, reader: Reader) -> None:
         self.appender, self.reader = appender, reader
@@ -39,8 +39,8 @@ class StreamMessages:
         return self.appender.put(*message)
 
     def send(self, *message: Any, seconds: float = SENDING) -> None:
-        """Where Redis can't take it by then it is sent later. Raises OSError where the other end is
-        gone."""
+        """Sends a message, or leaves it for later if Redis can't take it in time. Raises OSError if
+        the other end is gone."""
         if self.is_closed:
             raise OSError("it is closed")
         self.appender.flush(self.put(*message), min(seconds, SENDING))
@@ -48,15 +48,15 @@ class StreamMessages:
             raise OSError("the other end is gone")
 
     def hand_on(self, *message: Any) -> None:
-        """In front of all that is sent later, and with that."""
+        """Queues a message, to be sent before later ones."""
         self.put(*message)
 
     def tell(self, *message: Any, seconds: float = SENDING) -> bool:
-        """Whether Redis has it by then."""
+        """Sends a message, and returns whether Redis took it in time."""
         try:
             number = self.put(*message)
         except (TypeError, ValueError):
-            return False  # it is no plain value
+            return False  # it has other than plain values
         return not self.is_closed and self.appender.flush(number, min(seconds, SENDING))
 
     def close(self) -> None:
@@ -64,7 +64,8 @@ class StreamMessages:
 
 
 class ClientsEnd(StreamMessages):
-    """What the auditor has taken for good is told to who hands over, as `taken`."""
+    """The client's end. What the auditor has taken for good is reported to the Outbox as
+    `taken`."""
 
     def __init__(self, url: str, audit: str, client: str, key: bytes) -> None:
         self.names, self.client, self._key = StreamKeys(audit), client, key
@@ -72,7 +73,7 @@ class ClientsEnd(StreamMessages):
         down = opener(Signer(key, DOWN, audit, client))
         super().__init__(up, Reader(url, self.names.down(client), down, has_gaps=True))
         self._made_in = os.getpid()
-        self._logged: Deque[Tuple[int, int]] = deque()  # messages, and of how many transactions
+        self._logged: Deque[Tuple[int, int]] = deque()  # messages, with their transaction counts
         self._next: Optional[Any] = None
         self._heard = 0  # up to which message the auditor's process has heard
         self._is_over = False
@@ -87,7 +88,7 @@ class ClientsEnd(StreamMessages):
         self._beating.start()
 
     def let_in(self, admission: str) -> None:
-        """All from here on is signed for this admission, and is worth nothing in another one."""
+        """Signs everything from now on for this admission only."""
         audit = self.names.audit
         self.appender.signer = signer_up(self._key, audit, self.client, admission)
 
@@ -100,14 +101,14 @@ class ClientsEnd(StreamMessages):
         return number
 
     def comes(self, seconds: float) -> bool:
-        """Whether a message comes within so many seconds."""
+        """Whether a message arrives within this many seconds."""
         ends = time.monotonic() + seconds
         while self._next is None and time.monotonic() < ends:
             self._listen()
         return self._next is not None
 
     def receive(self) -> Any:
-        """The next one, a tuple. Raises EOFError where the other end is gone."""
+        """The next message, a tuple. Raises EOFError if the other end is gone."""
         while self._next is None:
             if self.is_closed or self.appender.is_gone:
                 raise EOFError
@@ -117,7 +118,7 @@ class ClientsEnd(StreamMessages):
 
     def close(self) -> None:
         super().close()
-        if os.getpid() != self._made_in:  # threads that have its locks don't run here
+        if os.getpid() != self._made_in:  # the threads that hold its locks don't exist here
             return
         self._has_ended.set()
         self.appender.close()
@@ -145,8 +146,8 @@ class ClientsEnd(StreamMessages):
             self._next = message
 
     def _beat(self) -> None:
-        """What couldn't be sent is sent, and a sign of life, as long as somebody seems to listen.
-        """
+        """Sends what couldn't be sent before, and signs of life as long as somebody seems to
+        listen."""
         appender, beats = self.appender, deque([0])
         due = time.monotonic()
         while not self._has_ended.wait(PAUSE) and not appender.is_gone:
@@ -160,9 +161,9 @@ class ClientsEnd(StreamMessages):
 
 
 class AuditorsEnd(StreamMessages):
-    """Of one client's process, heard by a thread of its own. `before_given` is called before a
-    message is sent that gives it something; `refuse(count)` for messages that aren't the process's
-    own."""
+    """The auditor's end of one client process, with its own thread. `before_given` is called before
+    a message that gives the process something; `refuse(count)` is called for messages that the
+    process didn't send."""
 
     def __init__(
         self,
@@ -181,8 +182,8 @@ class AuditorsEnd(StreamMessages):
         self.client, self._before_given, self.admission = client, before_given, admission
 
     def tell(self, *message: Any, seconds: float = SENDING) -> bool:
-        """Whether it is told, be it later: what it gives is then nobody else's. What the process
-        would have to answer isn't told at all where Redis couldn't be reached just before."""
+        """Whether the message is sent, now or later; what it gives then belongs to the process. A
+        message that needs an answer isn't sent if Redis couldn't be reached just before."""
         if self.is_closed or (is_awaited(*message) and not self.appender.is_up):
             return False
         if gives_something(*message):
@@ -190,17 +191,17 @@ class AuditorsEnd(StreamMessages):
         try:
             number = self.put(*message)
         except (TypeError, ValueError):
-            return False  # it is no plain value
+            return False  # it has other than plain values
         self.appender.flush(number, min(seconds, SENDING))
         return True
 
     def go_on(self) -> None:
-        """Sends what Redis couldn't take when it was told."""
+        """Sends what Redis couldn't take before."""
         if not self.appender.is_up or self.appender.there < self.appender.last:
             self.appender.go_on(AGAIN)
 
     def next(self) -> Optional[Tuple[int, Any]]:
-        """The next message, and its number; None where none has come. Raises Gap."""
+        """The next message's number, and the message; None if none has arrived. Raises Gap."""
         return self.reader.receive(PAUSE)
 
     def close(self) -> None:
@@ -210,15 +211,15 @@ class AuditorsEnd(StreamMessages):
 
 
 def signer_up(key: bytes, audit: str, client: str, admission: str = "") -> Signer:
-    """Of what a process tells; before it is let in it has no admission."""
+    """Signs what a process sends. Before it is admitted, its admission is empty."""
     return Signer(key, UP, audit, client, admission)
 
 
 def up_opener(
     key: bytes, audit: str, client: str, admission: str
 ) -> Callable[[int, bytes, bytes], Any]:
-    """What a process tells by this admission, or has told before it was let in. So what it told by
-    another one can't be put into its stream again."""
+    """Opens what a process sends with this admission, and what it sent before it was admitted.
+    Messages from another admission can't be replayed into its stream."""
     by_it = opener(signer_up(key, audit, client, admission))
     before = hello_opener(key, audit, client)
 
@@ -232,7 +233,7 @@ def up_opener(
 
 
 def hello_opener(key: bytes, audit: str, client: str) -> Callable[[int, bytes, bytes], Any]:
-    """What a process tells before it is let in."""
+    """Opens what a process may send before it is admitted."""
     opens_any = opener(signer_up(key, audit, client))
 
     def opens(number: int, text: bytes, signature: bytes) -> Any:
@@ -245,13 +246,14 @@ def hello_opener(key: bytes, audit: str, client: str) -> Callable[[int, bytes, b
 
 
 def is_awaited(kind: str, *more: Any) -> bool:
-    """Whether somebody in the process waits for it, or in the auditor's for an answer."""
+    """Whether somebody waits for this message in the client process, or for its answer in the
+    auditor's."""
     return kind in ("left", "store") or (kind == "call" and more[0] != 0)
 
 
 def gives_something(kind: str, *more: Any) -> bool:
-    """Which nobody may give again: places to a client, or to a meeting that runs something for
-    them; or the word which store the audit is about."""
+    """Whether the message gives something that must not be given twice: places for a client or for
+    a meeting, or the audit's store."""
     if kind == "store":
         return True
     if kind == "left":

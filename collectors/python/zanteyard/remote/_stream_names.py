@@ -1,24 +1,25 @@
-"""What an audit has in a Redis, all behind a prefix of its own, and who writes it.
+"""The keys of an audit in a Redis, all with a prefix of its own, and who writes them.
 
-- PREFIX:auditor, a text with an end: which auditor has the audit; that one writes it anew each
+- PREFIX:auditor, a text with an expiry time: the auditor that has the audit, which writes it every
   second
-- PREFIX:written, a text: the run's token, and how many times its auditor has written down by then
-  who has which session; that one writes it each second, so that a copy of its folder which is
-  older than that is seen to be one
-- PREFIX:clients, a hash: of each client's process its number drawn by chance, and "here"; the
-  process writes that as it comes, the auditor the run's token as it lets it in, and deletes it once
-  it has left, or isn't heard of any more
-- PREFIX:buried:CLIENT, a text that stays for a month: the process wasn't heard of any more; the
-  auditor writes it, and the process, if it lives, sees by it that nothing of it is taken
-- PREFIX:up:CLIENT, a stream: what the process tells, its notes and what was logged; the process
-  appends to it, and the auditor trims what it has taken in and brought to its disk
+- PREFIX:written, a text: the run's token, and how many times the auditor has saved who has which
+  session. It is written every second, so that an older copy of the auditor's folder is recognized
+  as one
+- PREFIX:clients, a hash: for each client process, by its random number, "here", which the process
+  writes when it comes; then the run's token, which the auditor writes when it admits the process.
+  The auditor deletes the entry when the process has left or can't be heard any more
+- PREFIX:buried:CLIENT, a text that stays for a month: the process couldn't be heard any more. The
+  auditor writes it. If the process lives, it learns from this that nothing of it is taken in
+- PREFIX:up:CLIENT, a stream: what the process sends, its notes and what was logged. The process
+  appends to it; the auditor trims what it has taken in and flushed to its disk
 - PREFIX:rest:CLIENT, that stream under another name, to which the process doesn't append, from when
-  it is buried until all that it told is taken in
-- PREFIX:down:CLIENT, a stream: what the auditor tells the process, as calls of meetings; the
+  it is buried until everything that it sent is taken in
+- PREFIX:down:CLIENT, a stream: what the auditor sends to the process, such as meetings' calls. The
   auditor appends to it, and trims what the process has read
 
-Keys have no numbers here: names go up, and the auditor alone numbers them, by a table that its
-journal keeps. A table in a Redis that lost its last second would give one number to two keys.
+Messages have the names of the application's keys, not numbers. Only the auditor numbers keys, by a
+table in its journal: a table in a Redis that lost its last second could give one number to two
+keys.
 """
 
 from __future__ import annotations
@@ -30,7 +31,7 @@ PREFIX = "zanteyard audit "
 
 
 class StreamKeys(NamedTuple):
-    """Of an audit of this name."""
+    """The keys of the audit with this name."""
 
     audit: str
 

@@ -1,4 +1,4 @@
-"""A process of clients behind streams of a Redis, as the auditor's process hears it."""
+"""A process of clients behind streams of a Redis, seen from the auditor's process."""
 
 from __future__ import annotations
 
@@ -18,21 +18,23 @@ from ._listed_stores import ListedStores
 from ._stream_ends import Gap
 from ._stream_messages import BYE, KEPT, AuditorsEnd
 
-ON_THEIR_WAY = 4096  # transactions of a session, in Redis, before its client waits
-SKIPPED = 1 << 20  # numbers of messages that a process of the auditor's may have given untold
-SILENCE = 10.0  # seconds of which a process lets nothing be heard, before it is given up
-WAITING = 60.0  # seconds for streams of other processes to be heard again
+ON_THEIR_WAY = 4096  # transactions of a session in Redis before its client has to wait
+SKIPPED = 1 << 20  # message numbers that an auditor's process may have used without saving that
+SILENCE = 10.0  # seconds of silence after which a process is given up
+WAITING = 60.0  # seconds until other processes' streams must have been read again
 Bury = Callable[[AuditorsEnd, bool], bool]
 
 
 class StreamProcess(ClientProcess):
-    """`is_dead` isn't known: it isn't heard of any more. What it has begun to commit is asked of
-    the store, without harm; and what it may do that isn't in its stream is left open.
+    """A process behind streams. If it isn't heard any more, it may still be alive (`is_dead` is
+    false). The store is asked about its commits without ending them, and what it may do beyond its
+    stream is left open.
 
-    `handled` is the number of its last message of which all is done; those up to `kept` are needed
-    no more. `bury`, given the end of its streams and whether that is whatever else it has told,
-    says whether it is given up for good. Where it `is_over` it is known until all is taken in that
-    it did."""
+    Everything up to message `handled` has been processed, and messages up to `kept` are no longer
+    needed. `bury`, which is given the end of its streams and whether to ignore unread messages,
+    returns whether the process is given up for good. After it `is_over`, it stays known until
+    everything that it did is taken in.
+    """
 
     is_dead = False
 
@@ -48,19 +50,19 @@ class StreamProcess(ClientProcess):
     ) -> None:
         super().__init__(live, messages)
         self._on_their_way, self._stores = on_their_way, stores
-        self.notes_path = messages.admission  # in a file's place
+        self.notes_path = messages.admission  # not a path here
         self.ends, self._silence, self._lock, self._bury = messages, silence, lock, bury
-        self.others_again: Callable[[], bool] = lambda: False  # whether streams are heard again
-        self.takes_writes: Callable[[], bool] = lambda: True  # whether the Redis does
+        self.others_again: Callable[[], bool] = lambda: False  # whether streams are read again
+        self.takes_writes: Callable[[], bool] = lambda: True  # whether the Redis accepts writes
         self.handled = self.kept = self._told_kept = self._told_heard = 0
-        self._at = 0  # the message that this process has heard last
-        self.asks: Dict[int, Any] = {}  # of each of its notes how the store is asked
+        self._at = 0  # the message that this process read last
+        self.asks: Dict[int, Any] = {}  # by number of its notes: how to ask the store
         self.is_over = self._is_known = self._has_left = self._is_buried = False
-        self._hears_rest = False  # what it told before, under its stream's other name
-        self._had: Optional[Dict[str, Any]] = None  # what it had as it was buried
-        self._again_until = 0  # its stream is heard again up to there
-        # What isn't taken in for good: of messages that logged something, each session's last
-        # number; and notes of what isn't handed over.
+        self._hears_rest = False  # it reads the stream under its other name
+        self._had: Optional[Dict[str, Any]] = None  # what it had when it was buried
+        self._again_until = 0  # its stream is read again up to here
+        # What isn't taken in for good: for messages with transactions, each session's last number;
+        # and notes about what hasn't been handed over.
         self._logged: Deque[Tuple[int, Dict[int, Optional[int]]]] = deque()
         self._notes: Dict[int, Deque[Tuple[int, int, CrashNote]]] = {}
         self._held: Dict[int, List[Tuple[float, int, Optional[int], Any, Any]]] = {}
@@ -75,7 +77,7 @@ class StreamProcess(ClientProcess):
     def _most(self) -> int:
         return self._on_their_way
 
-    # what is heard
+    # what arrives
 
     def _take_next(self) -> None:
         if self._is_buried and not self._hears_rest:
@@ -94,7 +96,7 @@ class StreamProcess(ClientProcess):
         can_be_heard = self.ends.reader.is_up and self.takes_writes()
         if numbered is not None or not can_be_heard or self._quiet_since is None:
             self._quiet_since = now
-        elif self._is_buried:  # and all is heard again that it told
+        elif self._is_buried:  # and everything that it sent has been read again
             raise EOFError(f"it sent nothing for {self._silence:g} s")
         elif now > self._quiet_since + self._silence:
             self._quiet_since = now
@@ -108,7 +110,7 @@ class StreamProcess(ClientProcess):
             self._wait_for_others(rest[0], number <= self.handled)
         with self._lock:
             self._at = number
-            if kind in ("answer", "back", "leave"):  # others may have its sessions, or had flags
+            if kind in ("answer", "back", "leave"):  # others may use its sessions, or its flags
                 for session in [*self._held]:
                     self._give_held(session)
             if number > self.handled or kind in ("logged", "note"):
@@ -128,7 +130,8 @@ class StreamProcess(ClientProcess):
         super()._take_leave(places)
 
     def _wait_for_others(self, logged: Sequence[Any], is_again: bool) -> None:
-        """Which had these sessions before: their streams are heard again, too."""
+        """Waits until the streams of processes that had these sessions before have been read
+        again."""
         firsts: Dict[int, int] = {}
         for _, session, number, _, _ in logged:
             if number is not None and self._live.covers(session, number):
@@ -142,25 +145,27 @@ class StreamProcess(ClientProcess):
             time.sleep(PAUSE)
 
     def _reached(self, session: int) -> int:
-        """The number behind the last that is handed in, or held."""
+        """The number after the last transaction that was handed in or is held."""
         held = self._held.get(session)
         number = held[-1][2] if held else None
         return self._live.next_number(session) if number is None else number + 1
 
     def _cut_off(self, why: str) -> EOFError:
-        """The rest of what it told, and so its notes, can't be believed: something is missing."""
+        """Gives the process up. Something is missing, so the rest of what it sent, including its
+        notes, can't be trusted."""
         self._is_buried, self._hears_rest = True, self._bury(self.ends, True)
         self._notes.clear()
         return EOFError(why)
 
     def _take_logged(self, logged: Sequence[Any], dropped: int) -> None:
-        """What was taken in before is there again where the auditor's process is another one."""
+        """Takes in transactions. After a restart of the auditor's process, some of them were taken
+        in before."""
         live, now = self._live, time.monotonic()
         last: Dict[int, Optional[int]] = {}
         is_again = self._at <= self.handled
         for _, session, number, unseen, packed in logged:
             last[session] = number
-            self.group.note_joined(session, number)  # it may be taken in already
+            self.group.note_joined(session, number)  # it may have been taken in already
             is_taken = is_again and live.is_taken(session, number)
             if not is_taken and (number is None or number >= live.next_number(session)):
                 self._take_one(now, session, number, unseen, packed)
@@ -173,8 +178,9 @@ class StreamProcess(ClientProcess):
     def _take_one(
         self, came: float, session: int, number: Optional[int], unseen: Any, packed: Any
     ) -> None:
-        """An attempt that did nothing waits for what its session does behind it: were it the last
-        of a session that is closed, nothing would say where it stands, and no fence be settled."""
+        """An attempt that did nothing is held until its session does something else. If it were the
+        last one of a closed session, nothing would determine its place in the order, and no fence
+        would ever be settled."""
         one_logged = (came, session, number, unseen, packed)
         logged = unpacked(packed) if number is not None else None
         if logged is not None and not logged.reads and not logged.writes:
@@ -203,10 +209,10 @@ class StreamProcess(ClientProcess):
     def _forget(self, which: int) -> None:
         self.asks.pop(which, None)
 
-    # what is needed no more
+    # what is no longer needed
 
     def note_kept(self) -> bool:
-        """Whether more is needed no more than was, or was heard; for who has the lock."""
+        """Whether `kept` or what was heard has advanced. The caller holds the lock."""
         is_taken = self._live.is_taken
         while self._logged and all(is_taken(*last) for last in self._logged[0][1].items()):
             self._logged.popleft()
@@ -232,9 +238,9 @@ class StreamProcess(ClientProcess):
         }
 
     def _find_out(self, places: Sequence[Place], why: str) -> None:
-        self._had = self._has()  # another process finds the same out, as long as it isn't taken in
+        self._had = self._has()  # kept until it is taken in, for another process
         super()._find_out(places, why)
-        if self._has_left and self._live.lost is None:  # it was heard again, and not to its end
+        if self._has_left and self._live.lost is None:  # its stream couldn't be reread to the end
             message = f"the last transactions of a process that had left were lost: {why}"
             self._live.note_missing(MissingError(message))
         numbers = sorted(place.number for place in places if place.is_audited)
@@ -252,19 +258,19 @@ class StreamProcess(ClientProcess):
 
     @property
     def is_taken_in(self) -> bool:
-        """All that is known of it; for who has the lock."""
+        """Whether everything known of it is taken in. The caller holds the lock."""
         live = self._live
-        # Of who was given up attempts that did nothing may be held for good.
+        # if it was given up, attempts that did nothing may be held forever
         return (self._is_buried or not self._logged) and all(
             live.is_taken(place.number, live.next_number(place.number) - 1)
             for place in [*self.group.places(), *self.group.lent()]
             if live.next_number(place.number) > 0
         )
 
-    # where another process of the auditor goes on
+    # continuing in another process of the auditor
 
     def state(self) -> Dict[str, Any]:
-        """As plain values; for who has the lock."""
+        """Its state as plain values. The caller holds the lock."""
         group = self.group
         is_gone = self._has_left or (self.is_over and not self._is_buried)
         return {
@@ -287,7 +293,8 @@ class StreamProcess(ClientProcess):
         return {"places": plain, "calls": self.group.open_calls()}
 
     def begin_behind(self, state: Dict[str, Any]) -> List[Place]:
-        """Another process; before it is heard. Gives the places that are lent to it."""
+        """Continues with this state of another process, before anything is read. Returns the places
+        that are lent to it."""
         self.handled, self.asks = state["handled"], state["asks"]
         self.kept = self._told_kept = self._at = self.ends.reader.last = state["kept"]
         self.messages.appender.begin_behind(state["told"] + SKIPPED)

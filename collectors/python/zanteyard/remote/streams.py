@@ -1,15 +1,15 @@
-"""Lets processes of clients of many machines into a live audit, by streams of a Redis.
+"""Lets processes of clients on several machines into a live audit, over streams of a Redis.
 
-In the place of an AuditServer, with the same calls. What clients tell stays in their streams until
-it is taken in for good: with a journal that is once it is on the auditor's disk, so that a process
-of the auditor's that is killed is gone on with by another one (`StreamServer` over an auditor that
-`Auditor.resumed` gives). `_stream_names.py` says what is in the Redis, and who writes it.
+It has the calls of an AuditServer. What clients send stays in their streams until it is taken in
+for good. With a journal, that is once it is on the auditor's disk: then an auditor's process that
+is killed is continued by another one (a `StreamServer` over an auditor from `Auditor.resumed`).
+`_stream_names.py` says what is in the Redis and who writes it.
 
-What a Redis promises, and what is made of it: one that is away for a while, and one that comes back
-without its last seconds, costs nothing while the processes live that told them, since these tell it
-again. A process that isn't heard of any more, dead or cut off, is given up after a while: what it
-had noted is asked of the store, its sessions are closed, and the outcome is pending, since nobody
-knows whether it did more. That makes up no violation: nothing is offered for what isn't known.
+A Redis that is away for a while, or comes back without its last seconds, costs nothing while the
+processes live that sent the data, since they send it again. A process that isn't heard any more,
+whether it is dead or cut off, is given up after a while: the store is asked about what it had
+noted, its sessions are closed, and the outcome is pending, because it may have done more. That
+can't cause a false violation, since nothing is assumed about what is unknown.
 """
 
 from __future__ import annotations
@@ -41,28 +41,33 @@ from ._stream_names import HERE, StreamKeys
 from ._stream_process import ON_THEIR_WAY, SILENCE, StreamProcess
 
 logger = logging.getLogger("zanteyard")
-TICK = 0.1  # seconds between two looks at who comes
-TRIMS = 0.5  # seconds between two times that streams are trimmed
-HELD = 10.0  # seconds for which an auditor has the audit, from its last word on
-WRITES = 3.0  # seconds behind its last word in which the Redis is taken for one that takes more
+TICK = 0.1  # seconds between two looks for new clients
+TRIMS = 0.5  # seconds between two trimmings of streams
+HELD = 10.0  # seconds for which an auditor has the audit after its last sign of life
+WRITES = 3.0  # seconds after its last sign of life for which the Redis counts as accepting writes
 WAITS = 5.0  # seconds for an answer of the Redis
-KEPT_AT_LEAST = 30 * 24 * 3600  # seconds, of what nobody deletes where an audit isn't gone on with
+KEPT_AT_LEAST = 30 * 24 * 3600  # seconds until Redis drops the rest of an abandoned audit
 CLOSING = 30.0  # seconds for all processes to leave
-CLIENT = re.compile(rb"[0-9a-f]{16}")  # what a client's process is called
-WRITTEN = re.compile(rb"[0-9]{1,18}")  # how many times a state was
-COMING = 1024  # clients that are looked at at once
+CLIENT = re.compile(rb"[0-9a-f]{16}")  # the name of a client process
+WRITTEN = re.compile(rb"[0-9]{1,18}")  # how many times a state was written
+COMING = 1024  # clients that are looked at together
 
 
 class StreamServer:
-    """The audit of this name in the Redis of this URL, for which no more than one auditor is let
-    in. A process of which nothing was heard for `silence` seconds is given up. At most so many
-    transactions of a session are `on_their_way` before its client waits, or the audit gives way:
-    that bounds what the Redis keeps. `key` is the path of the file with the key that clients have,
-    too, or else what the environment's ZANTEYARD_KEY says; what isn't signed with it is `refused`,
-    and counted. The commits of `stores` alone are asked about. Raises OSError where the Redis can't
-    be reached, KeyFileError, AuditTakenError where another auditor has the audit,
-    StrangeRedisError, and JournalError where an audit can't be gone on with. Where `failure` is
-    an exception it has ended by itself, by that one. For threads."""
+    """Serves the audit of this name in the Redis at this URL, which admits only one auditor. A
+    process that was silent for `silence` seconds is given up. At most `on_their_way` transactions
+    of a session are in the Redis before its client has to wait or the audit gives way; that bounds
+    what the Redis keeps.
+
+    `key` is the path of the file with the key that the clients have, too, by default the value of
+    the environment variable ZANTEYARD_KEY. Messages that aren't signed with it are ignored, and
+    counted in `refused`. Only `stores` are asked about commits. If `failure` is set, the server has
+    ended by itself for that reason.
+
+    Raises OSError if the Redis can't be reached, KeyFileError, AuditTakenError if another auditor
+    has the audit, StrangeRedisError, and JournalError if an audit can't be continued. Safe for use
+    by several threads.
+    """
 
     def __init__(
         self,
@@ -79,18 +84,18 @@ class StreamServer:
         self.url, self.names, self._live = url, StreamKeys(audit), live
         self._silence, self._on_their_way = silence, on_their_way
         self._link = RedisLink(url)
-        self._lock = threading.RLock()  # around what the state tells
+        self._lock = threading.RLock()  # guards the saved state
         self._processes: Dict[str, StreamProcess] = {}
         self._is_closing = self._is_left = False
         journal = live.auditor.journal
         self._file = StateFile(journal) if isinstance(journal, str) else None
-        self._written = 0  # times that this file was
+        self._written = 0  # how many times the state file was written
         whose = f"{journal} ({identity(journal)})" if isinstance(journal, str) else os.getpid()
         self._holder = f"{socket.gethostname()} {whose} {live.run_name}".encode()
-        self._ours = live.token.encode()  # beside each client that is let in
+        self._ours = live.token.encode()  # written for each admitted client
         self._trimmed_at = self._held_at = 0.0
         self._downs: Dict[str, int] = {}
-        self._scanned: Any = 0  # how far a hash with more than may be clients is looked at
+        self._scanned: Any = 0  # scan position in a hash that is too long to be read at once
         self._take_audit()
         try:
             if live.auditor.is_resumed:
@@ -105,9 +110,9 @@ class StreamServer:
         self._thread.start()
 
     def close(self, patience: float = CLOSING) -> None:
-        """Lets nobody in any more, and waits for so many seconds until all have left; before the
-        LiveAuditor is stopped, so that it takes in all that they did. Who is still there is lost.
-        May be called again."""
+        """Admits no further process and waits up to this many seconds for all to leave. Those that
+        remain are lost. Call it before the LiveAuditor is stopped, so that everything they did is
+        taken in. May be called again."""
         if self._is_closing:
             return
         self._is_closing = True
@@ -115,7 +120,7 @@ class StreamServer:
         self._tell_end()
         until, processes = time.monotonic() + patience, list(self._processes.values())
         while any(process.thread.is_alive() for process in processes) and time.monotonic() < until:
-            self._trim_last()  # who waits for room leaves, too
+            self._trim_last()  # lets clients that wait for room leave, too
             time.sleep(TICK)
         for process in processes:
             if process.thread.is_alive():
@@ -124,9 +129,8 @@ class StreamServer:
         self._end()
 
     def leave(self, patience: float = CLOSING) -> Outcome:
-        """Stops the LiveAuditor, and leaves the audit to another process of the auditor's, which
-        goes on by the journal: what clients do meanwhile stays in their streams. Gives what came of
-        it by now."""
+        """Stops the LiveAuditor and leaves the audit to another process, which continues from the
+        journal. What clients do meanwhile stays in their streams. Returns the outcome so far."""
         self._is_closing = self._is_left = True
         self._thread.join(patience)
         for process in self._processes.values():
@@ -139,7 +143,7 @@ class StreamServer:
         return outcome
 
     def _trim_last(self) -> None:
-        if self.failure is not None:  # its streams may be another auditor's by now
+        if self.failure is not None:  # its streams may belong to another auditor by now
             return
         try:
             with self._lock:
@@ -152,7 +156,7 @@ class StreamServer:
             if self._holds():
                 asked(self._link, [("DEL", self.names.auditor)], WAITS)
         except (OSError, StrangeRedisError):
-            pass  # it ends by itself
+            pass  # it expires
         for process in self._processes.values():
             process.messages.close()
         self._link.close()
@@ -170,14 +174,16 @@ class StreamServer:
 
     @property
     def heard(self) -> Dict[str, int]:
-        """Of each client's process up to which message all is needed no more, for who watches."""
+        """For each client process, up to which message its stream is no longer needed; for
+        monitoring."""
         heard = [entry for entry in list(self._processes.items()) if not entry[1].is_over]
         return {client: process.kept for client, process in heard}
 
-    # which auditor has it
+    # which auditor has the audit
 
     def _take_audit(self) -> None:
-        """Who had it under the same journal is dead: the journal is locked."""
+        """Takes the audit. An auditor that had it with the same journal is dead, since the journal
+        is locked."""
         until = time.monotonic() + HELD + TICK
         while True:
             mine = ("SET", self.names.auditor, self._holder, "PX", int(1000 * HELD))
@@ -218,7 +224,7 @@ class StreamServer:
             while not self._is_closing:
                 self._step()
                 time.sleep(TICK)
-        except Exception as error:  # a daemon that looks well would be dead
+        except Exception as error:  # without this, a daemon could look healthy and be dead
             self._fail(error)
 
     def _step(self) -> None:
@@ -231,12 +237,12 @@ class StreamServer:
                 with self._lock:
                     self._trim()
         except OSError as error:
-            logger.debug("%s", error)  # which its link has told once
+            logger.debug("%s", error)  # its link has logged it once
         except JournalError as error:
             self._live.lose(error)
 
     def _fail(self, error: Exception) -> None:
-        """Nothing more is heard, and nothing more of it audited."""
+        """Stops reading, and ends the audit."""
         logger.error("the audit's streams are no longer served: %s", str(error) or repr(error))
         self.failure, self._is_left = error, True
         for process in [*self._processes.values()]:
@@ -259,14 +265,14 @@ class StreamServer:
                 continue
             if word == HERE:
                 self._let_one_in(client)
-            else:  # it was of another run
+            else:  # a client of another run
                 ends = AuditorsEnd(self.url, self.names.audit, client, bool, self._key, "")
                 self._bury(ends, True)
                 ends.close()
                 asked(self._link, [("DEL", self.names.rest(client))], WAITS)
 
     def _let_one_in(self, client: str) -> None:
-        """If it has the key."""
+        """Admits a client if it has the key."""
         try:
             is_there = self._says_hello(client)
         except (NoMessageError, StrangeRedisError):
@@ -281,7 +287,7 @@ class StreamServer:
         process.thread.start()
 
     def _says_hello(self, client: str) -> bool:
-        """Whether it has told something by now. Raises NoMessageError if somebody else has."""
+        """Whether it has sent something yet. Raises NoMessageError if somebody else has."""
         first = ("XRANGE", self.names.up(client), "-", "+", "COUNT", 1)
         (entries,) = asked(self._link, [first], WAITS)
         for id, fields in entries or ():
@@ -302,15 +308,15 @@ class StreamServer:
         return process
 
     def _takes_writes(self) -> bool:
-        """Whether the Redis does, as far as is known: else nobody can be heard."""
+        """Whether the Redis accepts writes, as far as is known; if not, nobody can be heard."""
         return self._is_closing or time.monotonic() < self._held_at + WRITES
 
     def _is_heard_again(self) -> bool:
-        """Whether some stream isn't heard again yet, up to where it had been heard."""
+        """Whether some stream is still being read again, up to where it had been read before."""
         return any(process.is_heard_again for process in [*self._processes.values()])
 
     def _trim(self) -> None:
-        """What is on the disk is needed in no stream."""
+        """Trims from the streams what is on the disk."""
         self._trimmed_at = time.monotonic()
         processes = self._processes.items()
         kept = [(client, process) for client, process in processes if process.note_kept()]
@@ -325,7 +331,7 @@ class StreamServer:
             if confirmed > self._downs.get(client, 0):
                 self._downs[client] = confirmed
                 commands.append(("XTRIM", self.names.down(client), "MINID", f"{confirmed + 1}-0"))
-        if commands:  # a process whose stream is something else is given up by who reads it
+        if commands:  # a stream replaced by something else is given up by its reader
             asked(self._link, commands, WAITS, of_any_type=True)
         for _, process in kept:
             process.tell_kept()
@@ -336,13 +342,14 @@ class StreamServer:
             self._remove(client)
 
     def _is_done(self, process: StreamProcess) -> bool:
-        """Where another process could go on, that has to know of it until all is in the journal."""
+        """Whether nothing more needs to be known of it. With a journal, that is once everything is
+        in there."""
         return process.is_over and (
             self._file is None or self._live.is_over or process.is_taken_in
         )
 
     def _remove(self, client: str) -> None:
-        """It has left, or was given up."""
+        """Removes a process that has left or was given up."""
         names = self.names
         commands: List[Any] = [("DEL", names.up(client), names.rest(client))]
         commands += [("EXPIRE", names.down(client), 60), ("HDEL", names.clients, client)]
@@ -353,9 +360,10 @@ class StreamServer:
             self._save()
 
     def _bury(self, ends: AuditorsEnd, whatever: bool) -> bool:
-        """From here on nothing that it tells is taken: its stream has another name, and so it sees
-        that. What it told by then is heard there. Whether that was done: it may have told something
-        in this very moment."""
+        """Gives a process up: its stream gets another name, and nothing that it sends from now on
+        is taken in, which it can see. What it sent before is read under the new name. Returns
+        whether that was done: unless `whatever` is set, it isn't if the process has just sent
+        something."""
         up, rest_of_it = self.names.up(ends.client), self.names.rest(ends.client)
         link = RedisLink(self.url)
         try:
@@ -363,7 +371,7 @@ class StreamServer:
             _, rest_entries = asked(link, [("WATCH", up), rest], WAITS, of_any_type=True)
             if rest_entries and not whatever:
                 return False
-            # It may have that name by now, from a process of the auditor's that is gone.
+            # an earlier process of the auditor may have renamed it already
             end: List[Any] = [("MULTI",), ("RENAMENX", up, rest_of_it), ("DEL", up)]
             end.append(("HDEL", self.names.clients, ends.client))
             end.append(("SET", self.names.buried(ends.client), "", "EX", KEPT_AT_LEAST))
@@ -380,12 +388,12 @@ class StreamServer:
             link.close()
 
     def _tell_end(self) -> None:
-        """Nothing more is audited: clients see it by `is_over`."""
+        """Tells clients that nothing more is audited; they see it in `is_over`."""
         if not self._is_left or self._live.is_violated:
             for process in list(self._processes.values()):
                 process.tell_end()
 
-    # where another process goes on
+    # continuing in another process
 
     def _save(self) -> None:
         if self._file is None:
@@ -456,8 +464,8 @@ class StreamServer:
         live.let_meet()
 
     def _check_newest(self, token: str) -> None:
-        """A folder that was brought back, or a copy, doesn't know what clients were told since: who
-        went on with it might give a session of theirs to others."""
+        """Raises JournalError if the folder was restored from a backup or copied: it doesn't know
+        what clients have been told since, and could give a session of theirs to others."""
         (newest,) = asked(self._link, [("GET", self.names.written)], WAITS)
         token_of_newest, _, written = (newest or b"").rpartition(b" ")
         if newest is not None and not WRITTEN.fullmatch(written):
@@ -468,7 +476,8 @@ class StreamServer:
             raise JournalError(f"{self._file.path} {why}")
 
     def _close_what_nobody_has(self, numbers: Any) -> None:
-        """As of processes that were given up as the auditor's was killed."""
+        """Closes sessions without an owner, such as those of processes that were being given up
+        when the auditor was killed."""
         for session in range(self._live.auditor.sessions):
             if session not in numbers and not self._live.auditor.closed[session]:
                 self._live.take_close(session)

@@ -1,2 +1,2 @@
 """One client's transactions, numbered and logged over any store; and how the sessions of one
-process are brought to a standstill for a fence."""
+process pause together for a fence."""

@@ -1,4 +1,4 @@
-"""Attempts at a transaction, the store's own ends of it, and the fence by which a client joins."""
+"""Runs a transaction, again if it is aborted; and the fence by which a client joins."""
 
 from __future__ import annotations
 
@@ -15,7 +15,7 @@ Result = TypeVar("Result")
 
 
 def join_behind(transaction: Transaction) -> None:
-    """A fence, behind the last one."""
+    """Writes a fence that follows the last one."""
     transaction.exchange(FENCE, "")
 
 
@@ -24,7 +24,7 @@ def whole(transaction: Transaction) -> Iterator[Transaction]:
     try:
         yield transaction
     except OutcomeUnknownError:
-        if transaction.is_committing:  # of a statement that is a transaction by itself
+        if transaction.is_committing:  # a statement that is a transaction by itself
             transaction.find_out()
         else:
             transaction.rollback()

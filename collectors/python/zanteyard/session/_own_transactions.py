@@ -1,5 +1,5 @@
-"""The collector's own transactions over a session's connection: fences, flags, marks, and reads for
-a fence."""
+"""The collector's own transactions over a session's connection: fences, flags, marks, and a fence's
+reads."""
 
 from __future__ import annotations
 
@@ -11,23 +11,23 @@ from ._attempts import attempted, join_behind
 from ._store_calls import StoreCalls
 from ._transaction import Transaction
 
-SHORTEST = 0.001  # seconds that the store is given for a transaction
+SHORTEST = 0.001  # seconds that the store gets for a transaction
 
 
 class OwnTransactions:
-    """For who holds the session's turn. Each is a transaction of the collector's own, which the
-    store has ended within so many seconds."""
+    """Transactions of the collector's own, run by whoever holds the session's turn. The store ends
+    each of them within the given number of seconds."""
 
     calls: StoreCalls
     place: Any  # the session's Place
 
     @property
     def number(self) -> Any:
-        """Of the auditor's session."""
+        """The number of the auditor's session."""
         raise NotImplementedError
 
     def start(self, begin: Callable[..., Any], holds: bool, *arguments: Any) -> Transaction:
-        """A transaction that the store has begun by this call."""
+        """A transaction that the store begins by this call."""
         raise NotImplementedError
 
     def run_alone(
@@ -45,7 +45,8 @@ class OwnTransactions:
         self.run_alone(join_behind, seconds)
 
     def flag(self, seconds: float = 60.0) -> None:
-        """After it, all that this session did so far is behind one read of its flag away."""
+        """Writes the session's flag: whoever reads it then comes after all that this session has
+        done so far."""
         key = f"{FLAG}{self.number}"
         self.run_alone(lambda transaction: transaction.exchange(key, ""), seconds)
         self.place.is_due, self.place.has_flag = False, True

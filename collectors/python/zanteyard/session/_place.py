@@ -1,20 +1,21 @@
-"""A session of the auditor's, as the client that has it, or the pool, keeps it."""
+"""A session of the auditor, as its client or the pool keeps it."""
 
 from __future__ import annotations
 
 from dataclasses import dataclass
 from typing import Tuple
 
-RANGES = 16  # of numbers that a place keeps
+RANGES = 16  # ranges of numbers that a place keeps
 
 
 @dataclass
 class Place:
-    """A session of the auditor, whoever has it: its number, how many transactions it has had,
-    whether any came after its last flag or mark, and whether its flag wasn't read since; whether it
-    is audited at all, has ended for this audit, or is lent to somebody who runs a flag for it; the
-    numbers, each from one to before another one, of those that the store may commit yet, or not;
-    whether who has it has to join first, by a fence; and which client that is."""
+    """A session of the auditor, whoever uses it. `number` is its number, and `begun` counts its
+    transactions. `is_due`: it had a transaction after its last flag or mark. `has_flag`: nobody has
+    read its flag yet. `is_audited`: an audit covers it. `is_ended`: it has ended for this audit.
+    `is_lent`: somebody else is running its flag. `unknown` are ranges of numbers, each from a first
+    one to before a second one, that the store may or may not still commit. `must_join`: its client
+    must first join by a fence. `client` is the client's number."""
 
     number: int
     begun: int = 0
@@ -28,6 +29,6 @@ class Place:
     client: int = 0
 
     def leave_open(self, number: int) -> None:
-        """Nobody knows what becomes of the transaction of this number."""
+        """Records that nobody knows what becomes of the transaction with this number."""
         ranges = (*self.unknown, (number, number + 1))
         self.unknown = ranges if len(ranges) <= RANGES else ((ranges[0][0], number + 1),)

@@ -1,13 +1,13 @@
 """The sessions of one process, as meetings use them.
 
-At a meeting each session is held as its transaction ends. It then writes its flag, a key of its
-own, while one of them, the leader, writes the mark over; the leader reads all flags, and with them
-the keys that were written unseen, or last by a session that has ended; it runs a fence, and writes
-the mark again, which all others read before they go on. So every transaction of before comes before
-the fence, every one of later after it, and of each key it is known who wrote it last. A session
-that has done nothing since it read the mark needs no flag: whoever overwrites what it read comes
-after it. Flags are written side by side, and marks are read so: what is done one after another is
-five statements, however many sessions there are.
+At a meeting each session is held when its transaction ends. It then writes its flag, a key of its
+own, while one session, the leader, overwrites the mark. The leader reads all flags, the keys that
+were written but not read, and the keys whose last writer is a session that has ended. It then runs
+a fence and writes the mark again, and all others read the mark before they go on. Thus every
+earlier transaction comes before the fence, every later one after it, and the last writer of each
+key is known. A session that has done nothing since it read the mark needs no flag, because whoever
+overwrites what it read comes after it. Flags are written in parallel, and the mark is read in
+parallel: five statements are run one after another, however many sessions there are.
 """
 
 from __future__ import annotations
@@ -21,11 +21,11 @@ from ._attempts import Result
 from ._place import Place
 from ._session import Session
 
-Wait = Callable[[float], Result]  # until then, by the monotonic clock; raises Missed
+Wait = Callable[[float], Result]  # its argument: until when, by the monotonic clock
 
 
 class QuiesceMissed(Exception):
-    """The meeting can't be had, and why."""
+    """The meeting can't take place; the text says why."""
 
 
 def none_running() -> Future[Any]:
@@ -35,23 +35,23 @@ def none_running() -> Future[Any]:
 
 
 class SessionGroup:
-    """All of it but `sessions` is for one thread at a time, and is called in this order: `gather`,
-    `share` and `lead` in one group alone, `pass_on`, `release`. Who isn't called on in time
-    releases its sessions by itself, and raises Missed from then on."""
+    """Everything here except `sessions` is for one thread at a time. Methods are called in this
+    order: `gather`; `share` and `lead` in one group only; `pass_on`; `release`. A group that isn't
+    called in time releases its sessions itself and raises QuiesceMissed from then on."""
 
     is_here = True
 
     def __init__(self) -> None:
         self.sessions: List[Session] = []
-        self.gate = threading.Lock()  # held while a meeting goes on: no transaction begins
-        self.lock = threading.Lock()  # around what follows, since a timer may release
+        self.gate = threading.Lock()  # held during a meeting: no transaction begins
+        self.lock = threading.Lock()  # protects what follows, since a timer may release
         self.meeting: Optional[int] = None
         self.held: Dict[Session, Any] = {}
-        self.leader: Any = None  # the Session that leads, if one of these does
+        self.leader: Any = None  # the Session that leads, if it is one of these
         self.timer: Any = None
         self.asked_at = 0.0  # when `edges` was called last, by the monotonic clock
-        self._had_ended: List[Place] = []  # by then
-        self.pool = ThreadPoolExecutor(64, "zanteyard-meeting")  # threads are made as they are used
+        self._had_ended: List[Place] = []  # the places that had ended by then
+        self.pool = ThreadPoolExecutor(64, "zanteyard-meeting")  # creates threads on demand
 
     def add(self, session: Session) -> None:
         session.gate = self.gate
@@ -68,9 +68,9 @@ class SessionGroup:
     def gather(
         self, meeting: int, seconds: float, leads: bool, places: Sequence[Place], idle: float
     ) -> Tuple[List[Any], List[Place]]:
-        """Holds all sessions, and has flags written: of those, and of these places that are lent.
-        Gives the numbers of those that have flags, and the places of sessions that were idle for so
-        long."""
+        """Holds all sessions and has flags written: by these sessions, and for the places in
+        `places`, which are lent. Returns the numbers of those that have flags, and the places of
+        sessions that were idle for `idle` seconds."""
         self.ends = time.monotonic() + seconds
         if not self.gate.acquire(timeout=seconds):
             raise QuiesceMissed("the previous meeting isn't over")
@@ -79,8 +79,8 @@ class SessionGroup:
             self.timer = threading.Timer(seconds, self.release, (meeting,))
             self.timer.daemon = True
             self.timer.start()
-        # Who joins is waited for, and who leaves.
-        there = list(self.sessions)  # others come meanwhile
+        # The meeting waits for sessions that are joining or leaving.
+        there = list(self.sessions)  # others may be added meanwhile
         summoned = [session for session in there if session.is_open or session.is_changing]
         may_lead = [session for session in summoned if session.is_open]
         if leads and not may_lead:
@@ -96,7 +96,7 @@ class SessionGroup:
         if self.leader is not None and not self.leader.is_open:  # it left before it was held
             self.lead_instead(meeting)
         self.share(meeting, places, "flag")
-        with self.lock:  # else who is released goes on meanwhile
+        with self.lock:  # else a released session could go on meanwhile
             if self.meeting != meeting:
                 raise QuiesceMissed("the meeting took too long")
             flags = [
@@ -108,7 +108,7 @@ class SessionGroup:
             return flags, self.given_back(idle)
 
     def lead_instead(self, meeting: int) -> None:
-        """Another one of those that are held."""
+        """Makes another one of the held sessions the leader."""
         self.leader = next((session for session in self.held if session.is_open), None)
         if self.leader is None:
             raise QuiesceMissed("no client has a session")
@@ -118,8 +118,8 @@ class SessionGroup:
     def begin_gather(
         self, meeting: int, seconds: float, leads: bool, places: Sequence[Place], idle: float
     ) -> Wait[Tuple[List[Any], List[Place]]]:
-        """What is begun gives what waits for its end, which other processes work towards
-        meanwhile."""
+        """The `begin_` methods start a step and return a function that waits for its end, so that
+        other processes can work at the same time. Here the step ends before they return."""
         gathered = self.gather(meeting, seconds, leads, places, idle)
         return lambda ends: gathered
 
@@ -136,7 +136,7 @@ class SessionGroup:
         return lambda ends: None
 
     def hold(self, session: Session, meeting: int, seconds: float) -> Any:
-        """Gives its place."""
+        """Waits for the session's turn and keeps it. Returns the session's place."""
         if not session.turn.acquire(timeout=self.left()):
             message = f"a transaction of session {session.number} took longer than {seconds:g} s"
             raise QuiesceMissed(message)
@@ -148,8 +148,8 @@ class SessionGroup:
             return session.place
 
     def given_back(self, idle: float) -> List[Place]:
-        """Whose client does nothing goes without a session, until it comes back; for who has the
-        lock."""
+        """Takes the places of idle sessions back; their clients get another one when they return.
+        The caller holds the lock."""
         places = []
         for session in list(self.held):
             is_idle = time.monotonic() - session.used_at > idle
@@ -159,7 +159,7 @@ class SessionGroup:
         return places
 
     def lead(self, meeting: int, lists: Any) -> Any:
-        """Has the leader read these keys, and put its fence and the mark behind them."""
+        """Has the leader read these keys, then run its fence and write the mark."""
         for keys in lists:
             self.begin(meeting, self.leader, "read_all", keys)
             self.end_all()
@@ -168,7 +168,7 @@ class SessionGroup:
             self.end_all()
 
     def pass_on(self, meeting: int, places: Sequence[Place]) -> Any:
-        """Has all others read the mark, those that are lent too."""
+        """Has all other sessions read the mark, also for lent places."""
         for session in self.held:
             if session is not self.leader and session.is_open:
                 self.begin(meeting, session, "read_mark")
@@ -176,7 +176,7 @@ class SessionGroup:
         self.share(meeting, places, "read_mark")
 
     def share(self, meeting: int, places: Sequence[Place], deed: str) -> None:
-        """Runs what these places need over the sessions' connections."""
+        """Runs for these places what they need, over the sessions' connections."""
         lenders = [session for session in self.held if session.is_open] if places else []
         for start in range(0, len(places) if lenders else 0, max(1, len(lenders))):
             for place, session in zip(places[start : start + len(lenders)], lenders):
@@ -191,7 +191,7 @@ class SessionGroup:
             self.held[session] = self.pool.submit(run, *arguments, max(0.001, self.left()))
 
     def end_all(self) -> None:
-        """Waits for what was begun; raises what failed."""
+        """Waits for everything that was begun. Raises what failed."""
         running = list(self.held.values())
         _, late = wait(running, self.left())
         if late:
@@ -203,8 +203,8 @@ class SessionGroup:
         return max(0.0, self.ends - time.monotonic())
 
     def release(self, meeting: Optional[int] = None) -> None:
-        """Lets all go on, but for whose connection is still in use; at once where it has been
-        done."""
+        """Lets all sessions go on; one whose connection is still in use follows as soon as it is
+        free. Does nothing if it was called before."""
         with self.lock:
             if self.meeting is None or meeting not in (None, self.meeting):
                 return
@@ -215,19 +215,19 @@ class SessionGroup:
         self.gate.release()
 
     def edges(self) -> List[Tuple[Any, ...]]:
-        """Of each session's number, how many of its transactions have been answered, from which on
-        none has been sent, and of which of them it isn't known what they were answered. To be
-        called twice: all that was answered as the first call ended had been answered when whatever
-        hadn't been sent in the second call was sent."""
+        """For each session its number, how many of its transactions have been answered, the first
+        number that hasn't been sent, and the numbers whose outcome is unknown. Call it twice:
+        whatever had been answered when the first call returned had been answered before anything
+        was sent that hadn't been sent at the second call."""
         edges: List[Tuple[Any, ...]] = []
         self.asked_at, self._had_ended = time.monotonic(), []
         for session in list(self.sessions):
-            place = session.place  # which its client may leave meanwhile
+            place = session.place  # its client may leave it meanwhile
             if place is None:
                 continue
             if place.is_ended:
                 self._had_ended.append(place)
-            begun = place.begun  # before it is seen what runs: if nothing does, all have ended
+            begun = place.begun  # read before `running`: if nothing runs, all of these have ended
             running = session.running
             if running is None:
                 edges.append((place.number, begun, begun, place.unknown))
@@ -237,9 +237,9 @@ class SessionGroup:
         return edges
 
     def reopen(self) -> None:
-        """Another audit begins, in which every place may be used again: all are open in it. What
-        had ended as `edges` was called was the place in the audit before; what has ended since has
-        ended in this one."""
+        """Opens all places, since another audit begins in which each of them may be used again. A
+        place that had ended when `edges` was called ended in the previous audit. A place that has
+        ended since then has ended in the new one."""
         for session in list(self.sessions):
             place = session.place
             if (
@@ -253,15 +253,15 @@ class SessionGroup:
         self._had_ended = []
 
     def numbers(self) -> List[Any]:
-        """Of the sessions' places."""
+        """The numbers of the sessions' places."""
         places = [session.place for session in list(self.sessions)]
         return [place.number for place in places if place is not None]
 
     there = numbers
 
     def end(self) -> None:
-        """No meeting comes any more; what the store hasn't answered is given up, since a program's
-        end waits for all threads of pools."""
+        """Ends the group; no meeting follows. Statements that the store hasn't answered are given
+        up, since a program waits for its pools' threads before it exits."""
         self.pool.shutdown(wait=False)
         for session in list(self.sessions):
             running = session.running

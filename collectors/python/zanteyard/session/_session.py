@@ -1,7 +1,7 @@
-"""One client's transactions, numbered as they begin, and logged when their outcome is known.
+"""One client's transactions, numbered when they begin and logged when their outcome is known.
 
-`Store`, in `core/_stores.py`, is what a session wants of a store; what a store may have besides is
-in the five protocols next to it.
+What a session needs from a store is `Store` in `core/_stores.py`. What a store may offer in
+addition is in the five protocols next to it.
 """
 
 from __future__ import annotations
@@ -34,28 +34,29 @@ from ._store_calls import StoreCalls
 from ._transaction import Transaction
 
 AGAIN = 1.0  # seconds until a run's name is claimed again
-# Attempts at the fence with which a client joins: where the store has no `exchange`, each of 63
-# others that join with it may be before it, and meetings.
+# Attempts at a joining client's fence. If the store has no `exchange`, each of 63 other clients
+# that join may get ahead of it, and so may meetings.
 JOINING = 72
-PLACES = 3  # that a client is given for one transaction, where it can't be known whether it joined
+PLACES = 3  # places that a client gets for one transaction, if it is unknown whether it joined
 logger = logging.getLogger("zanteyard")
 
 
 class Session(OwnTransactions):
     """Runs one transaction at a time over a store's connection; for one thread at a time.
 
-    `run_name` tells the names of this run from those of others, and is the auditor's where none is
-    given; `patience` is for how many seconds the store is asked for an outcome. Where the session
-    has ended, `renew(self)`, if there is one, gives the Place of one that is left; where it gives
-    None the client goes on unaudited, and where there is no `renew` at all no transaction begins
-    any more. Where its place is one that has to join, it does so as its first transaction begins,
-    and where the store doesn't let it `cant_join(self, why)` gives another Place.
+    `run_name` distinguishes the names of this run from those of others; by default it is the
+    auditor's. `patience` is how many seconds the store is asked for an outcome. If the session has
+    ended, `renew(self)` returns the Place of another one. If it returns None, the client goes on
+    unaudited. Without `renew`, no further transaction begins. If the Place has to join, the session
+    joins when its first transaction begins. If the store doesn't allow that, `cant_join(self, why)`
+    returns another Place.
 
-    Before the first transaction the store tells which one it is. Where that isn't the one that the
-    audit is about StoreUnfitError is raised, and nothing has begun.
+    Before the first transaction the store identifies itself. If it isn't the store that the audit
+    is about, StoreUnfitError is raised and nothing has begun.
 
-    What the auditor does with the log never reaches who runs transactions: `failure` says why
-    nothing more of this session is audited, if that is so."""
+    Errors of the auditor never reach the application. `failure` says why nothing more of this
+    session is audited, if so.
+    """
 
     def __init__(
         self,
@@ -76,41 +77,42 @@ class Session(OwnTransactions):
         self.auditor, self.patience, self.renew = auditor, patience, renew
         self.calls = StoreCalls(store)
         self.cant_join: Optional[Callable[[Session, Exception], Optional[Place]]] = None
-        self.is_changing = False  # it gets its place, or gives it back, and its turn is held
+        self.is_changing = False  # it is getting or giving back its place, and holds its turn
         its_name = getattr(auditor, "run_name", "")
         self.run_name = run_name if run_name is not None else its_name
-        self.redacts = getattr(auditor, "redacts", False) is True  # keeps no values and constants
+        self.redacts = getattr(auditor, "redacts", False) is True  # drops values and constants
         self.is_named = self.run_name != its_name or getattr(auditor, "is_named", True)
-        self.place: Any = Place(number)  # None where no place is left for it
+        self.place: Any = Place(number)  # None if no place is left for it
         self.is_open = True
-        self.started = 0  # how many transactions the store has begun
-        self.is_claimed, self.claim_at = False, 0.0  # the latter is when it is tried again
-        self.unclaimed: Optional[Exception] = None  # why not, once it was tried in vain
-        # Which store it is, as the auditor has let it in; or why it hasn't, and what is done by
-        # then isn't audited.
+        self.started = 0  # transactions that the store has begun
+        self.is_claimed, self.claim_at = False, 0.0  # `claim_at` is when it is tried again
+        self.unclaimed: Optional[Exception] = None  # why it isn't claimed, after an attempt
+        # The store's identity, once the auditor has accepted it; or why it hasn't. What is done
+        # before it is accepted isn't audited.
         self.met: Optional[StoreIdentity] = None
         self.unmet: Optional[Exception] = None
-        self.is_unsure = False  # which one it is couldn't be told
+        self.is_unsure = False  # the store couldn't identify itself
         self.wait = getattr(getattr(auditor, "policy", None), "wait", 30.0)
         # Held by a transaction from its begin to its end, and by a meeting.
         self.turn = threading.Lock()
-        self.has_turn: List[bool] = []  # whether a client has it and no transaction yet
-        # Held while a meeting waits for the turn: else a busy client would take it again before the
-        # meeting gets it.
+        self.has_turn: List[bool] = []  # whether a client holds it without a transaction yet
+        # Held while a meeting waits for the turn; otherwise a busy client would take the turn again
+        # first.
         self.gate = threading.Lock()
-        self.current: Optional[Transaction] = None  # the client's transaction that holds the turn
-        self.running: Optional[Transaction] = None  # the same, or the collector's own
+        self.current: Optional[Transaction] = None  # the client's transaction, which holds the turn
+        self.running: Optional[Transaction] = None  # the same, or one of the collector's own
         self.used_at = time.monotonic()
         self.failure: Optional[Exception] = None
-        self.notes: Optional[CrashNotes] = None  # for who finds this process killed
-        # For how many seconds this client waited for the audit: in all, and at most at a time.
+        self.notes: Optional[CrashNotes] = None  # for recovery if this process is killed
+        # Seconds that this client waited for the audit: in total, and the longest single wait.
         self.waited = self.longest = 0.0
-        self.connecting = 0.0  # of these seconds, since they were counted: that was for the store
+        self.connecting = 0.0  # not counted yet: seconds of connecting to the store
         keep(self)
 
     @property
     def store(self) -> Store:
-        """Over which its transactions run; another one is for between two of them."""
+        """The store over which its transactions run. Assign another one only between two
+        transactions."""
         return self.calls.store
 
     @store.setter
@@ -119,18 +121,19 @@ class Session(OwnTransactions):
 
     @property
     def number(self) -> Optional[int]:
-        """Of the auditor's session that this one has; None where it has none."""
-        place = self.place  # which a meeting may take
+        """The number of its session in the auditor; None if it has none."""
+        place = self.place  # a meeting may take it away
         return place.number if place is not None else None
 
     @property
     def begun(self) -> int:
-        """How many transactions that has had."""
+        """How many transactions that session has had."""
         place = self.place
         return int(place.begun) if place is not None else 0
 
     def begin(self) -> Transaction:
-        """Raises what the store does where it can't be reached; then nothing has begun."""
+        """Begins a transaction. Raises what the store raises if it can't be reached; then nothing
+        has begun."""
         if self.current is not None:
             raise ValueError(f"session {self.number} is in a transaction already")
         came = time.monotonic()
@@ -146,8 +149,8 @@ class Session(OwnTransactions):
             raise
 
     def take_back(self, error: BaseException) -> None:
-        """What had begun until this came. Who has the transaction by then, as behind an interrupt
-        nobody does, gives it up by itself."""
+        """Undoes what had begun before this error. A transaction without an owner, which an
+        interrupt can leave behind, is rolled back."""
         if self.current is not None:
             self.place.begun = max(self.place.begun, self.current.number + 1)
             self.current.rollback()
@@ -160,13 +163,13 @@ class Session(OwnTransactions):
 
     def get_ready(self) -> None:
         self.identify_store()  # before anything is written there
-        self.claim_name()  # before it joins: what that writes has the name
+        self.claim_name()  # before it joins, because the fence is written under this name
         self.go_on()
 
     def take_turn(self) -> None:
-        """Who holds it, and the gate, are meetings, which end within the policy's wait; but for a
-        statement of theirs that the store hasn't answered over this connection. That is waited for
-        as long once more, and then given up."""
+        """Only meetings hold the turn and the gate, and they end within the policy's wait, unless
+        the store doesn't answer one of their statements on this connection. Such a statement gets
+        the same time again and is then given up."""
         if self.gate.locked():
             passed: List[bool] = []
             try:
@@ -189,7 +192,7 @@ class Session(OwnTransactions):
         self.waited, self.longest = self.waited + waited, max(self.longest, waited)
 
     def go_on(self) -> None:
-        """Takes another place where the session has ended, and joins where it has to."""
+        """Takes another place if the session has ended, and joins if it has to."""
         ends = time.monotonic() + self.wait
         try:
             for left in reversed(range(PLACES)):
@@ -208,8 +211,8 @@ class Session(OwnTransactions):
         return bool(place.must_join) and not (self.is_open or place.is_ended)
 
     def join_now(self) -> bool:
-        """As it is made, so that nobody waits for a session that is new; whether it has. Raises
-        what isn't the store's word on it."""
+        """Joins when the session is made, so that nobody has to wait for a new session. Returns
+        whether it has joined. Raises errors that don't come from the store."""
         place, self.is_changing = self.place, True
         try:
             try:
@@ -229,56 +232,57 @@ class Session(OwnTransactions):
         return not (place.must_join or place.is_ended)
 
     def join(self, is_last: bool) -> bool:
-        """Behind a fence, which is the first that is handed in of the client. Where the store can't
-        say whether it is there, another place is to be taken for it, but for the last time; whether
-        the client can go on. Raises what isn't the store's word on it."""
+        """Joins by a fence, the first transaction of this client that is handed in. Returns whether
+        the client can go on. If the store can't say whether the fence was written, the caller
+        should take another place, unless `is_last`. Raises errors that don't come from the
+        store."""
         place, self.is_changing, before = self.place, True, self.started
         try:
             self.fence_first()
         except Exception as error:
             if self.started == before and self.unmet is None:
-                raise  # the store can't be reached, as the client would find out
+                raise  # the store can't be reached, as the client would find out itself
             if not self.is_of_store(error):
                 raise
             if place.is_ended and not is_last:
                 return False
-            if place.must_join:  # else it is there, by the store's later word
+            if place.must_join:  # else the store reported later that it was written
                 self.pass_over(error)
         return True
 
     def fence_first(self) -> None:
-        """By which it joins, as that is handed in (`Transaction.log`)."""
+        """Runs the fence; the session has joined once that is handed in (`Transaction.log`)."""
         try:
             self.run_alone(join_behind, self.wait, JOINING)
         finally:
             self.drop_alone()
 
     def drop_alone(self) -> None:
-        """What the collector's own had begun and, by an interrupt, nobody has."""
+        """Ends a transaction of the collector's own that an interrupt has left without an owner."""
         running = self.running
         if running is None or running.holds or running.is_over:
             return
-        if running.written:  # it may be there
+        if running.written:  # it may have been written
             running.log((), running.written, "unknown", is_last=True)
         else:
             running.rollback()
 
     def is_of_store(self, error: Exception) -> bool:
-        """Whether it is what came of a statement of the collector's own: the application, in whose
-        thread that is run, is told of nothing else."""
+        """Whether this is the result of the collector's own statement. The application, whose
+        thread runs it, sees no such error."""
         return isinstance(error, (ZanteyardError, *self.calls.errors))
 
     def pass_over(self, error: Exception) -> None:
-        """The client goes on, unaudited."""
+        """Lets the client go on, unaudited."""
         place = self.cant_join(self, error) if self.cant_join is not None else None
         if place is not None:
             self.place, self.is_open = place, place.is_audited
-        else:  # nobody else gets this one
+        else:  # nobody else gets this place
             self.fail(error)
             self.is_open, self.place.must_join = True, False
 
     def take_place(self) -> None:
-        self.is_changing = False  # no meeting waits for who waits for a place
+        self.is_changing = False  # no meeting waits for a client that waits for a place
         place = self.renew(self) if self.renew is not None else None
         if place is not None:
             self.is_changing, self.is_open = True, place.is_audited and not place.must_join
@@ -287,13 +291,14 @@ class Session(OwnTransactions):
             raise ValueError(f"session {self.number} has ended")
 
     def identify_store(self) -> None:
-        """Before the first transaction. Another store than the audit's is refused, as often as it
-        is tried. One that tells nothing may not be there at all: that is seen once it has begun."""
+        """Runs before the first transaction. A store other than the audit's is refused at every
+        attempt. A store that can't identify itself may be unreachable, which becomes known when the
+        transaction begins."""
         if self.met is not None or not hasattr(self.auditor, "meet_store"):
             return
         is_first, began = self.unmet is None, time.monotonic()
         if self.is_unsure:
-            self.hang_up()  # the next connection is asked anew
+            self.hang_up()  # the next connection is asked again
         identity = self.calls.identity()
         self.connecting = time.monotonic() - began
         if identity != UNTOLD:
@@ -301,14 +306,14 @@ class Session(OwnTransactions):
             self.refuse_store(is_first)
 
     def refuse_store(self, is_first: bool) -> None:
-        """If it is another one, and nothing was done there before."""
+        """Refuses a store that isn't the audit's, if nothing was done there before."""
         if is_first and isinstance(self.unmet, StoreUnfitError):
             error, self.unmet = self.unmet, None
-            self.hang_up()  # the next one may be over another connection, and lead elsewhere
+            self.hang_up()  # the next attempt may use another connection, to another store
             raise error
 
     def meet_store(self, identity: StoreIdentity) -> None:
-        """Whether it is the audit's is known behind this: `met`, or `unmet`."""
+        """Finds out whether the store is the audit's, and sets `met` or `unmet`."""
         self.met, self.is_unsure = None, identity == UNSURE
         if self.is_unsure:
             self.unmet = AuditLostError(
@@ -322,9 +327,8 @@ class Session(OwnTransactions):
             self.unmet = error
 
     def see_store(self, holds: bool) -> None:
-        """As a transaction has begun, over a connection which may be another one than before, and
-        lead to another store. A client goes on there, unaudited; nothing of the collector's own is
-        written there."""
+        """Runs when a transaction has begun, since its connection may be a new one and lead to
+        another store. A client goes on there, unaudited; the collector's own transactions don't."""
         if not hasattr(self.auditor, "meet_store"):
             return
         is_first = self.met is None and self.unmet is None
@@ -341,13 +345,13 @@ class Session(OwnTransactions):
 
     @property
     def unlooked(self) -> Optional[Exception]:
-        """Why nothing that is done by now may be audited, if that is so."""
+        """Why nothing that is done now may be audited, if so."""
         return self.unmet or self.unclaimed
 
     def claim_name(self) -> None:
-        """Before the first transaction. Where the store doesn't say in time whose the name is, it
-        is asked again after a while, and what is done by then isn't audited. A name that turns out
-        to be another run's then stops nobody any more."""
+        """Runs before the first transaction. If the store doesn't say in time who owns the name, it
+        is asked again later, and what is done meanwhile isn't audited. If the name then turns out
+        to belong to another run, nobody is stopped."""
         if self.is_claimed or time.monotonic() < self.claim_at:
             return
         token = getattr(self.auditor, "token", None)
@@ -365,15 +369,15 @@ class Session(OwnTransactions):
             self.claim_at = time.monotonic() + AGAIN
 
     def start(self, begin: Callable[..., Any], holds: bool, *arguments: Any) -> Transaction:
-        """A transaction, which has its number once the store has begun it."""
+        """Begins a transaction, which gets its number once the store has begun it."""
         begin(*arguments)
         self.see_store(holds)
         self.started += 1
         transaction = Transaction(self, self.place.begun, holds)
         self.running = transaction
-        if holds:  # from here on it is what gives the turn back
+        if holds:  # from here on the transaction releases the turn
             self.current = transaction
-        self.place.begun = transaction.number + 1  # also an attempt that aborts keeps its number
+        self.place.begun = transaction.number + 1  # an aborted attempt keeps its number, too
         return transaction
 
     @contextmanager
@@ -387,8 +391,8 @@ class Session(OwnTransactions):
             raise
 
     def run(self, body: Callable[[Transaction], Result], attempts: int = 10) -> Result:
-        """Calls body(transaction) and commits, again where the store aborts; each attempt has a
-        number of its own."""
+        """Calls body(transaction) and commits. If the store aborts, it tries again; each attempt
+        has its own number."""
         before = self.current
         try:
             return attempted(self.begin, body, attempts)
@@ -397,12 +401,13 @@ class Session(OwnTransactions):
             raise
 
     def drop(self, before: Optional[Transaction]) -> None:
-        """Gives up what has begun since and, by an interrupt, nobody has."""
+        """Rolls back a transaction that has begun since and that an interrupt has left without an
+        owner."""
         if self.current is not None and self.current is not before:
             self.current.rollback()
 
     def close(self) -> None:
-        """Nothing more of this session comes. Raises ValueError in the middle of a transaction."""
+        """Ends this session. Raises ValueError in the middle of a transaction."""
         if self.current is not None:
             raise ValueError(f"session {self.number} is in a transaction")
         leave = getattr(self.auditor, "leave_session", None)
@@ -420,13 +425,13 @@ class Session(OwnTransactions):
         self.close()
 
     def end(self) -> None:
-        """No transaction may stand behind the last one."""
+        """Ends the session: no transaction may follow the last one."""
         self.is_open, self.place.is_ended = False, True
-        if not self.place.must_join:  # else it is closed
+        if not self.place.must_join:  # else it never joined, and is closed already
             self.tell(self.auditor.take_close, self.number)
 
     def tell(self, call: Callable[..., Any], *arguments: Any) -> bool:
-        """Whether the auditor took it, whose fate is none of the client's business."""
+        """Whether the auditor took it. Its errors are no concern of the client."""
         came = time.monotonic()
         try:
             call(*arguments)
@@ -443,14 +448,15 @@ class Session(OwnTransactions):
             logger.error("auditing of session %s has stopped: %s", self.number, error)
 
     def miss(self, number: int, error: Optional[Exception] = None) -> None:
-        """Whether what was done under this number was handed in isn't known."""
+        """Records that it is unknown whether what was done under this number was handed in."""
         self.fail(error or AuditLostError("what it did is unknown"))
         miss = getattr(self.auditor, "miss", None)
         if miss is not None:
             self.tell(miss, self.number, number, error or self.failure)
 
     def lend(self, place: Place, deed: str, seconds: float = 60.0) -> None:
-        """Runs "flag" or "read_mark" of a session that no client has over this one's connection."""
+        """Runs "flag" or "read_mark" over this session's connection, for a session that no client
+        has."""
         session = Session(self.auditor, place.number, self.store, self.run_name)
         session.place, place.is_lent, session.notes = place, True, self.notes
         session.met, session.unmet = self.met, self.unmet

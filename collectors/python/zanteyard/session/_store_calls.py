@@ -1,4 +1,4 @@
-"""All that a session may ask of a store, whichever of it the store has."""
+"""All calls that a session may make on a store, whichever of them the store has."""
 
 from __future__ import annotations
 
@@ -14,17 +14,17 @@ logger = logging.getLogger("zanteyard")
 
 
 class StoreCalls(BoundedStore, BulkStore, TracedStore, ObservedStore, IdentifiedStore):
-    """A store with all five parts. What it lacks is made of what each store has, or does nothing.
-    For one thread at a time, but for `hang_up`."""
+    """A store with all five optional parts. What the store lacks is built from its other methods or
+    does nothing. For one thread at a time, except `hang_up`."""
 
     def __init__(self, store: Store) -> None:
         self.store = store
 
     def _own(self, name: str, otherwise: Any = None) -> Any:
-        """The store's own, if it has it by now."""
+        """The store's own attribute, looked up at each use."""
         return getattr(self.store, name, otherwise)
 
-    # as a BoundedStore
+    # BoundedStore
 
     def begin_alone(self, seconds: float) -> None:
         begin = self._own("begin_alone")
@@ -42,7 +42,7 @@ class StoreCalls(BoundedStore, BulkStore, TracedStore, ObservedStore, Identified
         if hang_up is not None:
             hang_up()
 
-    # as a BulkStore
+    # BulkStore
 
     def read_all(self, keys: Sequence[str]) -> Dict[str, StoredValue]:
         read_all = self._own("read_all")
@@ -54,14 +54,14 @@ class StoreCalls(BoundedStore, BulkStore, TracedStore, ObservedStore, Identified
 
     @property
     def can_exchange(self) -> bool:
-        """Whether `exchange` may be called: nothing stands in for it."""
+        """Whether `exchange` may be called: it has no substitute."""
         return self._own("exchange") is not None
 
     def exchange(self, key: str, value: Any, name: Name) -> Optional[StoredValue]:
         overwritten: Optional[StoredValue] = self._own("exchange")(key, value, name)
         return overwritten
 
-    # as a TracedStore
+    # TracedStore
 
     @property
     def writes_at_once(self) -> bool:
@@ -69,7 +69,7 @@ class StoreCalls(BoundedStore, BulkStore, TracedStore, ObservedStore, Identified
 
     @property
     def can_claim(self) -> bool:
-        """Whether the store knows whose a run's name is; else `claim` does nothing."""
+        """Whether the store records which run has a name; if not, `claim` does nothing."""
         return self._own("claim") is not None
 
     def claim(self, run_name: str, token: str, seconds: float) -> None:
@@ -77,7 +77,7 @@ class StoreCalls(BoundedStore, BulkStore, TracedStore, ObservedStore, Identified
             self._own("claim")(run_name, token, seconds)
 
     def asks(self) -> Any:
-        """None where the store can't be asked, or can't say how."""
+        """None if the store can't be asked, or can't say how."""
         asks = self._own("asks")
         try:
             return asks() if asks is not None else None
@@ -86,11 +86,11 @@ class StoreCalls(BoundedStore, BulkStore, TracedStore, ObservedStore, Identified
             return None
 
     def ticket(self, written: Sequence[Any]) -> Any:
-        """None where there is none."""
+        """None if there is none."""
         ticket = self._own("ticket")
         return ticket(written) if ticket is not None else None
 
-    # as an ObservedStore
+    # ObservedStore
 
     @property
     def errors(self) -> Tuple[Type[BaseException], ...]:
@@ -105,9 +105,9 @@ class StoreCalls(BoundedStore, BulkStore, TracedStore, ObservedStore, Identified
         has_answered = self._own("has_answered")
         return has_answered is not None and bool(has_answered(error))
 
-    # as an IdentifiedStore
+    # IdentifiedStore
 
     def identity(self) -> StoreIdentity:
-        """`UNTOLD` where the store doesn't tell it."""
+        """`UNTOLD` if the store doesn't identify itself."""
         identity = self._own("identity")
         return identity_of(identity() if identity is not None else None)

@@ -17,44 +17,45 @@ from ..core.errors import AbortedError, AuditLostError, OutcomeUnknownError
 if TYPE_CHECKING:
     from ._session import Session
 
-LEAST = 0.1  # seconds for an outcome, where nobody was promised any
+LEAST = 0.1  # seconds for an outcome if nothing else was specified
 logger = logging.getLogger("zanteyard")
 
 
 class Transaction:
     def __init__(self, session: Session, number: int, holds: bool = True) -> None:
         self.session, self.store, self.number, self.holds = session, session.store, number, holds
-        self.calls = session.calls  # what the store may have besides
+        self.calls = session.calls  # the store's optional parts
         self.reads: Set[Read] = set()
-        self.from_before: Set[str] = set()  # keys of these, as they were before this run
+        self.from_before: Set[str] = set()  # keys whose versions are from before this run
         self.written: Dict[str, Any] = {}
         self.is_over = False
-        self.is_committing = not holds  # from here on the store may have what it writes
-        self.is_in_doubt = False  # its commit was sent, and what came of that isn't known
-        # For who is told of a violation; the collector's own transactions have none of it.
+        self.is_committing = not holds  # from here on the store may have its writes
+        self.is_in_doubt = False  # its commit was sent, and the outcome is unknown
+        # For explanations of violations; the collector's own transactions have none of it.
         self.values: List[Tuple[str, str, str]] = []
         self.began, self.caller = (time.time(), caller()) if holds else (0.0, "")
-        self.sent: Tuple[str, ...] = ()  # keys that were written and needn't be at the commit
-        self.tried: List[str] = []  # keys of which a write went to the store, whatever came of it
-        self.statements: Dict[Deed, str] = {}  # of each deed, as Logged has them
-        self.prepared: Any = None  # what is logged where it is committed, and the same as bytes
-        self.unclear: Optional[Exception] = None  # why what it did isn't known, if that is so
+        self.sent: Tuple[str, ...] = ()  # written keys that aren't written again at the commit
+        self.tried: List[str] = []  # keys whose write was sent to the store, whatever came of it
+        self.statements: Dict[Deed, str] = {}  # the statement of each deed, as in Logged
+        self.prepared: Any = None  # what is logged if it is committed, and the same as bytes
+        self.unclear: Optional[Exception] = None  # why its effects are unknown, if they are
 
     def still_open(self) -> None:
-        """What is done with a transaction that has ended would be one of its own in the store."""
+        """Raises ValueError if the transaction has ended: a further access would be a separate
+        transaction in the store."""
         if self.is_over:
             raise ValueError(f"transaction {self.session.number}.{self.number} has ended")
 
     def get(self, key: str, statement: Optional[str] = None) -> Any:
-        """`statement` is told of a violation in place of the store's."""
+        """Reads a key. `statement` is shown with a violation in place of the store's statement."""
         self.still_open()
         if key in self.written:
             return self.written[key]  # its own write: not logged
         return self.was_read(key, self.store.read(key), statement)
 
     def get_all(self, keys: Sequence[str]) -> Dict[str, Any]:
-        """The values of keys that weren't written here, by key; at once, where the store has a call
-        for that."""
+        """The values of these keys, by key; in one statement if the store can do that. The
+        transaction must not have written them."""
         self.still_open()
         values = self.calls.read_all(keys)
         return {key: self.was_read(key, values.get(key)) for key in keys}
@@ -78,14 +79,13 @@ class Transaction:
 
     def source(self, name: Optional[Name]) -> Source:
         if name is None or name[0] != self.session.run_name:
-            return "init"  # it was there before this run
+            return "init"  # from before this run
         if name[1] >= UNAUDITED > (self.session.number or 0) and self.unclear is None:
             self.unclear = AuditLostError("it read what a forked child wrote without being audited")
         return (name[1], name[2])
 
     def put(self, key: str, value: Any, statement: Optional[str] = None) -> None:
-        # It goes to the store at the commit, once, so that no version is there to be read but the
-        # last.
+        # Sent to the store once, at the commit, so that others can only read the last version.
         self.still_open()
         self.written[key] = value
         if statement:
@@ -95,8 +95,8 @@ class Transaction:
         self.put(key, None, statement)
 
     def exchange(self, key: str, value: Any) -> None:
-        """Reads the key and writes it: at once, where the store has a call for that. It has to be
-        the last that is done with the key."""
+        """Reads and writes the key, in one statement if the store can do that. This must be the
+        transaction's last access to the key."""
         self.still_open()
         if not self.calls.can_exchange:
             self.get(key)
@@ -113,13 +113,13 @@ class Transaction:
 
     @property
     def name(self) -> Any:
-        """Which is written beside values."""
+        """The name that is stored next to its values."""
         return (self.session.run_name, self.session.number, self.number)
 
     def commit(self) -> None:
         self.still_open()
         self.is_committing = True
-        is_late = False  # it is noted when it is known by what the store is asked for it
+        is_late = False  # whether its note can only be written once its ticket is known
         try:
             is_to_note = self.holds or len(self.sent) < len(self.written)
             if is_to_note and self.session.notes is not None:
@@ -149,13 +149,14 @@ class Transaction:
                     self.find_out_behind()
             self.rollback()
             raise
-        except BaseException:  # as Ctrl-C: the store may have committed
+        except BaseException:  # such as Ctrl-C: the store may have committed
             if not self.is_over:
                 self.log((), self.written, "unknown", is_last=bool(self.written))
             raise
 
     def note_before(self, key: str, has_reads: bool = True) -> None:
-        """From here on the store may have committed what it writes."""
+        """Notes what the transaction is about to do: from here on the store may have committed
+        it."""
         notes = self.session.notes
         assert notes is not None
         why = self.session.unlooked or self.unclear if self.written else None
@@ -172,7 +173,7 @@ class Transaction:
         notes.write(name[1], self.number, None, packed, ticket, has_reads, *more)
 
     def note_answer(self, logged: Logged, is_last: bool) -> None:
-        """What is known by now, before it is handed in."""
+        """Notes the outcome, before it is handed in."""
         notes, packed = self.session.notes, None
         if notes is not None:
             if (self.prepared is None and logged.outcome == "committed") or logged.is_undone:
@@ -184,8 +185,8 @@ class Transaction:
             notes.write(self.session.number or 0, self.number, logged.outcome, *more)
 
     def note_unclear(self, outcome: str, is_last: bool, why: Exception) -> None:
-        """What is known by now, where that isn't enough: for who finds this process killed before
-        it has told so."""
+        """Notes an outcome that isn't the whole answer, in case this process is killed before it
+        hands that in."""
         notes = self.session.notes
         if notes is not None:
             more = (None, None, True, is_last, str(why))
@@ -199,26 +200,27 @@ class Transaction:
                 self.give_up()
 
     def give_up(self) -> None:
-        """Nothing is called aborted whose commit was sent, before the store has said so."""
+        """Ends the transaction. A transaction whose commit was sent isn't logged as aborted unless
+        the store has said so."""
         if self.is_in_doubt:
             self.log((), self.written, "unknown", is_last=bool(self.written))
         else:
             self.log((), (), "aborted")
 
     def find_out_behind(self) -> None:
-        """Something else was raised than stores do, as by a handler of SIGALRM: it may have come
-        behind the store's answer."""
+        """Asks for the outcome after an exception that stores don't raise, such as one from a
+        handler of SIGALRM. It may have come after the store's answer."""
         with suppress(AbortedError, OutcomeUnknownError):
             try:
                 self.store.rollback()
-            except Exception as error:  # it says nothing of the commit
+            except Exception as error:  # this says nothing about the commit
                 logger.info("a rollback after a commit failed: %r", error)
             self.find_out()
 
     def find_out_alone(self, error: BaseException) -> None:
-        """Where this came behind a statement of the collector's own that is a transaction by
-        itself, and it isn't known to be the store's answer: a client joins in the application's
-        thread, where an interrupt may come behind that answer, too."""
+        """Finds out whether the collector's own single-statement transaction was committed, if this
+        error may have come after the store's answer. A client joins in the application's thread,
+        where an interrupt can do that."""
         if self.is_over or self.holds or not self.sent or isinstance(error, AbortedError):
             return
         if not isinstance(error, Exception):
@@ -227,8 +229,8 @@ class Transaction:
             self.find_out_behind()
 
     def find_out(self) -> None:
-        """Asks the store. Where it can't say, the transaction is logged with its writes alone, as
-        the last of its session."""
+        """Asks the store for the outcome. If the store can't say, the transaction is logged with
+        its writes only, as the last one of its session."""
         until = time.monotonic() + (self.session.patience if self.holds else 0.0)
         try:
             while self.written:
@@ -245,7 +247,7 @@ class Transaction:
                     break
                 time.sleep(0.05)
         except BaseException:
-            if not self.is_over:  # it was ended, as by Ctrl-C, before the store could say
+            if not self.is_over:  # interrupted, such as by Ctrl-C, before the store could answer
                 self.log((), self.written, "unknown", is_last=True)
             raise
         self.log((), self.written, "unknown", is_last=bool(self.written))
@@ -254,8 +256,8 @@ class Transaction:
     def log(
         self, reads: Iterable[Read], writes: Iterable[str], outcome: str, is_last: bool = False
     ) -> None:
-        """Hands in what is known; nothing that fails here comes back to the client, but for what
-        ends it, as Ctrl-C does: then it isn't known what was handed in."""
+        """Hands in what is known. No error in here reaches the client except one that ends it, such
+        as Ctrl-C; then it is unknown what was handed in."""
         session = self.session
         try:
             self.is_over = True
@@ -275,7 +277,7 @@ class Transaction:
             if is_last:
                 session.place.leave_open(self.number)
                 session.end()
-            elif session.place.must_join:  # it has, by this
+            elif session.place.must_join:  # this is how it joins
                 session.is_open, session.place.must_join = True, False
         except BaseException as error:
             message = (
@@ -283,7 +285,7 @@ class Transaction:
             )
             session.miss(self.number, AuditLostError(f"{message} ({type(error).__name__})"))
             raise
-        finally:  # nothing is called before the turn is given back: no signal comes in between
+        finally:  # nothing is called before the turn is released, so no signal can come in between
             session.running = None
             if self.holds and session.current is self:
                 session.current = None
@@ -291,8 +293,8 @@ class Transaction:
                 session.turn.release()
 
     def give_back_number(self) -> None:
-        """What a client joins with is a fence that is there: an attempt at one that was aborted has
-        left nothing, and the next one has its number: so nothing is said of what this one wrote."""
+        """Reuses the number of an aborted fence by which a client tried to join. The fence left
+        nothing in the store, and nothing is logged about it."""
         self.note_answer(Logged((), (), "aborted"), False)
         self.session.place.begun = self.number
 
@@ -325,7 +327,7 @@ class Transaction:
         if self.holds:
             keys = (*writes, *(key for key in tried_writes if key in self.written))
             values += tuple(("wrote", key, brief(self.written.get(key))) for key in keys)
-        if not (reads or tried_reads):  # it isn't known, or doesn't matter, what was read
+        if not (reads or tried_reads):  # what was read is unknown or doesn't matter
             values = tuple(value for value in values if value[0] == "wrote")
         more = (statements, values, self.began, self.caller)
         tried = (tried_reads, tried_writes)
@@ -334,14 +336,14 @@ class Transaction:
         return redacted(logged) if self.session.redacts else logged
 
     def undone(self) -> Tuple[List[Read], List[str]]:
-        """What this has read, and what it wrote under its name, where it was aborted. What was only
-        to be written at the commit, and never went to the store, isn't among it."""
+        """What an aborted transaction has read, and what it wrote under its name. Writes that were
+        still to be sent at the commit don't count."""
         id = StoreId((self.session.number or 0, self.number))
         return undone(id, self.reads, self.tried, FENCE)
 
 
 def is_dropped_if_unknown(key: str) -> bool:
-    """Of which it isn't known whether it was written. Nothing is known of a fence without its read:
-    who reads from it waits for it then. And if a flag isn't there nothing says where it stands, so
-    that no fence would be settled."""
+    """Whether a write of this key is left out if its outcome is unknown. A fence is worthless
+    without its read; whoever reads from it then waits for it. A flag that may not exist would leave
+    its place open, and no fence would ever be settled."""
     return key == FENCE or key.startswith(FLAG)

@@ -1,6 +1,6 @@
-"""The stores that sessions run on, a module each, since each but `memory` and `sqlite` needs a
-driver: `postgres`, `mariadb`, `redis`. `Store`, which `zanteyard` exports, is what each store has;
-these four protocols are what a store may have besides."""
+"""The stores that sessions run on, one module each, since all except `memory` and `sqlite` need a
+driver: `postgres`, `mariadb`, `redis`. Every store has the methods of `Store`, which `zanteyard`
+exports. The protocols here are optional parts of a store."""
 
 from ..core._stores import BoundedStore, BulkStore, ObservedStore, TracedStore
 

@@ -1,4 +1,4 @@
-"""Time limits of MariaDB's statements and answers."""
+"""Time limits for MariaDB's statements and answers."""
 
 from __future__ import annotations
 
@@ -10,7 +10,7 @@ import pymysql
 
 
 def limited(seconds: float) -> str:
-    """What a statement is sent behind, which the server then ends."""
+    """A prefix with which the server ends a statement after this many seconds."""
     return (
         f"SET STATEMENT max_statement_time = {max(0.001, seconds):.3f}, "
         f"innodb_lock_wait_timeout = {max(1, math.ceil(seconds))} FOR "
@@ -18,7 +18,8 @@ def limited(seconds: float) -> str:
 
 
 def limit(connection: Any, ends: float) -> None:
-    """No answer is waited for longer than until then, and than the application says."""
+    """Sets the connection's read timeout: no answer is awaited past `ends`, or longer than the
+    application allows."""
     usual, seconds = connection._read_timeout, max(0.001, ends - time.monotonic())
     connection._read_timeout = seconds if usual is None else min(usual, seconds)
 
@@ -27,4 +28,4 @@ def close_connection(connection: Any) -> None:
     try:
         connection.close()
     except (AttributeError, pymysql.MySQLError):
-        pass  # it was closed, or none has come
+        pass  # it was closed, or never opened

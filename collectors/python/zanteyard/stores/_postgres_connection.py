@@ -1,4 +1,4 @@
-"""Connections to PostgreSQL, and answers of it, that nobody waits for longer than was said."""
+"""Connections to PostgreSQL and its answers, each with a time limit."""
 
 from __future__ import annotations
 
@@ -14,20 +14,20 @@ from psycopg2 import extensions
 
 from ..core import _timeouts as timeouts
 
-LEAST = 2  # seconds: what libpq makes of a shorter connect_timeout
-# What libpq takes from the environment where a dsn doesn't say it.
+LEAST = 2  # seconds: libpq raises a shorter connect_timeout to this
+# The environment variables that libpq reads for what a DSN doesn't say.
 WORDS = {
     **{"PGHOST": "host", "PGHOSTADDR": "hostaddr", "PGPORT": "port", "PGDATABASE": "dbname"},
     **{"PGUSER": "user", "PGPASSWORD": "password", "PGPASSFILE": "passfile"},
     **{"PGOPTIONS": "options", "PGTARGETSESSIONATTRS": "target_session_attrs"},
     **{"PGSERVICE": "service", "PGSERVICEFILE": "servicefile"},
 }
-PLAIN = {"target_session_attrs": "any"}  # in place of an empty one, which libpq refuses
+PLAIN = {"target_session_attrs": "any"}  # in place of an empty value, which libpq refuses
 
 
 def connected(dsn: str, seconds: float, first: Callable[[Any], Any] = bool) -> Any:
-    """A connection, with which this was done first. Raises psycopg2's errors, OperationalError
-    after so many seconds."""
+    """A connection on which `first` has been called. Raises psycopg2's errors, and OperationalError
+    after this many seconds."""
     more: Dict[str, Any] = {}
     if "connect_timeout" not in extensions.parse_dsn(dsn):
         more["connect_timeout"] = max(LEAST, math.ceil(seconds))
@@ -45,8 +45,8 @@ def connected(dsn: str, seconds: float, first: Callable[[Any], Any] = bool) -> A
 
 
 def to_its_server(dsn: str, connection: Any) -> str:
-    """What leads to the server that this connection has, where the dsn, or a name in it, leads to
-    several: another one may be a standby, or know nothing of what was done here."""
+    """A DSN for exactly the server of this connection, if the given DSN, or a host name in it,
+    leads to several. Another server may be a standby, or know nothing of what was done here."""
     info = connection.info
     if not info.host:
         return dsn
@@ -58,7 +58,7 @@ def to_its_server(dsn: str, connection: Any) -> str:
 
 
 def address_of(connection: Any) -> Optional[str]:
-    """Where its server is; None of one that is reached by a path."""
+    """The server's IP address; None if it is reached by a socket path."""
     try:
         with socket.socket(fileno=os.dup(connection.fileno())) as same:
             is_by_path = same.family == socket.AF_UNIX
@@ -79,8 +79,9 @@ def answer(
     seconds: float,
     its: Optional[Tuple[str, str]] = None,
 ) -> Optional[Sequence[Any]]:
-    """The first row that the statement gives, over a connection of its own. Raises as `connected`,
-    also where the first statement of `its` gives another word than the second."""
+    """The statement's first row, over a connection of its own. Raises what `connected` raises. If
+    `its` is given, OperationalError is raised unless its first text, as a statement, returns its
+    second."""
     ends = time.monotonic() + seconds
     row: Optional[Sequence[Any]] = within(seconds, lambda: first_row(dsn, text, values, ends, its))
     return row
@@ -89,11 +90,11 @@ def answer(
 def outcome_told(
     dsn: str, text: str, values: Sequence[Any], seconds: float, which: Optional[str] = None
 ) -> str:
-    """"committed", "aborted" or "unknown", of a transaction of whose number the statement gives the
-    status, whether what it wrote is there, and which server and table say so: others than `which`,
-    if that is known, know nothing of it. The number alone doesn't say it: a server that has crashed
-    gives that of one that was lost to another one. It is asked over a connection of its own, since
-    the one at hand may be broken."""
+    """"committed", "aborted" or "unknown". The statement returns the status of the transaction's
+    number, whether its write exists, and which server and table answer. If that isn't `which`, if
+    given, the answer means nothing. The number alone isn't enough: after a crash a server may give
+    the number of a lost transaction to another one. Uses a connection of its own, since the current
+    one may be broken."""
     try:
         row = answer(dsn, text, values, seconds)
     except psycopg2.Error:
@@ -134,7 +135,7 @@ def row_of(
 
 
 def wait(connection: Any, ends: float) -> None:
-    """Until what an asynchronous connection does is done."""
+    """Waits until an asynchronous connection has finished its work."""
     while True:
         state = connection.poll()
         if state == extensions.POLL_OK:
@@ -147,7 +148,7 @@ def wait(connection: Any, ends: float) -> None:
 
 
 def within(seconds: float, call: Callable[[], Any], drop: Callable[[Any], object] = bool) -> Any:
-    """As `timeouts.within`, with psycopg2's error in place of LateError."""
+    """As `timeouts.within`, but raises psycopg2's OperationalError."""
     try:
         return timeouts.within(seconds, call, drop)
     except timeouts.LateError as error:
@@ -159,11 +160,11 @@ def environment() -> Dict[str, str]:
 
 
 def reached(dsn: Dict[str, str], around: Dict[str, str]) -> Optional[Dict[str, str]]:
-    """What leads from here to where it led a client with these words around it, whatever is around
-    this process; None where nothing does."""
+    """The words that lead from this process to the server that a client reached with this DSN in
+    the environment `around`; None if there are none."""
     here = environment()
     if any("service" in words for words in (dsn, around, here)):
-        return dsn if here == around else None  # what a service says is known to libpq alone
-    # An empty word is as good as none, and libpq then doesn't look around for it.
+        return dsn if here == around else None  # only libpq knows what a service says
+    # libpq treats an empty word as absent, and doesn't look for it in the environment.
     merged = {**{word: PLAIN.get(word, "") for word in here}, **around, **dsn}
     return {word: said for word, said in merged.items() if word != "servicefile"}

@@ -1,5 +1,5 @@
-"""What became of a PostgreSQL transaction whose client was killed, as another process finds it
-out."""
+"""Finds out from another process what became of a PostgreSQL transaction whose client was
+killed."""
 
 from __future__ import annotations
 
@@ -15,9 +15,9 @@ from ._postgres_connection import answer, reached
 from .postgres import AGE, FIRST, LIVES, OVERWRITE, TRANSACTION, WHICH, XACT_STATUS
 from .postgres import literal, which_of, with_table
 
-# A pooled connection may be another client's by now: the transaction, or the statement of the
-# collector's own, has to be the killed process's. Where that very statement is what it ran last,
-# and it is idle, it is done with it; what it ran before may have the same key.
+# A pooled connection may be used by another client now, so the transaction, or the collector's own
+# statement, has to be identified as the killed process's. If the connection is idle and that very
+# statement was its last, it has finished. A statement before that may have the same key.
 CHANGES = OVERWRITE[OVERWRITE.index("run = ") : OVERWRITE.index(" AS before")]
 MAKES = FIRST[: FIRST.index(TRANSACTION)].rstrip()
 RUNS_STILL = f"""SELECT state = 'idle', position(%s IN query) > 0, position(%s IN query) > 0
@@ -34,7 +34,8 @@ END_IT = f"""SELECT pg_terminate_backend(pid) FROM pg_stat_activity WHERE pid = 
 
 
 def statements_of(table: str, key: str, run: str, session: int, number: int) -> Tuple[str, str]:
-    """Of an `exchange` of the collector's own, what tells each of its two from all others."""
+    """The two statements of the collector's `exchange` with this key and name, in a form that no
+    other statement contains."""
     key, run = literal(key), literal(run)
     changes, makes = CHANGES.format(table=table), MAKES.format(table=table)
     return changes % (run, session, number, key), makes % (key, "''", run, session, number)
@@ -49,10 +50,10 @@ def asked(
     seconds: float,
     ends_it: bool = True,
 ) -> CommitStatus:
-    """What became of the transaction of a store whose process is killed. What its server's process
-    is still about is waited for, for half of the time; then, where it `ends_it`, that process is
-    ended. Its words may lead to another server, as from another machine, or where they name
-    several: that one knows nothing of it."""
+    """The outcome of a transaction whose client process was killed. If the client's server process
+    is still working on it, this waits for half of the time, and then, if `ends_it`, ends that
+    process. If the words lead to another server, for example from another machine, or because they
+    name several, the outcome is unknown."""
     transaction_id, pid, since, life, key, run, session, number = ticket
     words, which = reached(dsn, around), which_of(life)
     if words is None or which is None:
@@ -67,15 +68,15 @@ def asked(
         seen = asks.seen_last(pid, since, statements, seconds) if since is not None else None
         if seen is None:
             return UNKNOWN
-        if "\n" in run:  # a name of more lines than one isn't found among them
+        if "\n" in run:  # a name of several lines can't be found in its row
             return UNKNOWN
         row = asks.row(THE_ROW, (*row_name[1:], key))
         if row is not None and row[0]:
             return "committed", overwritten(row[1])[:1]
-        if row is not None and not key.startswith(FLAG):  # others write it, too, as who joins does
+        if row is not None and not key.startswith(FLAG):  # others write it, too, when joining
             behind = from_name(overwritten(row[1]), (run, session, number))
             return ("committed", behind[1:2] or None) if behind else UNKNOWN
-        # Where there was no row an `exchange` goes on with another statement.
+        # If there was no row, an `exchange` continues with a second statement.
         is_done = seen == "gone" or (seen == "changes" and row is not None)
         return ("aborted", None) if is_done else UNKNOWN
     status, now = asks.status(transaction_id, pid, since, seconds)
@@ -87,7 +88,8 @@ def asked(
 
 
 def overwritten(value: Optional[str]) -> Sequence[Name]:
-    """The names that a row of the collector's own keeps, the last first, as far as they are any."""
+    """The names that a row of the collector's own keeps, the latest first, up to the first line
+    that is none."""
     names: List[Name] = []
     for line in (value or "").split("\n"):
         parts = line.split(" ", 2)
@@ -98,15 +100,15 @@ def overwritten(value: Optional[str]) -> Sequence[Name]:
 
 
 def from_name(names: Sequence[Name], name: Name) -> Sequence[Name]:
-    """This name, and those that are behind it; none where it isn't among them."""
+    """This name and the ones after it; empty if it isn't among them."""
     return names[names.index(name) :] if name in names else ()
 
 
 class Asks:
-    """Until then, by the monotonic clock; raises psycopg2's errors, also where another server
-    answers than this one, or another database."""
+    """Queries until the time `ends` of the monotonic clock. Raises psycopg2's errors, also if
+    another server or database answers."""
 
-    ends_it = True  # what isn't over by half of the time
+    ends_it = True  # ends what isn't over after half of the time
 
     def __init__(self, dsn: str, table: str, ends: float, which: str) -> None:
         self.dsn, self.table, self.ends, self.which = dsn, table, ends, which
@@ -121,7 +123,7 @@ class Asks:
     def again(
         self, seconds: float, pid: Any, since: Any, transaction_id: Any, statements: Sequence[str]
     ) -> bool:
-        """Whether there is time to ask again, in a while."""
+        """Whether there is time to ask again, after a pause."""
         left = self.ends - time.monotonic()
         if left < seconds / 2 and since is not None and self.ends_it:
             is_alone = transaction_id is None
@@ -130,7 +132,7 @@ class Asks:
         return left > 0
 
     def status(self, transaction_id: Any, pid: Any, since: Any, seconds: float) -> Any:
-        """Of the transaction, and the server's life as it was asked."""
+        """The transaction's status, and the server's life when it was asked."""
         while True:
             status, life = self.row(WHAT_BECAME, (transaction_id,))
             if status != "in progress":
@@ -141,8 +143,8 @@ class Asks:
     def seen_last(
         self, pid: Any, since: Any, statements: Sequence[str], seconds: float
     ) -> Optional[str]:
-        """Which of the killed process's two statements its server's process has done and does no
-        more: "changes" or "makes"; "gone" where there is no such process any more; or None."""
+        """Which of its two statements the killed client's server process has finished: "changes" or
+        "makes"; "gone" if the process no longer exists; None if unknown."""
         while True:
             row = self.row(RUNS_STILL, (*statements, pid, since))
             if row is None:

@@ -1,4 +1,4 @@
-"""The isolation levels of each store: by the command's word for a level its name in full, the
+"""The isolation levels of each store: each level's name on the command line and its full name, the
 strictest first."""
 
 from __future__ import annotations
@@ -6,11 +6,11 @@ from __future__ import annotations
 from typing import Mapping
 
 SNAPSHOT = "snapshot isolation"  # MariaDB's repeatable read with innodb_snapshot_isolation
-# What Redis watches: each key, before it is read; or a key that is written, which is then compared
-# with what was read before; or nothing. And in "single commands" each write is done at once.
+# What Redis watches: each key, before it is read; or each written key, which is then compared with
+# what was read before; or nothing. With "single commands" each write takes effect at once.
 WATCHED, COMPARED, UNWATCHED, SINGLE = "watched", "compared", "unwatched", "single commands"
-# SQLite's "read uncommitted" is of connections that share a cache, which those of one process do;
-# and in "autocommit" each statement is a transaction by itself, as where an application begins
+# SQLite's "read uncommitted" applies to connections that share a cache, as those of one process do
+# here. With "autocommit" each statement is its own transaction, as in an application that begins
 # none.
 DEFERRED, IMMEDIATE = "deferred", "immediate"
 UNCOMMITTED, AUTOCOMMIT = "read uncommitted", "autocommit"
@@ -44,7 +44,7 @@ LEVELS: Mapping[str, Mapping[str, str]] = {
 
 
 def checked_level(store: str, level: str) -> str:
-    """The level's name in full, where this store has it; raises ValueError where it doesn't."""
+    """The level's full name, if this store has it. Raises ValueError otherwise."""
     levels = LEVELS[store].values()
     if level not in levels:
         raise ValueError(f"{level} isn't one of {', '.join(levels)}")

@@ -1,11 +1,11 @@
-"""A table of MariaDB as a store. Each row has its writer's name beside the value; the value NULL
+"""A table of MariaDB as a store. Each row has its writer's name next to the value; the value NULL
 marks a deleted key.
 
-MariaDB has no number of a transaction that could be asked for. So each store has a row of its own,
-which it writes in each transaction that writes, by the same statement as the first other row: with
-the transaction's count, it says what was committed last. Who asks for an outcome that isn't known
-writes the same count there, as that of an attempt that was aborted: whichever of the two comes
-first keeps the other out (`DECIDE`), so that what was asked for is decided for good.
+MariaDB can't be asked about a transaction by a number. So each store has a row of its own, which
+every transaction that writes updates in the statement of its first write. With the transaction's
+count, this row says what was committed last. To find out an unknown outcome, the same count is
+written there as that of an aborted attempt. Whichever of the two writes comes first prevents the
+other (`DECIDE`), so the answer is final.
 """
 
 from __future__ import annotations
@@ -28,13 +28,13 @@ from ..core.errors import AbortedError, NameTakenError, OutcomeUnknownError
 from ._mariadb_connection import close_connection, limit, limited
 from .levels import SNAPSHOT, checked_level
 
-# Keys are compared byte by byte: most collations take "x", "X" and "x " for one.
+# Keys are compared byte by byte. Most collations treat "x", "X" and "x " as equal.
 TABLE = """CREATE TABLE IF NOT EXISTS {table} (
     `key` varchar(512) PRIMARY KEY, value longtext,
     run varchar(255) NOT NULL, session int NOT NULL, number bigint NOT NULL,
     before_value longtext, before_run varchar(255), before_session int, before_number bigint)
     ENGINE = InnoDB CHARACTER SET utf8mb4 COLLATE utf8mb4_nopad_bin"""
-# Without a strict mode what is too long is cut off, and two keys may become one.
+# Without strict mode, long texts are cut off, and two keys may become one.
 SET_UP = (
     "SET SESSION sql_mode = 'STRICT_ALL_TABLES,NO_ENGINE_SUBSTITUTION', completion_type = NO_CHAIN"
 )
@@ -45,11 +45,11 @@ READ = "SELECT value, run, session, number FROM {table} WHERE `key` = %s"
 READ_ALL = "SELECT `key`, value, run, session, number FROM {table} WHERE `key` IN %s"
 LOCKING = " LOCK IN SHARE MODE"
 FOR_UPDATE = " FOR UPDATE"
-OWN = -2  # in place of a session, in the row that tells a store's outcomes
+OWN = -2  # in place of a session, in the row with a store's outcomes
 INSERT = "INSERT INTO {table} (`key`, value, run, session, number) VALUES "
 ROW = "(%s, %s, %s, %s, %s)"
-# A count that isn't greater than the one that is there fails: the column is NOT NULL. Assignments
-# are made from left to right, so that what is compared, or kept, is what was there before.
+# A count that isn't greater than the current one fails, because the column is NOT NULL. Assignments
+# run from left to right, so the values that are compared or kept are the old ones.
 UPDATE = f"""ON DUPLICATE KEY UPDATE {{before}}
     number = IF(VALUES(session) = {OWN} AND number >= VALUES(number), NULL, VALUES(number)),
     value = VALUES(value), run = VALUES(run), session = VALUES(session)"""
@@ -60,36 +60,36 @@ DECIDE = f"""{INSERT} {ROW} ON DUPLICATE KEY UPDATE
     value = IF(number < VALUES(number), VALUES(value), value),
     number = GREATEST(number, VALUES(number)) RETURNING value, number"""
 CLAIM = f"{INSERT} {ROW} ON DUPLICATE KEY UPDATE value = value RETURNING value"
-# A table that was copied, as into another server, was made at another time. `server_uid` says
-# nothing: it is that of a port and a network card.
+# A copied table, for example in another server, has another creation time. `server_uid` is no help:
+# it depends only on a port and a network card.
 WHICH = """SELECT DATABASE(), @@lower_case_table_names, (SELECT UNIX_TIMESTAMP(create_time)
     FROM information_schema.tables WHERE table_schema = IFNULL(%s, DATABASE()) AND table_name = %s),
     (SELECT value FROM {table} WHERE `key` = %s)"""
-# The error's number of what ends a transaction, and tells that nothing of it was committed: a lock
-# that was waited for too long (1205: MariaDB rolls back the statement alone, and this store the
-# transaction), a deadlock, and a row that has changed since the snapshot.
+# The error numbers that end a transaction and say that nothing of it was committed: a lock wait
+# timeout (1205: MariaDB rolls back only the statement, and this store the transaction), a deadlock,
+# and a row that has changed since the snapshot.
 CONFLICTS = (1205, 1213, 1020)
-TIME_IS_UP = 1969  # of max_statement_time
-CLIENT_ERRORS = range(2000, 3000)  # which no server has told
+TIME_IS_UP = 1969  # by max_statement_time
+CLIENT_ERRORS = range(2000, 3000)  # which don't come from a server
 PATIENCE = 5.0  # seconds for a connection, and for an outcome
-SHARE = 0.8  # what the server has of the time after which its answer isn't waited for
-RUN = "zanteyard run "  # before a run's name: the key of the row that says whose it is
-LAST = "zanteyard last "  # before a store's token: the key of the row that tells its outcomes
-STORE = "zanteyard store"  # the key of the row that tells this table from others
+SHARE = 0.8  # the server's part of the time limit of an answer
+RUN = "zanteyard run "  # before a run's name: the key of the row with its owner
+LAST = "zanteyard last "  # before a store's token: the key of the row with its outcomes
+STORE = "zanteyard store"  # the key of the row that identifies this table
 NO_TABLE = 1146
-BARRED = (1044, 1045, 1142, 1143, 1290)  # no such right, or nothing may be written at all
-WRITING = 1.0  # seconds for that row, where it isn't there
+BARRED = (1044, 1045, 1142, 1143, 1290)  # no permission, or a read-only server
+WRITING = 1.0  # seconds for writing that row, if it doesn't exist
 logger = logging.getLogger("zanteyard")
 
 
 def quoted(table: str) -> str:
-    """The table's name, or "database.table", as statements have it."""
+    """The name of the table, or "database.table", as statements have it."""
     parts = ["`" + part.replace("`", "``") + "`" for part in table.split(".", 1)]
     return ".".join(parts).replace("%", "%%")
 
 
 def prepare(dsn: Mapping[str, Any], table: str = "zanteyard") -> None:
-    """Makes the table, where it isn't there."""
+    """Creates the table, if it doesn't exist."""
     connection = pymysql.connect(**{**dsn, "autocommit": True})
     try:
         cursor, name = connection.cursor(), quoted(table)
@@ -100,12 +100,12 @@ def prepare(dsn: Mapping[str, Any], table: str = "zanteyard") -> None:
 
 
 def store_row() -> Sequence[Any]:
-    """By which a table is told from others, once it is there."""
+    """A row that identifies a table, once it exists."""
     return (STORE, secrets.token_hex(8), "", -1, 0)
 
 
 def named(table: str) -> Sequence[Optional[str]]:
-    """The database's name, None where there is none, and the table's, of what `quoted` gives."""
+    """The names of the database, or None, and of the table, from what `quoted` returned."""
     parts = [part.replace("``", "`") for part in table.replace("%%", "%")[1:-1].split("`.`", 1)]
     return (parts[0], parts[1]) if len(parts) > 1 else (None, parts[0])
 
@@ -116,16 +116,15 @@ def close_opened(late: Any) -> None:
 
 
 def code_of(error: BaseException) -> int:
-    """The error's number; 0 where it has none."""
+    """The error's number; 0 if it has none."""
     return error.args[0] if error.args and isinstance(error.args[0], int) else 0
 
 
 class MariaDBStore:
-    """One connection, for one thread at a time. `dsn` is what `pymysql.connect` takes, `level` one
-    of MariaDB's in `levels.py`, and `table` may be "database.table". A connection is waited for no
-    longer than `patience` seconds, and a lock no longer than `lock_wait`, whole seconds; where none
-    are given, as long as the server says. Where it is `for_update` all reads are SELECT .. FOR
-    UPDATE."""
+    """One connection, for one thread at a time. `dsn` has the arguments of `pymysql.connect`,
+    `level` is one of MariaDB's in `levels.py`, and `table` may be "database.table". A connection
+    may take `patience` seconds. A lock may take `lock_wait` whole seconds, by default as long as
+    the server's setting says. With `for_update`, all reads are SELECT .. FOR UPDATE."""
 
     errors = (pymysql.MySQLError, LateError)
 
@@ -142,22 +141,22 @@ class MariaDBStore:
         self.dsn, self.level, self.table, self.patience = dict(dsn), level, quoted(table), patience
         self.lock_wait, self.locks = lock_wait, FOR_UPDATE if for_update else ""
         self.connection: Any = None
-        self.statement: Optional[str] = None  # what was run last, as the server got it
+        self.statement: Optional[str] = None  # the last statement, as the server got it
         self.own, self.count = f"{LAST}{secrets.token_hex(8)}", 0
-        self.before = ""  # what a statement that is a transaction is sent behind
+        self.before = ""  # prefix of a statement that is a transaction by itself
         self.is_alone = self.is_hung_up = False
-        self.ends = math.inf  # when a statement by itself isn't waited for any more
-        self.usual: Optional[float] = None  # how long the application waits for an answer
-        self._identity: Optional[StoreIdentity] = None  # of what the connection leads to
-        self.known: Optional[str] = None  # of that
-        # Of the transaction: whether it has written, can't be committed any more, and was ended
-        # between two of its writes by something else than this store.
+        self.ends = math.inf  # time limit of a statement by itself
+        self.usual: Optional[float] = None  # the application's own time limit for answers
+        self._identity: Optional[StoreIdentity] = None  # of the table that the connection leads to
+        self.known: Optional[str] = None  # its `known` text
+        # Whether the transaction has written, can't be committed any more, and was ended between
+        # two of its writes by something other than this store.
         self.has_written = self.has_failed = self.is_torn = False
 
     # the connection
 
     def connect(self, seconds: Optional[float] = None) -> None:
-        """Opens the connection, and raises pymysql's errors where it can't."""
+        """Opens the connection. Raises pymysql's errors."""
         self.is_hung_up = False
         waits = self.patience if seconds is None else seconds
         try:
@@ -169,8 +168,8 @@ class MariaDBStore:
         self.usual = self.connection._read_timeout
 
     def identity(self) -> Optional[StoreIdentity]:
-        """By a row of its own that is written once, and when the table was made. None where that
-        may not be written or read."""
+        """From a row that is written once, and the table's creation time. None without permission
+        to write or read them."""
         if self.is_hung_up:
             self.close()
         if not self.is_connected:
@@ -178,7 +177,7 @@ class MariaDBStore:
         return self._identity
 
     def opened(self, seconds: float) -> Tuple[Any, Optional[StoreIdentity]]:
-        """A connection, and what it leads to."""
+        """A connection, and the identity of what it leads to."""
         connection = self.connected(seconds)
         try:
             return connection, self.identity_at(connection)
@@ -225,11 +224,11 @@ class MariaDBStore:
 
     @property
     def is_in_transaction(self) -> bool:
-        """As the server said with its last answer."""
+        """As of the server's last answer."""
         return bool(self.connection.server_status & SERVER_STATUS.SERVER_STATUS_IN_TRANS)
 
     def is_broken(self, error: BaseException) -> bool:
-        """Whether nothing more comes over this connection."""
+        """Whether this connection can't be used any more."""
         return self.is_broken_at(self.connection, error)
 
     @staticmethod
@@ -238,7 +237,8 @@ class MariaDBStore:
         return lost or connection is None or not connection.open
 
     def send(self, text: str, values: Sequence[Any] = ()) -> Any:
-        """All that is sent to the server goes through here: one call is one way there and back."""
+        """Sends a statement; every statement of a transaction passes through here. Each call is one
+        round trip."""
         cursor = self.connection.cursor()
         query = cursor.mogrify(text, values)
         cursor.execute(query)
@@ -259,7 +259,8 @@ class MariaDBStore:
         return cursor
 
     def sent_in_time(self, text: str, values: Sequence[Any]) -> Any:
-        """The server ends no statement that waits at its own commit, as for a backup."""
+        """Sends a statement with a time limit of its own: the server's doesn't apply to a statement
+        that waits at its commit, for example for a backup."""
         if not self.is_alone:
             return self.send(text, values)
         limit(self.connection, self.ends)
@@ -276,7 +277,8 @@ class MariaDBStore:
             raise AbortedError(message) from error
 
     def still_open(self) -> None:
-        """A statement of a transaction that the server has ended would be one by itself."""
+        """Raises an error if the server has ended the transaction. A further statement would be a
+        transaction by itself."""
         if self.has_failed:
             raise AbortedError("the transaction had failed before")
         if self.is_connected and not self.is_in_transaction:
@@ -299,12 +301,12 @@ class MariaDBStore:
         except pymysql.MySQLError as error:
             if not self.is_broken(error) or self.is_hung_up:
                 raise
-            self.close()  # it was idle for too long: nothing has begun
+            self.close()  # it had been idle for too long, so nothing has begun
             self.connect(seconds)
             self.send("START TRANSACTION")
 
     def get_ready(self, seconds: Optional[float] = None) -> None:
-        """Whatever comes is a transaction of its own."""
+        """Prepares a new transaction."""
         if self.is_hung_up:
             self.close()
         if not self.is_connected:
@@ -313,10 +315,9 @@ class MariaDBStore:
         self.has_written = self.has_failed = self.is_torn = False
 
     def begin_alone(self, seconds: float) -> None:
-        """Instead of `begin`, where what follows are statements that need no other one: each is a
-        transaction by itself, isn't waited for any longer than so many seconds, and holds no lock
-        behind it. What it reads it locks, at every level: it is what was committed, and of one
-        moment."""
+        """Replaces `begin` for statements that are transactions by themselves. Each ends within
+        this many seconds and holds no lock afterwards. Reads lock what they read, at every level:
+        they return committed values of one moment."""
         self.ends = time.monotonic() + seconds
         self.get_ready(min(seconds, self.patience))
         self.is_alone = True
@@ -337,20 +338,20 @@ class MariaDBStore:
         self.put(key, value, name, "", "")
 
     def exchange(self, key: str, value: Any, name: Name) -> Optional[StoredValue]:
-        """By one statement, which locks the row before it reads: what is given is what is
-        overwritten, whatever snapshot the transaction has."""
+        """Reads and writes in one statement, which locks the row first. So it returns the version
+        that it overwrites, whatever the transaction's snapshot."""
         rows = self.put(key, value, name, KEEPING, BEFORE).fetchall()
         (row,) = [row[1:] for row in rows if row[0] == key]
         return None if row[1] is None else (row[0], row[1:])
 
     def put(self, key: str, value: Any, name: Name, before: str, behind: str) -> Any:
-        """With the store's own row behind it, where it is the transaction's first."""
+        """Writes a row, and in the transaction's first write also the store's own row."""
         own = () if self.has_written else (self.own, "committed", name[0], OWN, self.count)
         rows = f"{ROW}, {ROW}" if own else ROW
         text = f"{INSERT}{rows} {UPDATE.replace('{before}', before)} {behind}"
         done = self.ask(text, (key, value, *name, *own))
         self.has_written = True
-        if own and self.statement is not None:  # who is told of a violation needn't see this row
+        if own and self.statement is not None:  # a violation needn't show the store's own row
             self.statement = self.statement.replace(f", {done.mogrify(ROW, own)}", "")
         return done
 
@@ -374,7 +375,8 @@ class MariaDBStore:
         self.send("COMMIT")
 
     def rollback(self) -> None:
-        """Where the server can't be told, the connection is closed: then it finds out by itself."""
+        """Rolls back. If the server can't be told, the connection is closed, which has the same
+        effect."""
         self.has_failed = True
         if not self.is_connected or self.is_alone:
             return
@@ -384,13 +386,13 @@ class MariaDBStore:
             self.close()
 
     def close(self) -> None:
-        """Closes the connection; the next transaction opens another one. May be called twice."""
+        """Closes the connection; the next transaction opens a new one. May be called twice."""
         if self.is_connected:
             close_connection(self.connection)
 
     def hang_up(self) -> None:
-        """From any thread: what waits for the server raises OutcomeUnknownError at once, or
-        pymysql's error, and the next transaction opens another connection."""
+        """Makes a call that is waiting for the server raise OutcomeUnknownError or pymysql's error
+        at once. The next transaction opens a new connection. May be called from any thread."""
         connection, self.is_hung_up = self.connection, True
         try:
             connection._sock.shutdown(socket.SHUT_RDWR)
@@ -401,8 +403,8 @@ class MariaDBStore:
         return self.outcome_within(self.patience)
 
     def outcome_within(self, seconds: float) -> str:
-        """By a connection of its own, since the one at hand may be broken. It waits for a
-        transaction that is still open, and then it is decided."""
+        """Asks over a connection of its own, since the current one may be broken. Waits for a
+        transaction that is still open; after that the outcome is final."""
         if self.is_torn:
             return "unknown"
         count = self.count
@@ -413,12 +415,13 @@ class MariaDBStore:
         return str(value) if decided == count else "unknown"
 
     def decided(self, count: int, seconds: float) -> Tuple[str, int]:
-        """What the store's own row says, with "aborted" in it where nothing was there yet."""
+        """The value and count in the store's own row, into which it writes "aborted" unless the row
+        is already there."""
         connection = self.connected(seconds)
         try:
-            limit(connection, time.monotonic() + seconds)  # else this might go on for ever
+            limit(connection, time.monotonic() + seconds)  # without this, it might take forever
             if self.known is not None and known_of(self.identity_at(connection)) != self.known:
-                return "unknown", count  # another table has the name, and knows nothing of it
+                return "unknown", count  # another table has the name now
             cursor = connection.cursor()
             row = (self.own, "aborted", "", OWN, count)
             cursor.execute(limited(seconds) + DECIDE.format(table=self.table), row)
@@ -434,10 +437,10 @@ class MariaDBStore:
         return (self.count, self.is_alone, self.known, *written)
 
     def claim(self, run_name: str, token: str, seconds: float) -> None:
-        """Makes the name that of one run, or raises NameTakenError where it is another's;
-        OutcomeUnknownError or AbortedError where the server hasn't answered after so many
+        """Reserves the name for one run. Raises NameTakenError if it belongs to another run, and
+        OutcomeUnknownError or AbortedError if the server doesn't answer within this many
         seconds."""
-        self.get_ready()  # what connects is waited for by the client, whose connection it is
+        self.get_ready()  # the client waits for the connection, which it needs anyway
         self.begin_alone(seconds)
         row = (RUN + run_name, token, run_name, -1, 0)
         (owner,) = self.ask(CLAIM, row).fetchone()
@@ -452,7 +455,7 @@ ITS_ROW = """SELECT before_run, before_session, before_number FROM {table} WHERE
 def asked(
     dsn: Dict[str, Any], table: str, own: str, *, ticket: Any, seconds: float
 ) -> CommitStatus:
-    """What became of the transaction of a store whose process is killed."""
+    """The outcome of a transaction whose client process was killed."""
     store = MariaDBStore(dsn, patience=seconds)
     store.table, store.own = table, own
     store.count, is_alone, store.known, *row_name = ticket

@@ -1,5 +1,5 @@
-"""A store in memory, whose faults can be switched on. Honest, it lets a transaction commit only
-where all that it read is still the newest."""
+"""A store in memory whose faults can be switched on. Without a fault, a transaction commits only if
+everything it read is still the newest version."""
 
 from __future__ import annotations
 
@@ -20,15 +20,16 @@ FAULTS = (
 
 
 class MemoryStore:
-    """What is shared by all connections: of each key its versions, oldest first, as (value, name,
-    moment). A commit takes up to so many seconds on its way, and as long on the way back."""
+    """The part that all connections share: for each key its versions, oldest first, as (value,
+    name, moment). A commit takes up to `takes` seconds on its way there, and up to `takes` on the
+    way back."""
 
     def __init__(self, fault: Optional[str] = None, takes: float = 0.0) -> None:
         assert fault is None or fault in FAULTS, fault
         self.takes = takes
         self.fault, self.moment, self.lock = fault, 0, threading.RLock()
         self.versions: Dict[str, List[Tuple[Any, Name, int]]] = {}
-        self.runs: Dict[str, str] = {}  # of each run's name, its token
+        self.runs: Dict[str, str] = {}  # for each run's name, its token
         token = secrets.token_hex(8)
         self.identity = StoreIdentity(f"memory {token}", f"the in-memory store {token}")
 
@@ -36,7 +37,7 @@ class MemoryStore:
         return Connection(self)
 
     def newest(self, key: str, moment: int) -> int:
-        """The index of the key's newest version of this moment, or -1."""
+        """The index of the key's newest version at this moment, or -1."""
         versions = self.versions.get(key, [])
         return max((i for i, version in enumerate(versions) if version[2] <= moment), default=-1)
 
@@ -51,7 +52,7 @@ class Connection:
 
     def begin(self) -> None:
         self.began, self.seen, self.writes = self.shared.moment, {}, {}
-        self.last_outcome = "aborted"  # so far nothing is there
+        self.last_outcome = "aborted"  # nothing is stored yet
 
     def read(self, key: str) -> Optional[StoredValue]:
         shared = self.shared
@@ -99,8 +100,8 @@ class Connection:
         self.writes = {}
 
     def end(self, outcome: str) -> None:
-        """`lost`, which tests set, has the commit take effect ("committed") or not ("aborted")
-        without an answer."""
+        """Ends the transaction. Tests set `lost` so that no answer arrives, whether the commit
+        takes effect ("committed") or not ("aborted")."""
         outcome, self.last_outcome = self.lost or outcome, "unknown"  # an interrupt may come
         if outcome == "committed" and self.shared.fault != "lost-write":
             self.install()

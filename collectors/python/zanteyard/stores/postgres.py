@@ -1,5 +1,5 @@
-"""A table of PostgreSQL as a store. Each row has its writer's name beside the value; the value NULL
-marks a deleted key."""
+"""A table of PostgreSQL as a store. Each row has its writer's name next to the value; the value
+NULL marks a deleted key."""
 
 from __future__ import annotations
 
@@ -24,19 +24,19 @@ TABLE = """CREATE TABLE IF NOT EXISTS {table} (
     run text NOT NULL, session int NOT NULL, number bigint NOT NULL)"""
 READ = "SELECT value, run, session, number FROM {table} WHERE key = %s"
 READ_ALL = "SELECT key, value, run, session, number FROM {table} WHERE key = ANY(%s)"
-TRANSACTION = "RETURNING pg_current_xact_id()::text"  # told by each write: no commit has to ask
+TRANSACTION = "RETURNING pg_current_xact_id()::text"  # of each write: no commit has to ask for it
 WRITE = f"""INSERT INTO {{table}} VALUES (%s, %s, %s, %s, %s) ON CONFLICT (key) DO UPDATE
     SET value = excluded.value, run = excluded.run, session = excluded.session,
     number = excluded.number
     {TRANSACTION}"""
-# The row is locked before it is read, so that what is given is what is overwritten: a plain
-# subselect would give what the statement's snapshot has, from before it waited for the lock.
+# Locks the row before reading it, so that it returns the version that it overwrites. A plain
+# subselect would return what the statement's snapshot has, from before it waited for the lock.
 OVERWRITE = f"""UPDATE {{table}} AS now SET value = {{value}}, run = %s, session = %s, number = %s
     FROM (SELECT * FROM {{table}} WHERE key = %s FOR UPDATE) AS before WHERE now.key = before.key
     {TRANSACTION}, before.value, before.run, before.session, before.number"""
-# Of the collector's own keys the value is the name that is overwritten, so that it isn't lost with
-# the answer; and behind it, a line each, those that were overwritten before, the last first: others
-# may have come, as to join, before anybody asks.
+# The value of the collector's own keys is the name that is overwritten, so that it survives a lost
+# answer. It is followed by the names overwritten before, one per line, the latest first: others may
+# have written the key, for example when joining, before anybody asks.
 LINES = 32
 KEPT = f"""concat_ws(chr(10), concat_ws(' ', before.session, before.number, before.run),
     array_to_string((string_to_array(nullif(before.value, ''), chr(10)))[1:{LINES - 1}],
@@ -45,9 +45,9 @@ FIRST = f"""INSERT INTO {{table}} VALUES (%s, %s, %s, %s, %s) ON CONFLICT (key) 
     {TRANSACTION}"""
 # A standby may not have heard of it yet.
 XACT_STATUS = "CASE WHEN pg_is_in_recovery() THEN NULL ELSE pg_xact_status(%s::text::xid8) END"
-# Which server, database and table these are, and on which timeline the server writes: another one,
-# or this one once a standby was put in its place, knows nothing of what was done here. A standby
-# tells no timeline.
+# Identifies the server, the database, the table, and the server's timeline. Another server, or this
+# one after a standby has replaced it, knows nothing of what was done here. A standby returns no
+# timeline.
 TABLE_OID = "{literal}::regclass::oid"
 DATABASE_OID = "(SELECT oid FROM pg_database WHERE datname = current_database())"
 SYSTEM = "(SELECT system_identifier FROM pg_control_system())"
@@ -59,14 +59,14 @@ STATUS = f"""SELECT {XACT_STATUS}, EXISTS (SELECT 1 FROM {{table}}
 CLAIM = """WITH mine AS (INSERT INTO {table} VALUES (%s, %s, %s, %s, %s)
     ON CONFLICT (key) DO NOTHING RETURNING value)
     SELECT value FROM mine UNION ALL SELECT value FROM {table} WHERE key = %s"""
-# The names of runs that claimed none, as earlier versions of this package had them: looked up once.
+# The names of runs that claimed none, as with earlier versions of this package: looked up once.
 CLAIM_ALL = """INSERT INTO {table} SELECT DISTINCT %s || run, '', run, -1, 0 FROM {table}
     WHERE session >= 0 ON CONFLICT (key) DO NOTHING"""
 READING = "SET TRANSACTION ISOLATION LEVEL SERIALIZABLE, READ ONLY; "
-# The server's process of a connection and since when it is, and what changes whenever the server
-# is started or has crashed, after which it may give a transaction's number to another one.
+# The connection's server process and when it started; and what changes whenever the server starts
+# or crashes, after which it may give a transaction's number to another one.
 AGE = "extract(epoch FROM backend_start)::text"
-OF = " of "  # behind what changes with each start: which server it is
+OF = " of "  # followed by the server's identity, after what changes with each start
 LIVES = f"""concat_ws(' ', extract(epoch FROM pg_postmaster_start_time()),
     (SELECT extract(epoch FROM stats_reset) FROM pg_stat_bgwriter)) || '{OF}' || {WHICH}"""
 LIFE = f"""SELECT pg_backend_pid(),
@@ -75,14 +75,14 @@ LIFE = f"""SELECT pg_backend_pid(),
 BARRED = (errors.InsufficientPrivilege, errors.UndefinedFunction, errors.FeatureNotSupported)
 CONFLICTS = (errors.SerializationFailure, errors.DeadlockDetected, errors.LockNotAvailable)
 PATIENCE = 5.0  # seconds for a connection, and for an outcome
-ATTEMPTS = 10  # at the first row of a key: each fails only where another client has just made it
-RUN = "zanteyard run "  # before a run's name: the key of the row that says whose it is
-RUNS = "zanteyard runs"  # the key of the row that says that each run's name has such a row
+ATTEMPTS = 10  # at a key's first row: an attempt fails only if another client has just created it
+RUN = "zanteyard run "  # before a run's name: the key of the row with its owner
+RUNS = "zanteyard runs"  # the key of a row that says that each run's name has such a row
 logger = logging.getLogger("zanteyard")
 
 
 def quoted(table: str) -> str:
-    """The table's name, or "schema.table", as statements have it."""
+    """The name of the table, or "schema.table", as statements have it."""
     parts = [
         part if re.fullmatch("[a-z_][a-z0-9_]*", part) else '"' + part.replace('"', '""') + '"'
         for part in table.split(".", 1)
@@ -91,31 +91,32 @@ def quoted(table: str) -> str:
 
 
 def literal(text: str) -> str:
-    """As the server got it. One with a backslash isn't found, so that nothing is taken for it."""
+    """The text as an SQL literal, as the server got it. One with a backslash won't be found, so
+    that nothing is mistaken for it."""
     return "'" + text.replace("'", "''") + "'"
 
 
 def with_table(text: str, table: str) -> str:
-    """The statement, about this table as `quoted` gives it."""
+    """The statement for this table, whose name is from `quoted`."""
     return text.format(table=table, literal=literal(table))
 
 
 def which_of(life: Optional[str]) -> Optional[str]:
-    """Which server, database and table a connection had of that life."""
+    """The server, database and table in the life of a connection."""
     return life.partition(OF)[2] if life is not None else None
 
 
-# Who makes the audit's tables waits for who does so: IF NOT EXISTS alone lets both begin, and one
-# of them fail. The number is of no meaning.
+# Lets one process at a time create the audit's tables: with IF NOT EXISTS alone two could begin,
+# and one of them fail. The number has no meaning.
 ONE_AT_A_TIME = "SELECT pg_catalog.pg_advisory_xact_lock(7161637279617264)"
 
 
 def prepare(dsn: str, table: str = "zanteyard") -> None:
-    """Makes the table, where it isn't there; one that is there and wasn't prepared before is read
+    """Creates the table, if it doesn't exist. A table that exists and was never prepared is read
     once, for the names of its runs."""
     connection = psycopg2.connect(dsn)
     try:
-        connection.set_session(isolation_level="READ COMMITTED")  # to see what was waited for
+        connection.set_session(isolation_level="READ COMMITTED")  # to see what it waited for
         with connection:
             cursor, name = connection.cursor(), quoted(table)
             cursor.execute(ONE_AT_A_TIME)
@@ -129,8 +130,7 @@ def prepare(dsn: str, table: str = "zanteyard") -> None:
 
 class PostgresStore:
     """One connection, for one thread at a time. `level` is "serializable", "repeatable read" or
-    "read committed"; `table` may be "schema.table". A connection is waited for no longer than
-    `patience` seconds."""
+    "read committed"; `table` may be "schema.table". A connection may take `patience` seconds."""
 
     errors = (psycopg2.Error,)
 
@@ -144,19 +144,19 @@ class PostgresStore:
         checked_level("postgres", level)
         self.dsn, self.level, self.table, self.patience = dsn, level, quoted(table), patience
         self.connection: Any = None
-        self._its_dsn = dsn  # of the server that the connection has, or had last
+        self._its_dsn = dsn  # for exactly the server of the current, or last, connection
         self.transaction_id: Optional[str] = None
-        self.written: Tuple[Any, ...] = ()  # the key that was written last, and the name beside it
-        self.statement: Optional[str] = None  # what was run last, as the server got it
-        self.before = ""  # what the transaction's first statement is sent behind
+        self.written: Tuple[Any, ...] = ()  # the last key written, and the name stored with it
+        self.statement: Optional[str] = None  # the last statement, as the server got it
+        self.before = ""  # prefix of the transaction's first statement
         self.is_alone = self.is_hung_up = False
-        # What another process has to know of this connection to ask what became of a commit: its
-        # server's process, and since when, and the server's life; and which table it leads to.
+        # What another process needs in order to find out about a commit on this connection: the
+        # server process, when that started, the server's life, and which table it is.
         self.life: Tuple[Any, ...] = (0, None, None)
         self._identity: Optional[StoreIdentity] = None
 
     def connect(self, seconds: Optional[float] = None) -> None:
-        """Opens the connection, and raises psycopg2's errors where it can't."""
+        """Opens the connection. Raises psycopg2's errors."""
         self.is_hung_up = False
         told: List[Any] = []
         waits = self.patience if seconds is None else seconds
@@ -165,8 +165,9 @@ class PostgresStore:
         self.life, self._identity = told[0]
 
     def told_by(self, connection: Any) -> Tuple[Tuple[Any, ...], Optional[StoreIdentity]]:
-        """What a connection leads to, before anything is done with it."""
-        connection.autocommit = True  # transactions are begun here, on the way of a statement
+        """The life and the identity of what a connection leads to, asked before anything else is
+        done with it."""
+        connection.autocommit = True  # transactions are begun here, together with a statement
         cursor = connection.cursor()
         try:
             cursor.execute(with_table(LIFE, self.table))
@@ -176,7 +177,7 @@ class PostgresStore:
             message = str(error).strip()
             logger.warning("can't identify this PostgreSQL: %s", message)
             unknown = None if isinstance(error, BARRED) else UNSURE
-            return (connection.info.backend_pid, None, None), unknown  # then less is found out
+            return (connection.info.backend_pid, None, None), unknown  # then less can be found out
         *life, known, database = cursor.fetchone()
         info = connection.info
         where = f"database {database} of the PostgreSQL at {info.host}:{info.port}"
@@ -184,8 +185,8 @@ class PostgresStore:
         return tuple(life), StoreIdentity(f"postgres {known}", shown)
 
     def identity(self) -> Optional[StoreIdentity]:
-        """By the numbers of the server, the database and the table, whatever address leads there. A
-        standby has those of its primary. None where the server doesn't tell them this role."""
+        """From the numbers of the server, the database and the table, whatever address leads there.
+        A standby has those of its primary. None if this role may not read them."""
         if self.is_hung_up:
             self.close()
         if self.connection is None or self.connection.closed:
@@ -193,7 +194,8 @@ class PostgresStore:
         return self._identity
 
     def send(self, text: str, values: Sequence[Any] = ()) -> Any:
-        """All that is sent to the server goes through here: one call is one way there and back."""
+        """Sends a statement; every statement of a transaction passes through here. Each call is one
+        round trip."""
         cursor = self.connection.cursor()
         cursor.execute(text, values)
         return cursor
@@ -223,18 +225,18 @@ class PostgresStore:
 
     @property
     def is_in_transaction(self) -> bool:
-        """Whether one is open that was given up, as where an interrupt came before a rollback was
-        sent: what follows would be done in that one."""
+        """Whether a transaction is still open that was given up, for example after an interrupt
+        before its rollback was sent. Further statements would become part of it."""
         connection = self.connection
         if connection is None or connection.closed:
             return False
         return bool(connection.get_transaction_status() != extensions.TRANSACTION_STATUS_IDLE)
 
     def begin_alone(self, seconds: float) -> None:
-        """Instead of `begin`, where what follows are statements that need no other one: each is a
-        transaction by itself, is done or not after so many seconds, and holds no lock behind it.
-        Where the level is serializable what they read is as well: a snapshot that isn't may show
-        what no order has. An `exchange` locks its one row, at whatever level it is run."""
+        """Replaces `begin` for statements that are transactions by themselves. Each ends within
+        this many seconds and holds no lock afterwards. At the level serializable their reads are
+        serializable, too, since another snapshot may show what no order has. An `exchange` locks
+        its one row, at any level."""
         self.begin(min(seconds, self.patience))
         self.is_alone = True
         self.before = f"SET LOCAL statement_timeout = {max(1, int(1000 * seconds))}; "
@@ -277,12 +279,12 @@ class PostgresStore:
             raise  # the server has answered: it is aborted
 
     def has_answered(self, error: BaseException) -> bool:
-        """Whether the server has refused the commit by this, so that nobody has to ask it."""
+        """Whether this error is the server's refusal of the commit, so that nobody has to ask."""
         if not isinstance(error, psycopg2.Error) or error.pgcode is None:
             return False
         cursor = getattr(error, "cursor", None)
         if cursor is None or cursor.connection is not self.connection or self.connection.closed:
-            return False  # it is about something else, or may have come behind the answer
+            return False  # it is about something else, or may have come after the answer
         return error.pgcode[:2] not in ("08", "57") and error.pgcode != "40003"
 
     def send_commit(self) -> None:
@@ -292,7 +294,8 @@ class PostgresStore:
             raise AbortedError("the transaction had failed before its commit")
 
     def rollback(self) -> None:
-        """Where the server can't be told, the connection is closed: then it finds out by itself."""
+        """Rolls back. If the server can't be told, the connection is closed, which has the same
+        effect."""
         if self.connection is None or self.connection.closed or self.is_alone or self.before:
             return
         try:
@@ -301,13 +304,13 @@ class PostgresStore:
             self.close()
 
     def close(self) -> None:
-        """Closes the connection; the next transaction opens another one. May be called twice."""
+        """Closes the connection; the next transaction opens a new one. May be called twice."""
         if self.connection is not None:
             self.connection.close()
 
     def hang_up(self) -> None:
-        """From any thread: what waits for the server raises OutcomeUnknownError at once, or
-        psycopg2's error, and the next transaction opens another connection."""
+        """Makes a call that is waiting for the server raise OutcomeUnknownError or psycopg2's error
+        at once. The next transaction opens a new connection. May be called from any thread."""
         connection, self.is_hung_up = self.connection, True
         try:
             with socket.socket(fileno=os.dup(connection.fileno())) as same:
@@ -327,17 +330,18 @@ class PostgresStore:
         return outcome_told(self._its_dsn, text, values, seconds, which)
 
     def asks(self) -> Any:
-        """For another process of this machine; the environment's words for what the dsn lacks."""
+        """For another process on this machine; with the environment's values for what the DSN
+        doesn't say."""
         return ("postgres", dict(extensions.parse_dsn(self.dsn)), environment(), self.table)
 
     def ticket(self, written: Sequence[Any]) -> Any:
         return (None if self.is_alone else self.transaction_id, *self.life, *written)
 
     def claim(self, run_name: str, token: str, seconds: float) -> None:
-        """Makes the name that of one run, or raises NameTakenError where it is another's;
-        OutcomeUnknownError where the server hasn't answered after so many seconds."""
-        self.begin()  # what connects is waited for by the client, whose connection it is
-        self.begin_alone(0.8 * seconds)  # the server ends it, unless nothing comes through
+        """Reserves the name for one run. Raises NameTakenError if it belongs to another run, and
+        OutcomeUnknownError if the server doesn't answer within this many seconds."""
+        self.begin()  # the client waits for the connection, which it needs anyway
+        self.begin_alone(0.8 * seconds)  # the server ends it, unless the connection is cut
         ends = threading.Timer(seconds, self.hang_up)
         ends.daemon = True
         ends.start()
@@ -347,7 +351,7 @@ class PostgresStore:
             raise OutcomeUnknownError(str(error).strip()) from error
         finally:
             ends.cancel()
-            ends.join()  # so that it is known by now whether this connection can be used
+            ends.join()  # after that, it is certain whether this connection can be used
         if owner != token:
             raise NameTakenError(f"{self.table} has the name {run_name} from an earlier run")
 

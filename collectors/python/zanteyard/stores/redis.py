@@ -1,10 +1,10 @@
-"""Keys of a Redis as a store. Each has, in one text behind a mark, the value and its writer's name
-as JSON; the value null marks a deleted key.
+"""Keys of a Redis as a store. Each key's text is a mark and then, as JSON, the value and its
+writer's name; the value null marks a deleted key.
 
-What a transaction writes is queued by MULTI and done by EXEC, which does nothing where a key that
-was watched has changed. Each store has a key of its own, which it watches as a transaction begins
-and writes by the same EXEC: it says what was committed last. Who asks for an outcome that isn't
-known writes there that the attempt was aborted, which keeps its EXEC from being done later.
+A transaction's writes are queued by MULTI and executed by EXEC, which does nothing if a watched key
+has changed. Each store has a key of its own, which it watches when a transaction begins and writes
+in the same EXEC: it says what was committed last. To find out an unknown outcome, it is written
+there that the attempt was aborted, which prevents a late EXEC.
 """
 
 from __future__ import annotations
@@ -26,18 +26,17 @@ from ..core.errors import AbortedError, NameTakenError, OutcomeUnknownError, Sto
 from .levels import COMPARED, SINGLE, WATCHED, checked_level
 
 PREFIX = "zanteyard:"  # before each key
-RUN = "zanteyard run "  # before a run's name: the key that says whose it is
-LAST = "zanteyard last "  # before a store's token: the key that tells its outcomes
-STORE = "zanteyard store"  # the key that tells this Redis, its number and the prefix from others
+RUN = "zanteyard run "  # before a run's name: the key with its owner
+LAST = "zanteyard last "  # before a store's token: the key with its outcomes
+STORE = "zanteyard store"  # the key that identifies this Redis, database and prefix
 PATIENCE = 5.0  # seconds for a connection, and for an outcome
-MARK = "zanteyard "  # before each text: what another program writes hasn't it
+MARK = "zanteyard "  # before each text; other programs' values lack it
 BARRED = redis.exceptions.NoPermissionError
 logger = logging.getLogger("zanteyard")
 
 
 def text_of(value: Any, name: Name) -> str:
-    """Raises ValueError, or TypeError, where JSON has no such value, or would make it another
-    one."""
+    """Raises ValueError or TypeError if JSON has no such value, or would change it."""
     text = json.dumps([value, *name])
     if value is not None and not isinstance(value, str) and json.loads(text)[0] != value:
         raise ValueError(f"{value!r} would be another value as JSON")
@@ -45,7 +44,8 @@ def text_of(value: Any, name: Name) -> str:
 
 
 def found_in(text: Optional[str]) -> Optional[StoredValue]:
-    """A text that no store of this kind has written has no name, and is the value as a whole."""
+    """The value and name in a text. A text that no store of this kind has written has no name, and
+    is a value as a whole."""
     if text is None:
         return None
     if text.startswith(MARK):
@@ -66,9 +66,9 @@ def _place(connection: Any) -> str:
 
 
 class RedisStore:
-    """One connection, for one thread at a time. `url` is what redis-py takes, with the database in
-    it; `level` is one of Redis's in `levels.py`. A connection, and the end of a statement of the
-    collector's own, are waited for no longer than `patience` seconds."""
+    """One connection, for one thread at a time. `url` is redis-py's, including the database;
+    `level` is one of Redis's in `levels.py`. A connection, and the collector's own statement, may
+    take `patience` seconds."""
 
     errors = (redis.RedisError, ConnectionError)
 
@@ -85,20 +85,20 @@ class RedisStore:
         self.statement: Optional[str] = None
         self.own, self.count = f"{prefix}{LAST}{secrets.token_hex(8)}", 0
         self._identity: Optional[StoreIdentity] = None  # of the Redis that is connected
-        self.token: Optional[str] = None  # which was found there under STORE
-        self.seen: Dict[str, Optional[str]] = {}  # by key what was read
+        self.token: Optional[str] = None  # found there under STORE
+        self.seen: Dict[str, Optional[str]] = {}  # what was read, by key
         self.queued: List[Command] = []
         self.is_alone = self.is_hung_up = False
-        self.ends = 0.0  # when a statement of the collector's own isn't waited for any more
-        # Of the transaction: whether something of it was done by itself, and whether it was done
-        # in part.
+        self.ends = 0.0  # time limit of the collector's own statement
+        # Of the transaction: whether something of it was done by itself, and whether it was done in
+        # part.
         self.has_failed = self.is_torn = False
 
     # the connection
 
     def connect(self, seconds: Optional[float] = None) -> None:
-        """Opens the connection, and raises redis-py's errors where it can't; StoreUnfitError where
-        the server may drop any key."""
+        """Opens the connection. Raises redis-py's errors, and StoreUnfitError if the server may
+        drop any key."""
         self.is_hung_up = False
         waits = self.patience if seconds is None else seconds
         ends = time.monotonic() + waits
@@ -113,14 +113,14 @@ class RedisStore:
         self.connection = connection
 
     def connected(self, seconds: float) -> Any:
-        # What isn't UTF-8, as another program may have written, is a text too.
+        # Bytes that aren't UTF-8, which another program may have written, become a text, too.
         more: Dict[str, Any] = {"decode_responses": True, "encoding_errors": "surrogateescape"}
         return connected(self.url, seconds, **more)
 
     def look_at_it(self, connection: Any) -> None:
-        """By one way there and back: which one it is, and that it drops nothing. A Redis that has
-        lost what it had, as by a start, is told which one it was, by who knows that: what it has
-        lost then are lost writes, and no other store's."""
+        """Checks, in one round trip, which Redis it is and that it drops nothing. A Redis that has
+        lost its data, for example by a restart, gets its identity back from a store that knows it:
+        what is missing then are lost writes, not another store."""
         key, mine = f"{self.prefix}{STORE}", self.token or secrets.token_hex(8)
         asked: List[Command] = [("INFO", "memory"), ("SET", key, mine, "NX"), ("GET", key)]
         memory, done, told = answers(connection, asked)
@@ -134,8 +134,8 @@ class RedisStore:
             self._identity = StoreIdentity(f"redis {told} {number} {self.prefix}", shown)
 
     def identity(self) -> Optional[StoreIdentity]:
-        """By a key of its own that is written once, and stays where the server is started anew or
-        another one takes its place. None where that may not be written or read."""
+        """From a key that is written once, and stays when the server restarts or is replaced. None
+        without permission to write or read it."""
         if self.is_hung_up:
             self.close()
         if self.connection is None:
@@ -155,8 +155,8 @@ class RedisStore:
             )
 
     def send(self, *commands: Command) -> List[Any]:
-        """All that is sent to the server goes through here: one call is one way there and back. A
-        connection is never opened here: what the other one has watched would be forgotten."""
+        """Sends commands; all commands of a transaction pass through here. Each call is one round
+        trip. It never opens a connection, since what the old one watched would be forgotten."""
         connection = self.connection
         if connection is None:
             raise redis.ConnectionError("the connection was lost")
@@ -164,7 +164,7 @@ class RedisStore:
             return replies(connection, commands)
         except redis.ResponseError:
             raise
-        except BaseException:  # answers may come that nobody waits for any more
+        except BaseException:  # later answers would belong to nobody
             self.close()
             raise
 
@@ -181,11 +181,11 @@ class RedisStore:
         except BROKEN:
             if self.is_hung_up:
                 raise
-            self.connect()  # it was idle for too long: nothing has begun
+            self.connect()  # it had been idle for too long, so nothing has begun
             self.watch_own()
 
     def watch_own(self) -> None:
-        """Before anything else; and nothing else is watched any more."""
+        """Watches the store's own key, and nothing else any more."""
         self.sent_in_time(("UNWATCH",), ("WATCH", self.own))
 
     def get_ready(self, seconds: Optional[float] = None) -> None:
@@ -198,16 +198,16 @@ class RedisStore:
         self.has_failed = self.is_torn = False
 
     def begin_alone(self, seconds: float) -> None:
-        """Instead of `begin`, where what follows are statements that need no other one: each is a
-        transaction by itself, and no answer is waited for longer than so many seconds."""
+        """Replaces `begin` for statements that are transactions by themselves. No answer is awaited
+        longer than this many seconds."""
         waits = min(seconds, self.patience)
         self.ends = time.monotonic() + waits
         self.get_ready(waits)
         self.is_alone = True
 
     def its(self, key: str) -> str:
-        """As the server has it. Raises UnicodeEncodeError for what is no text: it might be sent as
-        another key's bytes."""
+        """The key as the server has it. Raises UnicodeEncodeError if it can't be encoded: it might
+        be sent as another key's bytes."""
         key.encode()
         return self.prefix + key
 
@@ -222,7 +222,7 @@ class RedisStore:
             [("MGET", *full_keys)] if len(full_keys) > 1 else [("GET", *full_keys)]
         )
         if self.level == WATCHED and not self.is_alone:
-            commands.insert(0, ("WATCH", *full_keys))  # in front: what comes between is found out
+            commands.insert(0, ("WATCH", *full_keys))  # first: it notices a change in between
         texts = self.texts_of(full_keys, commands)
         self.told(*commands)
         if not self.is_alone:
@@ -233,8 +233,8 @@ class RedisStore:
     def texts_of(
         self, full_keys: Sequence[str], commands: Sequence[Command]
     ) -> List[Optional[str]]:
-        """What the last command is answered. MGET tells of a list, or the like, that no key is
-        there; GET raises, as it does where one key is read."""
+        """The answer to the last command. MGET hides values that aren't strings, such as lists; the
+        GETs that follow raise an error for them, as reading a single key does."""
         answer = self.asked(commands)[-1]
         if len(full_keys) == 1:
             return [answer]
@@ -245,7 +245,7 @@ class RedisStore:
         return texts
 
     def asked(self, commands: Sequence[Command]) -> List[Any]:
-        """Where a transaction's connection is lost, it can't be committed any more."""
+        """Sends commands. If a transaction's connection is lost, it can't be committed any more."""
         try:
             return self.sent_in_time(*commands)
         except BROKEN as error:
@@ -254,7 +254,8 @@ class RedisStore:
             raise
 
     def sent_in_time(self, *commands: Command) -> List[Any]:
-        """Behind it the application waits as long again as it has said itself."""
+        """Sends commands with a time limit; afterwards the application's own limit applies
+        again."""
         if not self.is_alone:
             return self.send(*commands)
         limit(self.connection, self.ends)
@@ -272,15 +273,15 @@ class RedisStore:
             self.queued.append(command)
 
     def sent_by_itself(self, command: Command) -> Any:
-        """Where no answer comes nobody knows whether it was done."""
+        """Sends a command that is a transaction by itself. Without an answer, nobody knows whether
+        it was done."""
         try:
             return self.send(command)[0]
         except BROKEN as error:
             raise OutcomeUnknownError(str(error)) from error
 
     def exchange(self, key: str, value: Any, name: Name) -> Optional[StoredValue]:
-        """In a transaction the key is watched, at every level but where each write is done at
-        once."""
+        """In a transaction the key is watched, at every level except "single commands"."""
         full_key = self.its(key)
         command = ("SET", full_key, text_of(value, name), "GET")
         if self.is_alone:
@@ -299,7 +300,7 @@ class RedisStore:
         try:
             self.watch_own()
         except BROKEN as error:
-            raise AbortedError(str(error)) from error  # nothing was sent that does anything
+            raise AbortedError(str(error)) from error  # nothing was sent that changes anything
         answers = self.executed([command])
         self.told(command)
         return found_in(answers[0])
@@ -330,8 +331,8 @@ class RedisStore:
                 raise AbortedError("a key that was read and is to be written has changed")
 
     def executed(self, commands: Sequence[Command]) -> List[Any]:
-        """What each command is answered. Raises AbortedError where a key that was watched has
-        changed, and redis-py's ResponseError where the server has refused the whole."""
+        """The answer to each command. Raises AbortedError if a watched key has changed, and
+        redis-py's ResponseError if the server has refused the whole."""
         own = [("SET", self.own, f"{self.count} committed")] if commands else []
         try:
             answers = self.send_exec([("MULTI",), *commands, *own, ("EXEC",)])
@@ -340,7 +341,7 @@ class RedisStore:
         if answers is None:
             raise AbortedError("a key that was watched has changed")
         failed = [answer for answer in answers if isinstance(answer, Exception)]
-        if failed:  # the others were done: Redis takes nothing back
+        if failed:  # the others were done: Redis undoes nothing
             self.is_torn = True
             raise OutcomeUnknownError(
                 f"{len(failed)} of {len(answers)} commands failed: {failed[0]}"
@@ -351,18 +352,18 @@ class RedisStore:
         return self.sent_in_time(*commands)[-1]
 
     def rollback(self) -> None:
-        """What was only queued was never sent; what was done at once stays."""
+        """Drops what is only queued, and was never sent. What was done at once stays."""
         self.queued = []
 
     def close(self) -> None:
-        """Closes the connection; the next transaction opens another one. May be called twice."""
+        """Closes the connection; the next transaction opens a new one. May be called twice."""
         connection, self.connection = self.connection, None
         if connection is not None:
             connection.disconnect()
 
     def hang_up(self) -> None:
-        """From any thread: what waits for the server raises OutcomeUnknownError at once, or
-        redis-py's error, and the next transaction opens another connection."""
+        """Makes a call that is waiting for the server raise OutcomeUnknownError or redis-py's error
+        at once. The next transaction opens a new connection. May be called from any thread."""
         connection, self.is_hung_up = self.connection, True
         try:
             connection._sock.shutdown(socket.SHUT_RDWR)
@@ -373,7 +374,7 @@ class RedisStore:
         return self.outcome_within(self.patience)
 
     def outcome_within(self, seconds: float) -> str:
-        """By a connection of its own, since the one at hand may be broken."""
+        """Asks over a connection of its own, since the current one may be broken."""
         if self.is_torn or self.level == SINGLE and not self.is_alone:
             return "unknown"
         ends = time.monotonic() + seconds
@@ -388,12 +389,13 @@ class RedisStore:
             return "unknown"
 
     def decided(self, connection: Any) -> str:
-        """What the store's own key says, with "aborted" in it where nothing was there yet."""
+        """The outcome in the store's own key, into which it writes "aborted" unless the outcome is
+        already there."""
         which = f"{self.prefix}{STORE}"
         asked = [("WATCH", self.own), ("GET", self.own), ("GET", which)]
         _, text, token = replies(connection, asked)
         if self.token is not None and token != self.token:
-            return "unknown"  # another Redis, or one that has lost what it had
+            return "unknown"  # another Redis, or one that has lost its data
         count, _, outcome = (text or "0 ").partition(" ")
         if int(count) == self.count:
             return str(outcome)
@@ -413,8 +415,8 @@ class RedisStore:
         return None if self.level == SINGLE and not self.is_alone else its
 
     def claim(self, run_name: str, token: str, seconds: float) -> None:
-        """Makes the name that of one run, or raises NameTakenError where it is another's;
-        OutcomeUnknownError where the server hasn't answered after so many seconds."""
+        """Reserves the name for one run. Raises NameTakenError if it belongs to another run, and
+        OutcomeUnknownError if the server doesn't answer within this many seconds."""
         self.begin_alone(seconds)
         full_key = f"{self.prefix}{RUN}{run_name}"
         *_, owner = self.asked([("SET", full_key, token, "NX"), ("GET", full_key)])
@@ -423,8 +425,8 @@ class RedisStore:
 
 
 def asked(url: str, prefix: str, own: str, *, ticket: Any, seconds: float) -> CommitStatus:
-    """What became of the transaction of a store whose process is killed; what an `exchange` by
-    itself has overwritten isn't kept."""
+    """The outcome of a transaction whose client process was killed. What a single-statement
+    `exchange` has overwritten isn't known."""
     store = RedisStore(url, prefix=prefix, patience=seconds)
     store.own, (store.count, store.token) = own, ticket
     return store.outcome_within(seconds), None

@@ -1,10 +1,10 @@
-"""A table in a file of SQLite as a store, for clients in threads and in processes. Each row has its
-writer's name beside the value; the value NULL marks a deleted key.
+"""A table in an SQLite file as a store, for clients in threads and in processes. Each row has its
+writer's name next to the value; the value NULL marks a deleted key.
 
-Each store has a row of its own, which it writes in each transaction that writes: where a commit
-fails otherwise than by what others do, it says whether it was done all the same. Where it says that
-it wasn't, who asks writes so there: in WAL that overwrites what such a commit has left in the log,
-which would else be found, and be done, once the file is opened anew.
+Each store has a row of its own, which it writes in every transaction that writes. If a commit fails
+other than by a conflict, this row says whether it was done all the same. If it wasn't, finding that
+out writes so to the row. In WAL mode this overwrites what the failed commit has left in the log,
+which would otherwise take effect when the file is opened again.
 """
 
 from __future__ import annotations
@@ -32,14 +32,14 @@ WRITE = """INSERT INTO {table} VALUES {rows} ON CONFLICT (key) DO UPDATE SET
     value = excluded.value, run = excluded.run, session = excluded.session,
     number = excluded.number"""
 FIRST = "INSERT INTO {table} VALUES (?, ?, ?, ?, ?) ON CONFLICT (key) DO NOTHING"
-BUSY, LOCKED = 5, 6  # somebody else has what is wanted: in another process, or in the same cache
-CODE = 0xFF  # of an error's code the part that says which of these it is
-PATIENCE = 5.0  # seconds that a lock is waited for
-PAUSE = 0.002  # seconds between two attempts to begin, where SQLite itself doesn't wait
-RUN = "zanteyard run "  # before a run's name: the key of the row that says whose it is
-LAST = "zanteyard last "  # before a store's token: the key of the row that tells its outcomes
+BUSY, LOCKED = 5, 6  # another connection has it locked: in another process, or in the same cache
+CODE = 0xFF  # the part of an error's code that says which of these it is
+PATIENCE = 5.0  # seconds to wait for a lock
+PAUSE = 0.002  # seconds between two attempts to begin, when SQLite itself doesn't wait
+RUN = "zanteyard run "  # before a run's name: the key of the row with its owner
+LAST = "zanteyard last "  # before a store's token: the key of the row with its outcomes
 OWN = -2  # in place of a session, in that row
-ABORTED = "aborted"  # the value there, where somebody has asked; else it is NULL
+ABORTED = "aborted"  # the value there after somebody has asked; NULL otherwise
 
 
 def quoted(table: str) -> str:
@@ -47,8 +47,8 @@ def quoted(table: str) -> str:
 
 
 def prepare(path: str, journal: str = "wal", table: str = "zanteyard") -> None:
-    """Makes the file and the table, where they aren't there, and sets the file's journal mode, one
-    of JOURNALS."""
+    """Creates the file and the table, if they don't exist, and sets the file's journal mode, one of
+    JOURNALS."""
     if journal not in JOURNALS:
         raise ValueError(f"{journal} isn't one of {', '.join(JOURNALS)}")
     connection = sqlite3.connect(path, isolation_level=None)
@@ -60,7 +60,7 @@ def prepare(path: str, journal: str = "wal", table: str = "zanteyard") -> None:
 
 
 def is_busy(error: BaseException) -> bool:
-    """Whether somebody else stood in the way; before Python 3.11 errors have no codes."""
+    """Whether another connection was in the way. Errors have no codes before Python 3.11."""
     code = getattr(error, "sqlite_errorcode", None)
     if code is not None:
         return int(code) & CODE in (BUSY, LOCKED)
@@ -69,8 +69,7 @@ def is_busy(error: BaseException) -> bool:
 
 class SQLiteStore:
     """One connection, for one thread at a time. `level` is one of SQLite's in `levels.py`. A lock
-    is waited for no longer than `patience` seconds, but where SQLite sees that waiting is in
-    vain."""
+    may take `patience` seconds, unless SQLite sees that waiting is useless."""
 
     errors = (sqlite3.Error,)
 
@@ -84,29 +83,30 @@ class SQLiteStore:
         checked_level("sqlite", level)
         self.path, self.level, self.table, self.patience = path, level, quoted(table), patience
         self.connection: Any = None
-        self.statement: Optional[str] = None  # what was run last, with its values behind it
+        self.statement: Optional[str] = None  # the last statement, followed by its values
         self.own, self.count = f"{LAST}{secrets.token_hex(8)}", 0
         self.is_alone = self.has_failed = False
-        self.waits = 0.0  # seconds, as the connection was told
-        self._identity: Optional[StoreIdentity] = None  # of the file that was opened last
-        self.known: Optional[str] = None  # of that
+        self.waits = 0.0  # the connection's current busy timeout, in seconds
+        self._identity: Optional[StoreIdentity] = None  # of the last file opened
+        self.known: Optional[str] = None  # its `known` text
 
     # the connection
 
     def connect(self) -> None:
-        """Opens the file, and raises sqlite3's errors where it can't."""
+        """Opens the file. Raises sqlite3's errors."""
         self.connection = self.connected()
         self._identity = self.identity_by_now()
         self.known = known_of(self._identity)
 
     def identity(self) -> Optional[StoreIdentity]:
-        """By the file's number on its device, whatever path leads there."""
+        """From the file's number on its device, whatever path leads there."""
         if self.connection is None:
             self.connect()
         return self._identity
 
     def identity_by_now(self) -> Optional[StoreIdentity]:
-        """Of the file that has the path; None where there is none, as of a database in memory."""
+        """The identity of the file that has the path now; None if there is none, as for a database
+        in memory."""
         try:
             status = os.stat(self.path)
         except (OSError, ValueError):
@@ -132,8 +132,8 @@ class SQLiteStore:
             self.waits = seconds
 
     def send(self, text: str, values: Sequence[Any] = ()) -> Any:
-        """All that is run goes through here. Raises AbortedError where somebody else stood in the
-        way."""
+        """Runs a statement; every statement of a transaction passes through here. Raises
+        AbortedError if another connection was in the way."""
         try:
             cursor = self.connection.execute(text, values)
         except sqlite3.Error as error:
@@ -155,7 +155,7 @@ class SQLiteStore:
     # what sessions call
 
     def begin(self) -> None:
-        """Raises AbortedError where another client writes for too long: then nothing has begun."""
+        """Raises AbortedError if another client writes for too long; then nothing has begun."""
         self.get_ready(self.patience)
         self.is_alone = False
         if self.level != AUTOCOMMIT:
@@ -170,7 +170,7 @@ class SQLiteStore:
         self.has_failed = False
 
     def start(self, is_writing: bool, seconds: float) -> None:
-        """Who shares a cache isn't waited for by SQLite itself."""
+        """Begins a transaction. With a shared cache SQLite itself doesn't wait for others."""
         ends = time.monotonic() + (seconds if self.level == UNCOMMITTED else 0.0)
         while True:
             try:
@@ -183,8 +183,8 @@ class SQLiteStore:
                 time.sleep(PAUSE)
 
     def begin_alone(self, seconds: float) -> None:
-        """Instead of `begin`, where what follows are statements that need no other one: each is a
-        transaction by itself, and is done or not after so many seconds."""
+        """Replaces `begin` for statements that are transactions by themselves. Each ends within
+        this many seconds."""
         self.get_ready(min(seconds, self.patience))
         self.is_alone = True
 
@@ -192,8 +192,8 @@ class SQLiteStore:
         return self.read_all([key]).get(key)
 
     def read_all(self, keys: Sequence[str]) -> Dict[str, StoredValue]:
-        """What is read alone at "read uncommitted" is read where nobody else writes: it is what was
-        committed, and of one moment."""
+        """A read by itself at "read uncommitted" keeps other writers out, so that it returns
+        committed values of one moment."""
         is_guarded = self.is_alone and self.level == UNCOMMITTED
         if is_guarded:
             self.start(True, self.waits)
@@ -213,13 +213,13 @@ class SQLiteStore:
         self.ask(WRITE, [*own, key, value, *name], rows=f"{ROW}, {ROW}")
 
     def exchange(self, key: str, value: Any, name: Name) -> Optional[StoredValue]:
-        """Nobody else writes from before it reads."""
+        """Reads and writes; nobody else can write in between."""
         is_by_itself = self.is_alone or self.level == AUTOCOMMIT
         if is_by_itself:
             self.start(True, self.waits)
         try:
             own = (self.own, None, name[0], OWN, self.count)
-            self.ask(WRITE, own, rows=ROW)  # from here on this is who writes
+            self.ask(WRITE, own, rows=ROW)  # from here on nobody else can write
             rows = self.ask(READ, (key,)).fetchall()
             if self.is_alone:  # a key of the collector's own
                 value = kept(rows[0][1:] if rows else None)
@@ -244,8 +244,8 @@ class SQLiteStore:
         self.end()
 
     def end(self) -> None:
-        """Where readers stand in the way of a commit for too long, the transaction is still open,
-        and is aborted here."""
+        """Commits. If readers block the commit for too long, the transaction is still open, and is
+        aborted here."""
         try:
             self.send_commit()
         except AbortedError:
@@ -259,7 +259,8 @@ class SQLiteStore:
         self.send("COMMIT")
 
     def rollback(self) -> None:
-        """Where that fails, the connection is closed: what it hadn't committed is gone then."""
+        """Rolls back. If that fails, the connection is closed, which discards what wasn't
+        committed."""
         try:
             if self.connection is not None and self.connection.in_transaction:
                 self.connection.execute("ROLLBACK")
@@ -267,13 +268,14 @@ class SQLiteStore:
             self.close()
 
     def close(self) -> None:
-        """Closes the connection; the next transaction opens another one. May be called twice."""
+        """Closes the connection; the next transaction opens a new one. May be called twice."""
         connection, self.connection = self.connection, None
         if connection is not None:
             connection.close()
 
     def hang_up(self) -> None:
-        """From any thread: what runs is interrupted. A lock is waited for as long as was said."""
+        """Interrupts what is running; a wait for a lock isn't cut short. May be called from any
+        thread."""
         connection = self.connection
         try:
             if connection is not None:
@@ -285,13 +287,13 @@ class SQLiteStore:
         return self.outcome_within(self.patience)
 
     def outcome_within(self, seconds: float) -> str:
-        """As the next transaction that writes finds it. Of statements that are each done by
-        themselves nobody can say."""
+        """The outcome as the next transaction that writes finds it. For statements that were
+        transactions by themselves nobody can say."""
         self.close()
         if self.level == AUTOCOMMIT and not self.is_alone:
             return "unknown"
         if self.known is not None and self.known != known_of(self.identity_by_now()):
-            return "unknown"  # another file has the path by now, which knows nothing of it
+            return "unknown"  # another file has the path now
         try:
             connection = sqlite3.connect(self.path, isolation_level=None, timeout=seconds)
             try:
@@ -302,8 +304,8 @@ class SQLiteStore:
             return "unknown"
 
     def decided(self, connection: Any) -> str:
-        """With a journal what a broken commit has left is rolled back before this begins to write;
-        in WAL it is, in effect, once this has committed."""
+        """With a rollback journal, what a broken commit has left is undone before this begins to
+        write. In WAL mode it is undone by this commit."""
         (journal,) = connection.execute("PRAGMA journal_mode").fetchone()
         connection.execute("BEGIN IMMEDIATE")
         stored = connection.execute(READ.format(table=self.table), (self.own,)).fetchone()
@@ -329,8 +331,8 @@ class SQLiteStore:
         return (self.count, self.is_alone, self.known, *written)
 
     def claim(self, run_name: str, token: str, seconds: float) -> None:
-        """Makes the name that of one run, or raises NameTakenError where it is another's;
-        AbortedError where somebody else writes for so many seconds."""
+        """Reserves the name for one run. Raises NameTakenError if it belongs to another run, and
+        AbortedError if another client writes for this many seconds."""
         self.begin_alone(seconds)
         self.start(True, self.waits)
         row = (RUN + run_name, token, run_name, -1, 0)
@@ -349,7 +351,7 @@ ITS_ROW = "SELECT value FROM {table} WHERE key = ? AND run = ? AND session = ? A
 
 
 def asked(path: str, table: str, own: str, *, ticket: Any, seconds: float) -> CommitStatus:
-    """What became of the transaction of a store whose process is killed."""
+    """The outcome of a transaction whose client process was killed."""
     store = SQLiteStore(path, patience=seconds)
     store.table, store.own = table, own
     store.count, is_alone, store.known, *row_name = ticket

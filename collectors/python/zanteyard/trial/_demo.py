@@ -1,4 +1,4 @@
-"""A store in memory with one of its faults, and a few clients by whom the fault shows."""
+"""A store in memory with one of its faults, and a few clients whose reads show the fault."""
 
 from __future__ import annotations
 
@@ -39,7 +39,7 @@ def _is_committed(transaction: Any) -> bool:
 
 
 def _at_once(sessions: Sequence[Session], bodies: Sequence[Body]) -> None:
-    """Each session runs one of them, all begun before any commits; one that aborts runs again."""
+    """Runs one body in each session; all begin before any commits. One that aborts is run again."""
     begun = [(session, session.begin(), body) for session, body in zip(sessions, bodies)]
     for _, transaction, body in begun:
         body(transaction)
@@ -122,14 +122,14 @@ NAMES = (*STORIES, HONEST)
 
 
 def about(name: str) -> str:
-    """What the clients do, in a sentence."""
+    """A sentence about what the clients do."""
     about_it = _every_story if name == HONEST else STORIES[name]
     return (about_it.__doc__ or "").strip().rstrip(".")
 
 
 def run_demo(name: str, auditor: Auditor) -> None:
-    """Has the clients run over a store with this fault, or over one with none, and the auditor
-    take in what they did. `name` is one of NAMES; the auditor has SESSIONS sessions."""
+    """Runs the clients over a store with this fault, or without one, and has the auditor take in
+    what they did. `name` is one of NAMES; the auditor has SESSIONS sessions."""
     store = MemoryStore(None if name == HONEST else name)
     sessions = [Session(auditor, number, store.connect()) for number in range(SESSIONS)]
     (_every_story if name == HONEST else STORIES[name])(sessions)

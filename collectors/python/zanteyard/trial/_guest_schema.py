@@ -1,4 +1,4 @@
-"""A schema of one's own in a PostgreSQL that is somebody else's."""
+"""A temporary schema in a PostgreSQL server that belongs to somebody else."""
 
 from __future__ import annotations
 
@@ -11,14 +11,14 @@ from psycopg2 import errors
 from ..core._visible import say
 from ..stores.postgres import prepare, quoted
 
-WAITING = 10  # seconds for what clients have left open, as it is cleaned up
+WAITING = 10  # seconds to wait for what clients have left open, during cleanup
 
 
 class GuestSchema:
-    """The same as a PostgresServer, in a server that is there: makes a schema with one table, and
-    drops it at the end. Where the user may make no schema, it is a table beside what is there,
-    under a name that nothing else has. What `dsn` doesn't say the environment does, as PGHOST and
-    PGDATABASE."""
+    """Has the calls of a PostgresServer, for a server that is already running. It creates a schema
+    with one table and drops it at the end. If the user may not create schemas, it is a table with a
+    unique name next to the existing ones. What `dsn` doesn't say is taken from the environment,
+    such as PGHOST and PGDATABASE."""
 
     def __init__(self, dsn: str, tell: Callable[[str], object] = say) -> None:
         self.dsn, self.tell = dsn, tell
@@ -45,7 +45,8 @@ class GuestSchema:
             connection.close()
 
     def __enter__(self) -> GuestSchema:
-        """Raises psycopg2's errors where the server can't be reached, or allows no table either."""
+        """Raises psycopg2's errors if the server can't be reached, or doesn't allow creating a
+        table either."""
         makes = f"creates the schema {self.name} with a table, and drops both at the end"
         self.tell(f"in {self.where()}: {makes}")
         try:

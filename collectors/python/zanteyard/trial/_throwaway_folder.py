@@ -1,4 +1,4 @@
-"""A folder that is thrown away, also where this program is killed."""
+"""A temporary folder that is removed at the end, even if this program is killed."""
 
 from __future__ import annotations
 
@@ -9,10 +9,10 @@ import tempfile
 import time
 from typing import Optional
 
-PID = "own_server.pid"  # in the folder: the number of the process that is to end before
-TRIES = 50  # to remove it: what has just been ended may still make files
-# Its input ends as this program does. A process that isn't at work in the folder is another one,
-# which has got the number since.
+PID = "own_server.pid"  # in the folder: the number of the process to kill first
+TRIES = 50  # attempts to remove it: what was just killed may still create files
+# Its input ends when this program does. A process that doesn't work in the folder is a different
+# one that got the same number since.
 WATCH = f"""read -r _
 pid=$(cat "$1/{PID}")
 case $(readlink "/proc/$pid/cwd") in "$1" | "$1"/*) kill -KILL "$pid" ;; esac
@@ -25,7 +25,8 @@ done"""
 
 
 class ThrowawayFolder:
-    """`path` is where it is, once it was made. A shell waits beside this program for its end."""
+    """A temporary folder; `path` is its path, once it was made. A shell process waits for the end
+    of this program."""
 
     def __init__(self) -> None:
         self.path = ""
@@ -42,7 +43,7 @@ class ThrowawayFolder:
                 stdout=quiet,
                 stderr=quiet,
                 cwd="/",
-                start_new_session=True,  # signals to this program's group aren't for it
+                start_new_session=True,  # signals to this program's group don't reach it
             )
         except BaseException:
             self.remove()

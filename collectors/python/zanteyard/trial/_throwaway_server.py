@@ -1,4 +1,4 @@
-"""A server's program in a folder that is thrown away."""
+"""A server program in a temporary folder."""
 
 from __future__ import annotations
 
@@ -14,12 +14,12 @@ STARTING = 60.0  # seconds for a server to take connections
 
 
 class CantStartError(OSError):
-    """The server's program has ended, or takes no connections in time."""
+    """The server program has ended, or takes no connections in time."""
 
 
 class ThrowawayServer:
-    """Listens on a socket in its folder alone. Where root runs it and `user` is given, the server
-    runs as that user."""
+    """A server that only listens on a socket in its folder. If root starts it and `user` is given,
+    it runs as that user."""
 
     program = ""
     user: Optional[str] = None
@@ -29,7 +29,7 @@ class ThrowawayServer:
         self.own_folder = ThrowawayFolder()
 
     def call(self) -> List[str]:
-        """The program, with its arguments."""
+        """The program with its arguments."""
         raise NotImplementedError
 
     def answers(self) -> bool:
@@ -37,7 +37,7 @@ class ThrowawayServer:
         raise NotImplementedError
 
     def prepare_folder(self) -> None:
-        """Before it is started for the first time."""
+        """Prepares the folder before the first start."""
 
     @property
     def folder(self) -> str:
@@ -58,15 +58,16 @@ class ThrowawayServer:
         return self
 
     def own(self, path: str) -> None:
-        """Gives it to the user as whom the server runs."""
+        """Gives the file to the user as whom the server runs."""
         if self.user is not None and os.geteuid() == 0:
             shutil.chown(path, self.user, self.user)
 
     def start(self) -> None:
-        """Again, where it was stopped."""
+        """Starts the server, also after `stop`."""
         with open(f"{self.folder}/log", "ab") as log:
             quiet: Dict[str, Any] = {"stdin": subprocess.DEVNULL, "stdout": log, "stderr": log}
-            # A terminal's Ctrl-C is for the clients: the audit has a last round over the server.
+            # A terminal's Ctrl-C is meant for the clients: the audit still needs the server for its
+            # last round.
             process = subprocess.Popen(
                 self.call(), cwd=self.folder, start_new_session=True, **quiet
             )
@@ -84,13 +85,13 @@ class ThrowawayServer:
             return " ".join(file.read().splitlines()[-3:])
 
     def stop(self) -> None:
-        """At once, as if it were killed; does nothing where it doesn't run."""
+        """Kills the server. Does nothing if it isn't running."""
         if self.process is not None:
             self.process.kill()
             self.process.wait()
 
     def restart(self) -> None:
-        """Ends it in good order, and starts it again."""
+        """Shuts the server down in good order, and starts it again."""
         if self.process is not None:
             self.process.terminate()
             self.process.wait(STARTING)

@@ -1,8 +1,8 @@
-"""Clients that are driven in lockstep, one step after another, so that a fault shows each time
-where the store allows it: which levels have which faults.
+"""Drives clients in lockstep, one step after another, so that a fault shows every time if the store
+allows it; and tables of which levels have which faults.
 
-What a store doesn't let a client do, as where it would have to wait for another one, aborts that
-client's transaction: stores are to be told not to wait for locks.
+A step that the store doesn't allow, for example because it would have to wait for another client,
+aborts that client's transaction. So the stores must not wait for locks.
 """
 
 from __future__ import annotations
@@ -26,12 +26,12 @@ from ..session._transaction import Transaction
 
 SESSIONS = 3
 PROMISES = (SERIALIZABLE, SNAPSHOT, PREFIX)
-ASKING = 60.0  # seconds to find out what one violation breaks
+ASKING = 60.0  # seconds to find out which promises a violation breaks
 Steps = Callable[[Sequence["Client"]], None]
 
 
 class Client:
-    """A session, of whose transaction nothing more is done once the store has aborted it."""
+    """A session. After the store has aborted its transaction, further steps of it do nothing."""
 
     def __init__(self, session: Session) -> None:
         self.session = session
@@ -42,7 +42,7 @@ class Client:
             self.transaction = self.session.begin()
 
     def do(self, step: Callable[[Transaction], Any]) -> Any:
-        """What the step gives; None where there is no transaction any more."""
+        """The step's result; None if the transaction has ended."""
         try:
             return step(self.transaction) if self.transaction is not None else None
         except AbortedError:
@@ -67,7 +67,7 @@ class Client:
         self.do(lambda transaction: transaction.put(key, value))
 
     def exchange(self, key: str, value: str) -> None:
-        """Reads the key and writes it at once, while the transaction goes on."""
+        """Reads and writes the key at once, without ending the transaction."""
         self.do(lambda transaction: transaction.exchange(key, value))
 
     def run(self, **values: str) -> None:
@@ -176,9 +176,9 @@ FAULTS: Mapping[str, Steps] = {
 
 @dataclass(frozen=True)
 class Seen:
-    """What was said of it: the verdict; the anomaly's name, where it was violated; of each
-    session's transactions how they ended; and, where it was asked for, the whole in words, and
-    which promises were broken."""
+    """What was seen of a fault: the verdict; if violated, the anomaly's name; the outcome of each
+    session's transactions; and on request the explanation as lines, and the promises that were
+    broken."""
 
     kind: str
     anomaly: str
@@ -191,7 +191,7 @@ class Seen:
 
 
 def about(fault: str) -> str:
-    """What the clients do, in a sentence."""
+    """A sentence about what the clients do."""
     return " ".join((FAULTS[fault].__doc__ or "").split()).rstrip(".")
 
 
@@ -202,8 +202,8 @@ def run_lockstep(
     tells: bool = False,
     asks_promises: bool = False,
 ) -> Seen:
-    """Has clients do that over these stores, SESSIONS of them, each with a connection of its own.
-    Their keys begin with the prefix, so that none is there before."""
+    """Runs these clients over `stores`, SESSIONS of them, each with its own connection. Their keys
+    begin with `prefix`, so that none exists before."""
     with Auditor(SESSIONS, 64, policy=RATHER_WAIT) as auditor:
         sessions = [
             Session(auditor, number, _OwnKeys(store, prefix)) for number, store in enumerate(stores)
@@ -235,7 +235,7 @@ def _told(auditor: Auditor, outcome: Outcome) -> Iterator[str]:
 
 
 class _OwnKeys:
-    """A store, of which these clients use keys of their own."""
+    """A store in which these clients use keys of their own."""
 
     def __init__(self, store: Any, prefix: str) -> None:
         self.store, self.prefix = store, prefix
@@ -259,7 +259,7 @@ class _OwnKeys:
 
 
 def table_lines(seen_by_fault: Mapping[str, Sequence[Seen]], levels: Sequence[str]) -> List[str]:
-    """As a table, with a column for each level."""
+    """The results as a table, with a column for each level."""
     rows = [["", *levels]]
     rows += [[fault, *(str(cell) for cell in seen)] for fault, seen in seen_by_fault.items()]
     widths = [max(map(len, column)) for column in zip(*rows)]
@@ -269,8 +269,8 @@ def table_lines(seen_by_fault: Mapping[str, Sequence[Seen]], levels: Sequence[st
 
 
 def promise_lines(seen_by_fault: Mapping[str, Sequence[Seen]], levels: Sequence[str]) -> List[str]:
-    """As a table, with a column for each level: which promise was kept whatever the clients did,
-    or what they did as it was first broken."""
+    """A table with a column for each level: for each promise "kept", or the first fault that broke
+    it."""
     rows = [["", *levels]]
     for promise in PROMISES:
         cells = []
@@ -289,7 +289,7 @@ def table_of(
     levels: Sequence[str],
     asks_promises: bool = False,
 ) -> Dict[str, List[Seen]]:
-    """Of each fault what was seen at each level; `make_stores` makes SESSIONS stores of a level."""
+    """What was seen of each fault at each level. `make_stores` makes SESSIONS stores of a level."""
     seen_by_fault: Dict[str, List[Seen]] = {fault: [] for fault in FAULTS}
     for level in levels:
         stores = make_stores(level)

@@ -1,5 +1,5 @@
-"""A MariaDB server of its own, in a folder that is thrown away; and a table of one's own in one
-that is somebody else's."""
+"""A MariaDB server in a temporary folder; and a temporary table in a server that belongs to
+somebody else."""
 
 from __future__ import annotations
 
@@ -12,8 +12,8 @@ from ..core._visible import say
 from ._throwaway_server import ThrowawayServer
 
 DATABASE = "zanteyard"
-# No privileges are asked for, so that no table of them has to be made: whoever may open the folder
-# may do all. What is committed outlives the server, but nothing waits for the disk.
+# Without grant tables, which would have to be created: whoever can open the folder may do
+# everything. Committed data survives the server, but nothing waits for the disk.
 OPTIONS = (
     *("--skip-networking", "--skip-grant-tables", "--skip-log-bin", "--skip-name-resolve"),
     *("--innodb-flush-method=nosync", "--innodb-flush-log-at-trx-commit=2"),
@@ -24,15 +24,15 @@ OPTIONS = (
 
 
 def mariadbd() -> Optional[str]:
-    """Where the server's program is; None where it isn't installed."""
+    """The path of the server program; None if it isn't installed."""
     usual = "/usr/sbin/mariadbd"
     return shutil.which("mariadbd") or (usual if os.path.exists(usual) else None)
 
 
 class MariaDBServer(ThrowawayServer):
-    """MariaDB won't run as root, so that root runs it as the user mysql. What it makes at its first
-    start is whole on the disk only once it has ended in good order: one that is to be killed, and
-    started again, has to be restarted before."""
+    """MariaDB doesn't run as root, so root runs it as the user mysql. What it creates at its first
+    start is complete on the disk only after a shutdown in good order. So call `restart` before
+    killing a server that is to be started again."""
 
     program, user, table = "mariadbd", "mysql", "zanteyard"
 
@@ -68,8 +68,8 @@ class MariaDBServer(ThrowawayServer):
 
 
 class MariaDBGuest:
-    """The same, in a server that is there: makes one table, under a name that nothing else has, in
-    the database that `dsn` names, and drops it at the end."""
+    """Has the calls of a MariaDBServer, for a server that is already running. It creates one table
+    with a unique name in the database that `dsn` names, and drops it at the end."""
 
     def __init__(self, dsn: Dict[str, Any], tell: Callable[[str], object] = say) -> None:
         self.dsn, self.tell = dsn, tell

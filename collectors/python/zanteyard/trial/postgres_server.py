@@ -1,4 +1,4 @@
-"""A PostgreSQL server of its own, in a folder that is thrown away."""
+"""A PostgreSQL server in a temporary folder."""
 
 from __future__ import annotations
 
@@ -15,19 +15,19 @@ from typing import Any, Dict, Iterator, Optional, Sequence
 
 INITIAL = ("-A", "trust", "-U", "postgres", "-E", "UTF8", "--locale=C", "--no-sync")
 STOPPING = 20  # seconds for a server to stop
-TRIES = 50  # to remove its folder
+TRIES = 50  # attempts to remove its folder
 
 
 def program(name: str) -> Optional[str]:
-    """Where PostgreSQL's program of this name is; None where it isn't installed."""
+    """The path of PostgreSQL's program of this name; None if it isn't installed."""
     places = glob.glob(f"/usr/lib/postgresql/*/bin/{name}")
     places.sort(key=lambda path: int(path.split("/")[4]))
     return shutil.which(name) or (places[-1] if places else None)
 
 
 def trusted_plugins() -> Sequence[str]:
-    """The setting by which a server lets wal2json read its log, if it has that setting: since
-    15.19, and since as late a version of each release."""
+    """The setting that allows wal2json to read the log, if the server has it: 15.19 and later, and
+    equally late versions of other releases."""
     name = "output_plugin_libraries"
     call = [program("postgres") or "postgres", "--describe-config"]
     try:
@@ -40,9 +40,8 @@ def trusted_plugins() -> Sequence[str]:
 
 @contextmanager
 def ended_by_signals() -> Iterator[None]:
-    """In here SIGTERM, which `timeout` and systemd send, and SIGHUP, which comes as a terminal is
-    closed, end the program as an exception does: what it has begun is cleaned up. For the main
-    thread."""
+    """A context in which SIGTERM, sent by `timeout` and systemd, and SIGHUP, sent when a terminal
+    is closed, end the program by an exception, so that it cleans up. For the main thread."""
 
     def end(number: int, _: object) -> None:
         for each in before:
@@ -62,8 +61,8 @@ def ended_by_signals() -> Iterator[None]:
 
 
 class PostgresServer:
-    """Listens on a socket in its folder alone. PostgreSQL won't run as root, so that root runs it
-    as the user postgres."""
+    """A server that only listens on a socket in its folder. PostgreSQL doesn't run as root, so root
+    runs it as the user postgres."""
 
     table = "zanteyard"
 
@@ -91,14 +90,14 @@ class PostgresServer:
         return self
 
     def start(self) -> None:
-        """Again, where it was stopped."""
+        """Starts the server, also after `stop`."""
         options = f"-c listen_addresses='' -c unix_socket_directories={self.folder} -c fsync=off"
         options += "".join(f" -c {each}" for each in trusted_plugins())
         log = f"{self.folder}/log"
         self.run("pg_ctl", "-D", self.data, "-l", log, "-o", options, "-w", "start")
 
     def stop(self) -> None:
-        """At once, as if it were killed; does nothing where it doesn't run."""
+        """Ends the server at once, as if it had crashed. Does nothing if it isn't running."""
         ends = time.monotonic() + STOPPING
         pid = self.runs()
         while pid is not None:
@@ -111,10 +110,10 @@ class PostgresServer:
             pid = self.runs()
 
     def runs(self) -> Optional[int]:
-        """The number of the server's process, or None."""
+        """The server's process number, or None."""
         try:
             with open(f"{self.data}/postmaster.pid", encoding="ascii") as file:
-                pid = abs(int(file.readline()))  # below 0 while initdb runs one
+                pid = abs(int(file.readline()))  # negative while initdb runs one
             with open(f"/proc/{pid}/stat", encoding="utf-8", errors="replace") as file:
                 return None if file.read().rsplit(")", 1)[1].split()[0] == "Z" else pid
         except (OSError, ValueError, IndexError):
@@ -122,7 +121,7 @@ class PostgresServer:
 
     def __exit__(self, *_: object) -> None:
         self.stop()
-        for _try in range(TRIES):  # what initdb has begun may still make files
+        for _try in range(TRIES):  # what initdb has started may still create files
             shutil.rmtree(self.folder, ignore_errors=True)
             if not os.path.exists(self.folder):
                 break

@@ -1,4 +1,4 @@
-"""A Redis server of its own, in a folder that is thrown away."""
+"""A Redis server in a temporary folder."""
 
 from __future__ import annotations
 
@@ -12,13 +12,12 @@ from ._throwaway_server import ThrowawayServer
 
 
 def redis_server() -> Optional[str]:
-    """Where the server's program is; None where it isn't installed."""
+    """The path of the server program; None if it isn't installed."""
     return shutil.which("redis-server")
 
 
 class RedisServer(ThrowawayServer):
-    """`options` are more of its arguments. With `keeps` it has what it was told also after it was
-    killed, and started again."""
+    """`options` are further arguments. With `keeps`, its data survives a kill and a new start."""
 
     program, prefix = "redis-server", "zanteyard:"
 
@@ -41,14 +40,14 @@ class RedisServer(ThrowawayServer):
             try:
                 sock.connect(self.socket)
                 sock.sendall(b"PING\r\n")
-                return sock.recv(64).startswith(b"+PONG")  # not while it loads what it has kept
+                return sock.recv(64).startswith(b"+PONG")  # not while it loads its data
             except OSError:
                 return False
 
 
 class RedisGuest:
-    """Keys of one's own in a server that is there, under a prefix that nothing else has; they are
-    deleted at the end."""
+    """Temporary keys in a server that is already running, with a unique prefix; they are deleted at
+    the end."""
 
     def __init__(self, dsn: str, tell: Callable[[str], object] = say) -> None:
         self.dsn, self.tell = dsn, tell

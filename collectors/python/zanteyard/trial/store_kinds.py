@@ -1,5 +1,5 @@
-"""The kinds of stores that the command audits: how each is started, or found, and how a client's
-store is made."""
+"""The kinds of stores that the command audits: how to start or find a server, and how to make a
+client's store."""
 
 from __future__ import annotations
 
@@ -19,11 +19,11 @@ MakesStore = Callable[[], Any]
 
 
 class CantAuditError(ZanteyardError):
-    """What is wanted for an audit of this store and isn't there."""
+    """Something that an audit of this store needs is missing."""
 
 
 class MakeStore:
-    """Makes a client's store, here or in another process."""
+    """Makes a client's store, in this process or another one."""
 
     def __init__(self, kind: str, *arguments: Any, **more: Any) -> None:
         self.kind, self.arguments, self.more = kind, arguments, more
@@ -70,7 +70,7 @@ class StoreKind:
 
     @property
     def levels(self) -> Mapping[str, str]:
-        """The names in full by those of the command; the first is the strictest."""
+        """The levels' full names by their names on the command line; the first is the strictest."""
         return LEVELS[self.command]
 
     @property
@@ -78,14 +78,14 @@ class StoreKind:
         return next(iter(self.levels))
 
     def lacking(self) -> str:
-        """What has to be installed first, and how; empty where nothing has."""
+        """What has to be installed first, and how; empty if nothing is missing."""
         raise NotImplementedError
 
     def add_arguments(self, asked: argparse.ArgumentParser) -> None:
         asked.add_argument("--dsn", help=self.server_help)
 
     def server(self, asked: Any) -> Any:
-        """What is audited, cleaned up at the end of the `with`. Raises CantAuditError."""
+        """The server to audit, a context that cleans up at its end. Raises CantAuditError."""
         lacking = self.lacking()
         if lacking:
             raise CantAuditError(lacking)
@@ -95,14 +95,14 @@ class StoreKind:
         raise NotImplementedError
 
     def maker(self, asked: Any, server: Any, **more: Any) -> MakesStore:
-        """What makes a client's store of the level that was asked for."""
+        """A function that makes a client's store of the requested level."""
         raise NotImplementedError
 
     def version(self, server: Any) -> str:
-        """Of the server and of the driver."""
+        """The versions of the server and of the driver."""
         raise NotImplementedError
 
-    no_waiting: Mapping[str, Any] = {}  # what a store is told so that it waits for no locks
+    no_waiting: Mapping[str, Any] = {}  # arguments with which a store doesn't wait for locks
 
 
 def _wanted(module: str, package: str) -> str:
@@ -151,7 +151,7 @@ class _Postgres(StoreKind):
             dsn = f"{dsn} options='-c lock_timeout={more.pop('lock_wait')}'"
         return MakeStore(self.command, dsn, self.levels[asked.level], server.table, **more)
 
-    no_waiting = {"lock_wait": 20}  # milliseconds; 0 would be for ever
+    no_waiting = {"lock_wait": 20}  # milliseconds; 0 would mean no limit
 
     def version(self, server: Any) -> str:
         import psycopg2
@@ -199,7 +199,7 @@ class _MariaDB(StoreKind):
 
 
 def words_of(text: str) -> Dict[str, Any]:
-    """`host=.. port=.. user=..` as what pymysql's `connect` takes. Raises CantAuditError."""
+    """`host=.. port=.. user=..` as arguments of pymysql's `connect`. Raises CantAuditError."""
     words: Dict[str, Any] = {}
     for word in text.split():
         name, equals, value = word.partition("=")
@@ -251,7 +251,8 @@ class _SQLite(StoreKind):
 
     def add_arguments(self, asked: argparse.ArgumentParser) -> None:
         super().add_arguments(asked)
-        asked.add_argument("--journal", choices=("wal", "delete"), default="wal")
+        about = "SQLite's journal mode (wal)"
+        asked.add_argument("--journal", choices=("wal", "delete"), default="wal", help=about)
 
     def _server(self, asked: Any) -> Any:
         return SQLiteFile(asked.journal) if asked.dsn is None else SQLiteGuest(asked.dsn)
@@ -269,7 +270,7 @@ class _SQLite(StoreKind):
 
 
 class SQLiteFile:
-    """A file in a folder that is thrown away."""
+    """A file in a temporary folder."""
 
     table = "zanteyard"
 
@@ -291,12 +292,12 @@ class SQLiteFile:
 
 
 class SQLiteGuest(SQLiteFile):
-    """A table of one's own in a file that is there, which is dropped at the end."""
+    """A temporary table in an existing file, dropped at the end."""
 
     def __init__(self, path: str) -> None:
         import sqlite3
 
-        if not os.path.isfile(path):  # else it would be made
+        if not os.path.isfile(path):  # else it would be created
             raise CantAuditError(f"{path} doesn't exist")
         connection = sqlite3.connect(path)
         try:
@@ -329,7 +330,7 @@ KINDS: Sequence[StoreKind] = (POSTGRES, _MariaDB(), _Redis(), _SQLite())
 
 
 def kind_named(command: str) -> StoreKind:
-    """Of the command's name for it."""
+    """The kind with this name on the command line."""
     (named,) = [kind for kind in KINDS if kind.command == command]
     return named
 

@@ -1,5 +1,5 @@
-"""Clients that run at the same time until a fault shows, or the time is up: which levels have which
-faults under load."""
+"""Runs clients at the same time until a fault shows or the time is up; and tables of which levels
+have which faults under load."""
 
 from __future__ import annotations
 
@@ -15,14 +15,14 @@ from .lockstep import Seen
 from .workloads import EVERY_WORKLOAD, Clients
 
 CLIENTS = 4
-RATE = 400.0  # transactions a second of all clients
+RATE = 400.0  # transactions per second of all clients
 PART = 0.5  # seconds between two rounds
 MOST = 4000  # transactions of one run
-SHRINKING = 5.0  # seconds for what a violation is called
+SHRINKING = 5.0  # seconds to find out what a violation is called
 
 
 class Slow:
-    """A store that takes its time over each read, so that others come between."""
+    """A store whose reads take longer, so that other clients come in between."""
 
     def __init__(self, store: Any, seconds: float = 0.002) -> None:
         self._store, self._seconds = store, seconds
@@ -39,8 +39,8 @@ class Slow:
 def run_at_once(
     workload: str, stores: Sequence[Any], seconds: float, names_it: bool = True
 ) -> Seen:
-    """Has a client over each of these stores run the workload for so many seconds, or until it is
-    violated. Raises what a client's transaction raised, but for AbortedError."""
+    """Runs the workload with one client on each of these stores, for this many seconds or until a
+    violation. Raises what a client's transaction raised, except AbortedError."""
     with Auditor(len(stores), MOST, policy=RATHER_WAIT) as auditor:
         sessions = [Session(auditor, number, Slow(store)) for number, store in enumerate(stores)]
         ends = time.monotonic() + seconds
@@ -52,7 +52,7 @@ def run_at_once(
             report = auditor.round()
             kind = report.kind
         if kind != "violated":
-            kind = auditor.outcome().kind  # incomplete, where something wasn't audited
+            kind = auditor.outcome().kind  # incomplete if something wasn't audited
         outcomes = [[logged.outcome for logged in txns] for txns in auditor.history]
         named = ""
         if kind == "violated" and names_it:
@@ -69,8 +69,8 @@ def at_once_table(
     seconds: float,
     workloads: Sequence[str] = tuple(EVERY_WORKLOAD),
 ) -> Mapping[str, List[Seen]]:
-    """Of each workload what was seen at each level. Each begins with new connections, and goes on
-    in the rows of the one before it."""
+    """What was seen of each workload at each level. Each one begins with new connections, and
+    continues with the rows of the one before."""
     seen_by_workload: Dict[str, List[Seen]] = {workload: [] for workload in workloads}
     for level in levels:
         for workload, seen in seen_by_workload.items():

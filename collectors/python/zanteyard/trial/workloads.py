@@ -1,5 +1,5 @@
-"""Clients that run transactions on a store at the same time, in threads or in processes: what is
-audited where nothing else is at hand."""
+"""Clients that run transactions on a store at the same time, in threads or in processes, for audits
+without an application."""
 
 from __future__ import annotations
 
@@ -15,10 +15,10 @@ from ..remote._client import AuditClient
 from ..session._session import Session
 
 PAIRS = 8  # of keys
-READY = 60.0  # seconds for all clients' processes to start
-SHORT = 0.002  # seconds between a write and what takes it back
-LOOKS = 0.2  # seconds between two looks at whether clients in processes are to end
-LIFE = 2.0  # seconds for which a client is there that another one follows
+READY = 60.0  # seconds for all client processes to start
+SHORT = 0.002  # seconds between a write and its rollback
+LOOKS = 0.2  # seconds between two checks whether client processes should end
+LIFE = 2.0  # seconds until a client is replaced by another one
 
 
 def number_at(transaction: Any, key: str) -> int:
@@ -34,7 +34,7 @@ def skew(transaction: Any, client: int) -> None:
     pair = random.randrange(PAIRS)
     both = number_at(transaction, f"left {pair}") + number_at(transaction, f"right {pair}")
     side = random.choice((f"left {pair}", f"right {pair}"))
-    transaction.put(side, str((both + 1) % 1000))  # else it would double and double
+    transaction.put(side, str((both + 1) % 1000))  # else it would double again and again
 
 
 def mixed(transaction: Any, client: int) -> None:
@@ -65,7 +65,7 @@ def pairs(transaction: Any, client: int) -> None:
 
 
 def undone(transaction: Any, client: int) -> None:
-    """Reads a key, or writes it at once and mostly takes that back."""
+    """Reads a key, or writes it at once and mostly rolls that back."""
     key = f"key {random.randrange(PAIRS)}"
     if client % 2:
         number_at(transaction, key)
@@ -76,12 +76,13 @@ def undone(transaction: Any, client: int) -> None:
         raise AbortedError("the client takes back what it wrote")
 
 
-# Of the others each shows a fault of some level below serializable; so do these, of lower ones.
+# Each of the others shows a fault of some level below serializable; these two show faults of lower
+# levels.
 EVERY_WORKLOAD: Dict[str, Workload] = {**WORKLOADS, "pairs": pairs, "undone": undone}
 
 
 class Nothing:
-    """In place of an auditor."""
+    """Stands in for an auditor."""
 
     def take(self, *_: object) -> None:
         pass
@@ -90,8 +91,8 @@ class Nothing:
 
 
 class Clients:
-    """Each in a thread, over a session of its own, until the time is up or `is_over()`; the first
-    has this number."""
+    """Clients in threads, each with its own session, until the time is up or `is_over()`. The first
+    one has the number `first`."""
 
     def __init__(
         self,
@@ -106,7 +107,7 @@ class Clients:
         self.failures: List[Exception] = []
         self.longest, self.lock = 0.0, threading.Lock()
         self.count = len(sessions)
-        # Of each client, from the begin of a transaction to that of the next.
+        # Seconds from the begin of a client's transaction to that of its next one.
         self.pause = self.count / rate if rate else 0.0
         self.began = time.monotonic()
         self.until = self.began + seconds
@@ -139,7 +140,7 @@ class Clients:
                 except AbortedError:
                     aborted += 1
                 longest = max(longest, time.monotonic() - began)
-        except Exception as error:  # told by the main thread
+        except Exception as error:  # raised by the main thread
             self.failures.append(error)
         with self.lock:
             self.committed += committed
@@ -147,7 +148,8 @@ class Clients:
             self.longest = max(self.longest, longest)
 
     def wait(self, due: float) -> float:
-        """Until then; returns when the next transaction is due. Who is late doesn't catch up."""
+        """Waits until `due`; returns when the next transaction is due. A client that is late
+        doesn't catch up."""
         if self.pause:
             time.sleep(max(0.0, min(due, self.until) - time.monotonic()))
         return max(due, time.monotonic() - self.pause) + self.pause
@@ -159,8 +161,8 @@ class Clients:
 
 
 class ChurningClients(Clients):
-    """Each in the place of one that has gone: so many at a time, each of which comes with a store
-    of its own and leaves after so many seconds, until the time is up or `is_over()`."""
+    """Clients that replace each other: `count` at a time, each with its own store, which leave
+    after `life` seconds, until the time is up or `is_over()`."""
 
     def __init__(
         self,
@@ -180,7 +182,7 @@ class ChurningClients(Clients):
         self.waited = self.total / (self.took * count)
 
     def client(self, number: int, session: Any) -> None:
-        # They don't all change at once.
+        # So that they don't all change at once.
         until, life = self.until, random.uniform(0.5, 1.0) * self.life
         while time.monotonic() < until and not (self.is_over() or self.failures):
             store = self.make_store()
@@ -189,7 +191,7 @@ class ChurningClients(Clients):
                     self.live_until(min(until, time.monotonic() + life), number, own)
                     with self.lock:
                         self.came, self.total = self.came + 1, self.total + own.waited
-            except Exception as error:  # told by the main thread
+            except Exception as error:  # raised by the main thread
                 self.failures.append(error)
             finally:
                 store.close()
@@ -197,7 +199,7 @@ class ChurningClients(Clients):
 
 
 class ClientProcesses(Clients):
-    """The same, each in a process of its own, which is let into the audit at this path; None for no
+    """Clients in processes of their own, which connect to the audit at this path; None for no
     audit. `make_store` makes a client's store, and is sent to its process."""
 
     def __init__(
@@ -211,7 +213,7 @@ class ClientProcesses(Clients):
         is_over: Callable[[], bool] = lambda: False,
     ) -> None:
         self.committed = self.aborted = 0
-        # Processor time while transactions ran, and of the processes.
+        # Processor time while transactions ran, and in total.
         self.used = self.whole = 0.0
         self.failures = []
         waited: List[float] = []
@@ -219,7 +221,7 @@ class ClientProcesses(Clients):
         longest: List[float] = []
         spawned = multiprocessing.get_context(
             "spawn"
-        )  # a fork would have half of the auditor's threads
+        )  # a fork would copy only one of the auditor's threads
         results, ready, ended = spawned.SimpleQueue(), spawned.Barrier(count), spawned.Event()
         asked = (ended, path, make_store, workload, seconds, rate and rate / count)
         processes = [
@@ -269,9 +271,9 @@ def client_process(
     seconds: float,
     rate: Optional[float],
 ) -> None:
-    """One client, beside whose transactions its process does nothing else, until the time is up or
-    `ended` is set. Tells what failed, or what it did."""
-    signal.signal(signal.SIGINT, signal.SIG_IGN)  # a terminal's is for the process that began it
+    """One client in a process that does nothing else while transactions run, until the time is up
+    or `ended` is set. Sends its counts, or what failed."""
+    signal.signal(signal.SIGINT, signal.SIG_IGN)  # a terminal's Ctrl-C is for the parent process
     try:
         store = make_store()
         store.connect()
@@ -289,4 +291,4 @@ def client_process(
         results.put((failure, *counts, clients.took, clients.waited, clients.longest))
     except Exception as error:
         results.put((f"client {number}: {str(error) or type(error).__name__}",))
-        ready.abort()  # nobody waits for it
+        ready.abort()  # so that nobody waits for it

@@ -1,7 +1,7 @@
-"""Hands the proxy's lines to the auditor, and reads what it answers.
+"""Passes the proxy's lines to the auditor, and reads its replies.
 
-Lines go through as bytes. Each `open` begins an audit, with a program of its own: what the one
-before it knew is gone with it.
+Lines are passed on as bytes. Each `open` begins a new audit with a new program, which knows nothing
+of the previous one.
 """
 
 from __future__ import annotations
@@ -26,16 +26,16 @@ from ..program._resuming import journaled
 from ..promises._kinds import SERIALIZABLE, Promise
 from ._retained import OPEN
 
-SECONDS = 60.0  # in which a line has to be answered
+SECONDS = 60.0  # seconds for the reply to a line
 ROUND = b'["round",'
 logger = logging.getLogger("zanteyard")
 
-Answered = Tuple[bytes, bytes]  # a line, and the reply to it
+Answered = Tuple[bytes, bytes]  # a line and its reply
 
 
 class Auditing:
-    """For one thread at a time. With a journal a program that dies is replaced by another one that
-    is brought to where it stood; without one its end is the audit's."""
+    """For one thread at a time. With a journal, a program that dies is replaced by another one in
+    the same state; without one, the audit ends with its program."""
 
     def __init__(
         self,
@@ -44,16 +44,16 @@ class Auditing:
         round_seconds: float = 60.0,
         promise: Promise = SERIALIZABLE,
     ) -> None:
-        """`path` is the program to start. Lines and replies are of transactions as the proxy has
-        them, whatever the promise. A round whose search takes more than `round_seconds` is skipped,
-        and answered as a spent one. A journal that is there from an earlier run is set aside.
-        Raises JournalError."""
+        """`path` is the program to start. Lines and replies have transactions as the proxy knows
+        them, whatever the promise. A round whose search takes longer than `round_seconds` is
+        skipped, and answered as spent. A journal from an earlier run is renamed. Raises
+        JournalError."""
         self.path, self.journal, self.round_seconds = path, journal, round_seconds
         self.promise = promise
         self.audits = 0
-        self._round = 0  # the last one's number
-        self._uncounted = 0  # rounds that were skipped, and which the program doesn't count
-        self._refusal = b""  # the last reply that was one
+        self._round = 0  # number of the last one
+        self._uncounted = 0  # skipped rounds, which the program doesn't count
+        self._refusal = b""  # the last reply that was a refusal
         self.run_name = uuid.uuid4().hex
         self._program: Union[Pipes, SupervisedProgram, None] = None
         if journal is not None:
@@ -65,9 +65,9 @@ class Auditing:
         return self._program.restarts if isinstance(self._program, SupervisedProgram) else 0
 
     def give(self, lines: Sequence[bytes]) -> Iterator[Answered]:
-        """Yields each line with its reply, as it comes. Raises ProgramEndedError if the program
-        ends or doesn't answer in time, and JournalError; then the audit is over. A line before the
-        first `open`, or one of an audit that is over, isn't answered."""
+        """Yields each line with its reply, as the replies arrive. Raises ProgramEndedError if the
+        program ends or doesn't answer in time, and JournalError; then the audit is over. Lines
+        before the first `open`, or of an audit that is over, aren't answered."""
         waiting: Deque[bytes] = deque()
         for line in lines:
             if OPEN.match(line):
@@ -83,7 +83,7 @@ class Auditing:
         yield from self._answers(waiting)
 
     def ask(self, line: bytes) -> bytes:
-        """The reply to one line. Raises as `give` does."""
+        """The reply to one line. Raises what `give` raises."""
         ((_, reply),) = self.give([line])
         return reply
 
@@ -105,7 +105,7 @@ class Auditing:
         self._program = journaled(self.path, self.journal, lambda: head, [FENCE])
 
     def _answers(self, waiting: Deque[bytes]) -> Iterator[Answered]:
-        """Of all these lines, which are given at once."""
+        """Gives all these lines at once, and yields each with its reply."""
         try:
             if waiting and self._program is not None:
                 self._program.ask(list(waiting))
@@ -117,8 +117,8 @@ class Auditing:
             raise
 
     def _searched(self, line: bytes) -> bytes:
-        """The reply to a round. Its search goes on beside the program's lines, so that it can be
-        skipped."""
+        """The reply to a round. The search runs while the program reads other lines, so that it can
+        be skipped."""
         _, *asked = json.loads(line)
         try:
             search = SearchedRound(self._reply_to, asked, self.round_seconds)
@@ -138,7 +138,7 @@ class Auditing:
         return written(report).encode()
 
     def _reply_to(self, line: Sequence[Any]) -> List[Any]:
-        """Raises RefusedError."""
+        """The reply to a line. Raises RefusedError."""
         text = written(line)
         ((_, answer),) = self._answers(deque([text.encode()]))
         reply: List[Any] = json.loads(answer)
@@ -154,7 +154,7 @@ class Auditing:
         self.end()
 
     def end(self) -> None:
-        """Ends the program, if one runs."""
+        """Ends the program, if one is running."""
         program, self._program = self._program, None
         if program is not None:
             try:
@@ -164,7 +164,8 @@ class Auditing:
 
 
 def _set_aside(path: str) -> None:
-    """A journal of a run that is over becomes PATH.old. Raises JournalInUseError if it isn't."""
+    """Renames the journal of an earlier run to PATH.old. Raises JournalInUseError if that run isn't
+    over."""
     if os.path.lexists(path):
         journal = Journal(path)
         try:
@@ -174,7 +175,7 @@ def _set_aside(path: str) -> None:
 
 
 def refusal_of(reply: bytes) -> str:
-    """The name of what a line was refused for; an empty text if it wasn't."""
+    """The name of the refusal in a reply; empty if the line wasn't refused."""
     if not reply.startswith(b'["no",'):
         return ""
     parts: List[str] = reply.decode(errors="replace").split('"')

@@ -1,4 +1,4 @@
-"""Where an audit stands, noted by one thread and read by others."""
+"""The state of an audit, written by one thread and read by others."""
 
 from __future__ import annotations
 
@@ -14,13 +14,13 @@ from ._feed import listed, number, seen_of, text, whole
 from ._state import Ended, Seen, Status, added
 from ._violations import Violation
 
-ROUNDS = 180  # that are shown, the last ones
-VIOLATIONS = 20  # that are kept with their explanations: the first half, and the last half
+ROUNDS = 180  # that are shown, the latest ones
+VIOLATIONS = 20  # that are kept with their explanations: the first half, and the latest half
 NOTES = 12
 
 
 class Board:
-    """Safe for several threads. Times are in seconds since 1970."""
+    """The state of an audit; safe for use by several threads. Times are in seconds since 1970."""
 
     def __init__(
         self, title: str, origin: str = "", promise: Promise = SERIALIZABLE
@@ -32,10 +32,10 @@ class Board:
         self._kinds: Dict[str, int] = {}
         self._violations: List[Violation] = []
         self._notes: Deque[str] = deque(maxlen=NOTES)
-        self._met = 0.0  # when the meeting was of which the next round will tell
+        self._met = 0.0  # when the meeting was that the next round will cover
 
     def status(self) -> Status:
-        """All of it by now."""
+        """The whole current state."""
         with self._turn:
             return replace(
                 self._status,
@@ -76,7 +76,7 @@ class Board:
             )
 
     def round(self, kind: str, counts: Sequence[int], remaining: int) -> RoundSeen:
-        """A round that was reported just now."""
+        """Notes a round that was reported just now."""
         now = time.time()
         with self._turn:
             status = self._status
@@ -99,7 +99,7 @@ class Board:
             return seen
 
     def waits(self, lines: Sequence[str], count: int) -> None:
-        """The reads that wait, of the last round."""
+        """Notes the reads that wait after the last round."""
         with self._turn:
             self._note(pending=tuple(lines), pending_count=count)
 
@@ -109,7 +109,7 @@ class Board:
             self._note(cuts=self._status.cuts + 1, forgotten=forgotten, remaining=remaining)
 
     def violation(self, one: Violation) -> None:
-        """One that has been explained."""
+        """Adds a violation that has been explained."""
         with self._turn:
             its = self._violations
             its.append(one)
@@ -118,7 +118,7 @@ class Board:
                 del its[VIOLATIONS // 2]
 
     def ended(self, reason: str, is_lost: bool = True) -> None:
-        """The audit is over, with what its last round said."""
+        """Notes that the audit has ended, with the verdict of its last round."""
         with self._turn:
             status = self._status
             its = (status.kind, status.rounds_count, reason, time.time(), is_lost)
@@ -126,7 +126,7 @@ class Board:
             self._note(ended=(*status.ended[-49:], over), is_over=True)
 
     def begins_anew(self) -> None:
-        """Another audit, which nothing is known of yet."""
+        """Begins another audit, of which nothing is known yet."""
         with self._turn:
             its = {"is_over": False, "kind": "running", "pending": (), "pending_count": 0}
             earlier = added(self._status.earlier_seen, self._status.seen)
@@ -136,12 +136,12 @@ class Board:
             )
 
     def note(self, told: str) -> None:
-        """A sentence for people."""
+        """Adds a sentence for people."""
         with self._turn:
             if told not in self._notes:
                 self._notes.append(told)
 
     def restarted(self, count: int) -> None:
-        """How many programs of the present audit were replaced."""
+        """Notes how many programs of the current audit were replaced."""
         with self._turn:
             self._note(restarts=count)

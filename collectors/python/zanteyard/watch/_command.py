@@ -1,7 +1,7 @@
-"""`zanteyard watch`: audits any application over PostgreSQL by its connection string.
+"""`zanteyard watch`: audits any application on PostgreSQL; only its connection string changes.
 
-docs/WATCH.md says how it is used. Its exit status says what was found by the end: 0 serial, 1
-violated, 2 it can't begin, 3 pending, 4 something was lost or not decided, or nothing was checked.
+docs/WATCH.md says how to use it. The exit status says what was found: 0 serial, 1 violated, 2 it
+can't begin, 3 pending, 4 something was lost or not decided, or nothing was checked.
 """
 
 from __future__ import annotations
@@ -32,7 +32,7 @@ from ._web import host_and_port
 MISTAKE = 2
 LISTEN = "127.0.0.1:6432"
 FORM = "%(asctime)s %(levelname)s %(message)s"
-URL = "ZANTEYARD_URL"  # the environment's name for it, so that no list of processes shows it
+URL = "ZANTEYARD_URL"  # the environment variable for it, so that no list of processes shows it
 logger = logging.getLogger("zanteyard")
 
 
@@ -117,7 +117,7 @@ def level(text: str) -> int:
 
 
 def run(asked: Any) -> int:
-    """Gives the exit status."""
+    """Runs the command, and returns its exit status."""
     logging.basicConfig(level=asked.log, format=FORM, stream=sys.stderr)
     if not asked.url:
         return _mistake(f"no server was given: give its URL or set {URL}")
@@ -155,8 +155,8 @@ def _mistake(told: str) -> int:
 
 
 def prepared(url: str) -> List[str]:
-    """What an audit of this server can't begin without, after what can be created was; empty if
-    nothing is missing, or no driver is installed by which the server could be asked."""
+    """What this server still lacks for an audit after everything that can be created was. Empty if
+    nothing is missing, or if no driver is installed to ask the server."""
     try:
         with Database(url) as database:
             server = server_of(database, host_name(url))
@@ -178,8 +178,8 @@ def prepared(url: str) -> List[str]:
 
 
 def call_of(proxy: str, asked: Any) -> Tuple[Sequence[str], Dict[str, str]]:
-    """The proxy's program with its arguments, and its environment, which has the password: a list
-    of processes doesn't show that."""
+    """The proxy's program with its arguments, and its environment. The password is in the
+    environment, since a list of processes would show arguments."""
     url, environment = asked.url, dict(os.environ)
     try:
         password = urlsplit(url).password

@@ -1,4 +1,4 @@
-"""A connection to PostgreSQL over whichever driver is installed: psycopg2, or psycopg 3."""
+"""A connection to PostgreSQL with whichever driver is installed: psycopg2 or psycopg 3."""
 
 from __future__ import annotations
 
@@ -8,8 +8,8 @@ from urllib.parse import urlsplit, urlunsplit
 
 from ..core.errors import ZanteyardError
 
-CONNECTING = 10  # seconds for a server to take a connection
-ANSWERING = 20  # seconds for it to answer one statement
+CONNECTING = 10  # seconds for a server to accept a connection
+ANSWERING = 20  # seconds for it to answer a statement
 
 
 class DriverMissingError(ZanteyardError):
@@ -17,8 +17,8 @@ class DriverMissingError(ZanteyardError):
 
 
 class DatabaseError(ZanteyardError):
-    """The server can't be reached, or refused a statement; `code` is the error's SQLSTATE, empty
-    if there is none."""
+    """The server can't be reached, or refused a statement. `code` is the error's SQLSTATE, empty if
+    there is none."""
 
     def __init__(self, text: str, code: str = "") -> None:
         super().__init__(text)
@@ -26,7 +26,7 @@ class DatabaseError(ZanteyardError):
 
 
 class Database:
-    """One connection, in autocommit. For one thread. Raises DatabaseError."""
+    """One connection, in autocommit mode, for one thread. Raises DatabaseError."""
 
     def __init__(self, url: str, **more: Any) -> None:
         self._driver = _driver()
@@ -40,7 +40,8 @@ class Database:
             raise _told(error) from None
 
     def _hosts(self, url: str) -> int:
-        """How many servers a URL names: of several, one might be read, and another one be used."""
+        """How many servers a URL names. With several, the one that is checked and the one that is
+        used might differ."""
         try:
             if self._driver.__name__ == "psycopg2":
                 its = import_module("psycopg2.extensions").parse_dsn(url)
@@ -101,7 +102,7 @@ def _told(error: Any) -> DatabaseError:
 
 
 def without_password(url: str) -> str:
-    """The URL as it may be shown."""
+    """The URL in a form that may be shown."""
     try:
         parts = urlsplit(url)
         if parts.scheme and parts.password is not None:

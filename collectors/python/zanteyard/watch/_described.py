@@ -1,4 +1,4 @@
-"""What the proxy knows of a transaction, for people who read an explanation."""
+"""What the proxy knows about a transaction, for readers of an explanation."""
 
 from __future__ import annotations
 
@@ -6,23 +6,25 @@ import time
 from dataclasses import dataclass
 from typing import Any, Iterator, Optional, Sequence, Tuple
 
-from ..core._records import AuditId
+from ..core._records import AuditId, Source
 from ..core._visible import visible
 from ._origins import without_tags
 
-VALUE, VALUES = 80, 300  # characters of one parameter, and of all of a statement
+VALUE, VALUES = 80, 300  # characters of one parameter, and of all parameters of a statement
 
 
 @dataclass(frozen=True)
 class Statement:
-    """One statement as the application sent it. `parameters` are None if the policy keeps them
-    back. `at` is in seconds since 1970. `unseen` says what of it the audit couldn't see."""
+    """One statement as the application sent it. `parameters` are None if the policy withholds them.
+    `at` is in seconds since 1970. `unseen` says what the audit couldn't see of it. `reads` are
+    those that it is known to have made: the auditor's numbers of keys, and their writers."""
 
     text: str
     parameters: Optional[Tuple[Optional[str], ...]] = None
     at: float = 0.0
     unseen: Tuple[str, ...] = ()
-    place: str = ""  # the file and line, if whoever sent it has told
+    place: str = ""  # the file and line, if the sender provides them
+    reads: Tuple[Tuple[int, Source], ...] = ()
 
     @property
     def plain(self) -> str:
@@ -48,7 +50,7 @@ def _value(value: Optional[str]) -> str:
 
 @dataclass(frozen=True)
 class Described:
-    """One transaction. Texts that aren't known are empty, and times 0."""
+    """One transaction. Unknown texts are empty, and unknown times are 0."""
 
     id: AuditId
     application: str = ""  # the connection's application_name
@@ -61,13 +63,13 @@ class Described:
     ended: float = 0.0
     is_fence: bool = False
     statements: Tuple[Statement, ...] = ()
-    statements_dropped: int = 0  # whose texts weren't kept
-    xid: int = 0  # the server's number of it, 0 if it has none
+    statements_dropped: int = 0  # how many statements' texts weren't kept
+    xid: int = 0  # its transaction number on the server, 0 if it has none
     proxy: str = ""  # the other machine's, if it came through one
 
     @property
     def client(self) -> str:
-        """Whose it is, in a few words."""
+        """A short description of its client."""
         if self.is_fence:
             return "a fence of the proxy's own"
         its = [visible(self.application, 80)] if self.application else []
@@ -78,7 +80,7 @@ class Described:
 
 
 def clock(at: float, has_parts: bool = True) -> str:
-    """The local time of day, to a millisecond; an empty text for 0."""
+    """The local time of day, to the millisecond; empty for 0."""
     if not at:
         return ""
     whole, parts = divmod(int(at * 1000), 1000)
@@ -86,23 +88,26 @@ def clock(at: float, has_parts: bool = True) -> str:
     return f"{told}.{parts:03}" if has_parts else told
 
 
-def lines_of(label: str, its: Optional[Described]) -> Iterator[str]:
-    """What it is and what it ran, as lines of text."""
+def lines_of(
+    label: str, its: Optional[Described], reads: Sequence[Sequence[str]] = ()
+) -> Iterator[str]:
+    """What it is and what it ran, as lines of text; `reads` go below their statements."""
     if its is None:
         yield f"{label}: no details are known"
         return
     began = f"began at {clock(its.began)}" if its.began else ""
     facts = [its.client, visible(its.level, 80), began]
     yield f"{label}: " + ", ".join(fact for fact in facts if fact)
-    for one in its.statements:
+    for one, read in zip(its.statements, (*reads, *((),) * len(its.statements))):
         more = "".join(f"  [{it}]" for it in (one.values, visible(one.origin)) if it)
         yield f"    {clock(one.at)} {visible(one.plain, 300)}{more}".rstrip()
+        yield from (f"        {visible(line, 300)}" for line in read)
         if one.unseen:
             yield f"        not seen: {visible('; '.join(one.unseen), 200)}"
 
 
 def by_time(ids: Sequence[AuditId], known: Any) -> Sequence[AuditId]:
-    """The transactions by the time at which they began; those of which that isn't known last."""
+    """The transactions by the time at which they began; those with unknown times last."""
 
     def place(one: AuditId) -> Tuple[float, AuditId]:
         its = known.get(one)

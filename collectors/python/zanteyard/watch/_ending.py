@@ -1,4 +1,4 @@
-"""What came of an audit, in words: how much was checked, what wasn't, and the verdict's status."""
+"""The outcome of an audit in words: how much was checked, what wasn't, and the exit status."""
 
 from __future__ import annotations
 
@@ -12,7 +12,7 @@ from ._text import counted
 
 STATUSES: Mapping[str, int] = {"serial": 0, "violated": 1, "pending": 3}
 UNDECIDED = 4
-SHOWN = 15  # shapes of statements
+SHOWN = 15  # statement shapes
 STATUS_WORDS = (
     "Exit status: 0 serial, or the promise asked for was kept; 1 violated; 2 it can't start; 3 "
     "pending; 4 something was lost or not decided, or nothing was checked."
@@ -28,7 +28,8 @@ def kind_of(status: Status) -> str:
 
 
 def word_of(kind: str, promise: Promise) -> str:
-    """The verdict for people: a history may keep another promise and not be serial at all."""
+    """The verdict for people: "kept" if it is about another promise, since such a history may not
+    be serial."""
     return "kept" if kind == "serial" and promise != SERIALIZABLE else kind
 
 

@@ -1,4 +1,4 @@
-"""Explains violations beside the audit, in threads of their own: the audit goes on meanwhile."""
+"""Explains violations in threads of their own, while the audit goes on."""
 
 from __future__ import annotations
 
@@ -12,16 +12,16 @@ from ..core._records import AuditId
 from ..promises._kinds import SERIALIZABLE, Promise
 from ._violations import EXPLAINING, NOTHING, Answered, Held, Violation, explained
 
-ANSWERING = 10.0  # seconds in which the proxy has to describe transactions
-MOST = 16  # violations that are explained; the rest is counted
+ANSWERING = 10.0  # seconds for the proxy to describe transactions
+MOST = 16  # violations that are explained; the rest are counted
 MOST_AT_ONCE = 2
 MOST_DESCRIBED = 256  # transactions of one violation
 logger = logging.getLogger("zanteyard")
 
 
 class Explaining:
-    """`begin` is for the thread that asks the auditor; `told` is called by a thread of this one,
-    with each violation once it is explained."""
+    """Explains violations. `begin` is for the thread that asks the auditor. `told` is called by a
+    thread of this object with each violation that has been explained."""
 
     def __init__(
         self,
@@ -42,8 +42,8 @@ class Explaining:
         held: Held,
         describe: Callable[[int, Sequence[AuditId]], object],
     ) -> None:
-        """Of a round that was violated just now. `describe` asks the proxy to describe these
-        transactions, and is called at once."""
+        """Begins to explain the violation of this report. Calls `describe` at once, which asks the
+        proxy to describe these transactions."""
         self.count += 1
         if self.count > MOST:
             return
@@ -57,7 +57,7 @@ class Explaining:
         thread.start()
 
     def answered(self, number: int, answered: Answered) -> None:
-        """What the proxy said to `describe`."""
+        """Takes the proxy's answer to `describe`."""
         with self._turn:
             answer = self._awaited.get(number)
         if answer is not None:
@@ -66,7 +66,7 @@ class Explaining:
     def _explain(
         self, number: int, report: Sequence[Any], held: Held, answer: "_Answer", now: float
     ) -> None:
-        signal.pthread_sigmask(signal.SIG_BLOCK, {signal.SIGINT})  # also of programs it starts
+        signal.pthread_sigmask(signal.SIG_BLOCK, {signal.SIGINT})  # programs it starts inherit this
         try:
             answered = answer.take(ANSWERING)
             with self._places:
@@ -80,14 +80,14 @@ class Explaining:
                 self._awaited.pop(number, None)
 
     def wait(self, seconds: float) -> None:
-        """Until all that have begun are explained, for at most so long."""
+        """Waits until all violations that were begun are explained, at most this many seconds."""
         ends = time.monotonic() + seconds
         for thread in self._threads:
             thread.join(max(0.0, ends - time.monotonic()))
 
 
 class _Answer:
-    """One that is awaited."""
+    """An answer of the proxy that is waited for."""
 
     def __init__(self) -> None:
         self._is_there = threading.Event()
@@ -98,7 +98,7 @@ class _Answer:
         self._is_there.set()
 
     def take(self, seconds: float) -> Answered:
-        """What was put; an empty one if nothing was in so many seconds."""
+        """The answer; an empty one if none arrives within this many seconds."""
         if not self._is_there.wait(seconds):
             logger.warning("the proxy didn't describe a violation's transactions in time")
         return self._found or NOTHING

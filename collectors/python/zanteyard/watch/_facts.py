@@ -1,4 +1,4 @@
-"""What a server says of itself, as far as an audit needs it."""
+"""What a server reports about itself, as far as an audit needs it."""
 
 from __future__ import annotations
 
@@ -12,8 +12,9 @@ from ._hosts import (
 
 OLDEST = 130000  # PostgreSQL 13
 FENCE = "public.zanteyard_fence"
-PLUGIN, SHIPPED = "wal2json", "test_decoding"  # what decodes the log, for the proxy
-TRUSTED = "output_plugin_libraries"  # the server's list of those that may
+PLUGIN, SHIPPED = "wal2json", "test_decoding"  # logical decoding plugins that the proxy can use
+INSTALL = f"install it on the server (Debian: postgresql-NN-{PLUGIN})"
+TRUSTED = "output_plugin_libraries"  # the server's list of allowed plugins
 CREATES = (
     f"CREATE TABLE IF NOT EXISTS {FENCE} (id integer PRIMARY KEY CHECK (id = 0), "
     "n bigint NOT NULL)",
@@ -28,8 +29,8 @@ REFUSED = "42501"  # insufficient privilege
 
 @dataclass(frozen=True)
 class Finding:
-    """One thing that was looked at. `is_needed` tells whether the audit can't begin without it;
-    the remedy is empty if nothing is to be done."""
+    """The result of one check. `is_needed` tells whether the audit can't begin without it. The
+    remedy is empty if there is nothing to do."""
 
     is_right: bool
     is_needed: bool
@@ -49,7 +50,7 @@ class Server:
 
 
 def server_of(database: Database, host_name: str) -> Server:
-    """Raises DatabaseError."""
+    """Asks the server what it is. Raises DatabaseError."""
     ((version, number, name, user),) = database.run(
         "SELECT current_setting('server_version'), current_setting('server_version_num')::int, "
         "current_database(), current_user"
@@ -59,7 +60,7 @@ def server_of(database: Database, host_name: str) -> Server:
 
 
 def findings(database: Database, server: Server) -> List[Finding]:
-    """What the server has, or lacks, for an audit. Raises DatabaseError."""
+    """What the server has or lacks for an audit. Raises DatabaseError."""
     found = [_version(server), _wal_level(database, server)]
     found += [_senders(database, server), _slots(database, server)]
     found.append(_replication(database, server))
@@ -125,7 +126,7 @@ def _replication(database: Database, server: Server) -> Finding:
 
 
 def _plugin(database: Database, server: Server) -> Finding:
-    """By a slot that is gone with this connection, or at once."""
+    """Tries the plugin with a slot that disappears at once, or with this connection."""
     try:
         database.run("SET statement_timeout = '10s'")
         _probe(database, PLUGIN)
@@ -133,7 +134,7 @@ def _plugin(database: Database, server: Server) -> Finding:
     except DatabaseError as error:
         if error.code in NO_PLUGIN:
             told = f"{PLUGIN} isn't installed"
-            remedy = f"install it on the server (Debian: postgresql-NN-{PLUGIN})"
+            remedy = INSTALL
         elif error.code == REFUSED and (trusted := _trusted(database)) is not None:
             told = f"{PLUGIN} isn't in the server's {TRUSTED}"
             remedy = _trust_remedy(server, trusted)
@@ -152,14 +153,26 @@ def _plugin(database: Database, server: Server) -> Finding:
 
 
 def _plugin_untried(database: Database, server: Server) -> List[Finding]:
-    """What is known of it while no slot can be made, so that it is mended along with the rest."""
+    """What is known about the plugin while no slot can be created, so that it can be fixed together
+    with the rest."""
+    without = f"otherwise {SHIPPED} is used; {BEHIND_SAVEPOINTS}"
+    if _is_missing(database):
+        return [Finding(False, False, f"{PLUGIN} isn't installed: {without}", INSTALL)]
     trusted = _trusted(database)
     names = database.one(f"SELECT current_setting('{TRUSTED}', true)") or ""
     if trusted is None or PLUGIN in (name.strip(" \"") for name in names.split(",")):
         return []
     told = f"{PLUGIN} isn't in the server's {TRUSTED}"
-    without = f"otherwise {SHIPPED} is used; {BEHIND_SAVEPOINTS}"
     return [Finding(False, False, f"{told}: {without}", _trust_remedy(server, trusted))]
+
+
+def _is_missing(database: Database) -> bool:
+    """Whether the plugin is known to be missing: only a superuser can try to load it."""
+    try:
+        database.run(f"LOAD '{PLUGIN}'")
+    except DatabaseError as error:
+        return error.code in NO_PLUGIN
+    return False
 
 
 def _trust_remedy(server: Server, trusted: str) -> str:
@@ -172,7 +185,7 @@ def _probe(database: Database, plugin: str) -> None:
 
 
 def _trusted(database: Database) -> Optional[str]:
-    """The server's list of plugins that may be used, with ours; None if it has no such list."""
+    """The server's list of allowed plugins, with ours added; None if it has no such list."""
     its: Optional[str] = database.one(f"SELECT current_setting('{TRUSTED}', true)")
     return None if its is None else f"{its}, {PLUGIN}" if its else PLUGIN
 
@@ -232,7 +245,8 @@ def _keep(database: Database, server: Server) -> Finding:
 
 
 def create(database: Database) -> Sequence[Tuple[str, Optional[str]]]:
-    """Creates what the audit needs in the database; gives each statement, and why it failed."""
+    """Creates what the audit needs in the database. Returns each statement, and why it failed, if
+    it did."""
     found: List[Tuple[str, Optional[str]]] = []
     for statement in CREATES:
         try:

@@ -1,30 +1,31 @@
-"""What the proxy writes, as docs/PROXY_FEED.md has it, read into plain values. Fields that are
-missing have their empty values, and events that aren't known are left out."""
+"""Reads what the proxy writes (docs/PROXY_FEED.md) into plain values. Missing fields get empty
+values, and unknown events are left out."""
 
 from __future__ import annotations
 
 import json
+from dataclasses import replace
 from typing import Any, Dict, List, Mapping, Optional, Sequence, Tuple, Union
 
-from ..core._records import AuditId
+from ..core._records import AuditId, Source
 from ._described import Described, Statement
 from ._state import OtherProxy, Others, Seen, Shape
 from ._violations import Answered, Row
 
 Event = Dict[str, Any]
 Item = Union[bytes, Event]  # a line for the auditor, or an event
-OTHERS = "others"  # the shape in which the rest of the shapes is counted
+OTHERS = "others"  # the shape that counts all remaining shapes
 
 
 class Split:
-    """Cuts what comes into items. Not for several threads."""
+    """Cuts the proxy's output into items; not for several threads."""
 
     def __init__(self) -> None:
         self._rest = b""
         self.wrong = 0  # lines that were neither
 
     def items(self, data: bytes) -> List[Item]:
-        """Those that are whole by now."""
+        """The items that are complete so far."""
         *lines, self._rest = (self._rest + data).split(b"\n")
         found: List[Item] = []
         for line in lines:
@@ -50,7 +51,7 @@ def _event(line: bytes) -> Optional[Event]:
 
 
 def number(value: Any) -> float:
-    """A number, or 0 for anything else."""
+    """The value if it is a number, else 0."""
     if isinstance(value, (int, float)) and not isinstance(value, bool):
         return value
     return 0.0
@@ -77,7 +78,7 @@ def reasons(value: Any) -> Mapping[str, int]:
 
 
 def seen_of(event: Mapping[str, Any]) -> Seen:
-    """The coverage that an event tells."""
+    """The coverage in an event."""
     reads, writes = table(event.get("reads")), table(event.get("writes"))
     connections, sessions = table(event.get("connections")), table(event.get("sessions"))
     lag = table(event.get("lag"))
@@ -171,11 +172,25 @@ def _described(id: AuditId, one: Mapping[str, Any]) -> Described:
         number(one.get("began")),
         number(one.get("ended")),
         one.get("fence") is True,
-        tuple(_statement(table(it)) for it in listed(one.get("statements"))),
+        _statements(one),
         whole(one.get("statements_dropped")),
         whole(one.get("xid")),
         text(one.get("proxy")),
     )
+
+
+def _statements(one: Mapping[str, Any]) -> Tuple[Statement, ...]:
+    """The statements, each with the reads that it made; an older proxy's feed lacks these."""
+    found = [_statement(table(it)) for it in listed(one.get("statements"))]
+    reads: List[List[Tuple[int, Source]]] = [[] for _ in found]
+    for read, at in zip(listed(one.get("reads")), listed(one.get("read_by"))):
+        key, *source = listed(read) or (None,)
+        if type(at) is int and 0 <= at < len(found) and type(key) is int:
+            if source == ["init"]:
+                reads[at].append((key, "init"))
+            elif [type(it) for it in source] == [int, int]:
+                reads[at].append((key, (source[0], source[1])))
+    return tuple(replace(it, reads=tuple(its)) for it, its in zip(found, reads))
 
 
 def _statement(its: Mapping[str, Any]) -> Statement:

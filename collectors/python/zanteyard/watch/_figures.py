@@ -1,5 +1,5 @@
-"""Figures of a watched audit, for Prometheus. Those that the daemon `zanteyard serve` has too have
-the same names."""
+"""Metrics of a watched audit, for Prometheus. Those that the daemon `zanteyard serve` has, too,
+have the same names."""
 
 from __future__ import annotations
 
@@ -17,7 +17,7 @@ KINDS = ("serial", "pending", "violated", "spent")
 
 
 def families(status: Status) -> Iterator[Family]:
-    """All figures. Counts of transactions, reads and writes are those of all audits of this run."""
+    """All metrics. Counts of transactions, reads and writes are over all audits of this run."""
     seen, earlier = status.seen, status.earlier_seen
 
     def one(name: str, kind: str, about: str, value: float) -> Family:
@@ -104,7 +104,7 @@ def _by_reason(
 
 
 class Metrics:
-    """Answers /metrics; safe for several threads."""
+    """Answers /metrics; safe for use by several threads."""
 
     def __init__(self, board: Board) -> None:
         self._board = board

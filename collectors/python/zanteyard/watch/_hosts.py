@@ -1,7 +1,8 @@
-"""What has to be set up on a server, and where that is done: by hand, or on the console of a host.
+"""What has to be set up on a server, and where to do that: by hand, or in the console of a hosting
+provider.
 
-What is said of hosts was taken from their documentation and wasn't tried. Names of menus change:
-the names of settings are what to look for.
+What is said about providers is from their documentation, and wasn't tried. Menus change, so look
+for the names of the settings.
 """
 
 from __future__ import annotations
@@ -16,7 +17,7 @@ WAL_LEVEL, SLOTS, SENDERS, REPLICATION, WALINSPECT, KEEP, PLUGINS = (
 
 @dataclass(frozen=True)
 class Host:
-    """Who runs the server, and how each thing is set there. {user} stands for the role."""
+    """A provider that runs servers, and how each thing is set there. {user} stands for the role."""
 
     name: str
     remedies: Mapping[str, str]
@@ -134,7 +135,7 @@ NAMES = (
 
 
 def host_of(name: str, settings: Iterable[str]) -> Host:
-    """By the server's name, and by settings of a host's own that it has."""
+    """The provider, from the server's name and from settings that only a provider has."""
     prefixes = {setting.split(".")[0] for setting in settings if "." in setting}
     if "alloydb" in prefixes:
         return ALLOYDB

@@ -1,4 +1,4 @@
-"""What the proxy wrote and the auditor hasn't got yet."""
+"""What the proxy wrote and the auditor hasn't been given yet."""
 
 from __future__ import annotations
 
@@ -8,11 +8,11 @@ from typing import Deque, List, Optional, Sequence
 
 from ._feed import Item
 
-MOST = 64 << 20  # bytes of lines that wait; the proxy isn't read while there are more
+MOST = 64 << 20  # bytes of waiting lines; the proxy isn't read while there are more
 
 
 class Intake:
-    """A queue between the thread that reads the proxy and the one that asks the auditor."""
+    """A queue from the thread that reads the proxy to the one that asks the auditor."""
 
     def __init__(self, most: int = MOST) -> None:
         self._items: Deque[Item] = deque()
@@ -21,7 +21,7 @@ class Intake:
         self._change = threading.Condition()
 
     def put(self, items: Sequence[Item]) -> None:
-        """Waits while there are too many. What is put behind the end is dropped."""
+        """Adds items. Waits while there are too many. Drops them after `close`."""
         with self._change:
             while self._bytes >= self._most and not self._is_closed:
                 self._change.wait()
@@ -31,8 +31,8 @@ class Intake:
                 self._change.notify_all()
 
     def take(self, seconds: float) -> Optional[List[Item]]:
-        """All that is there, as soon as there is something; an empty list if nothing has come in so
-        many seconds, None once it is closed and nothing is left."""
+        """Everything that is there, as soon as there is something. An empty list if nothing arrives
+        within this many seconds; None once it is closed and empty."""
         with self._change:
             if not self._items and not self._is_closed:
                 self._change.wait(seconds)
@@ -45,7 +45,7 @@ class Intake:
             return found
 
     def close(self) -> None:
-        """Nothing more is put."""
+        """Ends the queue: nothing more is added."""
         with self._change:
             self._is_closed = True
             self._change.notify_all()

@@ -1,5 +1,5 @@
-"""The page of an audit that goes on: the verdict so far, what was checked and what wasn't, rounds,
-clients, and each violation with a link to its own page. It reads well without scripting."""
+"""The page of a running audit: the verdict so far, what was checked and what wasn't, rounds,
+clients, and each violation with a link to its own page. It works without scripting."""
 
 from __future__ import annotations
 
@@ -25,11 +25,11 @@ HEADINGS: Mapping[str, str] = {
     "violated": "No serial order explains what the transactions read",
     "broken": "The transactions violate snapshot isolation",
 }
-SHOWN = 40  # reads that wait
+SHOWN = 40  # waiting reads
 
 
 def whole_page(status: Status) -> str:
-    """The page, with the part that changes in it."""
+    """The page, with its changing part."""
     return "\n".join(
         [
             "<!DOCTYPE html>",
@@ -58,7 +58,7 @@ def heading_of(status: Status) -> str:
 
 
 def changing(status: Status) -> str:
-    """What changes while the audit goes on."""
+    """The part that changes while the audit goes on."""
     return "\n".join(
         [
             *_state(status),
@@ -123,7 +123,7 @@ def _where_explained(status: Status) -> str:
 
 
 def lasting(seconds: float) -> str:
-    """A time that has passed, in words."""
+    """A period of time in words."""
     whole = int(seconds)
     for size, name in ((86400, "day"), (3600, "hour"), (60, "minute")):
         if whole >= 2 * size:
@@ -159,7 +159,7 @@ def _figures(status: Status) -> Iterator[str]:
 
 
 def _share(part: float, whole: float) -> str:
-    """In percent; 100 % only if nothing is missing."""
+    """A percentage; 100 % only if nothing is missing."""
     if not whole:
         return "0 %"
     found = 100 * part / whole

@@ -1,4 +1,4 @@
-"""Where a statement came from, by its comment in the form of sqlcommenter."""
+"""Where a statement came from, according to its comment in the form of sqlcommenter."""
 
 from __future__ import annotations
 
@@ -14,12 +14,12 @@ FILES = (
     ("code.filepath", "code.lineno"),
     ("code.file.path", "code.line.number"),
 )
-# What other frameworks write, in the order in which it says most.
+# What other frameworks write, the most precise first.
 OTHERS = ("file", "source_location", "route", "controller", "action", "db_driver_method", "job")
 
 
 def tags_of(statement: str) -> Dict[str, str]:
-    """The values of the statement's comments, decoded; empty if it has none of that form."""
+    """The values in the statement's comments, decoded; empty if it has none of that form."""
     found: Dict[str, str] = {}
     for comment in COMMENT.findall(statement):
         pairs = PAIR.findall(comment)
@@ -33,7 +33,7 @@ def _unquoted(value: str) -> str:
 
 
 def origin_of(statement: str) -> str:
-    """FILE:LINE, or what else its comment names; an empty text if there is nothing of that kind."""
+    """FILE:LINE, or what else its comment names; empty if there is nothing of that kind."""
     return _origin(tags_of(statement))
 
 

@@ -1,5 +1,5 @@
-"""Which tables are asked for: patterns as `public.*` and `shop.orders`, with commas between them,
-by the proxy's own rules (proxy/src/zanteyard/catalog/filter.go)."""
+"""Which tables to audit: patterns such as `public.*` and `shop.orders`, separated by commas, with
+the same rules as in the proxy (proxy/src/zanteyard/catalog/filter.go)."""
 
 from __future__ import annotations
 
@@ -13,7 +13,8 @@ Name = Tuple[str, str]  # schema and table, without quotes
 
 @dataclass(frozen=True)
 class TablePattern:
-    """A * in it stands for any characters; without a schema it means each one's."""
+    """A pattern in which * stands for any characters. Without a schema it applies to every
+    schema."""
 
     text: str
     schema: Pattern[str]
@@ -25,22 +26,22 @@ class TablePattern:
 
 @dataclass(frozen=True)
 class TablePatterns:
-    """`text` is the list as it was given."""
+    """A list of patterns; `text` is the list as it was given."""
 
     text: str
     its: Sequence[TablePattern]
 
     def have(self, names: Iterable[Name]) -> bool:
-        """One of these names is asked for: a partition is by its topmost table's as well."""
+        """Whether one of these names matches. A partition has its topmost table's name, too."""
         return any(pattern.means(name) for name in names for pattern in self.its)
 
     def idle(self, names: Sequence[Name]) -> List[str]:
-        """The patterns that mean none of these."""
+        """The patterns that match none of these names."""
         return [it.text for it in self.its if not any(map(it.means, names))]
 
 
 def table_patterns(text: str) -> TablePatterns:
-    """For argparse."""
+    """The patterns in a text, for argparse."""
     return TablePatterns(text, [_pattern(one.strip()) for one in text.split(",")])
 
 

@@ -12,7 +12,7 @@ SHOWN = 40
 def waiting_reads(
     transactions: Mapping[AuditId, Sequence[Any]], received: Sequence[int]
 ) -> Tuple[List[str], int]:
-    """Lines that tell of the first of them, and how many they are. `received` tells how many
+    """Lines about the first of these reads, and how many there are. `received` is how many
     transactions of each session the auditor has."""
     lines: List[str] = []
     count = 0

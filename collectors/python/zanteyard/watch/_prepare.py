@@ -1,5 +1,5 @@
-"""`zanteyard prepare`: what a server and its tables lack for an audit, all at once, and how each
-thing is had. Its exit status is 0 if an audit can begin, and 2 if something is missing for it."""
+"""`zanteyard prepare`: lists everything that a server and its tables lack for an audit, and how to
+fix each. The exit status is 0 if an audit can begin, and 2 if something is missing."""
 
 from __future__ import annotations
 
@@ -52,7 +52,7 @@ def run(asked: Any) -> int:
 
 
 def host_name(url: str) -> str:
-    """The server's name, as far as the URL tells it."""
+    """The server's name, if the URL has it."""
     try:
         parts = urlsplit(url)
         named = parse_qs(parts.query).get("host")
@@ -81,7 +81,7 @@ def _created(database: Database) -> Iterator[str]:
 def report(
     server: Server, found: Sequence[Finding], tables: Sequence[Table], idle: Sequence[str] = ()
 ) -> Iterator[str]:
-    """The lines of what was found. Idle patterns mean no table."""
+    """The lines of the report. `idle` are patterns that match no table."""
     yield "the server"
     for one in found:
         mark = "ok  " if one.is_right else "MISSING" if one.is_needed else "note"
@@ -112,7 +112,7 @@ def _tables(tables: Sequence[Table]) -> Iterator[str]:
 
 
 def missing_of(url: str) -> List[Finding]:
-    """What an audit of this server can't begin without. Raises DatabaseError."""
+    """What this server lacks that an audit can't begin without. Raises DatabaseError."""
     with Database(url) as database:
         server = server_of(database, host_name(url))
         return [one for one in findings(database, server) if one.is_needed and not one.is_right]

@@ -15,18 +15,18 @@ from ..core._visible import visible
 from ..core.errors import ProgramMissingError
 from ._feed import Item, Split
 
-STAMP = re.compile("[0-9]{4}/[0-9/]+ [0-9:]+ zanteyard-proxy: ")  # before each of its log's lines
-LISTENING = "listening on "  # its log says so once it takes connections
+STAMP = re.compile("[0-9]{4}/[0-9/]+ [0-9:]+ zanteyard-proxy: ")  # before each line of its log
+LISTENING = "listening on "  # in its log once it accepts connections
 PIECE = 1 << 20  # bytes that are read at once
-ENDING = 10.0  # seconds in which it has to end once it was told to
+ENDING = 10.0  # seconds for it to end after it was told to
 logger = logging.getLogger("zanteyard")
 
 
 class Proxy:
-    """One run of the program. What it writes is given to `take` by a thread of its own, piece by
-    piece; `take` may wait, and then the program isn't read. An empty piece tells that nothing more
-    comes. Signals that a terminal sends to this program's group don't reach it, so that it serves
-    applications until it is told to end."""
+    """One run of the program. A thread passes what it writes to `take`, piece by piece; while
+    `take` waits, the program isn't read. An empty piece is the end. The program is in a group of
+    its own, so signals from a terminal don't reach it, and it serves applications until it is told
+    to end."""
 
     def __init__(
         self,
@@ -51,7 +51,7 @@ class Proxy:
         self.last_words: List[str] = []  # on standard error
         self.is_listening = threading.Event()
         self._take = take
-        self._turn = threading.Lock()  # to write a command
+        self._turn = threading.Lock()  # for writing a command
         self._threads = [
             threading.Thread(target=target, daemon=True) for target in (self._read, self._hear)
         ]
@@ -63,7 +63,7 @@ class Proxy:
         return self.process.poll() is None
 
     def tell(self, line: bytes) -> bool:
-        """Writes a command; tells whether that could be done."""
+        """Writes a command, and returns whether that succeeded."""
         assert self.process.stdin is not None
         with self._turn:
             try:
@@ -90,7 +90,7 @@ class Proxy:
         self._take(())
 
     def _hear(self) -> None:
-        """What it writes on standard error is logged."""
+        """Logs what it writes on standard error."""
         assert self.process.stderr is not None
         with contextlib.suppress(OSError, ValueError):
             for line in self.process.stderr:
@@ -101,8 +101,8 @@ class Proxy:
                 logger.info("proxy: %s", told)
 
     def end(self, seconds: float = ENDING) -> int:
-        """Ends it, by force if it hasn't ended in so many seconds; gives its status. Applications
-        that are connected lose their connections."""
+        """Ends it, by force after this many seconds; returns its status. Connected applications
+        lose their connections."""
         with contextlib.suppress(OSError, ValueError):
             assert self.process.stdin is not None
             self.process.stdin.close()

@@ -1,5 +1,5 @@
-"""`zanteyard proxy`: a proxy beside another application server. What its applications read and
-wrote is checked by the audit of `zanteyard watch`, which is told of it over a Redis."""
+"""`zanteyard proxy`: a proxy next to another application server. What its applications read and
+write is checked by the audit of `zanteyard watch`, to which it reports over a Redis."""
 
 from __future__ import annotations
 
@@ -53,11 +53,11 @@ def add_arguments(command: argparse.ArgumentParser) -> None:
         "--redact", action="store_true",
         help="don't send the parameters and constants of statements",
     )
-    command.set_defaults(sample=None, promise=SERIALIZABLE.name)  # both are the audit's to ask
+    command.set_defaults(sample=None, promise=SERIALIZABLE.name)  # the audit determines both
 
 
 def run(asked: Any) -> int:
-    """Becomes the proxy's program; gives an exit status only if it can't."""
+    """Replaces this process by the proxy's program; returns an exit status only if it can't."""
     if not asked.url:
         return _mistake(f"no server was given: give its URL or set {URL}")
     told = mistake_of(asked, True)

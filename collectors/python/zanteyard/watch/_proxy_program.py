@@ -1,4 +1,4 @@
-"""Where the program zanteyard-proxy is, and what it says of its build."""
+"""Where the program zanteyard-proxy is, and what it says about its build."""
 
 from __future__ import annotations
 
@@ -13,12 +13,12 @@ from ..program._binaries import CRATES, PACKED
 NAME = "zanteyard-proxy"
 ENVIRONMENT = "ZANTEYARD_PROXY"
 BUILT = os.path.join(os.path.dirname(CRATES), "proxy", "out", NAME)  # in a clone
-ENDING = 10.0  # seconds in which it has to answer
+ENDING = 10.0  # seconds for it to answer
 
 
 def proxy_path(environment: Mapping[str, str] = os.environ) -> str:
-    """The program that would be started: the one that the environment names, else the one that came
-    with the package, else the one that a clone has built."""
+    """The program that would be started: the one in the environment variable, else the package's,
+    else the clone's build."""
     named = environment.get(ENVIRONMENT)
     if named:
         return named
@@ -27,7 +27,7 @@ def proxy_path(environment: Mapping[str, str] = os.environ) -> str:
 
 
 def find_proxy(environment: Mapping[str, str] = os.environ) -> str:
-    """The same; raises ProgramMissingError if there is none that can be started."""
+    """As `proxy_path`, but raises ProgramMissingError if that can't be started."""
     path = proxy_path(environment)
     if not os.path.isfile(path):
         raise ProgramMissingError(
@@ -40,7 +40,7 @@ def find_proxy(environment: Mapping[str, str] = os.environ) -> str:
 
 
 def build_of(environment: Mapping[str, str] = os.environ) -> str:
-    """Where the program is, and what it says of its build."""
+    """Where the program is, and what it says about its build."""
     path = proxy_path(environment)
     if not os.path.isfile(path):
         return f"{path}: missing"

@@ -1,4 +1,4 @@
-"""Leaves out values: constants of statements, parameters, and those of rows' keys."""
+"""Removes values: constants in statements, parameters, and the values in rows' keys."""
 
 from __future__ import annotations
 
@@ -11,7 +11,7 @@ from ._violations import Answered, Row
 
 
 def without_values(answered: Answered) -> Answered:
-    """The same, where rows are named by the auditor's numbers of their keys."""
+    """The same answer, with rows named by the auditor's numbers of their keys."""
     keys = {number: Row(row.table, f"#{number}") for number, row in answered.keys.items()}
     its = {id: _described(one) for id, one in answered.transactions.items()}
     return Answered(its, keys)

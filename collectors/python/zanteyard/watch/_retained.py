@@ -1,7 +1,7 @@
-"""What the auditor holds by now, as the lines that it was given: enough to explain a violation.
+"""What the auditor currently holds, as the lines that it was given: enough to explain a violation.
 
-An offer is kept as bytes until what it says is forgotten by a cut. It is read only if there is
-something to explain.
+An offer is kept as bytes until a cut forgets its contents. It is parsed only if there is something
+to explain.
 """
 
 from __future__ import annotations
@@ -20,16 +20,16 @@ OPEN = re.compile(rb'\["open",(\d+),(\d+)')
 
 
 class Retained:
-    """Of the audit that the last `open` has begun. `marks` are how many transactions of each
-    session are forgotten. For one thread at a time."""
+    """The lines of the audit that the last `open` began; for one thread at a time. `marks` are how
+    many transactions of each session are forgotten."""
 
     def __init__(self) -> None:
         self.marks: List[int] = []
-        self._lines: List[Deque[Tuple[int, bytes]]] = []  # of each session, with their first number
+        self._lines: List[Deque[Tuple[int, bytes]]] = []  # by session, with first numbers
         self._begun: Set[AuditId] = set()
 
     def note(self, line: bytes) -> None:
-        """A line that was answered ok."""
+        """Notes a line that was answered ok."""
         found = OFFER.match(line)
         if found:
             self._lines[int(found[1])].append((int(found[2]), line))
@@ -51,8 +51,8 @@ class Retained:
     def forget(
         self, gone: Iterable[Sequence[int]], begun: Iterable[Sequence[int]] = ()
     ) -> None:
-        """The transactions that a cut names, and the reads of those of which it forgets the begin
-        alone."""
+        """Forgets the transactions in a cut, and the reads of those of which only the begin is
+        forgotten."""
         self._begun.update(AuditId((session, number)) for session, number in begun)
         for session, count in Counter(its[0] for its in gone).items():
             self.marks[session] += count
@@ -63,11 +63,11 @@ class Retained:
 
     @property
     def size(self) -> int:
-        """Bytes of lines that are kept."""
+        """Bytes of the lines that are kept."""
         return sum(len(line) for lines in self._lines for _, line in lines)
 
     def transactions(self) -> Dict[AuditId, Transaction]:
-        """Those that aren't forgotten, by session and number."""
+        """The transactions that aren't forgotten, by session and number."""
         found: Dict[AuditId, Transaction] = {}
         for session, lines in enumerate(self._lines):
             for first, line in lines:

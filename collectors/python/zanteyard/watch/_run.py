@@ -26,17 +26,17 @@ from ._violations import Violation
 from ._watching import Watching
 from ._web import Tell, WebServer
 
-LOOKS = 0.1  # seconds between two looks at whether it is over
-LAST_ROUND = 30.0  # seconds for the proxy to have its last meeting, besides what a round may take
-EXPLAINED = 90.0  # seconds for what is still being explained
+LOOKS = 0.1  # seconds between two checks whether it is over
+LAST_ROUND = 30.0  # seconds for the proxy's last meeting, in addition to the time of a round
+EXPLAINED = 90.0  # seconds for explanations that are still being prepared
 STOPS = (signal.SIGTERM, signal.SIGINT, signal.SIGHUP)
 logger = logging.getLogger("zanteyard")
 
 
 @dataclass(frozen=True)
 class Plan:
-    """What is to be run. `call` is the proxy with its arguments; the addresses are HOST:PORT, or
-    None if nothing is to be there."""
+    """What to run. `call` is the proxy with its arguments. The addresses are HOST:PORT, or None to
+    serve nothing."""
 
     call: Sequence[str]
     auditor: str
@@ -48,14 +48,14 @@ class Plan:
     journal: Optional[str] = None
     save: Optional[str] = None
     round_seconds: float = 60.0
-    for_seconds: Optional[float] = None  # then it stops by itself
+    for_seconds: Optional[float] = None  # seconds after which it stops by itself
     listen: str = ""  # where applications connect
     redacts: bool = False  # shows no values of statements
-    promise: Promise = SERIALIZABLE  # what the audit asks for
+    promise: Promise = SERIALIZABLE  # what the audit checks
 
 
 class Run:
-    """`tell` takes what is for standard output. Not for several threads, but for `stop`."""
+    """One run. `tell` prints a line on standard output. Not for several threads, except `stop`."""
 
     def __init__(self, plan: Plan, tell: Callable[[str], object] = say) -> None:
         """Raises JournalError, and OSError if it can't listen at one of the addresses."""
@@ -87,13 +87,13 @@ class Run:
                 logger.info("%s: %s", name, where)
 
     def _to_proxy(self, line: bytes) -> bool:
-        """What is said to a proxy that has ended isn't for the one after it."""
+        """Passes a command to the proxy, unless the proxy that it is meant for has ended."""
         is_of_now = self._supervisor.ended == self._watching.gone
         return is_of_now and self._supervisor.tell(line)
 
     def run(self) -> int:
-        """Until it is stopped; gives the exit status. Raises ProgramMissingError, and
-        CantBeginError if no audit begins: the proxy ends before, or says why there can be none."""
+        """Runs until it is stopped, and returns the exit status. Raises ProgramMissingError, and
+        CantBeginError if no audit begins: the proxy ends before that, or says why it can't."""
         with self._stack:
             self._watching.start()
             try:
@@ -140,7 +140,7 @@ class Run:
         self._explaining.wait(EXPLAINED)
 
     def _explained(self, one: Violation) -> None:
-        """One after another."""
+        """Reports an explained violation; one at a time."""
         with self._turn:
             self.board.violation(one)
             for line in one.lines():
@@ -152,7 +152,8 @@ class Run:
 
 @contextlib.contextmanager
 def stopped_by_signals(run: Run) -> Iterator[None]:
-    """In here the signals that end a program have the run stop instead. For the main thread."""
+    """A context in which the signals that end a program stop the run instead. For the main
+    thread."""
     before = {number: signal.getsignal(number) for number in STOPS}
     for number in STOPS:
         if before[number] != signal.SIG_IGN:  # as nohup wants it

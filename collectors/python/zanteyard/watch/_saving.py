@@ -1,4 +1,4 @@
-"""Keeps each violation as files: a page, a text, and a script for the auditor."""
+"""Saves each violation in files: a page, a text, and a script for the auditor."""
 
 from __future__ import annotations
 
@@ -14,8 +14,8 @@ logger = logging.getLogger("zanteyard")
 
 
 def save(one: Violation, folder: str, title: str, origin: str) -> Tuple[str, ...]:
-    """Writes violation-N.html, .txt and .jsonl into the folder, which is made if need be; gives the
-    names of those that were written. What can't be written is logged."""
+    """Writes violation-N.html, .txt and .jsonl into the folder, which is created if necessary.
+    Returns the names of the files that were written. Errors are logged."""
     found = []
     base = os.path.join(folder, f"violation-{one.number}")
     for end, text in (

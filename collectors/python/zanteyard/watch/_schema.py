@@ -9,8 +9,8 @@ from ._database import Database
 from ._facts import FENCE
 from ._patterns import Name, TablePatterns
 
-# Types of a primary key's columns whose values the proxy can compare; enums as well, and domains
-# over these.
+# Types of primary key columns whose values the proxy can compare; also enums, and domains over
+# these.
 COMPARED = frozenset(
     "bool bytea name int2 int4 int8 oid text varchar bpchar float4 float8 numeric uuid date time "
     "timestamp timestamptz cidr inet macaddr bit varbit".split()
@@ -47,10 +47,10 @@ ENUM = "e"
 
 @dataclass(frozen=True)
 class Table:
-    """One table or view. Of one that isn't seen `reason` says why, and the remedy what can be done,
-    if anything."""
+    """One table or view. If it isn't seen, `reason` says why, and `remedy` what to do about it, if
+    possible."""
 
-    name: str  # as SQL has it
+    name: str  # in SQL syntax
     kind: str  # "table", "partition", "view" or "foreign table"
     reason: str = ""
     remedy: str = ""
@@ -62,7 +62,7 @@ class Table:
 
 
 def tables_of(database: Database) -> List[Table]:
-    """All tables and views that aren't PostgreSQL's own, an extension's or temporary ones."""
+    """All tables and views, except PostgreSQL's own, those of extensions, and temporary ones."""
     columns: Dict[Any, List[Sequence[Any]]] = {}
     for oid, *its in database.run(COLUMNS):
         columns.setdefault(oid, []).append(its)
@@ -74,7 +74,7 @@ def tables_of(database: Database) -> List[Table]:
 
 
 def asked_of(tables: Sequence[Table], asked: TablePatterns) -> Tuple[List[Table], List[str]]:
-    """Those that are asked for, and the patterns that mean none of them all."""
+    """The tables that match, and the patterns that match none of all tables."""
     found = [table for table in tables if asked.have(table.names)]
     return found, asked.idle([name for table in tables for name in table.names])
 
@@ -116,7 +116,7 @@ def _not_compared(key: Iterable[Sequence[Any]]) -> Iterator[str]:
 
 
 def quoted(name: str) -> str:
-    """The name as SQL has it."""
+    """The name in SQL syntax."""
     is_plain = name.isascii() and name.islower() and name.replace("_", "a").isalnum()
     if is_plain and not name[0].isdigit():
         return name
@@ -124,7 +124,7 @@ def quoted(name: str) -> str:
 
 
 def summary(tables: Sequence[Table]) -> Tuple[int, int, List[Table]]:
-    """How many tables are seen, of how many; and those that aren't, and views."""
+    """How many tables are seen, how many there are, and the tables and views that aren't seen."""
     real = [table for table in tables if table.kind != "view"]
     seen = sum(table.is_seen for table in real)
     return seen, len(real), [table for table in tables if not table.is_seen]

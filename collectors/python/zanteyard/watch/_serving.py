@@ -1,4 +1,4 @@
-"""What is at which path of the page's server."""
+"""The paths of the page's server."""
 
 from __future__ import annotations
 
@@ -14,7 +14,7 @@ VIOLATION = re.compile(r"/violation/([1-9]\d{0,8})(\.jsonl|\.txt)?")
 
 
 class Pages:
-    """Answers a path; safe for several threads."""
+    """Answers requests for a path; safe for use by several threads."""
 
     def __init__(self, board: Board) -> None:
         self._board = board

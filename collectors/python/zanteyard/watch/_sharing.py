@@ -1,5 +1,5 @@
-"""How several proxies feed one audit over a Redis: the options that `watch` and `proxy` have alike,
-and what the proxy's program is given for them."""
+"""How several proxies feed one audit over a Redis: the options that `watch` and `proxy` share, and
+the proxy program's arguments for them."""
 
 from __future__ import annotations
 
@@ -8,7 +8,7 @@ import os
 import stat
 from typing import Any, Dict, List, Optional
 
-REDIS = "ZANTEYARD_REDIS"  # the environment's name for its URL, as `serve` has it
+REDIS = "ZANTEYARD_REDIS"  # the environment variable with its URL, as for `serve`
 LEAST = 16  # bytes of a key
 MAKE = "(umask 077; head -c 32 /dev/urandom | base64 > FILE) makes one"
 
@@ -27,9 +27,9 @@ def add_sharing(command: argparse.ArgumentParser) -> None:
 
 
 def mistake_of(asked: Any, is_needed: bool = False) -> Optional[str]:
-    """What is wrong with these options, if anything is."""
+    """What is wrong with these options; None if nothing is."""
     if not (is_needed or asked.audit or asked.key):
-        return None  # a URL in the environment alone may be meant for something else
+        return None  # a URL in the environment may be meant for something else
     for name, value in (("--redis", asked.redis), ("--audit", asked.audit), ("--key", asked.key)):
         if not value:
             return f"{name} is missing: --redis, --audit and --key belong together"
@@ -45,7 +45,8 @@ def mistake_of(asked: Any, is_needed: bool = False) -> Optional[str]:
 
 
 def words_of(asked: Any, environment: Dict[str, str]) -> List[str]:
-    """For the proxy's program. The URL is put in the environment, which others can't look at."""
+    """Arguments for the proxy's program. The URL goes into `environment`, which other users can't
+    read."""
     if not asked.audit:
         environment.pop(REDIS, None)
         return []

@@ -1,9 +1,9 @@
 """Anomalies as people know them from SQL.
 
-The proxy's lines have each write as a read of the version that it replaces. So a lost update shows
-as a transaction that read two versions of a row: the one that it selected, and the one that its
-update replaced. Here it is told as what it is. Nothing of a verdict rests on it: what is told is a
-part of what was logged, and the auditor has found that part violated as well.
+In the proxy's lines each write is also a read of the version that it replaces. So a lost update
+appears as a transaction that read two versions of a row: the one that it selected, and the one that
+its update replaced. This module gives it its usual name. The verdict doesn't depend on this: what
+is shown is a part of the log that the auditor found violated, too.
 """
 
 from __future__ import annotations
@@ -35,7 +35,7 @@ def read_twice(history: History) -> Iterator[Tuple[ShownId, str, Set[Source]]]:
 
 @dataclass(frozen=True)
 class LostUpdate:
-    """Two transactions that read one version of a key, and both replaced it."""
+    """Two transactions that read the same version of a key and both replaced it."""
 
     key: int
     one: AuditId
@@ -45,8 +45,9 @@ class LostUpdate:
 def both_replaced(
     transactions: Mapping[AuditId, Sequence[Any]], counts: Sequence[int], keys: Container[int]
 ) -> Optional[LostUpdate]:
-    """The first lost update among the transactions of a round, which are so many of each session;
-    one of these keys, if there is one. It is what people understand best of a violated round."""
+    """The first lost update among the transactions of a round, of which `counts` has the number in
+    each session; one on one of `keys`, if possible. Of a violated round, people understand this
+    best."""
     readers: Dict[Tuple[Any, ...], AuditId] = {}
     found: Optional[LostUpdate] = None
     for one, its in sorted(transactions.items()):
@@ -70,8 +71,8 @@ def lost_update(
     program: str,
     promise: Promise = SERIALIZABLE,
 ) -> Optional[History]:
-    """The part of the whole that these two are, which read one version of the key and both replaced
-    it. None if the auditor doesn't find it violated by itself."""
+    """The part of the history that consists of these two transactions, which read the same version
+    of the key and both replaced it. None if the auditor doesn't find it violated by itself."""
     one, other = (
         {source for name, source in whole[session][number].reads if name == key}
         for session, number in ids
@@ -97,7 +98,7 @@ def _both(
 
 
 def named(story: Story, small: History, name: Naming) -> Story:
-    """The story, with the name that SQL has for it."""
+    """The story, with SQL's name for the anomaly."""
     anomaly = story.anomaly
     if anomaly is None or anomaly.name != FRACTURED:
         return story

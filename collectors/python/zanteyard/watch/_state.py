@@ -1,5 +1,5 @@
-"""What an audit has come to by now, as plain values: what the page, the metrics and the outcome at
-the end are made of."""
+"""The current state of an audit as plain values, from which the page, the metrics and the final
+outcome are made."""
 
 from __future__ import annotations
 
@@ -11,14 +11,14 @@ from ..explain._standing import Standing
 from ..promises._kinds import ALL, SERIALIZABLE, Promise
 from ._violations import Violation
 
-MOST_SHAPES = 200  # that are shown on a page
-ABORTED_READS = "it aborted"  # why a read is left out whose transaction was aborted
+MOST_SHAPES = 200  # shown on a page
+ABORTED_READS = "it aborted"  # why the reads of an aborted transaction are left out
 
 
 @dataclass(frozen=True)
 class Shape:
-    """Statements of one shape of which something wasn't seen: why, how many times, and when and
-    where that was first. `is_reads` tells reads from writes."""
+    """Statements of one shape of which something wasn't seen: why, how often, and when and where
+    that happened first. `is_reads` distinguishes reads from writes."""
 
     shape: str
     reason: str
@@ -30,18 +30,19 @@ class Shape:
 
 @dataclass(frozen=True)
 class OtherProxy:
-    """A proxy on another machine, which feeds this audit over a Redis, or did."""
+    """A proxy on another machine that feeds this audit over a Redis, or did."""
 
     name: str
     feeds: bool
     connections: int = 0
     transactions: int = 0  # that have arrived
-    silent: float = 0.0  # seconds since something of it arrived
+    silent: float = 0.0  # seconds since something arrived from it
 
 
 @dataclass(frozen=True)
 class Others:
-    """What comes over a Redis. `down` says why that can't be reached, and is empty if it can."""
+    """The proxies that use a Redis. `down` says why the Redis can't be reached, and is empty if it
+    can."""
 
     proxies: Sequence[OtherProxy] = ()
     refused: int = 0  # messages that aren't signed with the audit's key
@@ -50,18 +51,19 @@ class Others:
 
 @dataclass(frozen=True)
 class Seen:
-    """The coverage of an audit: what of all that happened was checked, without fences.
+    """The coverage of an audit: what was checked of everything that happened, without fences.
 
-    Of the `committed` transactions `offered` were given to the auditor; the rest is folded, by
-    reason, or did nothing to a table. `reads` and `writes` are rows that were read and written in
-    what was offered; `reads_left_out` are rows that were returned to a client and aren't checked,
-    by reason; `shapes` are statements of which something wasn't seen at all."""
+    Of the `committed` transactions `offered` were given to the auditor. The others are in `folded`,
+    by reason, or did nothing to a table. `reads` and `writes` count rows that were read and written
+    by offered transactions. `reads_left_out` counts rows that were returned to a client and weren't
+    checked, by reason. `shapes` are statements of which something wasn't seen at all.
+    """
 
     committed: int = 0
     offered: int = 0
     fences: int = 0
     aborted: int = 0
-    empty: int = 0  # transactions that read and wrote nothing of a table
+    empty: int = 0  # transactions that read and wrote no table
     folded: Mapping[str, int] = field(default_factory=dict)
     reads: int = 0
     reads_seen: int = 0
@@ -100,7 +102,7 @@ class Seen:
 
     @property
     def whole_reads(self) -> int:
-        """Rows that were returned, but for what the reader itself had written."""
+        """Rows that were returned, except what the reader itself had written."""
         return self.reads + self.left_out_count
 
     @property
@@ -113,11 +115,12 @@ class Seen:
 
     @property
     def left_out_count(self) -> int:
-        """Rows whose reads count and weren't checked; what was aborted counts for nothing."""
+        """Rows whose reads matter and weren't checked; reads of aborted transactions don't
+        matter."""
         return sum(count for why, count in self.reads_left_out.items() if why != ABORTED_READS)
 
     def lines_of_reads(self) -> Iterator[str]:
-        """Of the rows whose reads were checked, those whose version tells less than it could."""
+        """Sentences about checked reads whose version says less than it could."""
         if self.reads_before:
             yield f"{self.reads_before:,} of the row reads were of versions from before the audit"
         if self.reads_folded:
@@ -136,65 +139,66 @@ class Seen:
 
 @dataclass(frozen=True)
 class Ended:
-    """An audit that is over: how many rounds it had, what the last one said, and why it ended."""
+    """An audit that is over: how many rounds it had, its last verdict, and why it ended."""
 
     number: int
     kind: str
     rounds: int
     reason: str
     at: float  # seconds since 1970
-    is_lost: bool = True  # something isn't audited that could have been; else it was stopped
+    is_lost: bool = True  # something wasn't audited that could have been; False if it was stopped
 
 
 @dataclass(frozen=True)
 class Status:
-    """All of it at one moment. `kind` is that of the present audit's last round, "running" before
-    the first one. Times are in seconds since 1970."""
+    """The whole state at one moment. `kind` is the verdict of the current audit's last round,
+    "running" before the first one. Times are in seconds since 1970."""
 
-    title: str  # which database, and by which address it is reached
+    title: str  # which database, and the address to reach it
     began: float
     now: float
-    origin: str = ""  # by which auditor
-    promise: Promise = SERIALIZABLE  # what it asks for
+    origin: str = ""  # how the auditor was built
+    promise: Promise = SERIALIZABLE  # what it checks
     database: str = ""
     server: str = ""  # its version
-    subtransactions: str = ""  # how those are resolved
+    subtransactions: str = ""  # how they are resolved
     audit: int = 1
     kind: str = "running"
     is_over: bool = False  # nothing is audited at the moment
     ended: Tuple[Ended, ...] = ()
     seen: Seen = field(default_factory=Seen)
     earlier_seen: Seen = field(default_factory=Seen)  # of audits before this one
-    rounds: Tuple[RoundSeen, ...] = ()  # the last ones
+    rounds: Tuple[RoundSeen, ...] = ()  # the latest ones
     rounds_count: int = 0
-    kinds: Mapping[str, int] = field(default_factory=dict)  # rounds, by what they said
+    kinds: Mapping[str, int] = field(default_factory=dict)  # rounds of each verdict
     cuts: int = 0
     forgotten: int = 0  # transactions
     remaining: int = 0
     behind: float = 0.0  # seconds from a meeting to its round's report
     told_at: float = 0.0  # when the last round reported; 0 before the first
-    checked_until: float = 0.0  # all that was answered by then was checked
+    checked_until: float = 0.0  # everything answered by then was checked
     pending: Tuple[str, ...] = ()
     pending_count: int = 0
-    violations: Tuple[Violation, ...] = ()  # those that are explained by now
+    violations: Tuple[Violation, ...] = ()  # those that have been explained
     violations_count: int = 0
     meetings: int = 0
     meeting_ms: float = 0.0  # of the last one
     longest_meeting_ms: float = 0.0
-    meetings_ms: float = 0.0  # of all together
+    meetings_ms: float = 0.0  # total
     fences: int = 0  # of the last one
     notes: Tuple[str, ...] = ()  # warnings
     restarts: int = 0
 
     @property
     def whole_seen(self) -> Seen:
-        """Of all audits so far; what isn't counted is that of the present one."""
+        """The coverage of all audits so far; values that aren't counts are those of the current
+        one."""
         return added(self.earlier_seen, self.seen)
 
     @property
     def whole_kind(self) -> str:
-        """Over all audits so far: a violation stays one; else something is missing if one of them
-        ended before its time; else what the present one says."""
+        """The verdict over all audits so far: "violated" if there was a violation, "incomplete" if
+        an audit ended early, and else the current audit's."""
         if self.violations_count:
             return "violated"
         if self.is_over or any(one.is_lost for one in self.ended):
@@ -203,7 +207,7 @@ class Status:
 
     @property
     def standing(self) -> Standing:
-        """What the violations that are explained break together, and what none of them does."""
+        """What the explained violations break together, and what none of them breaks."""
         found = [one.story.standing for one in self.violations]
         broken = [it for it in ALL if any(it in each.broken for each in found)]
         kept = [it for it in ALL if found and all(it in each.kept for each in found)]
@@ -211,7 +215,7 @@ class Status:
 
 
 def added(one: Seen, other: Seen) -> Seen:
-    """Of two audits, as one: what is counted is added up."""
+    """The coverage of two audits as one; counts are added."""
     adds = {name: getattr(one, name) + getattr(other, name) for name in Seen.COUNTED}
     tables = {
         name: _by_reason(getattr(one, name), getattr(other, name)) for name in Seen.BY_REASON

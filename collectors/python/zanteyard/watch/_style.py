@@ -1,12 +1,12 @@
-"""The style of the pages, and the script by which the first one refreshes itself."""
+"""The style of the pages, and the script with which the live page refreshes itself."""
 
 from __future__ import annotations
 
 from ..explain._html import STYLE as STORY_STYLE
 
-EVERY = 2  # seconds between two looks, with scripting
+EVERY = 2  # seconds between two refreshes with scripting
 EVERY_WITHOUT = 10  # and without
-NOW = "/now"  # where the part that changes is
+NOW = "/now"  # the path of the changing part
 
 LIVE_STYLE = """
 :root { color-scheme: light dark; --blue: #2f5f9e; --track: #e3e8ef; --soft-red: #fbeceb; }
@@ -47,6 +47,8 @@ details.transaction pre { margin: .2rem 0; padding: .4rem .6rem; }
 .ran { display: grid; grid-template-columns: 7rem minmax(0, 1fr); gap: .1rem .8rem;
   margin: .5rem 0; } .ran .at { color: var(--soft); font-variant-numeric: tabular-nums;
   font-size: .88rem; padding-top: .45rem; }
+.ran .read { display: block; margin: .1rem 0 .5rem; padding-left: .6rem;
+  border-left: 3px solid var(--blue); }
 .origin { font-weight: 600; overflow-wrap: anywhere; }
 #lost { display: none; color: var(--amber); } #lost.on { display: inline; }
 @media (max-width: 40rem) {
@@ -71,7 +73,7 @@ details.transaction pre { margin: .2rem 0; padding: .4rem .6rem; }
 """
 STYLE = STORY_STYLE + LIVE_STYLE
 
-# What is open stays open; while nobody looks nothing is asked.
+# Open details stay open. While the page is hidden, nothing is requested.
 SCRIPT = """
 (function () {
   var place = document.getElementById("now"), lost = document.getElementById("lost");

@@ -1,5 +1,5 @@
-"""Keeps a proxy running: one that ends without having been told to is replaced by another one, so
-that applications can connect again."""
+"""Keeps a proxy running: one that ends by itself is replaced, so that applications can connect
+again."""
 
 from __future__ import annotations
 
@@ -14,14 +14,15 @@ from ._intake import Intake
 from ._proxy import Proxy
 
 PAUSES = (0.1, 0.5, 2.0, 5.0, 15.0)  # seconds before another one is started, each time longer
-MOST = 10  # that may end one soon after another
-CALM = 60.0  # seconds after which an end is the first one again
+MOST = 10  # that may end in quick succession
+CALM = 60.0  # seconds after which an end counts as the first again
 logger = logging.getLogger("zanteyard")
 
 
 class Supervisor:
-    """`begin`, `look` and `end` are for one thread, `tell` is for any. `gone` is called once
-    nothing more comes of a proxy that ended by itself, with why."""
+    """Keeps a proxy running. `begin`, `look` and `end` are for one thread, `tell` is for any.
+    `gone` is called with the reason after everything from a proxy that ended by itself has been
+    read."""
 
     def __init__(
         self,
@@ -37,10 +38,10 @@ class Supervisor:
         self._deaths, self._died_at = 0, float("-inf")
         self._start_at = 0.0  # by the monotonic clock
         self.ended = 0  # proxies that ended by themselves
-        self.has_started = threading.Event()  # the proxy of the moment has told of an audit
+        self.has_started = threading.Event()  # the current proxy has begun an audit
 
     def begin(self) -> None:
-        """Starts the first one. Raises ProgramMissingError."""
+        """Starts the first proxy. Raises ProgramMissingError."""
         self._start()
 
     def _start(self) -> None:
@@ -55,17 +56,17 @@ class Supervisor:
 
     @property
     def is_listening(self) -> bool:
-        """The proxy of the moment takes connections."""
+        """Whether the current proxy accepts connections."""
         return self._proxy is not None and self._proxy.is_listening.is_set()
 
     def tell(self, line: bytes) -> bool:
-        """A command for the proxy of the moment; tells whether it could be written."""
+        """Sends a command to the current proxy, and returns whether that succeeded."""
         proxy = self._proxy
         return proxy is not None and proxy.tell(line)
 
     def look(self) -> None:
-        """Replaces a proxy that has ended. Raises ProgramEndedError if it never began an audit, or
-        too many have ended."""
+        """Replaces a proxy that has ended. Raises CantBeginError if it never began an audit, and
+        ProgramEndedError if too many have ended."""
         if self._proxy is None:
             if time.monotonic() >= self._start_at:
                 self._start()
@@ -87,13 +88,13 @@ class Supervisor:
         logger.error("%s; starting another one", why)
 
     def end(self) -> None:
-        """Ends the proxy, if one runs."""
+        """Ends the proxy, if one is running."""
         if self._proxy is not None:
             self._proxy.end()
 
 
 def _why(status: int, last_words: Sequence[str]) -> str:
-    """A program that was killed has said nothing of that."""
+    """Why a proxy ended. Its last words don't say that it was killed."""
     if status < 0:
         return f"the proxy was killed by signal {-status}"
     words = "; ".join(last_words[-2:])

@@ -1,12 +1,12 @@
 """The page of one violation: the picture, the statements that the application ran, and why no
-serial order is left. It is whole without scripting, and can be saved as one file."""
+serial order is left. It works without scripting, and can be saved as one file."""
 
 from __future__ import annotations
 
 from typing import Iterable, Iterator, Sequence
 
 from ..explain._anomalies import meaning_of
-from ..explain._html import BEFORE_YOU_ACCUSE, picture_part, reasons_part
+from ..explain._html import BEFORE_YOU_ACCUSE, neither, picture_part, reasons_part
 from ..core._version import VERSION
 from ..core._visible import escaped, escaped_lines, html_lines, html_text, visible
 from ._described import Described, Statement, clock
@@ -24,7 +24,7 @@ MORE = (
 
 def violation_page(one: Violation, title: str, origin: str, is_file: bool = False) -> str:
     """The whole page. `title` says which database it was, `origin` which auditor. As a file it has
-    no link to the page of the audit."""
+    no link to the audit's page."""
     heading = _capital(one.title)
     back = "" if is_file else '<a href="/">The audit</a>'
     return "\n".join(
@@ -38,8 +38,7 @@ def violation_page(one: Violation, title: str, origin: str, is_file: bool = Fals
             f"{escaped(title)}</span>{back}</header>",
             *_head(one),
             *picture_part(one.story),
-            *_ran(one.told),
-            *reasons_part(one.story),
+            *_parts(one),
             *_again(one, is_file),
             f"<footer><p>zanteyard {VERSION}. The verdict comes from the auditor "
             f"({escaped(origin)}); the text and picture here only explain it.</p></footer>",
@@ -47,6 +46,13 @@ def violation_page(one: Violation, title: str, origin: str, is_file: bool = Fals
             "",
         ]
     )
+
+
+def _parts(one: Violation) -> Iterator[str]:
+    """What the application ran, and why no order is left; the latter comes first if it has the
+    pictures."""
+    ran, reasons = [*_ran(one.told)], [*reasons_part(one.story)]
+    yield from (*reasons, *ran) if one.story.reasons.cases else (*ran, *reasons)
 
 
 def _capital(text: str) -> str:
@@ -59,7 +65,11 @@ def _head(one: Violation) -> Iterator[str]:
     yield f"<h1>{escaped(_capital(one.title))}</h1>"
     if meaning:
         yield f"<p>{escaped(_capital(meaning))}.</p>"
-    yield f"<p>{escaped(_capital(one.sentence), 600)}.</p>"
+    reasons = one.story.reasons
+    if one.story.anomaly is None and reasons.cases:
+        yield f"<p>{escaped(neither(reasons), 600)}</p>"
+    else:
+        yield f"<p>{escaped(_capital(one.sentence), 600)}.</p>"
     yield from (f"<p>It {escaped(line)}.</p>" for line in one.story.standing.lines())
     yield (
         f'<p class="soft">Found at {clock(one.at)}, in round {one.round}, among '
@@ -78,8 +88,9 @@ def _ran(told: Sequence[Told]) -> Iterator[str]:
         yield f'<p class="soft">{_facts(one, one.its)}</p>'
         if one.its.statements:
             yield '<div class="ran">'
-            for statement in one.its.statements:
-                yield from _statement(statement)
+            none: Sequence[Sequence[str]] = ((),) * len(one.its.statements)
+            for statement, reads in zip(one.its.statements, (*one.reads, *none)):
+                yield from _statement(statement, reads)
             yield "</div>"
         if one.its.statements_dropped:
             its = counted(one.its.statements_dropped, "more statement")
@@ -96,7 +107,8 @@ def _whose(one: Told) -> str:
 
 
 def _whence(its: Described) -> Sequence[str]:
-    """Unless its heading says so, for want of the application's name."""
+    """The client's address and user, unless the heading shows them because the application has no
+    name."""
     address = f"from {escaped(its.address, 80)}" if its.address else ""
     return [address, f"as {escaped(its.user, 80)}" if its.user else ""] if its.application else []
 
@@ -113,12 +125,13 @@ def _facts(one: Told, its: Described) -> str:
     return ", ".join(fact for fact in facts if fact)
 
 
-def _statement(one: Statement) -> Iterable[str]:
+def _statement(one: Statement, reads: Sequence[str]) -> Iterable[str]:
     yield f'<span class="at">{clock(one.at)}</span><div>'
     if one.origin:
         yield f'<span class="origin">{escaped(one.origin, 300)}</span>'
     values = f"\n-- {visible(one.values)}" if one.values else ""
     yield f"<pre>{escaped_lines(one.plain)}{html_lines(values)}</pre>"
+    yield from (f'<span class="read">{escaped(line, 300)}</span>' for line in reads)
     if one.unseen:
         yield f'<span class="soft">Not seen: {escaped("; ".join(one.unseen), 300)}.</span>'
     yield "</div>"

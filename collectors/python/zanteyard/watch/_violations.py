@@ -1,4 +1,4 @@
-"""Why a history of the proxy's is violated: from a round's refutation to the statements that the
+"""Explains a violation in the proxy's history: from a round's refutation to the statements that the
 application ran."""
 
 from __future__ import annotations
@@ -9,33 +9,36 @@ from typing import Any, Dict, Iterable, Iterator, List, Mapping, Optional, Seque
 from typing import Tuple
 
 from ..core._own_keys import FENCE
-from ..core._records import ABORTED, AuditId, History, Logged, Read, ShownId
+from ..core._records import ABORTED, AuditId, History, Logged, Read, ShownId, Source
 from ..core._visible import visible
 from ..explain._reasons import explanation_of
 from ..explain._report import Story, story_lines, story_of
 from ..explain._shrinking import audited_apart, from_start, named, refuted, smaller
 from ..explain._standing import standing
+from ..explain._words import version
 from ..promises._kinds import SERIALIZABLE, Promise
 from ..promises._rewriting import ids_of
 from ._described import Described, by_time, clock, lines_of
 from ._retained import Retained, Transaction
 from ._sql_anomalies import LostUpdate, both_replaced, lost_update
 from ._sql_anomalies import named as named_story
+from ._statement_reads import as_shown, by_statement
 
-EXPLAINING = 15.0  # seconds for making a violated history small, and as many for its promises
+EXPLAINING = 15.0  # seconds for reducing a violated history, and the same for its promises
 CLOSED_ENDS = re.compile(rb"(?:true|false)\],")  # in a reply to `show`, before the last writers
 
 
 @dataclass(frozen=True)
 class Row:
-    """Which row a key is: the table with its schema, and the values of its primary key."""
+    """The row that a key stands for: the table with its schema, and the values of its primary
+    key."""
 
     table: str
     values: str  # as one text
-    columns: Tuple[str, ...] = ()  # their names, if they are known
+    columns: Tuple[str, ...] = ()  # their names, if known
 
     def named(self) -> str:
-        """As accounts(id=7), or accounts(7) if nobody knows the columns' names."""
+        """Its name, such as accounts(id=7), or accounts(7) if the columns' names are unknown."""
         table = self.table[len(PUBLIC) :] if self.table.startswith(PUBLIC) else self.table
         values = self.values.split(", ") if len(self.columns) > 1 else [self.values]
         if len(values) != len(self.columns):
@@ -45,7 +48,7 @@ class Row:
 
 @dataclass(frozen=True)
 class Answered:
-    """What the proxy said of transactions and of keys; what it doesn't know is missing."""
+    """What the proxy said about transactions and keys; what it doesn't know is missing."""
 
     transactions: Mapping[AuditId, Described]
     keys: Mapping[int, Row]
@@ -58,16 +61,17 @@ PUBLIC = "public."
 @dataclass(frozen=True)
 class Told:
     """One transaction of a violation: its short name, its id in the auditor's lines, and what the
-    proxy knows of it, if anything."""
+    proxy knows about it, if anything."""
 
     label: str
     id: AuditId
     its: Any  # a Described, or None
+    reads: Tuple[Tuple[str, ...], ...] = ()  # by statement: what it read, as far as it is shown
 
 
 @dataclass(frozen=True)
 class Violation:
-    """`at` is the time at which the round reported it, in seconds since 1970."""
+    """An explained violation. `at` is when the round reported it, in seconds since 1970."""
 
     number: int
     round: int
@@ -98,13 +102,13 @@ class Violation:
         yield "what the application ran:"
         for one in self.told:
             label = f"{one.label} ({one.id[0]}.{one.id[1]})"
-            yield from (f"    {line}" for line in lines_of(label, one.its))
+            yield from (f"    {line}" for line in lines_of(label, one.its, one.reads))
         yield "because"
         yield from (f"    {visible(line)}" for line in self.story.because)
 
 
 def visible_line(line: str) -> str:
-    """Made safe, with the spaces that it begins with."""
+    """The line made safe, with its indentation."""
     body = line.lstrip(" ")
     return " " * (len(line) - len(body)) + visible(body)
 
@@ -126,8 +130,8 @@ def keys_of(certificate: Iterable[Sequence[Any]]) -> Set[int]:
 
 
 def last_writers(shown: bytes, keys: Iterable[int]) -> Dict[int, AuditId]:
-    """Of these keys the last writer that is forgotten, by the auditor's reply to `show`. The reply
-    may be many megabytes long, and isn't read as a whole."""
+    """The last forgotten writers of these keys, from the auditor's reply to `show`. The reply may
+    be many megabytes long, and isn't parsed as a whole."""
     begins = CLOSED_ENDS.search(shown)
     names = b"|".join(b"%d" % key for key in sorted(keys))
     if begins is None or not names:
@@ -137,9 +141,9 @@ def last_writers(shown: bytes, keys: Iterable[int]) -> Dict[int, AuditId]:
 
 
 class Held:
-    """What the auditor holds, but with the keys alone that its refutation names, and that of a lost
-    update: whatever explains all of it explains this. It is what `from_start` and `refuted` want of
-    an auditor. `shown` is the auditor's reply to `show`."""
+    """What the auditor holds, restricted to the keys that its refutation names and that of a lost
+    update: whatever order explains the whole explains this. It has what `from_start` and `refuted`
+    need of an auditor. `shown` is the auditor's reply to `show`."""
 
     def __init__(self, retained: Retained, report: Sequence[Any], shown: bytes):
         _, _, _, counts, self.certificate = report
@@ -156,14 +160,18 @@ class Held:
             gap = number - self.marks[session] - len(self.history[session])
             self.history[session] += [Logged((), ())] * gap + [_logged(its, keys)]
 
+    def reads(self, one: AuditId) -> Sequence[Read]:
+        """The reads of a remaining transaction, with sources as in the auditor's lines."""
+        return self.history[one[0]][one[1] - self.marks[one[0]]].did[0]
+
     def involved(self) -> List[AuditId]:
-        """The transactions of which it may be told, of those that remain, the likeliest first."""
+        """The remaining transactions that an explanation may mention, the most likely first."""
         lost = [self.lost.one, self.lost.other] if self.lost is not None else []
         rest = {one for one in named(self.certificate) if one[1] >= self.marks[one[0]]}
         return [*lost, *sorted(rest - {*lost})]
 
     def lost_part(self, whole: History, program: str, promise: Promise) -> Optional[History]:
-        """The lost update as a part of the whole, which is what `from_start` made of this."""
+        """The lost update as a part of the whole that `from_start` made of this."""
         if self.lost is None:
             return None
         one, other = (shown_id(id, self.marks) for id in (self.lost.one, self.lost.other))
@@ -186,7 +194,7 @@ def _logged(its: Transaction, keys: Set[int]) -> Logged:
 
 
 def key_text(number: int) -> str:
-    """The key's name until the proxy has told a better one."""
+    """The key's name until the proxy has sent a better one."""
     return FENCE if number == 0 else f"key {number}"
 
 
@@ -200,8 +208,8 @@ def explained(
     seconds: float = EXPLAINING,
     promise: Promise = SERIALIZABLE,
 ) -> Violation:
-    """The violation that this report of a round tells of, with what the proxy said of it. Takes up
-    to twice so many seconds. Raises ProgramEndedError and the like."""
+    """The violation in this report of a round, with what the proxy said about it. Takes up to twice
+    `seconds`. Raises ProgramEndedError and similar errors."""
     _, round_number, _, counts, certificate = report
     history, names = from_start(held)
     part = held.lost_part(history, program, promise)
@@ -232,16 +240,30 @@ def explained(
     story = story_of(renamed, called, explanation, audited.script, counts, promise)
     story = named_story(story, renamed, called)
     story = replace(story, standing=standing(small, program, promise, seconds))
-    told = tuple(Told(labels[one], one, answered.transactions.get(one)) for one in ordered)
+    gone = next((one for one, there in places.items() if there == (0, 0) and one not in ids), None)
+    writers = as_shown({there: one for one, there in ids.items()}, gone, held.base)
+
+    def read(key: str, source: Source) -> str:
+        return f"read {shown.get(key, key)} {version(shown.get(key, key), source, called)}"
+
+    def made(one: ShownId) -> Tuple[Tuple[str, ...], ...]:
+        its, raw = answered.transactions.get(ids[one]), held.reads(ids[one])
+        found = by_statement(its, small[one[0]][one[1]].did[0], raw, writers, key_text)
+        return tuple(tuple(read(*its) for its in reads) for reads in found)
+
+    reads = {ids[one]: made(one) for one in ids}
+    told = tuple(
+        Told(labels[one], one, answered.transactions.get(one), reads[one]) for one in ordered
+    )
     return Violation(number, round_number, now, _with_clocks(story, told), told)
 
 
 def compact(
     history: History, order: Sequence[int] = ()
 ) -> Tuple[History, Dict[ShownId, ShownId]]:
-    """The same without what did nothing and without empty sessions, under numbers without holes;
-    and for each transaction there which one it is here. One that is read from stays. The sessions
-    come in this order, then those that aren't in it."""
+    """The same history without transactions that did nothing and without empty sessions, renumbered
+    without gaps; and for each new number the old one. A transaction that is read from stays. The
+    sessions are in this order, followed by those that aren't in it."""
     read = {source for txns in history for logged in txns for _, source in logged.did[0]}
     kept = [
         [ShownId((session, number)) for number, logged in enumerate(txns)
@@ -271,19 +293,19 @@ def compact(
 
 
 def absolute(one: ShownId, marks: Sequence[int]) -> AuditId:
-    """The transaction that `from_start` has under this number."""
+    """The transaction that has this number in `from_start`."""
     session, number = one
     return AuditId((session, number - 1 + marks[session] if any(marks) else number))
 
 
 def shown_id(one: AuditId, marks: Sequence[int]) -> ShownId:
-    """The number under which `from_start` has a transaction that remains."""
+    """The number in `from_start` of a remaining transaction."""
     session, number = one
     return ShownId((session, number - marks[session] + 1 if any(marks) else number))
 
 
 def _with_keys(history: History, names: Mapping[str, str]) -> History:
-    """The same, where the keys have the proxy's names."""
+    """The same history, with the proxy's names for its keys."""
 
     def renamed(key: str) -> str:
         return names.get(key, key)

@@ -1,5 +1,5 @@
-"""An audit that goes on: what the proxy writes is handed to the auditor, and what that answers is
-noted, and told to the proxy as far as it needs it."""
+"""A running audit: passes what the proxy writes to the auditor, notes the replies, and tells the
+proxy what it needs of them."""
 
 from __future__ import annotations
 
@@ -25,24 +25,24 @@ from ._violations import Held
 OK, REPORT, CUT = b'["ok"]', b'["report",', b'["cut",'
 TRUNCATE, ROUND = b'["truncate"', b'["round"'
 SHOW = b'["show"]'
-GONE = "gone"  # an event of this program's own: the proxy has ended
-LOOKS = 0.2  # seconds between two looks at whether another audit is to begin
+GONE = "gone"  # an event of this program: the proxy has ended
+LOOKS = 0.2  # seconds between two checks whether another audit should begin
 PAUSES = (1.0, 2.0, 5.0, 15.0, 60.0)  # seconds before another audit begins, each time longer
-CALM = 300.0  # seconds after which an audit's end is the first one again
-PENDING = 5.0  # seconds between two looks at which reads wait
-TOLD = 60.0  # seconds between two lines of the log that say the same
-MOST_WARNINGS = 100  # that are known apart
+CALM = 300.0  # seconds after which an audit's end counts as the first again
+PENDING = 5.0  # seconds between two lists of waiting reads
+TOLD = 60.0  # seconds between two log lines with the same text
+MOST_WARNINGS = 100  # that are remembered
 Tell = Callable[[bytes], object]
 logger = logging.getLogger("zanteyard")
 
 
 class RefusedLineError(ZanteyardError):
-    """The auditor refused a line of the proxy's."""
+    """The auditor refused one of the proxy's lines."""
 
 
 class Watching:
-    """One thread asks the auditor. `tell` gives a command to the proxy of the moment. With
-    `redacts` no values of statements are kept."""
+    """A running audit, with one thread that asks the auditor. `tell` sends a command to the current
+    proxy. With `redacts`, no values of statements are kept."""
 
     def __init__(
         self,
@@ -55,39 +55,39 @@ class Watching:
     ) -> None:
         self.auditing, self.board, self.intake = auditing, board, intake
         self.explaining, self.redacts = explaining, redacts
-        self.stopped = threading.Event()  # the proxy's last lines are audited
-        self.gone = 0  # proxies whose last lines were seen
+        self.stopped = threading.Event()  # the proxy's last lines have been audited
+        self.gone = 0  # proxies whose last lines were read
         self._tell = tell
         self._retained = Retained()
         self._received = 0  # transactions of the last round
-        self._violated: Optional[bytes] = None  # a report that hasn't been seen to
+        self._violated: Optional[bytes] = None  # a report that hasn't been handled yet
         self._is_stopping = self._has_started = False
         self._has_given_up = False  # the proxy ended its audit, and hasn't begun another one
-        self.cant_begin = ""  # why the first audit of all couldn't
+        self.cant_begin = ""  # why the very first audit couldn't begin
         self._restart_at: Optional[float] = None  # by the monotonic clock
-        self._ends = 0  # of audits, one soon after another
+        self._ends = 0  # of audits, in quick succession
         self._ended_at = float("-inf")
         self._looked_at = self._logged_at = float("-inf")
         self._logged_kind = ""
-        self._warned: Dict[str, float] = {}  # when each was in the log
+        self._warned: Dict[str, float] = {}  # when each was logged last
         self._thread = threading.Thread(target=self._run, daemon=True)
 
     def start(self) -> None:
         self._thread.start()
 
     def stop(self) -> None:
-        """Asks for a last round; `stopped` is set once it was reported, or the audit is lost."""
+        """Asks for a last round. `stopped` is set once that was reported, or the audit is lost."""
         self._is_stopping = True
         if not self._tell(command("stop")) or self._has_given_up:
             self.stopped.set()
 
     def end(self) -> None:
-        """The auditor's program ends."""
+        """Ends the audit and the auditor's program."""
         self.intake.close()
         self._thread.join()
 
     def _run(self) -> None:
-        # A terminal's signals are for this program alone, and not for those that it starts.
+        # A terminal's signals are meant for this program only, not for those that it starts.
         signal.pthread_sigmask(signal.SIG_BLOCK, {signal.SIGINT})
         try:
             while True:
@@ -148,7 +148,7 @@ class Watching:
     def _reported(self, reply: bytes) -> None:
         _, number, kind, counts, *_ = json.loads(reply)
         if self._violated is not None:
-            return  # what is violated stays so
+            return  # a violation is final
         self._received = sum(counts)
         seen = self.board.round(kind, counts, self._remaining)
         now = time.monotonic()
@@ -189,7 +189,7 @@ class Watching:
         )
         self._end_audit("a violation was found", is_lost=False)
 
-    # the audit's end, and another one
+    # the audit's end, and the next audit
 
     def _lose(self, reason: str) -> None:
         logger.error("the audit ended: %s; applications run on as before", reason)
@@ -231,7 +231,7 @@ class Watching:
             answered = without_values(answered) if self.redacts else answered
             self.explaining.answered(whole(event.get("id")), answered)
         elif name == "started":
-            if self._has_started:  # as by another proxy
+            if self._has_started:  # for example by another proxy
                 self._begin_anew()
             self._has_started, self._restart_at = True, None
             self.board.started(event)
@@ -251,12 +251,13 @@ class Watching:
             self.gone += 1
             self._has_given_up = False
             self._lose(text(event.get("reason")))
-            self._restart_at = None  # the next one begins an audit by itself
+            self._restart_at = None  # the next proxy begins an audit by itself
             if self._is_stopping:
                 self.stopped.set()
 
     def _given_up(self, event: Event) -> None:
-        """One that has never begun lacks something, unless it only waited for a transaction."""
+        """Handles a proxy that gave up. If no audit has begun yet, something is missing, unless it
+        only waited for a transaction."""
         reason = text(event.get("reason")) or "the proxy gave up the audit"
         if self._has_started or event.get("blocked") is True:
             self._lose(reason)
@@ -264,7 +265,7 @@ class Watching:
             self.cant_begin = self.cant_begin or reason
 
     def _warn(self, told: str) -> None:
-        """In the log only if it hasn't said the same for a while."""
+        """Notes a warning, and logs it unless it was logged recently."""
         now = time.monotonic()
         if now >= self._warned.get(told, float("-inf")) + TOLD:
             if len(self._warned) >= MOST_WARNINGS:
@@ -274,5 +275,6 @@ class Watching:
         self.board.note(told)
 
     def proxy_is_gone(self, reason: str) -> None:
-        """For any thread, once nothing more comes of a proxy that wasn't told to end."""
+        """Reports that a proxy ended without being told to, after everything from it has been read.
+        May be called from any thread."""
         self.intake.put([{"event": GONE, "reason": reason}])

@@ -1,5 +1,5 @@
-"""A small web server for pages that are only read: few threads, no path into the file system, and
-no answer to who asks under another server's name."""
+"""A small web server for read-only pages: few threads, no access to the file system, and no answer
+to requests that use another server's name."""
 
 from __future__ import annotations
 
@@ -15,7 +15,7 @@ from typing import Any, Callable, Optional, Tuple
 from ..core._version import VERSION
 
 MOST_AT_ONCE = 16  # requests; more are answered 503
-SLOWEST = 10.0  # seconds in which a client has to send its request, and to take the answer
+SLOWEST = 10.0  # seconds for a client to send its request, and to take the answer
 LONGEST_PATH = 200
 HTML = "text/html; charset=utf-8"
 TEXT = "text/plain; charset=utf-8"
@@ -23,7 +23,7 @@ TEXT = "text/plain; charset=utf-8"
 
 @dataclass(frozen=True)
 class Answer:
-    """What is answered: a text, and what it is."""
+    """A text as the answer to a request, and its type."""
 
     text: str
     kind: str = HTML
@@ -50,7 +50,8 @@ def _sum_of(text: str) -> str:
 
 
 def host_and_port(address: str) -> Tuple[str, int]:
-    """Of HOST:PORT; raises ValueError. The host of an IPv6 address may stand in brackets."""
+    """The host and port in HOST:PORT. Raises ValueError. The host may be an IPv6 address in
+    brackets."""
     host, colon, port = address.rpartition(":")
     if not (colon and port.isascii() and port.isdecimal() and int(port) < 1 << 16):
         raise ValueError("give HOST:PORT, such as 127.0.0.1:8080")
@@ -60,9 +61,9 @@ def host_and_port(address: str) -> Tuple[str, int]:
 
 
 def is_own_name(named: str, host: str) -> bool:
-    """Whether a request's Host header is one by which this server may be asked: an address, which
-    no page of another site can stand for, `localhost`, or the name that it listens under. Any other
-    name may be one that somebody else has pointed here."""
+    """Whether a request's Host header is a name for this server: an IP address, which another
+    site's page can't stand for, `localhost`, or the name that it listens under. Any other name may
+    be one that somebody else has pointed here."""
     name = named.strip()
     if name.startswith("["):
         name = name[1:].split("]")[0]
@@ -78,7 +79,7 @@ def is_own_name(named: str, host: str) -> bool:
 
 
 class _Server(HTTPServer):
-    """A thread for each request, and so many at a time."""
+    """One thread per request, with a limit on their number."""
 
     daemon_threads = True
     request_queue_size = 64
@@ -89,7 +90,7 @@ class _Server(HTTPServer):
         super().__init__(address, handler)
 
     def server_bind(self) -> None:
-        """Without looking up its own name, which may take long."""
+        """Binds without looking up its own name, which may take long."""
         self.socket.setsockopt(socket.SOL_SOCKET, socket.SO_REUSEADDR, 1)
         self.socket.bind(self.server_address)
         self.server_address = self.socket.getsockname()
@@ -115,21 +116,21 @@ class _Server(HTTPServer):
     def _answer(self, request: Any, client_address: Any) -> None:
         try:
             self.finish_request(request, client_address)
-        except Exception:  # as who hangs up in the middle: that isn't for the log to be filled with
+        except Exception:  # such as a client that hangs up; that must not fill the log
             pass
         finally:
             self.places.release()
             self.shutdown_request(request)
 
     def handle_error(self, *_: object) -> None:
-        """Nothing is logged."""
+        """Logs nothing."""
 
 
 class WebServer:
-    """Answers GET and HEAD at HOST:PORT by what `tell` gives for a path, until it is closed. Raises
-    OSError if it can't listen there, ValueError if that is no address. Port 0 takes any; `port` is
-    the one taken. `tell` is called from several threads. With `any_name` it doesn't matter under
-    which name it is asked."""
+    """Answers GET and HEAD at HOST:PORT with the result of `tell` for a path, until it is closed.
+    With port 0 it takes any free one; `port` says which. `tell` is called from several threads.
+    With `any_name`, the host name in requests doesn't matter. Raises OSError if it can't listen
+    there, and ValueError if that is no address."""
 
     def __init__(self, address: str, tell: Tell, any_name: bool = False) -> None:
         host, port = host_and_port(address)
@@ -170,11 +171,11 @@ class WebServer:
                     self.wfile.write(data)
 
             def log_message(self, *_: object) -> None:
-                """Who looks isn't logged."""
+                """Logs no requests."""
 
         try:
             self._server = _Server((host, port), Handler)
-        except OSError as error:  # which doesn't say where by itself
+        except OSError as error:  # its message lacks the address
             raise OSError(error.errno, error.strerror, address) from error
         self.port = self._server.server_port
         threading.Thread(target=self._server.serve_forever, args=(0.1,), daemon=True).start()

@@ -1,5 +1,5 @@
-// Package audit runs an audit beside a proxy: it makes the slot, joins what it tells with what the sessions saw, and
-// talks with the parent. Whatever goes wrong in it ends the audit, and is told with its reason; the proxy goes on.
+// Package audit runs an audit next to a proxy: it creates the slot, joins the slot's commits with what the sessions
+// saw, and talks to the parent. Any error ends the audit, and is reported as its reason; the proxy goes on.
 package audit
 
 import (
@@ -21,26 +21,26 @@ type Config struct {
 	Slot   slot.Options
 	Join   join.Options
 	Meeter join.Meeter
-	// Held is how many bytes of what the sessions tell may wait for the joiner.
+	// Held is how many bytes of the sessions' records may wait for the joiner.
 	Held int
-	// Kept is how many bytes of its log the server may have to keep for the slot: beyond it the audit ends, so that it can't
-	// fill the server's disk.
+	// Kept is how many bytes of its log the server may have to keep for the slot. Beyond that the audit ends, so that it
+	// can't fill the server's disk.
 	Kept uint64
-	// Begins is called as the audit begins, with a question for its own connection: whether it sees an advisory lock. nil:
-	// nobody wants to know.
+	// Begins is called when the audit begins, with a function that asks its own connection whether it sees an advisory
+	// lock. It may be nil.
 	Begins func(sees func(context.Context, int64) (bool, error))
 	In     io.Reader // the parent's commands
 	Out    io.Writer // the feed
 }
 
-// Audit is a sink for the sessions' records from the moment it is made.
+// Audit takes the sessions' records from the moment it is made.
 type Audit struct {
 	config Config
 	inbox  *join.Inbox
 	writer *feed.Writer
 }
 
-// New makes an audit. Nothing is done before Run, and what the sessions tell by then is held.
+// New makes an audit. It does nothing before Run, and holds the sessions' records until then.
 func New(config Config) *Audit {
 	if config.Held <= 0 {
 		config.Held = 64 << 20
@@ -54,18 +54,18 @@ func New(config Config) *Audit {
 	return &Audit{config: config, inbox: join.NewInbox(config.Held), writer: feed.NewWriter(config.Out)}
 }
 
-// Sink takes what the sessions tell.
+// Sink takes the sessions' records.
 func (a *Audit) Sink() record.Sink { return a.inbox }
 
-// beginning bounds how long the slot may take to begin: it waits for all transactions that are open.
+// beginning limits how long the slot may take to begin: it waits for all open transactions.
 const beginning = 2 * time.Minute
 
-// Run audits until ctx ends, or the audit does. It tells the parent why, and returns it.
+// Run audits until ctx ends or the audit does. It tells the parent why, and returns the reason.
 func (a *Audit) Run(ctx context.Context) error {
 	written := make(chan struct{})
 	go func() {
 		defer close(written)
-		a.writer.Run() // the parent is gone, if that fails; reading its commands says so
+		a.writer.Run() // if it fails, the parent is gone; reading its commands will report that
 	}()
 	defer func() { <-written }()
 	defer a.writer.Close()
@@ -97,6 +97,11 @@ func (a *Audit) begin(ctx context.Context) (*running, error) {
 	if err != nil {
 		return nil, err
 	}
+	if !tables.HasFence() {
+		control.Close(ctx)
+		options := &a.config.Slot
+		return nil, fmt.Errorf("the table %s.%s doesn't exist (zanteyard prepare --create)", options.FenceSchema, options.FenceTable)
+	}
 	if a.config.Begins != nil {
 		a.config.Begins(control.Sees)
 	}
@@ -112,7 +117,7 @@ func (a *Audit) begin(ctx context.Context) (*running, error) {
 	if schema != "" && its.reader.Plugin() != slot.Wal2json {
 		schema, why = "", "only wal2json tells where a commit's record is"
 	}
-	// The table of tables has to be as new as the slot: what was created before it begins is never told as unknown.
+	// The catalog has to be as new as the slot, so that no table created before it is reported as unknown.
 	if err := control.Load(begin); err != nil {
 		its.close()
 		return nil, err
@@ -156,7 +161,7 @@ func (r *running) run(ctx context.Context) error {
 	return r.joiner.Run(ctx)
 }
 
-// watch looks after the slot, and counts what it tells of tables that can't be audited.
+// watch monitors the slot, and counts what it contains about tables that can't be audited.
 func (r *running) watch(ctx context.Context) {
 	often, seldom := time.NewTicker(time.Second), time.NewTicker(10*time.Second)
 	defer often.Stop()
@@ -190,7 +195,7 @@ func (r *running) health(ctx context.Context) error {
 	health, err := r.control.Health(asking, r.audit.config.Slot.Name)
 	switch {
 	case err != nil:
-		return nil // the joiner's own questions fail too, and say so
+		return nil // the joiner's own queries fail, too, and report it
 	case health.Lost:
 		return slot.ErrBehind
 	case health.Kept > r.audit.config.Kept:

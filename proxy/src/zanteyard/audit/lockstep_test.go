@@ -16,8 +16,8 @@ import (
 
 var lockstep = flag.Int("lockstep", 400, "transactions that are committed in lockstep")
 
-// The rows carry the tag of the transaction that wrote them, so that what each statement returns says itself whose
-// version it is. Triggers give the tag on; a cascade leaves nothing.
+// The rows carry the tag of the transaction that wrote them, so each statement's result says whose version it is.
+// Triggers pass the tag on; a cascade leaves nothing.
 const oracleSchema = `
 CREATE EXTENSION pg_walinspect;
 CREATE TABLE zanteyard_fence (id integer PRIMARY KEY CHECK (id = 0), n bigint NOT NULL);
@@ -40,7 +40,7 @@ CREATE FUNCTION bump(i int, w text) RETURNS void LANGUAGE plpgsql AS
    EXCEPTION WHEN division_by_zero THEN UPDATE t SET tag = w WHERE id = i + 1; END; END';
 `
 
-// oracleRows are the first rows, of which nobody is the writer.
+// oracleRows are the first rows, which have no writer.
 const oracleRows = `
 INSERT INTO t SELECT i, '-' FROM generate_series(0, 11) i;
 INSERT INTO parent SELECT i, '-' FROM generate_series(0, 7) i;
@@ -55,11 +55,11 @@ const contents = `SELECT 't', id::text, tag, xmin FROM t UNION ALL SELECT 'paren
 UNION ALL SELECT 'child', id::text, tag, xmin FROM child UNION ALL SELECT 'tally', id::text, tag, xmin FROM tally
 UNION ALL SELECT 'part', a || ', ' || b, tag, xmin FROM part UNION ALL SELECT 'whole', id::text, tag, xmin FROM whole`
 
-// cell is a row of a table by its key, as the joiner's words have it.
+// cell is a row of a table by its key, in the joiner's form.
 type cell struct{ table, key string }
 
-// lockstepper runs transactions over several connections, one statement at a time, and knows from the rows themselves
-// what the joiner has to make of them.
+// lockstepper runs transactions over several connections, one statement at a time, and knows from the rows what the
+// joiner has to make of them.
 type lockstepper struct {
 	t        *testing.T
 	r        *rand.Rand
@@ -67,10 +67,10 @@ type lockstepper struct {
 	observer *pgconn.PgConn
 	clients  []*client
 	now      map[cell]string // tag and xmin of each row after the last commit
-	first    map[cell]bool   // rows that were there at first
+	first    map[cell]bool   // the rows at the beginning
 	history  map[cell][]step // versions in order
 	commits  int
-	alone    *client          // the only one to go on
+	alone    *client          // the only client that goes on
 	owned    map[string]*done // committed transactions by tag
 	oids     map[string]record.Relation
 
@@ -78,27 +78,27 @@ type lockstepper struct {
 	left, counted int
 }
 
-// step is a version: which commit made it, and by whom.
+// step is a version: the number of its commit, and its writer.
 type step struct {
 	commit  int
 	tag     string
 	deleted bool
 }
 
-// done is a committed transaction with what it has to be offered with.
+// done is a committed transaction and what has to be offered for it.
 type done struct {
 	tag     string
-	offered bool // by the proxy; else it is somebody else's
+	offered bool // by the proxy; otherwise it is somebody else's
 	client  *client
 	place   uint64
 	reads   map[cell]map[string]bool // tags
-	absent  map[cell]int             // and the commits that its snapshot shows
+	absent  map[cell]int             // and the number of commits that its snapshot shows
 	level   record.Level
 	wrote   map[cell]bool
 	commit  int
 	empties bool          // it ran a TRUNCATE
-	upserts map[cell]bool // rows of the table that this empties, which it has written by their keys
-	given   map[cell]bool // the rows that were offered as written by it
+	upserts map[cell]bool // rows of the table that it empties and that it has written by their keys
+	given   map[cell]bool // the rows that were offered as its writes
 
 	number   uint64
 	snapshot string
@@ -107,7 +107,7 @@ type done struct {
 // client is a connection.
 type client struct {
 	conn   *pgconn.PgConn
-	number uint64 // of the proxy's connection, 0 where it is beside the proxy
+	number uint64 // of the proxy's connection; 0 if it bypasses the proxy
 	place  uint64
 	tags   int
 	open   *done
@@ -180,13 +180,13 @@ func (l *lockstepper) end(c *client) {
 	l.ended(c, record.Committed)
 }
 
-// ended tells of the transaction, and looks what it changed.
+// ended reports the transaction, and looks at what it changed.
 func (l *lockstepper) ended(c *client, outcome record.Outcome) {
 	it := c.open
 	c.open, l.alone = nil, nil
 	c.its.Outcome, c.its.Ended = outcome, time.Now()
 	c.place++
-	l.sink.Transaction(c.its) // the joiner doesn't know of a connection 0: that is somebody else's
+	l.sink.Transaction(c.its) // the joiner doesn't know a connection 0: that is somebody else's
 	if outcome != record.Committed {
 		return
 	}
@@ -196,7 +196,7 @@ func (l *lockstepper) ended(c *client, outcome record.Outcome) {
 	l.look(it)
 }
 
-// look compares the tables with what they were: nobody else has committed since.
+// look compares the tables with their earlier contents; nobody else has committed since.
 func (l *lockstepper) look(it *done) {
 	after := map[cell]string{}
 	for _, row := range must(l.t, l.observer, contents) {
@@ -217,7 +217,7 @@ func (l *lockstepper) look(it *done) {
 	l.now = after
 }
 
-// read runs a select, and notes the rows that it gave.
+// read runs a select, and notes the rows that it returned.
 func (l *lockstepper) read(c *client, table, key, rest string) error {
 	rows, err := rowsOf(c.conn, fmt.Sprintf("SELECT x.xmin, x.tableoid::oid, %s, x.tag %s", key, rest))
 	if err != nil {
@@ -242,7 +242,7 @@ func (l *lockstepper) read(c *client, table, key, rest string) error {
 	return nil
 }
 
-// readOne asks for one row by its key; one that isn't there is told as absent.
+// readOne reads one row by its key; a missing row is reported as absent.
 func (l *lockstepper) readOne(c *client, table string, id int) error {
 	before := len(c.its.Reads)
 	if err := l.read(c, table, "x.id", fmt.Sprintf("FROM %s x WHERE x.id = %d", table, id)); err != nil {
@@ -255,7 +255,7 @@ func (l *lockstepper) readOne(c *client, table string, id int) error {
 	return nil
 }
 
-// write runs a statement that may have RETURNING, by which the proxy learns the versions of rows.
+// write runs a statement that may have RETURNING, from which the proxy learns the versions of rows.
 func (l *lockstepper) write(c *client, sql string, returns bool) error {
 	if !returns {
 		_, err := rowsOf(c.conn, sql)
@@ -315,7 +315,7 @@ func (l *lockstepper) statement(c *client) error {
 	default:
 		if l.r.Intn(12) == 0 {
 			c.open.empties = true
-			l.alone = c // nobody could look into the table meanwhile
+			l.alone = c // nobody could look at the table meanwhile
 			return l.write(c, "TRUNCATE whole", false)
 		}
 		if l.r.Intn(3) == 0 {

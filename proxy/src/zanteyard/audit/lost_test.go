@@ -15,7 +15,7 @@ import (
 	"zanteyard/slot"
 )
 
-// start begins an audit of nothing, and gives its events as they come.
+// start begins an audit of nothing, and returns its events as they arrive.
 func start(t *testing.T, s *server, options slot.Options) (a *Audit, events <-chan map[string]any, commands io.Writer, ended <-chan error) {
 	t.Helper()
 	options.Source, options.FenceSchema, options.FenceTable, options.Canonical = s.source(), "public", "zanteyard_fence", canonical
@@ -60,7 +60,7 @@ func await(t *testing.T, events <-chan map[string]any, event string) map[string]
 const fenceTable = "CREATE TABLE zanteyard_fence (id integer PRIMARY KEY CHECK (id = 0), n bigint NOT NULL);" +
 	"INSERT INTO zanteyard_fence VALUES (0, 0); CREATE TABLE t (id int PRIMARY KEY); CREATE TABLE none (id int)"
 
-// A slot that is lost ends the audit with its reason; what the sessions tell after that is dropped.
+// A lost slot ends the audit with its reason; the sessions' later records are dropped.
 func TestLostSlot(t *testing.T) {
 	s := startServer(t)
 	conn := s.connect(t)
@@ -79,7 +79,7 @@ func TestLostSlot(t *testing.T) {
 	a.Sink().Connection(record.Connection{Number: 1})
 }
 
-// A server that can't be audited, and one that isn't there, are an end with its reason too.
+// A server that can't be audited, or doesn't exist, ends the audit with its reason, too.
 func TestNoAudit(t *testing.T) {
 	s := startServer(t, "wal_level=replica")
 	must(t, s.connect(t), fenceTable)
@@ -91,7 +91,7 @@ func TestNoAudit(t *testing.T) {
 	await(t, events, "ended")
 }
 
-// Rounds, a new audit and the end, as the parent commands them; and tables without a key are counted.
+// Rounds, a new audit and the end, on the parent's commands; tables without a key are counted.
 func TestParent(t *testing.T) {
 	s := startServer(t)
 	conn := s.connect(t)

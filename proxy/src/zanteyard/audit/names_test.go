@@ -13,7 +13,7 @@ import (
 	"zanteyard/slot"
 )
 
-// heard takes what a slot tells, for one goroutine to read.
+// heard takes what a slot reports, for one goroutine to read.
 type heard struct{ commits chan record.Commit }
 
 func (h heard) Commit(it record.Commit) error {

@@ -17,7 +17,7 @@ import (
 	"zanteyard/slot"
 )
 
-// output takes what the joiner gives.
+// output takes what the joiner offers.
 type output struct {
 	lock   sync.Mutex
 	lines  []string
@@ -56,7 +56,7 @@ func TestLockstep(t *testing.T) {
 	s := startServer(t, "max_prepared_transactions=10")
 	setup := s.connect(t)
 	must(t, setup, oracleSchema)
-	runs := 1 + *lockstep/2000 // an audit without cuts can't be longer
+	runs := 1 + *lockstep/2000 // an audit without cuts can't be longer than this
 	if runs == 1 {
 		runs = 2
 	}
@@ -64,7 +64,7 @@ func TestLockstep(t *testing.T) {
 		must(t, setup, "DELETE FROM child; DELETE FROM parent; DELETE FROM t; DELETE FROM part; DELETE FROM whole;"+oracleRows)
 		t.Run(fmt.Sprint(seed), func(t *testing.T) { runLockstep(t, s, int64(seed), *lockstep/runs, slot.Wal2json) })
 	}
-	// Without the commits' places savepoints can't be looked up: what is offered is right, and what isn't is counted.
+	// Without the commits' places savepoints can't be looked up: what is offered is right, and the rest is counted.
 	must(t, setup, "DELETE FROM child; DELETE FROM parent; DELETE FROM t; DELETE FROM part; DELETE FROM whole;"+oracleRows)
 	few := *lockstep / 4
 	if most := 1500; few > most { // as above
@@ -95,7 +95,7 @@ func runLockstep(t *testing.T, s *server, seed int64, commits int, plugin slot.P
 	schema, _ := control.Inspects(ctx)
 	inbox := join.NewInbox(1 << 30)
 	out := &output{events: make(chan join.Event, 10)}
-	// A commit counts as somebody else's after a while in which no test could stop: the whole run is over by then.
+	// A commit counts as somebody else's after a time in which no test could pause: the whole run is over by then.
 	joiner := join.New(join.Options{Every: 1 << 20, Within: time.Hour, Late: time.Hour, Stale: time.Hour}, inbox, tables, control,
 		schema != "" && plugin == slot.Wal2json, nobody{}, out)
 	ended := make(chan error, 2)
@@ -147,7 +147,7 @@ func waitFor[T join.Event](t *testing.T, out *output) T {
 	}
 }
 
-// compare asks the joiner for everything that it has offered, and compares it with what the rows said.
+// compare asks the joiner for everything that it has offered, and compares it with the rows.
 func (l *lockstepper) compare(joiner *join.Joiner, out *output) {
 	l.t.Helper()
 	want := 0
@@ -238,8 +238,8 @@ func (l *lockstepper) judge(given []join.Description) {
 	l.t.Logf("compared %d transactions, %d reads, %d writes", len(given), reads, writes)
 }
 
-// addUnseen adds the versions that nobody can see: a row that a transaction made and deleted again. Such a row wasn't
-// there before.
+// addUnseen adds the versions that nobody can see: rows that a transaction made and deleted again. Such a row didn't
+// exist before.
 func (l *lockstepper) addUnseen(it *done, given *join.Description) {
 	_, wrote := l.got(given)
 	it.given = wrote
@@ -263,12 +263,12 @@ func (l *lockstepper) addUnseen(it *done, given *join.Description) {
 	}
 }
 
-// emptied says that the transaction's write of the row was a TRUNCATE alone, which counts as somebody else's.
+// emptied says that the transaction wrote the row only by a TRUNCATE, which counts as somebody else's.
 func (l *lockstepper) emptied(at cell, it *done) bool {
 	return at.table == "whole" && it.empties && !(it.upserts[at] && it.given[at])
 }
 
-// got is what was offered: reads as "table key from name".
+// got is what was offered; reads have the form "table key from name".
 func (l *lockstepper) got(it *join.Description) (map[string]bool, map[cell]bool) {
 	rows := map[uint64]cell{}
 	for _, row := range it.Rows {
@@ -288,10 +288,10 @@ func (l *lockstepper) got(it *join.Description) (map[string]bool, map[cell]bool)
 	return reads, writes
 }
 
-// want is what has to be offered, by the rows' own tags and the order in which they were committed.
+// want is what has to be offered, according to the rows' tags and the order of the commits.
 func (l *lockstepper) want(it *done, names map[string]string) map[string]bool {
 	want := map[string]bool{}
-	add := func(at cell, upTo int) { // the last offered version among the first so many
+	add := func(at cell, upTo int) { // the last offered version among the first upTo ones
 		from := "init"
 		for _, v := range l.history[at][:upTo] {
 			if name, offered := names[v.tag]; offered && !(v.deleted && l.emptied(at, l.owned[v.tag])) {
@@ -331,7 +331,7 @@ func (l *lockstepper) want(it *done, names map[string]string) map[string]bool {
 	return want
 }
 
-// story tells the versions of the rows that a difference names.
+// story lists the versions of the rows in a difference.
 func (l *lockstepper) story(it *done, text string, names map[string]string) string {
 	var to strings.Builder
 	fmt.Fprintf(&to, "commit %d, number %d, snapshot %s, absent %v\n", it.commit, it.number, it.snapshot, it.absent)

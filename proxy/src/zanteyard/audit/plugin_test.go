@@ -8,8 +8,8 @@ import (
 	"zanteyard/slot"
 )
 
-// A server that has a list of the plugins that may be used, without wal2json in it, as every one is by itself: the one
-// that PostgreSQL ships is used, and who asked for the other one is told why not.
+// A server whose list of allowed plugins lacks wal2json, as it does by default: the plugin that PostgreSQL ships is
+// used, and a caller that asks for the other one is told why it can't be used.
 func TestPluginThatMayNotBeUsed(t *testing.T) {
 	s := startServer(t)
 	conn := s.connect(t)

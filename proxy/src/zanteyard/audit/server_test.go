@@ -13,7 +13,7 @@ import (
 // server is a PostgreSQL of the test's own.
 type server struct{ *cluster.Cluster }
 
-// startServer starts one that ends with the test, or skips the test where PostgreSQL isn't installed.
+// startServer starts a server that ends with the test, or skips the test if PostgreSQL isn't installed.
 func startServer(t testing.TB, settings ...string) *server {
 	t.Helper()
 	it, err := cluster.Start(append([]string{"autovacuum=off"}, settings...), nil)
@@ -39,7 +39,7 @@ func (s *server) connect(t testing.TB) *pgconn.PgConn {
 	return conn
 }
 
-// rowsOf runs statements, and gives the last one's rows as text.
+// rowsOf runs statements, and returns the last one's rows as text.
 func rowsOf(conn *pgconn.PgConn, sql string) ([][]string, error) {
 	results, err := conn.Exec(context.Background(), sql).ReadAll()
 	if err != nil || len(results) == 0 {

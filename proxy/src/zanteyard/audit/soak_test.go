@@ -28,7 +28,7 @@ var (
 	soak    = flag.Duration("soak", 3*time.Second, "how long each of these tests runs")
 )
 
-// crowd are clients in goroutines of their own, as sessions of a proxy would see them.
+// crowd is clients in goroutines of their own, as sessions of a proxy would see them.
 type crowd struct {
 	t       *testing.T
 	sink    record.Sink
@@ -38,13 +38,13 @@ type crowd struct {
 	done    int
 }
 
-// member is one client. Between two transactions it makes what fences are asked of it.
+// member is one client. Between two transactions it runs the fences that are requested.
 type member struct {
 	conn   *pgconn.PgConn
 	number uint64
 	place  uint64
 	r      *rand.Rand
-	ask    chan chan struct{} // a fence is wanted; what is sent is closed when all have made theirs
+	ask    chan chan struct{} // a fence is wanted; the channel that is sent is closed when all have run theirs
 	made   chan struct{}
 }
 
@@ -93,7 +93,7 @@ func (c *crowd) Fence(ctx context.Context, connection uint64) error { return nil
 // Busy implements join.Meeter.
 func (c *crowd) Busy() int { return len(c.members) }
 
-// run has a client work until ctx ends.
+// run makes a client work until ctx ends.
 func (c *crowd) run(ctx context.Context, m *member, work func(*member) record.Transaction) error {
 	for ctx.Err() == nil {
 		select {
@@ -122,7 +122,7 @@ func (c *crowd) run(ctx context.Context, m *member, work func(*member) record.Tr
 	return nil
 }
 
-// withdraw reads two rows and writes one of them, at the level.
+// withdraw reads two rows and writes one of them, at this level.
 func withdraw(level string, its record.Level, keys int) func(*member) record.Transaction {
 	return func(m *member) record.Transaction {
 		to := record.Transaction{Began: time.Now(), Level: its, Outcome: record.Aborted}
@@ -323,7 +323,7 @@ func runSoak(t *testing.T, s *server, work func(*member) record.Transaction, bes
 			}
 			if err := c.run(ctx, m, func(m *member) record.Transaction {
 				if working.Err() != nil {
-					time.Sleep(time.Millisecond) // idle, and yet there for the last meeting
+					time.Sleep(time.Millisecond) // idle, but still there for the last meeting
 					return record.Transaction{Began: time.Now()}
 				}
 				return work(m)

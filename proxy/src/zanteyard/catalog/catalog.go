@@ -1,5 +1,5 @@
-// Package catalog knows what the proxy has to know of a database's definitions: its tables with their keys, which tables
-// can be audited, and which functions read or write. A Catalog is a snapshot that is never changed: after DDL it is loaded
+// Package catalog knows what the proxy needs of a database's definitions: its tables with their keys, which tables can
+// be audited, and which functions read or write. A Catalog is a snapshot that never changes: after DDL it is loaded
 // again.
 package catalog
 
@@ -11,16 +11,16 @@ import (
 	"zanteyard/keys"
 )
 
-// Query runs one statement that returns rows, each value as text. No value is NULL.
+// Query runs one statement that returns rows, with each value as text. No value is NULL.
 type Query func(sql string) ([][]string, error)
 
-// Column is a column of a table. Type is the type by which package keys knows its values: a domain's base type, keys.Enum
-// for every enumeration.
+// Column is a column of a table. Type is the type by which package keys interprets its values: a domain's base type,
+// keys.Enum for every enumeration.
 type Column struct {
 	Name   string
 	Number int16
 	Type   uint32
-	// PerValue is how many rows have one value of the column, as the server estimates it; 0 where it doesn't.
+	// PerValue is how many rows have the same value of the column, as the server estimates; 0 if it doesn't.
 	PerValue float64
 }
 
@@ -32,19 +32,19 @@ type Table struct {
 	Root         uint32 // the topmost partitioned table, or the table itself
 	Columns      []Column
 	Key          []Column // of the primary key, in its order
-	// Hidden says why the table's rows can't be seen by a hidden xmin and key; "" where they can.
+	// Hidden says why the table's rows can't be identified by hidden columns with xmin and key; "" if they can.
 	Hidden string
-	// RowSecurity says that policies may hide rows from a role: no row returned doesn't mean that there is none.
+	// RowSecurity says that policies may hide rows from a role: then a missing row may still exist.
 	RowSecurity bool
 	// Rules says that a rule rewrites what is written to the table: RETURNING may be refused.
 	Rules bool
-	// Triggers says that triggers of a user's may write when the table is written to.
+	// Triggers says that user triggers may write when the table is written to.
 	Triggers bool
-	// Indexes are the sets of columns, by number, that one index alone can give.
+	// Indexes are the sets of columns, by number, that a single index can return.
 	Indexes [][]int16
 
 	system   system
-	children int // tables that inherit from it, partitions left out
+	children int // tables that inherit from it, except partitions
 }
 
 // system is what decides whether a table can be audited.
@@ -53,7 +53,7 @@ type system struct {
 	primary, identity            bool // there is a primary key; and its index is the replica identity
 }
 
-// Partitioned says that rows are kept in partitions: RETURNING can't give the xmin of what INSERT or UPDATE wrote.
+// Partitioned says that rows are in partitions: RETURNING can't return the xmin of what INSERT or UPDATE wrote.
 func (t *Table) Partitioned() bool { return t.Kind == 'p' }
 
 // Column finds a column by its name.
@@ -66,7 +66,7 @@ func (t *Table) Column(name string) (Column, bool) {
 	return Column{}, false
 }
 
-// Covered says whether some index alone holds all of the columns, given by number.
+// Covered says whether a single index contains all of these columns, given by number.
 func (t *Table) Covered(columns map[int16]bool) bool {
 	for _, index := range t.Indexes {
 		held := 0
@@ -84,20 +84,20 @@ func (t *Table) Covered(columns map[int16]bool) bool {
 
 // Catalog is a snapshot of one database's definitions.
 type Catalog struct {
-	// Path is the search path that unqualified names were resolved by.
+	// Path is the search path by which unqualified names were resolved.
 	Path []string
-	// Encoding is the server's encoding. The texts of a replication slot come in it.
+	// Encoding is the server's encoding. The texts of a replication slot have it.
 	Encoding string
 
 	tables    map[uint32]*Table
 	names     map[string]map[string]*Table // by schema and name
-	sole      map[string]*Table            // by name, nil where several schemas have it
+	sole      map[string]*Table            // by name, nil if several schemas have it
 	functions map[string]*functions
 	operators map[string]bool // names of operators whose functions aren't pure
 }
 
-// Load reads a database's definitions. The connection that `query` uses should have the search path that the
-// application's connections have.
+// Load reads a database's definitions. The connection of `query` should have the search path that the application's
+// connections have.
 func Load(ctx context.Context, query Query) (*Catalog, error) {
 	c := &Catalog{
 		tables:    map[uint32]*Table{},
@@ -144,8 +144,8 @@ func (c *Catalog) Table(oid uint32) (*Table, bool) {
 	return t, ok
 }
 
-// Find finds a relation by its name: in the search path where no schema is given, or else in the one schema that has such
-// a relation, since the application's roles may have another search path.
+// Find finds a relation by its name: in the search path if no schema is given, and else in the only schema with such a
+// relation, since the application's roles may have another search path.
 func (c *Catalog) Find(schema, name string) (*Table, bool) {
 	if schema != "" {
 		t, ok := c.names[schema][name]
@@ -160,7 +160,7 @@ func (c *Catalog) Find(schema, name string) (*Table, bool) {
 	return t, t != nil
 }
 
-// In is the same catalog under another search path, as PathSQL gives it.
+// In is the same catalog with another search path, as returned by PathSQL.
 func (c *Catalog) In(path string) (*Catalog, error) {
 	view := *c
 	view.Path = nil
@@ -178,7 +178,7 @@ func (c *Catalog) Root(oid uint32) uint32 {
 	return oid
 }
 
-// Tables gives all relations, in no particular order.
+// Tables returns all relations, in no particular order.
 func (c *Catalog) Tables() []*Table {
 	all := make([]*Table, 0, len(c.tables))
 	for _, t := range c.tables {
@@ -187,7 +187,7 @@ func (c *Catalog) Tables() []*Table {
 	return all
 }
 
-// judge says of each table why it can't be audited, if it can't. A partitioned table needs all of its partitions.
+// judge decides for each table why it can't be audited, if it can't. A partitioned table needs all of its partitions.
 func (c *Catalog) judge() {
 	for _, t := range c.tables {
 		t.Hidden = t.reason()
@@ -202,7 +202,7 @@ func (c *Catalog) judge() {
 		}
 		root.Triggers = root.Triggers || t.Triggers
 	}
-	for _, t := range c.tables { // a partition is written to by way of its parents, of which there may be several
+	for _, t := range c.tables { // a partition is written through its parents, of which there may be several
 		if root, ok := c.tables[t.Root]; ok && t.Kind == 'p' && root != t {
 			t.Hidden, t.Triggers = root.Hidden, root.Triggers
 		}

@@ -55,7 +55,7 @@ CREATE FUNCTION op(mood, mood) RETURNS bool LANGUAGE sql AS 'SELECT true';
 CREATE OPERATOR === (LEFTARG = mood, RIGHTARG = mood, FUNCTION = op);
 `
 
-// server is the one that this package's tests share; nil where PostgreSQL isn't installed.
+// server is shared by this package's tests; nil if PostgreSQL isn't installed.
 var server *cluster.Cluster
 
 func TestMain(m *testing.M) {
@@ -72,7 +72,7 @@ func TestMain(m *testing.M) {
 	os.Exit(status)
 }
 
-// open gives a connection to a new database with the schema.
+// open returns a connection to a new database with the schema.
 func open(t *testing.T, database string) *pgconn.PgConn {
 	t.Helper()
 	if server == nil {
@@ -159,7 +159,7 @@ func TestLoad(t *testing.T) {
 	}
 }
 
-// tables compares what is said of each table.
+// tables compares the result for each table.
 func tables(t *testing.T, c *catalog.Catalog) {
 	t.Helper()
 	for name, want := range map[string]string{

@@ -5,17 +5,17 @@ import (
 	"strings"
 )
 
-// NotAsked is why a table isn't seen that a Filter leaves out.
+// NotAsked is the reason for a table that a Filter excludes.
 const NotAsked = "a table excluded by --tables"
 
-// Filter says which tables are asked for, by patterns of their names. The zero value has all.
+// Filter says which tables to audit, by patterns of their names. The zero value includes all.
 type Filter struct{ patterns []pattern }
 
-// pattern is a schema and a table; a * in them stands for any characters. Without a schema it means each one's.
+// pattern is a schema and a table, in which * stands for any characters. Without a schema it applies to every schema.
 type pattern struct{ schema, table, text string }
 
-// ParseFilter reads patterns with commas between them, as `public.*, shop.orders`. A partition is asked for by the name
-// of its topmost table as well.
+// ParseFilter reads patterns separated by commas, such as `public.*, shop.orders`. A partition also matches by the name
+// of its topmost table.
 func ParseFilter(text string) (Filter, error) {
 	var f Filter
 	if strings.TrimSpace(text) == "" {
@@ -35,7 +35,7 @@ func ParseFilter(text string) (Filter, error) {
 	return f, nil
 }
 
-// Has says whether the table is asked for.
+// Has says whether the table is included.
 func (f Filter) Has(schema, table string) bool {
 	if len(f.patterns) == 0 {
 		return true
@@ -48,7 +48,7 @@ func (f Filter) Has(schema, table string) bool {
 	return false
 }
 
-// Idle are the patterns that mean none of the tables, each a schema and a name.
+// Idle returns the patterns that match none of the tables, each a schema and a name.
 func (f Filter) Idle(tables [][2]string) []string {
 	var idle []string
 	for _, one := range f.patterns {
@@ -85,7 +85,7 @@ func matches(pattern, name string) bool {
 	}
 }
 
-// Only is the catalog with the tables hidden that a filter leaves out. To be called before anything else uses it.
+// Only is the catalog with the tables hidden that a filter excludes. Call it before anything else uses the catalog.
 func (c *Catalog) Only(f Filter) {
 	for _, t := range c.tables {
 		root, ok := c.tables[t.Root]

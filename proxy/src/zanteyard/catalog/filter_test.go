@@ -42,7 +42,7 @@ func TestFilter(t *testing.T) {
 	}
 }
 
-// TestOnly: partitions are asked for with their topmost table, and views stay what they are.
+// TestOnly: partitions are included with their topmost table, and views stay as they are.
 func TestOnly(t *testing.T) {
 	c := &Catalog{tables: map[uint32]*Table{
 		1: {OID: 1, Root: 1, Schema: "shop", Name: "orders", Kind: 'p'},

@@ -2,15 +2,15 @@ package catalog
 
 import "strings"
 
-// Function is what calling a function may do, by its name: which of several functions of that name is called isn't known
-// before the server has resolved the arguments' types, so each is what any of them is.
+// Function is what a call of a function with this name may do. Which of several functions of that name is called isn't
+// known before the server has resolved the arguments' types, so each property holds if it holds for any of them.
 type Function struct {
 	Aggregate bool // or, without OVER, it makes one row of many
 	Window    bool
 	Set       bool // it returns any number of rows
 	Reads     bool // it may read tables
 	Writes    bool // it may write
-	Names     bool // it may change what names mean: SET search_path, SET ROLE, temporary tables
+	Names     bool // it may change the meaning of names: SET search_path, SET ROLE, temporary tables
 }
 
 // functions are those of one name: the server's own, and those of other schemas.
@@ -20,7 +20,7 @@ type functions struct {
 	isOther    bool
 }
 
-// Function tells what calling a function by this name may do. Of a name that isn't known anything may be expected.
+// Function says what a call of a function with this name may do. An unknown function may do anything.
 func (c *Catalog) Function(schema, name string) Function {
 	found, ok := c.functions[name]
 	if !ok || schema == "pg_catalog" && !found.isOwn || schema != "" && schema != "pg_catalog" && !found.isOther {
@@ -86,7 +86,7 @@ func (c *Catalog) takeOperator(row []string) error {
 	return nil
 }
 
-// readsTables names the server's own functions that run a query they are given, or read a table they are given.
+// readsTables names the server's own functions that run a query or read a table given as an argument.
 func readsTables(name string) bool {
 	for _, part := range []string{"query_to_xml", "table_to_xml", "schema_to_xml", "database_to_xml", "cursor_to_xml"} {
 		if strings.HasPrefix(name, part) {
@@ -96,7 +96,7 @@ func readsTables(name string) bool {
 	return name == "ts_stat" || name == "ts_rewrite"
 }
 
-// harmless names the server's own functions that are volatile and write no row of a table.
+// harmless names the server's own functions that are volatile and write no table.
 func harmless(name string) bool {
 	switch name {
 	case "random", "setseed", "clock_timestamp", "timeofday", "gen_random_uuid", "nextval", "currval", "lastval", "setval",

@@ -1,11 +1,11 @@
 package catalog
 
-// Each query gives text alone, without NULL. Names are qualified, so that no search path changes their meaning.
+// Each query returns only text, without NULL. Names are qualified, so that no search path changes their meaning.
 
 const pathSQL = `SELECT 'path', s FROM pg_catalog.unnest(pg_catalog.current_schemas(false)) WITH ORDINALITY AS p(s, n)
 UNION ALL SELECT 'encoding', pg_catalog.getdatabaseencoding()`
 
-// PathSQL is a SELECT of one text: the schemas that names are looked for in on a connection, in their order.
+// PathSQL is a SELECT of one text: the schemas in which a connection looks for names, in order.
 const PathSQL = `SELECT pg_catalog.array_to_json(pg_catalog.current_schemas(false))::text`
 
 const typesSQL = `SELECT oid::text, typtype::text, typbasetype::text, typname::text FROM pg_catalog.pg_type
@@ -21,8 +21,8 @@ FROM pg_catalog.pg_class c JOIN pg_catalog.pg_namespace n ON n.oid = c.relnamesp
 WHERE c.relkind IN ('r', 'p', 'v', 'm', 'f', 'S') AND c.relpersistence <> 't'
   AND n.nspname NOT IN ('pg_catalog', 'information_schema', 'pg_toast')`
 
-// How many rows have one value is known after ANALYZE, and 0 before. A partitioned table's figure is that of all its
-// partitions.
+// How many rows have the same value is known after ANALYZE, and 0 before. A partitioned table's figure is that of all
+// its partitions.
 const columnsSQL = `SELECT a.attrelid::text, a.attnum::text, a.attname::text, a.atttypid::text,
   CASE WHEN s.n_distinct > 0 AND c.reltuples > 0 THEN c.reltuples / s.n_distinct
     WHEN s.n_distinct < 0 THEN -1 / s.n_distinct ELSE 0 END::text
@@ -40,8 +40,8 @@ WHERE i.indisvalid`
 
 const triggersSQL = `SELECT DISTINCT tgrelid::text FROM pg_catalog.pg_trigger WHERE NOT tgisinternal AND tgenabled <> 'D'`
 
-// A function of an extension that is written in C is taken for what it says of itself; one in another language may call
-// anything. What is in the last column makes a function one that may change what names mean.
+// A function of an extension is trusted about itself if it is written in C; in another language it may call anything.
+// The last column says whether the function may change the meaning of names.
 const functionsSQL = `SELECT p.proname::text, n.nspname::text, pg_catalog.bool_or(p.prokind = 'a')::text,
   pg_catalog.bool_or(p.prokind = 'w')::text, pg_catalog.bool_or(p.proretset)::text,
   pg_catalog.bool_and(p.provolatile = 'i' OR p.provolatile = 's' AND l.lanname IN ('c', 'internal'))::text,

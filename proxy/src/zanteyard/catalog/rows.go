@@ -32,7 +32,7 @@ func (t types) take(row []string) error {
 	return nil
 }
 
-// resolve is the type by which package keys knows values of a type.
+// resolve is the type by which package keys interprets values of a type.
 func (t types) resolve(oid uint32) uint32 {
 	for depth := 0; depth < 32; depth++ {
 		known, ok := t[oid]
@@ -43,7 +43,7 @@ func (t types) resolve(oid uint32) uint32 {
 			return keys.Enum
 		case known.kind == "d":
 			oid = known.base
-		default: // citext: a row's own text, as any text's
+		default: // citext: a row's own text, as for any text
 			return keys.Text
 		}
 	}
@@ -166,7 +166,7 @@ func (c *Catalog) takeIndex(row []string) error {
 		}
 		columns = append(columns, int16(at))
 	}
-	switch row[5] { // these can give back what was indexed
+	switch row[5] { // these can return what was indexed
 	case "btree", "gist", "spgist":
 		t.Indexes = append(t.Indexes, columns)
 	}

@@ -1,5 +1,5 @@
-// Package cluster starts a PostgreSQL server of its own for tests and benchmarks, in a folder that is removed
-// afterwards. The server ends with the tests, also where these are killed.
+// Package cluster starts a PostgreSQL server for tests and benchmarks, in a temporary folder. The server ends with the
+// tests, even if they are killed.
 package cluster
 
 import (
@@ -22,7 +22,7 @@ import (
 // ErrMissing says that PostgreSQL's server isn't installed, or can't be run by this user.
 var ErrMissing = errors.New("cluster: no PostgreSQL server is installed here")
 
-// Cluster is a server that runs. It takes connections on 127.0.0.1 and in its folder, from every user without a
+// Cluster is a running server. It accepts connections on 127.0.0.1 and in its folder, from every user without a
 // password.
 type Cluster struct {
 	Port int
@@ -30,10 +30,10 @@ type Cluster struct {
 
 	bin   string
 	cred  *syscall.Credential
-	ended chan struct{} // the server's process has
+	ended chan struct{} // closed when the server's process has ended
 }
 
-// Start makes and starts a cluster. More lines for postgresql.conf and pg_hba.conf may be given.
+// Start creates and starts a cluster. It takes additional lines for postgresql.conf and pg_hba.conf.
 func Start(settings, hba []string) (*Cluster, error) {
 	bin, err := programs()
 	if err != nil {
@@ -55,7 +55,7 @@ func Start(settings, hba []string) (*Cluster, error) {
 	return c, nil
 }
 
-// programs is the folder of the newest server that is installed.
+// programs is the folder of the newest installed server.
 func programs() (string, error) {
 	found, _ := filepath.Glob("/usr/lib/postgresql/*/bin/initdb")
 	if path, err := exec.LookPath("initdb"); err == nil && len(found) == 0 {
@@ -73,7 +73,7 @@ func release(path string) int {
 	return n
 }
 
-// unprivileged is a user that the server can run as: it refuses root.
+// unprivileged is a user as whom the server can run: it refuses root.
 func unprivileged() (*syscall.Credential, error) {
 	for _, name := range []string{"postgres", "nobody"} {
 		u, err := user.Lookup(name)
@@ -126,8 +126,8 @@ func (c *Cluster) start(settings, hba []string) error {
 	return c.launch()
 }
 
-// plugins is the setting by which the server lets wal2json be used, if it has that setting: since 15.19, and since as
-// late a version of each release.
+// plugins is the setting that allows wal2json, if the server has that setting: 15.19 and later, and equally late
+// versions of other releases.
 func (c *Cluster) plugins() []string {
 	known, err := exec.Command(filepath.Join(c.bin, "postgres"), "--describe-config").Output()
 	if err != nil || !strings.Contains(string(known), "\n"+Plugins+"\t") {
@@ -139,8 +139,8 @@ func (c *Cluster) plugins() []string {
 // Plugins is the name of that setting.
 const Plugins = "output_plugin_libraries"
 
-// launch starts the server, and waits until it takes connections. It is started by a thread that stays for as long, since
-// the server is told to end when its parent's thread does.
+// launch starts the server, and waits until it accepts connections. The thread that starts it stays as long as the
+// server, which is told to end when its parent thread does.
 func (c *Cluster) launch() error {
 	output, err := os.OpenFile(filepath.Join(c.Dir, "log"), os.O_APPEND|os.O_CREATE|os.O_WRONLY, 0o644)
 	if err != nil {
@@ -167,7 +167,7 @@ func (c *Cluster) launch() error {
 	return c.wait()
 }
 
-// wait waits until the server takes connections.
+// wait waits until the server accepts connections.
 func (c *Cluster) wait() error {
 	ctx, cancel := context.WithTimeout(context.Background(), 2*time.Minute)
 	defer cancel()
@@ -198,7 +198,7 @@ func (c *Cluster) append(name string, lines []string) error {
 	return err
 }
 
-// Write writes a file into the folder of the server's data, as the server wants it.
+// Write writes a file into the server's data folder, with the owner and mode that the server requires.
 func (c *Cluster) Write(name string, content []byte) error {
 	path := filepath.Join(c.data(), name)
 	if err := os.WriteFile(path, content, 0o600); err != nil {
@@ -226,7 +226,7 @@ func (c *Cluster) command(name string, args ...string) *exec.Cmd {
 	return cmd
 }
 
-// Restart stops and starts the server; fast ends all connections, otherwise it is as if it had crashed.
+// Restart stops and starts the server; fast ends all connections, otherwise it is like a crash.
 func (c *Cluster) Restart(fast bool) error {
 	mode := "immediate"
 	if fast {
@@ -239,7 +239,7 @@ func (c *Cluster) Restart(fast bool) error {
 	return c.launch()
 }
 
-// Log is what the server has logged.
+// Log is the server's log.
 func (c *Cluster) Log() string {
 	b, _ := os.ReadFile(filepath.Join(c.Dir, "log"))
 	return string(b)

@@ -17,7 +17,7 @@ func (c *Cluster) Connect(ctx context.Context) (*pgconn.PgConn, error) {
 	return pgconn.Connect(ctx, c.DSN("postgres", "postgres"))
 }
 
-// Rows runs statements, and gives the rows of all of them as texts.
+// Rows runs statements, and returns the rows of all of them as texts.
 func Rows(ctx context.Context, conn *pgconn.PgConn, sql string) ([][]string, error) {
 	results, err := conn.Exec(ctx, sql).ReadAll()
 	if err != nil {
@@ -36,7 +36,7 @@ func Rows(ctx context.Context, conn *pgconn.PgConn, sql string) ([][]string, err
 	return rows, nil
 }
 
-// Query gives a function that package catalog can load with.
+// Query returns a function for catalog.Load.
 func Query(ctx context.Context, conn *pgconn.PgConn) func(sql string) ([][]string, error) {
 	return func(sql string) ([][]string, error) { return Rows(ctx, conn, sql) }
 }

@@ -19,8 +19,8 @@ import (
 // ErrNoPooler says that pgbouncer isn't installed.
 var ErrNoPooler = errors.New("cluster: pgbouncer isn't installed here")
 
-// Pgbouncer starts a pgbouncer in front of what listens on a port of 127.0.0.1, with two connections to it. The mode is
-// session, transaction or statement. It takes every user, without a password, and returns its own port.
+// Pgbouncer starts a pgbouncer in front of a port of 127.0.0.1, with two connections to it. The mode is session,
+// transaction or statement. It accepts every user, without a password, and returns its own port.
 func (c *Cluster) Pgbouncer(target int, mode string) (port int, stop func(), err error) {
 	program, err := exec.LookPath("pgbouncer")
 	if err != nil {

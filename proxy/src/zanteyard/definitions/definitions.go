@@ -1,5 +1,5 @@
-// Package definitions keeps the catalog that statements are planned by up to date: it is loaded by a connection of the
-// proxy's own, and again when a session or the slot says that something has changed, or when a look says so.
+// Package definitions keeps the catalog for planning statements up to date. A connection of the proxy's own loads it,
+// and loads it again when a session or the slot reports a change, or a regular check finds one.
 package definitions
 
 import (
@@ -17,7 +17,7 @@ import (
 	"zanteyard/plan"
 )
 
-// A change is looked for by the rows of the tables that definitions and rights are in: how many there are, and which
+// A change is detected by the rows of the tables that contain definitions and rights: how many there are, and which
 // transactions wrote them.
 var markText = "SELECT pg_catalog.concat_ws('|', " + strings.Join([]string{
 	newest("pg_class"), newest("pg_proc"), newest("pg_attribute WHERE attrelid >= 16384"), newest("pg_namespace"),
@@ -25,14 +25,14 @@ var markText = "SELECT pg_catalog.concat_ws('|', " + strings.Join([]string{
 }, ", ") + ")"
 
 func newest(table string) string {
-	if table == "pg_roles" { // a view, without an xmin: pg_authid needs a right
+	if table == "pg_roles" { // a view, without an xmin: reading pg_authid needs a right
 		return "(SELECT pg_catalog.sum(pg_catalog.hashtext(r::pg_catalog.text)) FROM pg_catalog.pg_roles r)"
 	}
 	return "(SELECT pg_catalog.concat_ws(',', pg_catalog.count(*), " +
 		"pg_catalog.sum(xmin::pg_catalog.text::pg_catalog.int8)) FROM pg_catalog." + table + ")"
 }
 
-// Definitions is safe for use by many goroutines.
+// Definitions is safe for use by several goroutines.
 type Definitions struct {
 	config *pgconn.Config
 	log    func(string)
@@ -41,16 +41,16 @@ type Definitions struct {
 	wake   chan struct{}
 	every  time.Duration
 
-	mark   string // used by Open, then by Run alone
+	mark   string // used by Open, then only by Run
 	failed string // the last error that was logged
 }
 
-// New makes definitions that aren't known yet: Run loads them.
+// New makes definitions that aren't loaded yet: Run loads them.
 func New(config *pgconn.Config, every time.Duration, log func(string)) *Definitions {
 	return &Definitions{config: config, log: log, wake: make(chan struct{}, 1), every: every}
 }
 
-// Only has all tables be hidden that the filter leaves out. To be called before Run.
+// Only hides all tables that the filter excludes. Call it before Run.
 func (d *Definitions) Only(filter catalog.Filter) { d.only = filter }
 
 // Open loads the catalog of the database that the configuration names.
@@ -64,7 +64,8 @@ func Open(ctx context.Context, config *pgconn.Config, every time.Duration, log f
 	return d, d.renew(ctx, conn)
 }
 
-// renew loads the catalog if it has changed. What changes between the mark and the catalog is seen by the next look.
+// renew loads the catalog if it has changed. A change between reading the mark and the catalog is seen by the next
+// check.
 func (d *Definitions) renew(ctx context.Context, conn *pgconn.PgConn) error {
 	mark, err := one(ctx, conn, markText)
 	if err != nil || mark == d.mark {
@@ -76,7 +77,7 @@ func (d *Definitions) renew(ctx context.Context, conn *pgconn.PgConn) error {
 	return err
 }
 
-// PlanIn gives a statement's plan on a connection with a search path. It is nil while nothing was loaded.
+// PlanIn returns a statement's plan on a connection with this search path; nil as long as nothing is loaded.
 func (d *Definitions) PlanIn(path, text string) (*plan.Plan, plan.Tokens) {
 	if cache := d.cache.Load(); cache != nil {
 		return cache.PlanIn(path, text)
@@ -84,7 +85,7 @@ func (d *Definitions) PlanIn(path, text string) (*plan.Plan, plan.Tokens) {
 	return nil, plan.Tokens{}
 }
 
-// Own says that a search path is the catalog's own.
+// Own says whether a search path is the catalog's own.
 func (d *Definitions) Own(path string) bool {
 	cache := d.cache.Load()
 	var names []string
@@ -103,7 +104,7 @@ func (d *Definitions) Own(path string) bool {
 	return true
 }
 
-// Generation rises whenever the catalog was loaded anew.
+// Generation increases whenever the catalog has been loaded again.
 func (d *Definitions) Generation() uint64 {
 	if cache := d.cache.Load(); cache != nil {
 		return cache.Generation()
@@ -111,7 +112,7 @@ func (d *Definitions) Generation() uint64 {
 	return 0
 }
 
-// Changed says that something may have changed. It doesn't wait.
+// Changed reports that something may have changed. It doesn't wait.
 func (d *Definitions) Changed() {
 	select {
 	case d.wake <- struct{}{}:
@@ -119,8 +120,8 @@ func (d *Definitions) Changed() {
 	}
 }
 
-// Run loads the catalog and looks for changes until ctx ends. It calls loaded when there is a catalog
-// for the first time.
+// Run loads the catalog and checks for changes until ctx ends. It calls loaded when there is a catalog for the first
+// time.
 func (d *Definitions) Run(ctx context.Context, loaded func()) {
 	var conn *pgconn.PgConn
 	defer func() {
@@ -140,13 +141,13 @@ func (d *Definitions) Run(ctx context.Context, loaded func()) {
 		case <-ctx.Done():
 			return
 		case <-d.wake:
-			// A session is about to change something: the change is there a little later.
+			// A session is about to change something: the change is visible a little later.
 		case <-tick.C:
 		}
 	}
 }
 
-// look loads the catalog if it has changed. It gives the connection for the next look, nil if there is none.
+// look loads the catalog if it has changed. It returns the connection for the next check, nil if there is none.
 func (d *Definitions) look(ctx context.Context, conn *pgconn.PgConn) *pgconn.PgConn {
 	limited, cancel := context.WithTimeout(ctx, 30*time.Second)
 	defer cancel()

@@ -12,7 +12,7 @@ type command struct {
 	Transactions [][2]uint64 `json:"transactions"`
 }
 
-// obey does what one line says.
+// obey executes one line.
 func obey(line []byte, to Commands) error {
 	var it command
 	if err := json.Unmarshal(line, &it); err != nil {

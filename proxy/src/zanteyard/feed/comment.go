@@ -6,8 +6,8 @@ import (
 	"strings"
 )
 
-// comment reads the last comment of a statement that has the form of sqlcommenter, /*key='value',key='value'*/, with
-// keys and values percent-encoded. It is empty where there is none.
+// comment reads a statement's last comment in the form of sqlcommenter, /*key='value',key='value'*/, with
+// percent-encoded keys and values. It returns nil if there is none.
 func comment(text string) map[string]string {
 	for end := len(text); ; {
 		end = strings.LastIndex(text[:end], "*/")
@@ -54,7 +54,7 @@ func tagsOf(text string) map[string]string {
 	return tags
 }
 
-// untilQuote is a value up to its quote; a quote in it has a backslash in front.
+// untilQuote splits off a value up to its quote; a quote inside it is preceded by a backslash.
 func untilQuote(text string) (value, rest string, found bool) {
 	var to strings.Builder
 	for i := 0; i < len(text); i++ {
@@ -76,8 +76,8 @@ func wholeNumber(text string) (uint64, bool) {
 	return number, err == nil
 }
 
-// Origin is a comment of sqlcommenter's form with the file and line that a statement's own one names, "" where it names
-// none.
+// Origin returns a comment in sqlcommenter's form with the file and line that a statement's own comment names, or "" if
+// it names none.
 func Origin(text string) string {
 	var its []string
 	tags := comment(text)

@@ -10,7 +10,7 @@ import (
 	"zanteyard/record"
 )
 
-// encode writes an event as one JSON object without a line's end.
+// encode writes an event as one JSON object without a newline.
 func encode(it join.Event) ([]byte, error) {
 	switch it := it.(type) {
 	case join.Started:
@@ -42,7 +42,7 @@ func encode(it join.Event) ([]byte, error) {
 	return nil, fmt.Errorf("an event of the type %T", it)
 }
 
-// object puts the event's name first, by which people find it.
+// object puts the event's name first, where people look for it.
 func object(event string, at time.Time, fields map[string]any) ([]byte, error) {
 	if fields == nil {
 		fields = map[string]any{}
@@ -58,10 +58,10 @@ func object(event string, at time.Time, fields map[string]any) ([]byte, error) {
 	}
 	its := text.Bytes()
 	copy(its[start:], its[start+1:]) // the fields' own brace
-	return its[:len(its)-2], nil     // and the line's end
+	return its[:len(its)-2], nil     // and the newline
 }
 
-// seconds since 1970, to a microsecond.
+// seconds returns the seconds since 1970, to a microsecond.
 func seconds(at time.Time) float64 {
 	if at.IsZero() {
 		return 0
@@ -127,8 +127,11 @@ func transaction(it *join.Description) map[string]any {
 	for i, one := range it.Its.Statements {
 		statements[i] = statement(one)
 	}
-	reads := make([]any, len(it.Reads))
+	reads, by := make([]any, len(it.Reads)), make([]any, len(it.Reads))
 	for i, one := range it.Reads {
+		if one.By > 0 {
+			by[i] = one.By - 1
+		}
 		if one.Initial {
 			reads[i] = []any{one.Key, "init"}
 		} else {
@@ -147,7 +150,8 @@ func transaction(it *join.Description) map[string]any {
 		"fence": it.Its.Fence, "connection": it.From.Number, "application_name": it.From.ApplicationName,
 		"address": it.From.Address, "user": it.From.User, "database": it.From.Database, "proxy": it.From.Proxy, "level": levels[it.Its.Level],
 		"began": seconds(it.Its.Began), "ended": seconds(it.Its.Ended), "xid": uint32(it.Its.Number),
-		"statements": statements, "statements_dropped": it.Dropped, "reads": reads, "writes": writes, "keys": rows,
+		"statements": statements, "statements_dropped": it.Dropped, "reads": reads, "read_by": by,
+		"writes": writes, "keys": rows,
 	} {
 		to[field] = value
 	}

@@ -1,5 +1,5 @@
 // Package feed talks with the program that started the proxy: lines for the auditor and events out, commands in, in the
-// form of docs/PROXY_FEED.md.
+// format of docs/PROXY_FEED.md.
 package feed
 
 import (
@@ -11,9 +11,9 @@ import (
 	"zanteyard/join"
 )
 
-// Writer implements join.Output on a stream. Its calls don't wait: a goroutine writes (Run). What it holds is bounded by
-// what the joiner gives: no more lines than the auditor's limit allows before a cut comes back, and coverage is left out
-// while much is waiting.
+// Writer implements join.Output on a stream. Its calls don't wait: a goroutine writes (Run). What it holds is limited
+// by what the joiner produces: no more lines than the auditor's limit allows before a cut comes back, and coverage is
+// left out while much is waiting.
 type Writer struct {
 	to   io.Writer
 	wake chan struct{}
@@ -40,7 +40,7 @@ func (w *Writer) Event(it join.Event) {
 		return
 	}
 	text, err := encode(it)
-	if err != nil { // no value of an event is one that JSON hasn't
+	if err != nil { // no value of an event is one that JSON lacks
 		text = []byte(`{"event":"warning","text":"an event could not be written"}`)
 	}
 	w.put(text)
@@ -91,7 +91,7 @@ func (w *Writer) Run() error {
 	return nil
 }
 
-// Close has Run end when everything is written. What comes later is dropped.
+// Close makes Run end when everything is written. Anything later is dropped.
 func (w *Writer) Close() {
 	w.lock.Lock()
 	w.closed = true
@@ -99,7 +99,7 @@ func (w *Writer) Close() {
 	w.signal()
 }
 
-// Commands is who the parent's commands are for.
+// Commands handles the parent's commands.
 type Commands interface {
 	Cut(marks []uint64)
 	Describe(id int64, transactions [][2]uint64)
@@ -109,10 +109,11 @@ type Commands interface {
 	Warn(text string)
 }
 
-// mostOfCommand is how long a command may be.
+// mostOfCommand is the longest permitted command, in bytes.
 const mostOfCommand = 1 << 20
 
-// Read takes commands until the stream ends, which counts as stop. It returns what the stream ended with, nil at its end.
+// Read executes commands until the stream ends, which counts as stop. It returns the error that ended the stream, or
+// nil at its end.
 func Read(from io.Reader, to Commands) error {
 	lines := bufio.NewReaderSize(from, mostOfCommand)
 	for {

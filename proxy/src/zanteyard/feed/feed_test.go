@@ -14,7 +14,7 @@ import (
 	"zanteyard/record"
 )
 
-// obeyed notes commands as text.
+// obeyed records commands as text.
 type obeyed struct{ its []string }
 
 func (o *obeyed) Cut(marks []uint64) { o.its = append(o.its, fmt.Sprint("cut ", marks)) }
@@ -112,7 +112,7 @@ func TestDescription(t *testing.T) {
 			{Text: "SELECT 1 /*file='a.py',line='41',route='x'*/", Unseen: []record.Unseen{{Shape: "s", Reason: "an aggregate"}}},
 			{Text: "SELECT $1", Parameters: []string{"5"}},
 		}},
-		Reads:  []join.KeyRead{{Key: 5, Initial: true}, {Key: 7, Session: 2, Number: 11}},
+		Reads:  []join.KeyRead{{Key: 5, Initial: true, By: 2}, {Key: 7, Session: 2, Number: 11}},
 		Writes: []uint64{5}, Rows: []join.Row{{Key: 5, Table: "public.accounts", Row: "5, checking", Columns: []string{"id", "kind"}}},
 	}}})
 	if err != nil {
@@ -125,7 +125,7 @@ func TestDescription(t *testing.T) {
 		t.Fatal(err)
 	}
 	want := `map[address:10.0.0.7:51234 application_name:shop began:0 connection:12 database: ended:0 fence:false ` +
-		`keys:[map[columns:[id kind] key:5 row:5, checking table:public.accounts]] known:true level:serializable number:17 proxy: reads:[[5 init] [7 2 11]] ` +
+		`keys:[map[columns:[id kind] key:5 row:5, checking table:public.accounts]] known:true level:serializable number:17 proxy: read_by:[1 <nil>] reads:[[5 init] [7 2 11]] ` +
 		`session:3 statements:[map[at:0 comment:map[route:x] file:a.py line:41 parameters:<nil> ` +
 		`text:SELECT 1 /*file='a.py',line='41',route='x'*/ unseen:[an aggregate]] map[at:0 parameters:[5] text:SELECT $1]] ` +
 		`statements_dropped:0 user: writes:[5] xid:734]`

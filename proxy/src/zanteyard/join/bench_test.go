@@ -11,7 +11,7 @@ import (
 )
 
 // load drives a core as a busy server would: 32 connections, transactions of three reads and two writes, a step after
-// each 50 of them, and a cut after each 1,000.
+// every 50 of them, and a cut after every 1,000.
 type load struct {
 	core  *core
 	now   time.Time
@@ -94,7 +94,7 @@ func BenchmarkJoiner(b *testing.B) {
 	}
 }
 
-// What is kept doesn't grow with the transactions that went through.
+// Memory doesn't grow with the number of transactions that went through.
 func TestMemoryIsBounded(t *testing.T) {
 	l := newLoad(20_000)
 	l.core.rows.most = 5_000
@@ -129,7 +129,8 @@ func TestMemoryIsBounded(t *testing.T) {
 	t.Log(text.String())
 }
 
-// A row that only others write has a long list of versions between two cuts: reading it takes no longer for that.
+// A row that only others write has a long list of versions between two cuts: reading it takes no longer because of
+// that.
 func TestHotRow(t *testing.T) {
 	b := newBench(t, Options{Late: time.Millisecond, Stale: time.Hour})
 	b.connect(1)

@@ -7,8 +7,8 @@ import (
 	"zanteyard/record"
 )
 
-// Of quiet moments the last 4,096 are kept, or the later half of them; then a transaction that began before the first one
-// counts as spanning one.
+// Only the last 4,096 quiet moments are kept, or the later half of them; a transaction that began before the first one
+// then counts as spanning one.
 func TestMomentsAreBounded(t *testing.T) {
 	at := func(n int) time.Time { return time.Unix(1000, 0).Add(time.Duration(n) * time.Second) }
 	var m moments
@@ -32,7 +32,7 @@ func TestMomentsAreBounded(t *testing.T) {
 	}
 }
 
-// A row waits once to be forgotten, however often it is written; the fences' row doesn't.
+// A row is queued once for forgetting, however often it is written; the fences' row isn't.
 func TestRowsWaitOnceToBeForgotten(t *testing.T) {
 	b := newBench(t, Options{Sessions: 1, Rows: 2})
 	b.commit(1001, "a")
@@ -52,7 +52,7 @@ func TestRowsWaitOnceToBeForgotten(t *testing.T) {
 	}
 }
 
-// A transaction of a connection that isn't in the sample is left out for that reason.
+// A transaction of a connection outside the sample is left out for that reason.
 func TestOutsideTheSample(t *testing.T) {
 	b := newBench(t, Options{Sessions: 64, Sample: 0.5})
 	in, out := uint64(0), uint64(0)
@@ -75,11 +75,11 @@ func TestOutsideTheSample(t *testing.T) {
 	}
 }
 
-// Nobody asks for a decided transaction by its number any more, whoever told of it first.
+// Nobody looks up a decided transaction by its number any more, whoever reported it first.
 func TestWhatIsDecidedTakesNoRoom(t *testing.T) {
 	b := newBench(t, Options{Sessions: 1})
 	b.connect(1, 2)
-	b.tell(1, 0, record.Transaction{Number: 1001}) // offered, and the slot tells of it later
+	b.tell(1, 0, record.Transaction{Number: 1001}) // offered, and the slot reports it later
 	b.tell(2, 0, record.Transaction{Number: 1002}) // left out: its connection has no session
 	if len(b.core.writers) != 2 {
 		t.Fatalf("waiting are %v", b.core.writers)
@@ -87,7 +87,7 @@ func TestWhatIsDecidedTakesNoRoom(t *testing.T) {
 	b.commit(1001, "a")
 	b.commit(1002, "a")
 	b.commit(1003, "a")
-	b.tell(1, 1, record.Transaction{Number: 1003}) // the slot told of it before
+	b.tell(1, 1, record.Transaction{Number: 1003}) // the slot reported it before
 	if len(b.core.writers) != 0 {
 		t.Errorf("waiting are %v", b.core.writers)
 	}
@@ -97,7 +97,7 @@ func TestWhatIsDecidedTakesNoRoom(t *testing.T) {
 	}
 }
 
-// A connection's transactions follow one another by their places: only then is none of them owed a quiet moment.
+// A connection's transactions follow one another by their places: only then does none of them need a quiet moment.
 func TestPlacesOfAConnection(t *testing.T) {
 	b := newBench(t, Options{Sessions: 1})
 	b.connect(1)
@@ -109,7 +109,7 @@ func TestPlacesOfAConnection(t *testing.T) {
 	}
 }
 
-// A cut that no round waits for, as one of the audit before, is no answer to the next one.
+// A cut that no round waits for, such as one of a previous audit, doesn't answer the next one.
 func TestCutThatNoRoundWaitsFor(t *testing.T) {
 	for _, one := range []struct{ waiting, left int }{{0, 0}, {1, 0}, {2, 1}} {
 		b := newBench(t, Options{Sessions: 1})

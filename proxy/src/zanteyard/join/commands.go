@@ -2,7 +2,7 @@ package join
 
 import "fmt"
 
-// Cut takes in how many transactions of each session are gone, after a truncate.
+// Cut records, after a truncate, how many transactions of each session are gone.
 func (j *Joiner) Cut(marks []uint64) {
 	j.command(func() {
 		if j.unanswered > 0 {
@@ -14,25 +14,26 @@ func (j *Joiner) Cut(marks []uint64) {
 	})
 }
 
-// Describe tells what is known of transactions, each a session and a number, as an event.
+// Describe reports what is known about transactions, each a session and a number, as an event.
 func (j *Joiner) Describe(id int64, transactions [][2]uint64) {
 	j.command(func() {
 		j.output.Event(Transactions{At: j.core.now, ID: id, Given: j.describe(transactions)})
 	})
 }
 
-// Round has the sessions meet now.
+// Round makes the sessions meet now.
 func (j *Joiner) Round() { j.command(func() { j.wanted = true }) }
 
-// Stop has them meet for a last round, and tells when that was written. The audit goes on until Run's context ends.
+// Stop makes the sessions meet for a last round, and reports when that was written. The audit goes on until Run's
+// context ends.
 func (j *Joiner) Stop() { j.command(func() { j.wanted, j.stopping = true, true }) }
 
-// Restart begins a new audit, with nothing known of the one before.
+// Restart begins a new audit, which knows nothing of the one before.
 func (j *Joiner) Restart() {
 	j.command(func() { j.again = true })
 }
 
-// Warn tells people something.
+// Warn reports a warning to the people who run the audit.
 func (j *Joiner) Warn(text string) { j.command(func() { j.warn(text) }) }
 
 func (j *Joiner) command(f func()) {
@@ -42,7 +43,7 @@ func (j *Joiner) command(f func()) {
 	}
 }
 
-// End ends the audit for a reason that comes from elsewhere, as that the slot was lost.
+// End ends the audit for a reason from elsewhere, for example that the slot was lost.
 func (j *Joiner) End(err error) { j.command(func() { j.fail(err) }) }
 
 func (j *Joiner) fail(err error) {

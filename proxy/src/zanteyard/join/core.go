@@ -6,50 +6,50 @@ import (
 	"zanteyard/record"
 )
 
-// core joins what is told with what the slot has, step by step, with no goroutine and no clock of its own. Its calls are
+// core joins what sessions report with what the slot has, step by step, with no goroutines and no clock. All calls are
 // made by one goroutine (Joiner).
 //
-// What comes from sessions and from the slot may come in any order. A transaction waits, once it was told, until the slot
-// has passed the place at which the server's log then stood (batch): whatever it has read was committed by then, so what
-// the slot hasn't told by then it never tells. And it waits until it is known of each version that it has read or
-// overwritten, and of those before, whether they are offered: a version is, once a session has told of its transaction;
-// it isn't, if none has within a while of its commit.
+// Reports of sessions and of the slot may arrive in any order. Once a transaction is reported, it waits until the slot
+// has passed the place where the server's log stood at that time (batch): everything that it read was committed by
+// then, so what the slot hasn't reported by then it never reports. It also waits until it is known whether each version
+// that it read or overwrote, and those before, are offered: a version is once a session has reported its transaction;
+// it isn't if none has within a while of its commit.
 type core struct {
 	opt         Options
 	tables      Tables
-	out         func(line []byte) // takes a line for the auditor, without its end; it copies what it keeps
+	out         func(line []byte) // takes a line for the auditor, without its newline; it copies what it keeps
 	began, now  time.Time
 	connections map[uint64]*connection
-	queue       []*connection // that have no session
+	queue       []*connection // those without a session
 	sessions    []*session
-	database    string // the slot's; empty, if any will do
+	database    string // the slot's; empty if any will do
 	held        []*entry
-	joining     []*connection // that got a closed session, and need a fence
+	joining     []*connection // those that got a closed session and need a fence
 	moments     moments
-	opened      time.Time // when the last fence had ended that a transaction of its moment's own time stands behind
-	closing     time.Time // when the first fence began that has one in front; of the time since the last moment
-	entered     int       // connections, since the last meeting began
-	reserve     int       // sessions without a connection that stay open at this meeting
+	opened      time.Time // when the last fence ended that is followed by a transaction of its moment's own time
+	closing     time.Time // when the first fence began that comes after one; since the last moment
+	entered     int       // connections since the last meeting began
+	reserve     int       // how many sessions without a connection stay open at this meeting
 
 	rows     *rows
-	writers  map[uint32]*writer // that only the slot or only a session has told of
-	late     []*writer          // commits in the slot's order that may still be somebody else's
+	writers  map[uint32]*writer // those that only the slot or only a session has reported
+	late     []*writer          // commits in the slot's order that may still turn out to be somebody else's
 	expected []expected
-	commits  uint64    // how many the slot has told: the place of the last one
+	commits  uint64    // how many the slot has reported: the place of the last one
 	fenced   uint64    // the place of the last fence that is gone
 	fences   []*writer // offered fences that may remain
 	used     uint64    // count of transactions in lines
 	inspects bool      // subtransactions can be asked for
-	unsub    []*writer // commits whose subtransactions are to be asked for
+	unsub    []*writer // commits whose subtransactions are still to be asked for
 	texts    int       // bytes of statements that are kept
-	base     uint32    // numbers before it were over as the audit began
-	newest   uint64    // how far the newest number that the slot has told is past the base
-	batch    uint64    // of what is told now
-	batched  bool      // something was told in it
+	base     uint32    // all transactions with lower numbers were over when the audit began
+	newest   uint64    // how far the newest number that the slot has reported is past the base
+	batch    uint64    // of what is reported now
+	batched  bool      // something was reported in it
 	asked    []batchAt // batches whose place in the log is known, and that the slot hasn't passed
 	passed   uint64    // the slot has passed this batch
 	progress uint64
-	since    int       // transactions named since the last meeting
+	since    int       // number of transactions named since the last meeting
 	oldest   time.Time // when the first of them was named
 	counts   counts
 }
@@ -60,8 +60,8 @@ type batchAt struct {
 	at    time.Time // when it was asked for
 }
 
-// newCore begins an audit at a server whose transactions below the base were over, and of which the slot tells every
-// commit that a snapshot of that time doesn't show.
+// newCore begins an audit of a server. All transactions below the base were over, and the slot reports every commit
+// that a snapshot of that time doesn't show.
 func newCore(opt Options, tables Tables, base uint32, out func([]byte), now time.Time) *core {
 	opt = opt.withDefaults()
 	c := &core{
@@ -78,9 +78,9 @@ func newCore(opt Options, tables Tables, base uint32, out func([]byte), now time
 	return c
 }
 
-// isOld says whether a row's xmin is of a transaction that was over as the audit began, so that the slot never tells of
-// it. Numbers have 32 bits here: one that could as well be newer counts as unknown, and so does one that no commit of
-// the slot comes near to yet (a subtransaction's may be above all of them).
+// isOld reports whether a row's xmin is of a transaction that was over when the audit began, so that the slot never
+// reports it. Numbers have 32 bits here: one that could as well be newer counts as unknown. That includes numbers up to
+// 2^30 above all commits of the slot so far, since a subtransaction's may be above all of them.
 func (c *core) isOld(xmin uint32) bool {
 	const ahead = 1 << 30
 	if xmin < 3 {
@@ -89,7 +89,7 @@ func (c *core) isOld(xmin uint32) bool {
 	return c.newest+ahead < 1<<32 && uint64(xmin-c.base) >= c.newest+ahead
 }
 
-// commit takes in what the slot told next.
+// commit handles the slot's next commit.
 func (c *core) commit(it record.Commit) {
 	c.counts.committed++
 	c.commits++
@@ -98,7 +98,7 @@ func (c *core) commit(it record.Commit) {
 	}
 	w := c.writers[it.Number]
 	if w != nil && w.place != 0 {
-		w = nil // the same number once more, after it was used up
+		w = nil // the same number again, after it was used up
 	}
 	if w == nil {
 		w = &writer{number: it.Number}
@@ -127,7 +127,7 @@ func (c *core) addVersions(w *writer, it record.Commit) {
 		if !v.left {
 			w.addWrite(write{c.rows.fence, v})
 		}
-		return // a fence does nothing else; were it to, that is left out
+		return // a fence does nothing else; if it does, that is left out
 	}
 	for _, relation := range it.Emptied {
 		c.rows.emptied(c.tables.Root(relation), w)
@@ -135,7 +135,7 @@ func (c *core) addVersions(w *writer, it record.Commit) {
 	for _, one := range it.Writes {
 		r := c.rows.get(rowID{c.tables.Root(one.Relation), one.Key})
 		if last := r.last; last != nil && last.writer == w && !last.left {
-			last.deleted = one.Deleted // two partitions' keys have become one row's
+			last.deleted = one.Deleted // keys of two partitions have become one row's
 			continue
 		}
 		if c.opt.Snapshot && one.Inserted && r.last != nil {
@@ -152,7 +152,7 @@ func (c *core) addVersions(w *writer, it record.Commit) {
 	c.counts.writes += uint64(len(it.Writes))
 }
 
-// fold leaves the writer's versions out.
+// fold leaves out the writer's versions.
 func (c *core) fold(w *writer, reason string) {
 	w.fate = folded
 	w.forgetWrites()
@@ -161,7 +161,7 @@ func (c *core) fold(w *writer, reason string) {
 	}
 }
 
-// advance takes in how far the slot is: every commit that stands before it in the log was told.
+// advance records how far the slot is: it has reported every commit before this place in the log.
 func (c *core) advance(place uint64) {
 	if place > c.progress {
 		c.progress = place
@@ -172,15 +172,15 @@ func (c *core) advance(place uint64) {
 	}
 }
 
-// reached says whether the slot has come to a place. Where a page of the log is full, the place at which the next record
-// is inserted stands behind the next page's header, which the slot reports only with that record.
+// reached reports whether the slot has come to a place. If a page of the log is full, the place where the next record
+// is inserted comes after the next page's header, which the slot reports only with that record.
 func reached(progress, place uint64) bool {
 	const page, header = 8192, 40
 	return progress >= place || progress%page == 0 && place-progress <= header
 }
 
-// wantsPlace says that something was told for which the log's place has to be asked. What is told from then on is in
-// the next batch.
+// wantsPlace reports whether something was reported for which the log's place has to be asked. Whatever is reported
+// from then on belongs to the next batch.
 func (c *core) wantsPlace() (batch uint64, wanted bool) {
 	if !c.batched {
 		return 0, false
@@ -190,13 +190,13 @@ func (c *core) wantsPlace() (batch uint64, wanted bool) {
 	return c.batch - 1, true
 }
 
-// placed takes in where the log stood when it was asked for a batch.
+// placed records where the log stood when it was asked for a batch.
 func (c *core) placed(batch, place uint64, asked time.Time) {
 	c.asked = append(c.asked, batchAt{batch, place, asked})
 	c.advance(c.progress)
 }
 
-// lag is for how long the slot has been behind.
+// lag returns for how long the slot has been behind.
 func (c *core) lag() time.Duration {
 	if len(c.asked) == 0 {
 		return 0
@@ -204,7 +204,7 @@ func (c *core) lag() time.Duration {
 	return c.now.Sub(c.asked[0].at)
 }
 
-// step does whatever can be done by now, but that it gives out no fragments (flush).
+// step does everything that can be done by now, except writing fragments (flush).
 func (c *core) step(now time.Time) {
 	c.now = now
 	c.foldLate()
@@ -217,7 +217,7 @@ func (c *core) step(now time.Time) {
 	}
 }
 
-// foldLate counts commits as somebody else's that no session has told of for a while.
+// foldLate counts commits as somebody else's if no session has reported them for a while.
 func (c *core) foldLate() {
 	for len(c.late) > 0 {
 		w := c.late[0]
@@ -237,13 +237,13 @@ func (c *core) foldLate() {
 	}
 }
 
-// expected is a folded transaction of which the slot hasn't told.
+// expected is a folded transaction that the slot hasn't reported yet.
 type expected struct {
 	batch  uint64
 	writer *writer
 }
 
-// giveUpExpected drops folded transactions of which the slot never tells.
+// giveUpExpected drops folded transactions that the slot never reports.
 func (c *core) giveUpExpected() {
 	for len(c.expected) > 0 && c.expected[0].batch <= c.passed {
 		if w := c.expected[0].writer; w.place == 0 && c.writers[w.number] == w {
@@ -254,7 +254,7 @@ func (c *core) giveUpExpected() {
 	}
 }
 
-// forgetTable forgets a table's rows: their names or keys mean something else from now on.
+// forgetTable forgets a table's rows, since their names or keys have another meaning from now on.
 func (c *core) forgetTable(relation record.Relation) {
 	for id := range c.rows.by {
 		if id.relation == relation {
@@ -263,7 +263,7 @@ func (c *core) forgetTable(relation record.Relation) {
 	}
 }
 
-// forget gives up versions that were overwritten long ago: nobody is expected to read them still.
+// forget drops versions that were overwritten long ago, which nobody is expected to read any more.
 func (c *core) forget() {
 	before := c.now.Sub(c.began) - c.opt.Stale
 	c.rows.trim(func(v *version) bool {

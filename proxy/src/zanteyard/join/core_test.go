@@ -14,7 +14,7 @@ func TestStories(t *testing.T) {
 		name  string
 		story func(b *bench)
 		want  []string
-		left  string // a reason that has to be counted
+		left  string // a reason that must be counted
 	}{
 		{"a write reads the version before, a read its version", func(b *bench) {
 			b.connect(1, 2)
@@ -143,7 +143,7 @@ func TestStories(t *testing.T) {
 			b.place += 100
 			b.core.commit(record.Commit{Number: 1002, LSN: b.place, Bare: true}) // somebody else's
 			b.place += 100
-			b.core.commit(record.Commit{Number: 1003, LSN: b.place, Bare: true}) // a session tells of it
+			b.core.commit(record.Commit{Number: 1003, LSN: b.place, Bare: true}) // a session reports it
 			b.tell(1, 0, record.Transaction{Number: 1001})
 			b.tell(1, 1, record.Transaction{Number: 1003, Reads: []record.Read{read("a", 1001)}})
 			b.settle()

@@ -8,8 +8,8 @@ import (
 	"zanteyard/record"
 )
 
-// TestAsManyReadsAsTheAuditorTakes: of a transaction of 256 reads none is left out, of one of 257 one is, and counted;
-// so it is with writes.
+// TestAsManyReadsAsTheAuditorTakes: of a transaction with 256 reads none is left out, of one with 257 one is, and is
+// counted; the same for writes.
 func TestAsManyReadsAsTheAuditorTakes(t *testing.T) {
 	for _, x := range []struct{ did, left int }{{255, 0}, {256, 0}, {257, 1}, {300, 44}} {
 		b := newBench(t, Options{Sessions: 2})
@@ -47,7 +47,7 @@ func TestAsManyReadsAsTheAuditorTakes(t *testing.T) {
 	}
 }
 
-// TestReadsOfVersionsFromBeforeTheAudit: all such versions of a row are its first state, and are counted.
+// TestReadsOfVersionsFromBeforeTheAudit: all such versions of a row are its initial state, and are counted.
 func TestReadsOfVersionsFromBeforeTheAudit(t *testing.T) {
 	b := newBench(t, Options{Sessions: 2})
 	b.connect(1, 2)
@@ -76,7 +76,7 @@ func TestReadsOfVersionsThatArentOffered(t *testing.T) {
 	}
 }
 
-// TestFencesAreCountedApart: a fence is offered, and neither its read nor its write is the application's.
+// TestFencesAreCountedApart: a fence is offered, but neither its read nor its write counts as the application's.
 func TestFencesAreCountedApart(t *testing.T) {
 	c := newBench(t, Options{Sessions: 2}).core
 	c.counts.put(&entry{its: record.Transaction{Fence: true}}, &resolution{})
@@ -86,7 +86,7 @@ func TestFencesAreCountedApart(t *testing.T) {
 	}
 }
 
-// TestWhatIsFoldedTakesNoRoom: nobody asks for its writer by number any more.
+// TestWhatIsFoldedTakesNoRoom: nobody looks up its writer by number any more.
 func TestWhatIsFoldedTakesNoRoom(t *testing.T) {
 	b := newBench(t, Options{Sessions: 2})
 	b.commit(1001, "a")
@@ -114,7 +114,7 @@ func TestFencesDontAskForMeetings(t *testing.T) {
 	}
 }
 
-// TestRowsOfManyVersionsAreLookedAtAgain: as long as one has older versions, a later trim may forget them.
+// TestRowsOfManyVersionsAreLookedAtAgain: as long as a row has older versions, a later trim may forget them.
 func TestRowsOfManyVersionsAreLookedAtAgain(t *testing.T) {
 	b := newBench(t, Options{Sessions: 2})
 	b.commit(1001, "a", "b")

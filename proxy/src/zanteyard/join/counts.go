@@ -1,6 +1,6 @@
 package join
 
-// counts are what coverage tells, from the beginning of the audit.
+// counts is what coverage reports, from the beginning of the audit.
 type counts struct {
 	committed, offered, fences, aborted, empty, ever, rounds, dropped, lost, unread uint64
 	handed                                                                          uint64 // sessions that were handed on

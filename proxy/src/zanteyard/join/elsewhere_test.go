@@ -7,8 +7,8 @@ import (
 	"zanteyard/record"
 )
 
-// tellFar has another machine's proxy tell of a transaction. Its clock is wrong, by an hour or by as much as a transaction
-// or two take. A tick is made each five milliseconds, and arrives some time later.
+// tellFar makes another machine's proxy report a transaction. Its clock is wrong, by an hour or by about the time of
+// one or two transactions. A tick is made every five milliseconds, and arrives some time later.
 func (w *world) tellFar(it record.Transaction) {
 	const tick = 5 * time.Millisecond
 	began := it.Began.Add(-time.Duration(w.r.Intn(3)) * tick).Truncate(tick)
@@ -29,7 +29,7 @@ func (w *world) tellFar(it record.Transaction) {
 	})
 }
 
-// named is how many transactions have got a number.
+// named returns how many transactions have a number.
 func (w *world) named() uint64 {
 	n := uint64(0)
 	for _, s := range w.core.sessions {
@@ -58,7 +58,7 @@ func TestElsewhereMakesUpNothing(t *testing.T) {
 	}
 }
 
-// The same with the other machine's clock believed is found to be wrong.
+// If the other machine's clock is trusted, the test finds that to be wrong.
 func TestAnotherClock(t *testing.T) {
 	for seed := int64(0); seed < 20*int64(*worlds); seed++ {
 		w := newWorld(t, seed, false)

@@ -6,10 +6,10 @@ import (
 	"zanteyard/record"
 )
 
-// Event is something that the feed tells. The feed's package knows how each is written.
+// Event is something that the feed reports. Package feed knows how each is written.
 type Event interface{ event() }
 
-// Started tells that the audit begins.
+// Started reports that the audit begins.
 type Started struct {
 	At               time.Time
 	Limit, Sessions  int
@@ -20,40 +20,40 @@ type Started struct {
 	Warnings         []string
 }
 
-// Meeting tells that the sessions have met.
+// Meeting reports that the sessions have met.
 type Meeting struct {
 	At     time.Time
 	Fences int
 	Took   time.Duration
 }
 
-// Warning tells what a person should know.
+// Warning reports something that people should know.
 type Warning struct {
 	At   time.Time
 	Text string
 }
 
-// Ended tells that the audit has ended; traffic goes on. Blocked: it couldn't begin, since a transaction of before is still
-// open; once that has ended, the next one can.
+// Ended reports that the audit has ended; traffic goes on. Blocked: it couldn't begin, because an earlier transaction
+// is still open; once that has ended, the next audit can begin.
 type Ended struct {
 	Reason  string
 	Blocked bool
 }
 
-// Restarted tells that a new audit begins with the next line.
+// Restarted reports that a new audit begins with the next line.
 type Restarted struct{ At time.Time }
 
-// Stopped tells that the last round was written.
+// Stopped reports that the last round was written.
 type Stopped struct{ At time.Time }
 
-// Coverage tells how much of what happened was offered, counted from the beginning of the audit.
+// Coverage reports how much of what happened was offered, from the beginning of the audit.
 type Coverage struct {
 	At                                        time.Time
 	Committed, Offered, Fences                uint64
 	Aborted, Empty                            uint64
 	Folded                                    map[string]uint64
 	Reads, ReadsOffered, ReadsOwn             uint64
-	ReadsBefore                               uint64 // of those that are offered: of versions from before the audit
+	ReadsBefore                               uint64 // of the reads that are offered: of versions from before the audit
 	ReadsFolded                               uint64 // and of versions that aren't offered
 	ReadsLeft                                 map[string]uint64
 	Writes, WritesOffered                     uint64
@@ -66,14 +66,14 @@ type Coverage struct {
 	Lag                                       time.Duration
 	Pending, Remaining, Rows                  int
 	Rounds, StatementsDropped, Lost, SubsLost uint64
-	Remotes                                   *Remotes // nil where no other proxies are expected
+	Remotes                                   *Remotes // nil if no other proxies are expected
 }
 
-// Remotes says how proxies are that feed the audit from other machines.
+// Remotes reports the state of the proxies that feed the audit from other machines.
 type Remotes struct {
 	Proxies []Proxy
 	Refused uint64 // messages that weren't signed with the audit's key
-	Down    string // why Redis can't be reached, "" if it can
+	Down    string // why Redis can't be reached, or "" if it can
 }
 
 // Proxy is one of them.
@@ -81,18 +81,18 @@ type Proxy struct {
 	Name         string
 	Feeds        bool // it is heard, and belongs to this audit
 	Connections  int
-	Transactions uint64        // that have arrived
-	Heard        time.Duration // since something of it arrived
+	Transactions uint64        // number that has arrived
+	Heard        time.Duration // how long ago something arrived from it
 }
 
-// Transactions answers a question for transactions.
+// Transactions answers a question about transactions.
 type Transactions struct {
 	At    time.Time
 	ID    int64
 	Given []Description
 }
 
-// Description is what is known of a transaction. If it is forgotten only the first two are.
+// Description is what is known about a transaction. If it is forgotten, only the first two fields are set.
 type Description struct {
 	Session, Number uint64
 	Known           bool
@@ -109,9 +109,10 @@ type KeyRead struct {
 	Key             uint64
 	Initial         bool
 	Session, Number uint64
+	By              int // which of Its.Statements made it, counted from 1; 0 if unknown
 }
 
-// Row says in words what a key stands for.
+// Row says in words which row a key stands for.
 type Row struct {
 	Key        uint64
 	Table, Row string
@@ -127,7 +128,7 @@ func (Stopped) event()      {}
 func (Coverage) event()     {}
 func (Transactions) event() {}
 
-// coverageEvent is how the audit stands. The last one before another audit has what the inbox counts begin anew.
+// coverageEvent returns the state of the audit. The last one before another audit also resets the counts of the inbox.
 func (j *Joiner) coverageEvent(isLast bool) Coverage {
 	c := j.core
 	n := &c.counts
@@ -179,7 +180,7 @@ func copyOf(its map[string]uint64) map[string]uint64 {
 	return to
 }
 
-// describe says what is known of transactions.
+// describe returns what is known about transactions.
 func (j *Joiner) describe(ids [][2]uint64) []Description {
 	its := make([]Description, len(ids))
 	for i, id := range ids {
@@ -208,7 +209,7 @@ func (c *core) describe(one *told, to *Description) {
 		to.Rows = append(to.Rows, Row{r.number, table, text, columns})
 	}
 	for _, it := range one.reads {
-		read := KeyRead{Key: it.row.number, Initial: it.from == initial}
+		read := KeyRead{Key: it.row.number, Initial: it.from == initial, By: madeBy(one.its.Statements, int(it.at))}
 		if !read.Initial {
 			read.Session, read.Number = uint64(it.from.session()), it.from.number()
 		}
@@ -219,4 +220,14 @@ func (c *core) describe(one *told, to *Description) {
 		to.Writes = append(to.Writes, it.number)
 		words(it)
 	}
+}
+
+// madeBy returns the statement, counted from 1, that made this read (source.at), or 0 if none is known to have made it.
+func madeBy(statements []record.Statement, at int) int {
+	for i, one := range statements {
+		if one.From < at && at <= one.To || at < 0 && one.Absent == -at {
+			return i + 1
+		}
+	}
+	return 0
 }

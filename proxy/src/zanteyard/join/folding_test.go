@@ -12,8 +12,8 @@ import (
 
 var histories = flag.Int("histories", 1000, "random histories that folding is tried on")
 
-// past is a small history: transactions of a store that may be wrong in any way but one, that each row's versions have
-// the order in which the slot tells them.
+// past is a small history: transactions of a store that may be wrong in any way except that each row's versions have
+// the order in which the slot reports them.
 type past struct {
 	txns []pastTxn // in the slot's order
 	keys int
@@ -21,13 +21,13 @@ type past struct {
 
 type pastTxn struct {
 	connection int
-	reads      [][2]int // key, and the place of the transaction that wrote what was read, -1 for the first version
+	reads      [][2]int // key, and the place of the transaction that wrote the version, -1 for the first version
 	writes     []int    // keys
 	deletes    map[int]bool
 }
 
-// randomPast makes one. Half of the time it is a serial store's, with some reads of older versions here and there; the
-// other half any reads.
+// randomPast makes a history. Half of them are a serial store's, with some reads of older versions here and there; in
+// the other half reads are arbitrary.
 func randomPast(r *rand.Rand) past {
 	p := past{keys: 1 + r.Intn(3)}
 	wild := r.Intn(3)
@@ -66,7 +66,7 @@ func randomPast(r *rand.Rand) past {
 	return p
 }
 
-// versions are the places of the key's writers, in order.
+// versions returns the places of the key's writers, in order.
 func (p past) versions(key int) []int {
 	var its []int
 	for i, t := range p.txns {
@@ -79,8 +79,8 @@ func (p past) versions(key int) []int {
 	return its
 }
 
-// explained says whether some serial order explains all of it: each connection's order kept, each read finding the
-// version that it names, each write the one before its own. Every order is tried.
+// explained reports whether some serial order explains the history: each connection's order is kept, each read finds
+// the version that it names, and each write the one before its own. It tries every order.
 func (p past) explained() bool {
 	before := map[[2]int]int{}
 	for key := 0; key < p.keys; key++ {
@@ -144,7 +144,7 @@ func (p past) String() string {
 	return text
 }
 
-// fold has a joiner take the history in with some of it left out, in one of many ways, and in any order that may be.
+// fold makes a joiner take in the history with some of it left out, in one of many ways, and in any possible order.
 func fold(t testing.TB, p past, r *rand.Rand, opt Options) *bench {
 	opt.Late, opt.Stale, opt.Rows, opt.Sessions = time.Second, 500*time.Millisecond, 1+r.Intn(4), 8
 	b := newBench(t, opt)
@@ -179,7 +179,7 @@ func fold(t testing.TB, p past, r *rand.Rand, opt Options) *bench {
 			commits = commits[1:]
 		}
 		if len(commits) == 0 && r.Intn(4) == 0 {
-			b.pass() // a place that was asked for earlier would lie behind commits that the reads may be of
+			b.pass() // a place that was asked for earlier would come after commits that the reads may be of
 		}
 		if r.Intn(8) == 0 {
 			b.core.step(b.now)
@@ -204,7 +204,7 @@ func sign(is bool, its string) string {
 	return ""
 }
 
-// transactionOf is what a session tells of the transaction.
+// transactionOf returns what a session reports of the transaction.
 func transactionOf(p past, i int, r *rand.Rand) record.Transaction {
 	it := p.txns[i]
 	to := record.Transaction{Level: record.Serializable, Began: time.Unix(2000+int64(i)*10, 0), Ended: time.Unix(2001+int64(i)*10, 0)}
@@ -231,7 +231,7 @@ func transactionOf(p past, i int, r *rand.Rand) record.Transaction {
 	return to
 }
 
-// snapshotAt shows the key's versions up to the one that was written there.
+// snapshotAt returns a snapshot that shows the key's versions up to the one that was written there.
 func snapshotAt(p past, key, from int) string {
 	text := ""
 	for _, v := range p.versions(key) {
@@ -245,8 +245,8 @@ func snapshotAt(p past, key, from int) string {
 	return "1001:2000:" + text
 }
 
-// What all orders of the whole can explain, some order of what is offered explains: however the joiner comes to leave a
-// part out. The other way round it needn't be so, but mostly is, or the joiner would be of no use.
+// If some order explains the whole history, some order explains what is offered of it, however the joiner comes to
+// leave a part out. The converse needn't hold, but usually does, or the joiner would be useless.
 func TestFoldingMakesUpNothing(t *testing.T) {
 	r := rand.New(rand.NewSource(20240607))
 	var explained, found, missed int

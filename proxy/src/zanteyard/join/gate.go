@@ -2,25 +2,25 @@ package join
 
 import "zanteyard/record"
 
-// gate holds back what the slot tells until it is known that tables' names still mean what the slot's reader took them
-// for: the slot names tables, as they were called when they were written, and a reader knows of a renamed table only
-// afterwards. A write that may have been taken for one of another table is dropped, which folds it.
+// gate holds back what the slot reports until it is known that tables' names still mean what the slot's reader took
+// them for: the slot names tables as they were called when they were written, and a reader learns of a renamed table
+// only afterwards. A write that may belong to another table is dropped, which folds it.
 type gate struct {
 	queue    []fromSlot
-	verified uint64 // names are known to mean what they did up to this place
+	verified uint64 // names are known to have the same meaning up to this place
 	changed  map[record.Relation]change
 }
 
 type change struct{ names, place uint64 }
 
-// mostHeld is how much waits before the slot has to.
+// mostHeld is how many commits may wait before the slot has to.
 const mostHeld = 20_000
 
 func (g *gate) put(it fromSlot) { g.queue = append(g.queue, it) }
 func (g *gate) isFull() bool    { return len(g.queue) >= mostHeld }
 func (g *gate) waits() bool     { return len(g.queue) > 0 }
 
-// verify takes in what names mean at a place, and lets go what stands before it.
+// verify records what names mean at a place, and releases what comes before it.
 func (g *gate) verify(place Place, to *core) {
 	for _, relation := range place.Changed {
 		if g.changed == nil {
@@ -35,8 +35,8 @@ func (g *gate) verify(place Place, to *core) {
 	g.release(to)
 }
 
-// release lets go what is verified. The slot tells in the log's order: if its next commit stands behind a place, it has
-// told all that stands before.
+// release lets through what is verified. The slot reports in the log's order: if its next commit comes after a place,
+// it has reported everything before that place.
 func (g *gate) release(to *core) {
 	n := 0
 	for ; n < len(g.queue); n++ {
@@ -64,7 +64,7 @@ func (g *gate) release(to *core) {
 	g.queue = append(g.queue[:0], g.queue[n:]...)
 }
 
-// sure is the commit without writes of tables that may be others.
+// sure returns the commit without the writes of tables that may be others.
 func (g *gate) sure(it record.Commit) record.Commit {
 	if len(g.changed) == 0 {
 		return it

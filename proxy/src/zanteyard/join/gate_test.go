@@ -7,8 +7,8 @@ import (
 	"zanteyard/record"
 )
 
-// Two tables change their names. What was read with the names of before, or written before it is known which are right,
-// counts for neither of them.
+// Two tables swap their names. What was read with the old names, or written before it is known which are right, counts
+// for neither.
 func TestRenamedTables(t *testing.T) {
 	b := newBench(t, Options{})
 	b.connect(1)
@@ -29,7 +29,7 @@ func TestRenamedTables(t *testing.T) {
 	if len(g.queue) != 1 || b.core.progress != 150 {
 		t.Errorf("%d wait, and the slot counts as being at %d", len(g.queue), b.core.progress)
 	}
-	tell(1, 300, 1) // behind the change, with the old names
+	tell(1, 300, 1) // after the change, with the old names
 	tell(2, 250, 2) // before the change, with the new ones
 	tell(2, 400, 2)
 	g.put(fromSlot{place: 450})

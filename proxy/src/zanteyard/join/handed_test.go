@@ -7,7 +7,7 @@ import (
 	"zanteyard/record"
 )
 
-// A session counts as handed on once another connection's transaction stands in it, behind one of the connection before.
+// A session counts as handed on once another connection's transaction is in it, after one of the previous connection.
 func TestHowOftenSessionsAreHandedOn(t *testing.T) {
 	b := newBench(t, Options{Sessions: 1})
 	number := uint64(1000)
@@ -54,8 +54,8 @@ func TestHowOftenSessionsAreHandedOn(t *testing.T) {
 	}
 }
 
-// A quiet moment that isn't a meeting's folds about one transaction of each busy session: it is worth that if four wait to
-// be handed on for each that is busy, if none is, or if connections wait for long.
+// A quiet moment other than a meeting's folds about one transaction of each busy session: it is worth that if four
+// connections wait for each busy session, if none is busy, or if connections wait for long.
 func TestWhenAQuietMomentIsWorthwhile(t *testing.T) {
 	for _, one := range []struct {
 		stale, busy, queue int
@@ -101,7 +101,7 @@ func TestWhenAQuietMomentIsWorthwhile(t *testing.T) {
 	}
 }
 
-// The inbox's bound is in bytes, of keys and of statements' texts as well.
+// The inbox's limit is in bytes, including keys and statements' texts.
 func TestHowMuchRoomATransactionTakes(t *testing.T) {
 	for _, one := range []struct {
 		its  record.Transaction

@@ -2,8 +2,6 @@ package join
 
 import (
 	"flag"
-	"fmt"
-	"math/rand"
 	"testing"
 	"time"
 
@@ -12,553 +10,8 @@ import (
 
 var worlds = flag.Int("worlds", 60, "random lives of a proxy over a store that is serializable, and keeps no order in time")
 
-// world is a store of rows and versions with the snapshots of PostgreSQL, at read committed and repeatable read, and
-// what a proxy's connections do to it. It commits a transaction only if some serial order still explains all that was
-// committed, each connection's own order kept, and no other: orders in time aren't kept. The fences aren't among them.
-type world struct {
-	*bench
-	r    *rand.Rand
-	next uint32 // number of a transaction
-	ever uint64
-
-	versions map[string][]worldVersion
-	locks    map[string]*worldTxn
-	commits  int
-	after    map[int]map[int]bool // of each begin and commit, those that have to come later
-	readers  map[string]map[int][]int
-	live     []*worldConn
-	most     int      // connections at a time
-	untold   []func() // what sessions have seen and the joiner hasn't been told
-	fences   []*worldFence
-	points   bool // the fault: a session is handed on by the clock alone
-	snapshot bool // the store keeps snapshot isolation, and no more
-	aborted  int
-	// elsewhere: connections with an even number are those of another machine's proxy (elsewhere_test.go). trusted: the fault
-	// that its clock is believed.
-	elsewhere, trusted bool
-	far                uint64 // transactions from there that were offered
-}
-
-type worldVersion struct{ by, at int } // the writer's place in the order of commits
-
-type worldConn struct {
-	number, place uint64
-	last          int // its last committed transaction, 0 for none
-	open          *worldTxn
-	fencing       bool
-	held          bool
-}
-
-type worldTxn struct {
-	conn     *worldConn
-	began    time.Time
-	level    record.Level
-	snapshot int // commits that it sees; -1 before the first statement
-	number   uint32
-	reads    map[string]map[int]bool // versions
-	writes   map[string]bool
-}
-
-// worldFence is a fence under way. The server may have committed it already: then it has a number.
-type worldFence struct {
-	conn   *worldConn
-	began  time.Time
-	number uint32
-}
-
-func newWorld(t testing.TB, seed int64, points bool) *world {
-	w := &world{
-		bench: newBench(t, Options{Sessions: 6, Limit: 900, Reserve: 1, Late: time.Second, Stale: time.Hour, Idle: 40 * time.Millisecond}),
-		r:     rand.New(rand.NewSource(seed)), next: base, points: points,
-		versions: map[string][]worldVersion{}, locks: map[string]*worldTxn{}, after: map[int]map[int]bool{},
-		readers: map[string]map[int][]int{},
-	}
-	for i := 0; i < 5; i++ {
-		w.versions[string(rune('a'+i))] = []worldVersion{{0, 0}}
-	}
-	return w
-}
-
-func (w *world) tick() { w.later(time.Millisecond) }
-
-func (w *world) key() string { return string(rune('a' + w.r.Intn(len(w.versions)))) }
-
-// step does one thing of the clients'.
-func (w *world) step() {
-	w.tick()
-	if w.r.Intn(4) > 0 {
-		w.tellAll()
-	}
-	if len(w.live) < 2 || len(w.live) < w.most && w.r.Intn(6) == 0 {
-		w.ever++
-		w.live = append(w.live, &worldConn{number: w.ever})
-		w.later2(func(number uint64) func() { return func() { w.bench.connect(number) } }(w.ever))
-		return
-	}
-	c := w.live[w.r.Intn(len(w.live))]
-	switch {
-	case c.held || c.fencing:
-	case c.open == nil && (w.r.Intn(8) == 0 || len(w.live) > w.most):
-		w.leave(c)
-	case c.open == nil:
-		c.open = &worldTxn{conn: c, began: w.now, level: record.RepeatableRead, snapshot: -1, reads: map[string]map[int]bool{},
-			writes: map[string]bool{}}
-		if w.r.Intn(3) == 0 {
-			c.open.level = record.ReadCommitted
-		}
-	case w.r.Intn(5) == 0:
-		w.end(c)
-	default:
-		w.statement(c.open)
-	}
-	if w.points {
-		w.core.quiet()
-	}
-	if w.r.Intn(5) == 0 {
-		w.pass()
-	}
-}
-
-// later2 has the joiner be told of something, in the order of what is told.
-func (w *world) later2(f func()) { w.untold = append(w.untold, f) }
-
-func (w *world) tellAll() {
-	its := w.untold
-	w.untold = nil
-	for _, f := range its {
-		f()
-	}
-}
-
-func (w *world) leave(c *worldConn) {
-	for i, one := range w.live {
-		if one == c {
-			w.live = append(w.live[:i], w.live[i+1:]...)
-		}
-	}
-	w.later2(func() { w.core.enter(record.Connection{Number: c.number, Ended: true}) })
-}
-
-func (w *world) statement(t *worldTxn) {
-	if t.snapshot < 0 || t.level == record.ReadCommitted {
-		t.snapshot = w.commits
-	}
-	key := w.key()
-	its := w.versions[key]
-	if w.r.Intn(2) == 0 {
-		if t.writes[key] {
-			return
-		}
-		i := len(its) - 1
-		for its[i].at > t.snapshot {
-			i--
-		}
-		if t.reads[key] == nil {
-			t.reads[key] = map[int]bool{}
-		}
-		t.reads[key][i] = true
-		return
-	}
-	switch by := w.locks[key]; {
-	case by != nil && by != t:
-	case t.level == record.RepeatableRead && its[len(its)-1].at > t.snapshot:
-	default:
-		t.writes[key], w.locks[key] = true, t
-	}
-}
-
-// reaches says whether one committed transaction has to come before another.
-func (w *world) reaches(from int, to map[int]bool, seen map[int]bool) bool {
-	if to[from] {
-		return true
-	}
-	if seen[from] {
-		return false
-	}
-	seen[from] = true
-	for next := range w.after[from] {
-		if w.reaches(next, to, seen) {
-			return true
-		}
-	}
-	return false
-}
-
-// begin and commit are what stands for a transaction in after: one of them, unless the store keeps snapshots alone.
-func (w *world) begin(id int) int { return 2 * id }
-func (w *world) commit2(id int) int {
-	if w.snapshot {
-		return 2*id + 1
-	}
-	return 2 * id
-}
-
-// around are the events that have to come before this transaction begins, and those that have to come behind that.
-func (w *world) around(t *worldTxn) (before, behind map[int]bool) {
-	before, behind = map[int]bool{}, map[int]bool{}
-	committed := func(id int) {
-		if id > 0 {
-			before[w.commit2(id)] = true
-		}
-	}
-	committed(t.conn.last)
-	for key, versions := range t.reads {
-		for i := range versions {
-			committed(w.versions[key][i].by)
-			if i+1 < len(w.versions[key]) {
-				behind[w.commit2(w.versions[key][i+1].by)] = true
-			}
-		}
-	}
-	for key := range t.writes {
-		committed(w.versions[key][len(w.versions[key])-1].by)
-	}
-	if !w.snapshot {
-		for one := range w.overwritten(t) {
-			before[one] = true
-		}
-	}
-	return before, behind
-}
-
-// overwritten are the begins of those who have read what the transaction overwrites: its commit comes behind them.
-func (w *world) overwritten(t *worldTxn) map[int]bool {
-	its := map[int]bool{}
-	for key := range t.writes {
-		for _, reader := range w.readers[key][len(w.versions[key])-1] {
-			its[w.begin(reader)] = true
-		}
-	}
-	return its
-}
-
-// end commits the transaction, if an order still explains everything.
-func (w *world) end(c *worldConn) {
-	t := c.open
-	c.open = nil
-	for key := range t.writes {
-		delete(w.locks, key)
-	}
-	before, behind := w.around(t)
-	seen := map[int]bool{}
-	for next := range behind {
-		if w.reaches(next, before, seen) {
-			w.aborted++
-			return
-		}
-	}
-	it := record.Transaction{Began: t.began, Level: t.level}
-	for key, versions := range t.reads {
-		for i := range versions {
-			one := read(key, 7)
-			if i > 0 {
-				one.Version = uint32(base + w.versions[key][i].by)
-			}
-			it.Reads = append(it.Reads, one)
-		}
-	}
-	w.committed(t, &it, before, behind)
-	if w.r.Intn(30) == 0 {
-		it.Outcome = record.Unclear
-		w.leave(c)
-	}
-	w.told(c, it)
-}
-
-// committed gives the transaction its place. Its number is that of its place, so numbers of fences are others.
-func (w *world) committed(t *worldTxn, it *record.Transaction, before, behind map[int]bool) {
-	w.commits++
-	id := w.commits
-	begin, commit := w.begin(id), w.commit2(id)
-	overwritten := w.overwritten(t)
-	for one := range before {
-		w.after[one][begin] = true
-	}
-	w.after[begin] = behind
-	if w.snapshot {
-		behind[commit] = true
-		w.after[commit] = map[int]bool{}
-		for one := range overwritten {
-			w.after[one][commit] = true
-		}
-	}
-	t.conn.last = id
-	for key, versions := range t.reads {
-		for i := range versions {
-			if w.readers[key] == nil {
-				w.readers[key] = map[int][]int{}
-			}
-			w.readers[key][i] = append(w.readers[key][i], id)
-		}
-	}
-	if len(t.writes) == 0 {
-		return
-	}
-	it.Number = uint64(base + id)
-	var keys []string
-	for key := range t.writes {
-		keys = append(keys, key)
-		w.versions[key] = append(w.versions[key], worldVersion{id, id})
-	}
-	w.bench.commit(uint32(it.Number), keys...)
-}
-
-func (w *world) told(c *worldConn, it record.Transaction) {
-	w.tick()
-	it.Ended = w.now
-	if w.points {
-		it.Began = it.Ended
-	}
-	it.Connection, it.Place = c.number, c.place
-	c.place++
-	if w.elsewhere && c.number%2 == 0 {
-		w.tellFar(it)
-		return
-	}
-	w.later2(func() { w.core.tell(it) })
-}
-
-// fence has a connection begin a fence, and end it if nothing comes between.
-func (w *world) fence(c *worldConn, slow int) {
-	w.tick()
-	f := &worldFence{conn: c, began: w.now}
-	c.fencing = true
-	if w.r.Intn(slow) == 0 {
-		if w.r.Intn(2) == 0 {
-			w.commitFence(f)
-		}
-		w.fences = append(w.fences, f)
-		return
-	}
-	w.fenced(f)
-}
-
-func (w *world) commitFence(f *worldFence) {
-	w.next++
-	f.number = 1_000_000 + w.next
-	w.bench.commitFence(f.number)
-}
-
-func (w *world) fenced(f *worldFence) {
-	if f.number == 0 {
-		w.commitFence(f)
-	}
-	f.conn.fencing = false
-	w.told(f.conn, record.Transaction{Began: f.began, Number: uint64(f.number), Fence: true})
-}
-
-// slow ends fences that were under way.
-func (w *world) slow() {
-	its := w.fences
-	w.fences = nil
-	for _, f := range its {
-		w.fenced(f)
-	}
-}
-
-// some lets a few things happen.
-func (w *world) some(most int) {
-	for n := w.r.Intn(most + 1); n > 0; n-- {
-		w.step()
-	}
-}
-
-func (w *world) spares(sessions []int) {
-	for _, s := range sessions {
-		w.tick()
-		began := w.now
-		w.some(2)
-		w.idleFence()
-		w.next++
-		number := 1_000_000 + w.next
-		w.bench.commitFence(number)
-		w.idleFence()
-		w.some(2)
-		w.tick()
-		w.tellAll()
-		w.core.spare(s, uint64(number), began, w.now)
-	}
-}
-
-// idleFence has a connection make its fence that was busy when the meeting began, now and then: beside the spare one that
-// the audit's own connection makes in its place.
-func (w *world) idleFence() {
-	for _, c := range w.live {
-		if c.open == nil && !c.fencing && !c.held && w.r.Intn(4) == 0 {
-			w.fence(c, 2)
-			return
-		}
-	}
-}
-
-// meet is a meeting that may go wrong in many ways: some don't come, some aren't held for long enough, and some fences
-// are slow.
-func (w *world) meet() {
-	w.tellAll()
-	w.spares(w.core.meet())
-	var there []*worldConn
-	for _, c := range w.live {
-		if c.open == nil && !c.fencing {
-			there = append(there, c)
-			c.held = true
-		}
-	}
-	for _, c := range there {
-		w.some(1)
-		w.fence(c, 8)
-		if w.r.Intn(4) == 0 {
-			w.slow()
-			w.some(8)
-		}
-	}
-	w.tellAll()
-	w.spares(w.core.missing())
-	for _, c := range there {
-		if w.r.Intn(10) == 0 {
-			c.held = false // its client was held for long enough
-		}
-	}
-	w.some(2)
-	w.tick()
-	w.tellAll()
-	w.core.halfway()
-	w.some(2)
-	for _, c := range there {
-		c.held = c.held && c.fencing
-	}
-	w.slow()
-	for _, c := range there {
-		if c.open == nil && !c.fencing && w.r.Intn(10) > 0 {
-			w.fence(c, 8)
-		}
-		c.held = false
-		w.some(1)
-	}
-	w.tellAll()
-	w.spares(w.core.met())
-	w.slow()
-	w.tellAll()
-	w.bench.settle()
-	w.core.closeVacant()
-	w.core.round()
-	marks, _ := w.model.settled()
-	w.core.cut(marks)
-	w.join()
-}
-
-// join has connections make the fences by which closed sessions come back.
-func (w *world) join() {
-	for _, conn := range w.core.joining {
-		for _, c := range w.live {
-			if c.number == conn.its.Number && c.open == nil && !c.fencing {
-				w.fence(c, 2)
-			}
-		}
-	}
-	w.core.joining = nil
-}
-
-func (w *world) live1(meetings int) {
-	for ; meetings > 0; meetings-- {
-		w.most = 2 + w.r.Intn(8)
-		for n := 0; n < 150; n++ {
-			w.step()
-			if w.r.Intn(12) == 0 {
-				w.join()
-			}
-			switch w.r.Intn(120) {
-			case 0:
-				w.slow()
-			case 1, 2:
-				w.core.quiet()
-			case 3:
-				w.core.reseat()
-			}
-		}
-		w.meet()
-	}
-	w.slow()
-	w.tellAll()
-	w.bench.settle()
-	w.bench.settle()
-	w.core.flush()
-}
-
-// cycle looks for transactions of those that were offered which have to come before one another: none, if some order
-// explains all. With snapshots it looks for such begins and commits.
-func (m *model) cycle(snapshots bool) []string {
-	type id [2]int64
-	type event struct {
-		id
-		commits bool
-	}
-	begin := func(at id) event { return event{at, false} }
-	commit := func(at id) event { return event{at, snapshots} }
-	next := map[int64]map[id]id{} // by key: who wrote the version behind this one's
-	each := func(f func(at id, t modelTxn)) {
-		for s := range m.sessions {
-			for n, t := range m.sessions[s].its {
-				f(id{int64(s), int64(n)}, t)
-			}
-		}
-	}
-	after := map[event][]event{}
-	each(func(at id, t modelTxn) {
-		for _, key := range t.writes {
-			if next[key] == nil {
-				next[key] = map[id]id{}
-			}
-			for _, read := range t.reads {
-				if from := (id{read[1], read[2]}); read[0] == key {
-					if other, is := next[key][from]; is { // of two that overwrite one version neither can come first
-						after[commit(at)] = append(after[commit(at)], commit(other))
-						after[commit(other)] = append(after[commit(other)], commit(at))
-					}
-					next[key][from] = at
-				}
-			}
-		}
-	})
-	each(func(at id, t modelTxn) {
-		if snapshots {
-			after[begin(at)] = append(after[begin(at)], commit(at))
-		}
-		if n := at[1] + 1; n < int64(len(m.sessions[at[0]].its)) {
-			after[commit(at)] = append(after[commit(at)], begin(id{at[0], n}))
-		}
-		for _, read := range t.reads {
-			from := id{read[1], read[2]}
-			if read[1] >= 0 {
-				after[commit(from)] = append(after[commit(from)], begin(at))
-			}
-			if to, is := next[read[0]][from]; is && to != at {
-				after[begin(at)] = append(after[begin(at)], commit(to))
-			}
-		}
-	})
-	state := map[event]int{}
-	var path []string
-	var visit func(at event) bool
-	visit = func(at event) bool {
-		state[at] = 1
-		for _, to := range after[at] {
-			if state[to] == 1 || state[to] == 0 && visit(to) {
-				path = append(path, fmt.Sprintf("%d.%d %v %+v", at.id[0], at.id[1], at.commits, m.sessions[at.id[0]].its[at.id[1]]))
-				return true
-			}
-		}
-		state[at] = 2
-		return false
-	}
-	found := false
-	each(func(at id, _ modelTxn) {
-		found = found || state[begin(at)] == 0 && visit(begin(at)) || state[commit(at)] == 0 && visit(commit(at))
-	})
-	return path
-}
-
-// Sessions are handed on from connection to connection, fences are made, late and slow, and meetings are missed: what
-// the application did has an order, and so has what was offered of it, with the sessions and the fences.
+// Sessions are handed from connection to connection, fences are made, late and slow, and meetings are missed: what the
+// application did has an order, and so has what was offered of it, with the sessions and the fences.
 func TestHandingOnMakesUpNothing(t *testing.T) {
 	var offered, handed, fences, joins, commits uint64
 	for seed := int64(0); seed < int64(*worlds); seed++ {
@@ -583,7 +36,7 @@ func TestHandingOnMakesUpNothing(t *testing.T) {
 	}
 }
 
-// The same by the clock alone, as if nothing ran across a moment, is found to be wrong.
+// If sessions are handed on by the clock alone, as if nothing ran across a moment, the test finds that to be wrong.
 func TestHandingOnByTheClock(t *testing.T) {
 	for seed := int64(0); seed < int64(*worlds); seed++ {
 		w := newWorld(t, seed, true)
@@ -596,8 +49,8 @@ func TestHandingOnByTheClock(t *testing.T) {
 	t.Error("nothing was found")
 }
 
-// straddle is a history at repeatable read whose only order has connection 3 before connection 2, which had ended before
-// 3 began: 1 has read y before 2 wrote it, and writes x after 3 has read it. between comes when 2 has ended.
+// straddle is a history at repeatable read whose only order has connection 3 before connection 2, which had ended
+// before 3 began: 1 read y before 2 wrote it, and writes x after 3 has read it. between is called when 2 has ended.
 func straddle(b *bench, between func()) {
 	b.connect(1, 2)
 	began := b.now
@@ -612,8 +65,8 @@ func straddle(b *bench, between func()) {
 	b.settle()
 }
 
-// What a session is handed on by: fences of the two connections would make a cycle as time does, and a quiet moment
-// makes none.
+// How a session is handed on: fences of the two connections would make a cycle, as time does; a quiet moment makes
+// none.
 func TestWhatGrantsTheOrderOfConnections(t *testing.T) {
 	b := newBench(t, Options{Sessions: 3})
 	for _, line := range []string{
@@ -664,7 +117,7 @@ func TestWhatGrantsTheOrderOfConnections(t *testing.T) {
 }
 
 // Two fences at once: one of a connection that was busy just before, and one of a connection that goes on just after.
-// Whichever is told first, the two transactions aren't both in front of the one and behind the other.
+// Whichever is reported first, the two transactions aren't both before the one and after the other.
 func TestFencesAtOnce(t *testing.T) {
 	for _, lateFence := range []bool{false, true} {
 		b := newBench(t, Options{Late: time.Second})
@@ -696,8 +149,8 @@ func TestFencesAtOnce(t *testing.T) {
 	}
 }
 
-// A connection's fence is told late, behind the one that the audit's own connection made in its place, and was written
-// in front of it: the session doesn't take it for a later one. Told in time, both are offered.
+// A connection's fence is reported late, after the one that the audit's own connection made in its place, but was
+// written before it: the session doesn't take it for a later one. Reported in time, both are offered.
 func TestFenceToldLate(t *testing.T) {
 	for _, late := range []bool{false, true} {
 		b := newBench(t, Options{Sessions: 2, Late: time.Second})
@@ -726,8 +179,8 @@ func TestFenceToldLate(t *testing.T) {
 	}
 }
 
-// A session's connection makes its fence late, while the audit's own connection makes one for it. Whichever is told
-// first, two of them stand in the session only in the order in which they were written.
+// A session's connection makes its fence late, while the audit's own connection makes one for it. Whichever is reported
+// first, the session has two of them only in the order in which they were written.
 func TestFencesOfOneSession(t *testing.T) {
 	for _, spareIsLate := range []bool{false, true} {
 		b := newBench(t, Options{Late: time.Second})

@@ -8,8 +8,9 @@ import (
 	"zanteyard/record"
 )
 
-// Inbox takes what the sessions of a proxy tell, and holds it until the joiner takes it out. It is bounded: what comes
-// when it is full is dropped, which folds it. Connections aren't dropped: they are few. Safe for use by many goroutines.
+// Inbox takes what a proxy's sessions report, and holds it until the joiner takes it out. It is bounded: whatever
+// arrives when it is full is dropped, which folds it. Connections aren't dropped, since they are few. Safe for use by
+// many goroutines.
 type Inbox struct {
 	wake chan struct{} // it is half full
 	now  func() time.Time
@@ -20,9 +21,9 @@ type Inbox struct {
 	most    int
 	closed  bool
 	lost    uint64
-	gone    map[string]uint64 // by the reason
+	gone    map[string]uint64 // by reason
 	unseen  map[unseenKey]*Unseen
-	outside *Unseen // shapes beyond the most
+	outside *Unseen // shapes beyond the limit
 }
 
 type message struct {
@@ -32,7 +33,7 @@ type message struct {
 
 type unseenKey struct{ shape, reason string }
 
-// Unseen counts statements of one shape of which something was left out for one reason.
+// Unseen counts statements of one shape in which something was left out for one reason.
 type Unseen struct {
 	Shape, Reason string
 	Reads         bool
@@ -40,10 +41,10 @@ type Unseen struct {
 	First         time.Time
 }
 
-// mostShapes bounds the shapes that are told apart.
+// mostShapes limits the shapes that are counted separately.
 const mostShapes = 500
 
-// NewInbox makes one that holds about so many bytes.
+// NewInbox makes an inbox that holds about this many bytes.
 func NewInbox(bytes int) *Inbox {
 	return &Inbox{wake: make(chan struct{}, 1), now: time.Now, most: bytes, unseen: map[unseenKey]*Unseen{}}
 }
@@ -71,7 +72,7 @@ func (b *Inbox) put(it message, bytes int) {
 	much := b.bytes > b.most/2
 	b.lock.Unlock()
 	if !much {
-		return // the joiner empties it at its next step, before which it would do nothing with it
+		return // the joiner empties it at its next step, and would do nothing with it before
 	}
 	select {
 	case b.wake <- struct{}{}:
@@ -79,7 +80,7 @@ func (b *Inbox) put(it message, bytes int) {
 	}
 }
 
-// sizeOf is about how much room a transaction takes.
+// sizeOf returns about how many bytes a transaction takes.
 func sizeOf(it *record.Transaction) int {
 	n := 256 + 48*(len(it.Reads)+len(it.Absent)) + 4*len(it.Versions) + textsOf(it.Statements)
 	for _, one := range it.Reads {
@@ -91,7 +92,7 @@ func sizeOf(it *record.Transaction) int {
 // Unseen implements record.Sink.
 func (b *Inbox) Unseen(shape, reason string, reads bool) { b.UnseenMany(shape, reason, reads, 1) }
 
-// UnseenMany counts so many at once.
+// UnseenMany counts many at once.
 func (b *Inbox) UnseenMany(shape, reason string, reads bool, n uint64) {
 	b.lock.Lock()
 	defer b.lock.Unlock()
@@ -111,7 +112,7 @@ func (b *Inbox) UnseenMany(shape, reason string, reads bool, n uint64) {
 	it.Count += n
 }
 
-// Lose counts transactions of proxies elsewhere that never arrive, for a reason.
+// Lose counts transactions of proxies elsewhere that never arrive, by reason.
 func (b *Inbox) Lose(reason string, n uint64) {
 	b.lock.Lock()
 	defer b.lock.Unlock()
@@ -125,19 +126,19 @@ func (b *Inbox) Lose(reason string, n uint64) {
 func (b *Inbox) take() (its []message, lost uint64) {
 	b.lock.Lock()
 	defer b.lock.Unlock()
-	its, b.its, b.bytes = b.its, make([]message, 0, len(b.its)), 0 // there will be about as many the next time
+	its, b.its, b.bytes = b.its, make([]message, 0, len(b.its)), 0 // the next batch is likely to be about as large
 	return its, b.lost
 }
 
-// Close has everything dropped from now on.
+// Close makes everything be dropped from now on.
 func (b *Inbox) Close() {
 	b.lock.Lock()
 	defer b.lock.Unlock()
 	b.its, b.bytes, b.closed = nil, 0, true
 }
 
-// counted is what was counted for this audit: the shapes of what was left out, the most frequent first, the losses by
-// their reasons, and how many transactions were dropped. With `isLast` all of it is counted anew, for the next audit.
+// counted returns what was counted for this audit: the shapes of what was left out, most frequent first, the losses by
+// reason, and how many transactions were dropped. With `isLast` all counts start again, for the next audit.
 func (b *Inbox) counted(isLast bool) (its []Unseen, gone map[string]uint64, lost uint64) {
 	b.lock.Lock()
 	its = make([]Unseen, 0, len(b.unseen)+1)

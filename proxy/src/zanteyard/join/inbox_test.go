@@ -7,7 +7,7 @@ import (
 	"zanteyard/record"
 )
 
-// TestInboxWakes: the joiner is woken only where much is there.
+// TestInboxWakes: the joiner is woken only if there is much.
 func TestInboxWakes(t *testing.T) {
 	b := NewInbox(10_000)
 	for n := 0; n < 40 && len(b.wake) == 0; n++ {
@@ -21,7 +21,7 @@ func TestInboxWakes(t *testing.T) {
 	}
 }
 
-// TestInboxCountsAnew: an audit isn't told what was counted for the one before it, and nothing that was is lost.
+// TestInboxCountsAnew: an audit doesn't get the counts of a previous one, and none of those are lost.
 func TestInboxCountsAnew(t *testing.T) {
 	b := NewInbox(sizeOf(&record.Transaction{}))
 	count := func(n uint64) {

@@ -10,15 +10,15 @@ import (
 	"zanteyard/record"
 )
 
-// Server is what the joiner asks of the server, over a connection of its own, which it makes anew if it is lost. Safe for
-// use by many goroutines.
+// Server is what the joiner asks the server, over its own connection, which is made again if it is lost. Safe for use
+// by many goroutines.
 type Server interface {
-	// Place is where the next record of the server's log is inserted, and whether tables' names mean what they meant when
-	// it was asked before.
+	// Place returns where the next record of the server's log is inserted, and whether tables' names still mean what they
+	// meant at the last call.
 	Place(context.Context) (Place, error)
-	// Base is the number below which all transactions are over.
+	// Base returns the number below which all transactions are over.
 	Base(context.Context) (uint32, error)
-	// Subtransactions are those of the commits whose records begin at these places; nil where one can't be read.
+	// Subtransactions returns those of the commits whose records begin at these places, nil for one that can't be read.
 	Subtransactions(context.Context, []uint64) ([][]uint32, error)
 	// Fence makes a fence, and returns the transaction's number.
 	Fence(context.Context) (uint64, error)
@@ -27,25 +27,25 @@ type Server interface {
 // Place is a place in the server's log.
 type Place struct {
 	At uint64
-	// Changed are the tables whose name, or key, isn't what it was at the place before. What is read from the slot from
-	// Names on (record.Commit) has them right, where it stands behind this place.
+	// Changed has the tables whose name or key has changed since the last place. What is read from the slot from Names on
+	// (record.Commit) has them right, if it comes after this place.
 	Changed []record.Relation
 	Names   uint64
 }
 
-// Meeter has the proxy's sessions make fences. They are told to the sink before these calls return.
+// Meeter makes the proxy's sessions make fences. The fences are reported to the sink before these calls return.
 type Meeter interface {
-	// MeetAround has each session make one that is free in time, and a second one when these have made theirs. Between the
-	// two it calls between. It returns how many were made, and how long it took.
+	// MeetAround makes each session that is free in time make a fence, and a second one when all have made the first. In
+	// between it calls between. It returns how many were made, and how long it took.
 	MeetAround(ctx context.Context, between func(context.Context)) (fences int, took time.Duration, err error)
-	// Fence has one connection make one.
+	// Fence makes one connection make a fence.
 	Fence(ctx context.Context, connection uint64) error
-	// Busy is about how many sessions have something of their clients' under way. If it is wrong, more is folded than needs
-	// be; one that can't know it gives a great number.
+	// Busy returns about how many sessions have something of their clients' under way. If it is wrong, more is folded than
+	// necessary; a Meeter that can't know it returns a large number.
 	Busy() int
 }
 
-// Output takes lines for the auditor and events, in order. Its calls don't wait.
+// Output takes lines for the auditor, and events, in order. Its calls don't wait.
 type Output interface {
 	Line([]byte)
 	Event(Event)
@@ -69,34 +69,34 @@ type Joiner struct {
 	gate       gate
 	core       *core
 	meeting    meeting
-	last       time.Time // when the last meeting was begun
+	last       time.Time // when the last meeting began
 	wanted     bool      // a meeting is wanted at once
 	stopping   bool
 	again      bool // a new audit is wanted
 	failed     error
-	unanswered int  // rounds whose truncate wasn't answered by a cut
+	unanswered int  // number of rounds whose truncate wasn't answered by a cut
 	placing    bool // a question for the log's place is under way
 	placedAt   time.Time
-	failing    time.Time // since when that question fails
+	failing    time.Time // since when that question has failed
 	failure    error
 	asking     bool // a question for subtransactions is under way
 	warned     sync.Mutex
-	warnings   map[string]time.Time // when they were told last
-	given      time.Time            // when fragments were given out
+	warnings   map[string]time.Time // when each was last given
+	given      time.Time            // when fragments were last written
 	coverage   time.Time
 	forgot     time.Time
 }
 
-// fromSlot is what the slot tells: a commit, or how far it is.
+// fromSlot is what the slot reports: a commit, or how far it is.
 type fromSlot struct {
 	commit *record.Commit
 	place  uint64
 }
 
-// errEnded is what the slot's reader gets once the audit has ended.
+// errEnded is returned to the slot's reader once the audit has ended.
 var errEnded = errors.New("the audit has ended")
 
-// New makes a joiner, which begins with Run. Subtransactions are asked for if inspects is set.
+// New makes a joiner, which begins with Run. It asks for subtransactions if inspects is set.
 func New(opt Options, inbox *Inbox, tables Tables, server Server, inspects bool, meeter Meeter, output Output) *Joiner {
 	return &Joiner{
 		opt: opt.withDefaults(), tables: tables, server: server, meeter: meeter, output: output, inbox: inbox,
@@ -105,15 +105,15 @@ func New(opt Options, inbox *Inbox, tables Tables, server Server, inspects bool,
 	}
 }
 
-// Commit takes what the slot tells next. It waits while the joiner is behind, which holds up the slot and nobody else.
+// Commit takes the slot's next commit. It waits while the joiner is behind, which delays the slot and nobody else.
 func (j *Joiner) Commit(it record.Commit) error { return j.give(fromSlot{commit: &it}) }
 
-// Advance takes how far the slot is.
+// Advance records how far the slot is.
 func (j *Joiner) Advance(place uint64) error { return j.give(fromSlot{place: place}) }
 
 func (j *Joiner) give(it fromSlot) error {
 	select {
-	case <-j.done: // with room in the channel as well, either would be taken
+	case <-j.done: // if the channel has room too, either would be taken
 		return errEnded
 	default:
 	}
@@ -127,20 +127,20 @@ func (j *Joiner) give(it fromSlot) error {
 
 const (
 	step      = 5 * time.Millisecond
-	giveOut   = 50 * time.Millisecond // each line costs those who take it, however little is in it
+	giveOut   = 50 * time.Millisecond // each line costs its receivers, however little is in it
 	askSoon   = 20 * time.Millisecond
 	askPlace  = 100 * time.Millisecond
 	each      = time.Second
-	questions = 5 * time.Second // how long the server is waited for
+	questions = 5 * time.Second // how long to wait for the server
 	patience  = time.Minute     // with a server that doesn't answer
 	mostSubs  = 200             // commits in one question
 )
 
-// Start says what the feed tells of the audit as it begins. To be called before Run.
+// Start sets what the feed reports when the audit begins. Must be called before Run.
 func (j *Joiner) Start(it Started) { j.started = it }
 
-// Run audits until the context ends, or something goes wrong: then it tells the reason as an event, and returns it. The
-// slot has to have been made before, since all that a snapshot taken now doesn't show has to come from it.
+// Run audits until the context ends or something goes wrong: then it reports the reason as an event, and returns it.
+// The slot must have been made before, since everything that a snapshot taken now doesn't show has to come from it.
 func (j *Joiner) Run(ctx context.Context) error {
 	err := j.run(ctx)
 	close(j.done)
@@ -187,7 +187,7 @@ func (j *Joiner) run(ctx context.Context) error {
 	}
 }
 
-// begin starts an audit: what a snapshot shows by now is how it was at first.
+// begin starts an audit: what a snapshot shows now is the initial state.
 func (j *Joiner) begin(ctx context.Context) error {
 	asking, cancel := context.WithTimeout(ctx, questions)
 	defer cancel()
@@ -206,7 +206,7 @@ func (j *Joiner) begin(ctx context.Context) error {
 	return nil
 }
 
-// connections are those that an audit before this one knew.
+// connections returns those that a previous audit knew.
 func (j *Joiner) connections() []record.Connection {
 	if j.core == nil {
 		return nil
@@ -218,7 +218,7 @@ func (j *Joiner) connections() []record.Connection {
 	return its
 }
 
-// slot is what the slot tells, unless so much of it waits that the slot has to.
+// slot returns the channel from the slot, or nil if so much of it waits that the slot has to.
 func (j *Joiner) slot() <-chan fromSlot {
 	if j.gate.isFull() {
 		return nil
@@ -284,8 +284,9 @@ func (j *Joiner) tick(ctx context.Context) error {
 	return nil
 }
 
-// askPlace asks where the log stands, for what was told up to now. The question takes a processor longer than most
-// transactions do, and holds up those that want the same one; so it is seldom asked while nobody waits for the answer.
+// askPlace asks where the log stands, for everything reported up to now. The question takes more processor time than
+// most transactions, and delays those that want the same processor; so it is rarely asked while nobody waits for the
+// answer.
 func (j *Joiner) askPlace(ctx context.Context, now time.Time) {
 	pause := askPlace
 	if j.meeting.phase != apart || len(j.core.held) > 0 {
@@ -304,7 +305,7 @@ func (j *Joiner) askPlace(ctx context.Context, now time.Time) {
 		place, err := j.server.Place(asking)
 		return func() {
 			j.placing = false
-			if err != nil { // it is asked again, with what is told by then
+			if err != nil { // it is asked again, with what is reported by then
 				j.core.batched = true
 				if j.failing.IsZero() {
 					j.failing = now
@@ -321,8 +322,8 @@ func (j *Joiner) askPlace(ctx context.Context, now time.Time) {
 	})
 }
 
-// do runs something in the joiner's loop, for a goroutine beside it, and waits for it. It is false where that can't be any
-// more, since the audit is over or another one has begun.
+// do runs f in the joiner's loop for another goroutine, and waits for it. It returns false if that isn't possible any
+// more, because the audit is over or another one has begun.
 func (j *Joiner) do(of *core, f func()) bool {
 	did := make(chan bool, 1)
 	select {
@@ -344,7 +345,7 @@ func (j *Joiner) do(of *core, f func()) bool {
 	}
 }
 
-// ask runs a question beside the joiner's loop, and what comes of it in the loop.
+// ask runs a question beside the joiner's loop, and the function that it returns in the loop.
 func (j *Joiner) ask(ctx context.Context, question func(context.Context) func()) {
 	go func() {
 		asking, cancel := context.WithTimeout(ctx, questions)

@@ -11,14 +11,15 @@ import (
 	"zanteyard/record"
 )
 
-// often are bounds of an audit whose sessions meet as often as they can.
+// often are options of an audit whose sessions meet as often as they can.
 var often = Options{
 	Sessions: 4, Reserve: 1, Every: 1, Between: 30 * time.Millisecond, Within: 30 * time.Millisecond, Late: 30 * time.Millisecond,
 	Stale: time.Hour, Idle: time.Hour,
 }
 
-// Sessions meet: those without a connection have a fence made for them before, those that are busy between the first
-// fences and the second ones, and behind these; each meeting is followed by a round and a cut, by which all is forgotten.
+// Sessions meet: those without a connection get a fence made for them before the others, those that are busy between
+// the first fences and the second ones, and after these; each meeting is followed by a round and a cut, by which
+// everything is forgotten.
 func TestWhoMakesTheFences(t *testing.T) {
 	s := newStage(t, often)
 	s.connect(1, 2, 3)
@@ -81,7 +82,8 @@ func TestClosedSessionsComeBack(t *testing.T) {
 	s.until("a join", func() bool { return s.lined("join") > 0 && s.meetings("join") > 0 })
 }
 
-// What can't be made is told once a minute, and the sessions meet all the same; the cuts come back with the server.
+// A fence that can't be made is reported once a minute, and the sessions meet all the same; the cuts come back with the
+// server.
 func TestServerThatMakesNoFence(t *testing.T) {
 	s := newStage(t, often)
 	s.lock.Lock()
@@ -107,7 +109,7 @@ func TestServerThatMakesNoFence(t *testing.T) {
 	})
 }
 
-// A server that doesn't say where its log is has what was told wait until it does.
+// If a server doesn't say where its log is, what was reported waits until it does.
 func TestServerThatDoesntTellItsPlace(t *testing.T) {
 	s := newStage(t, often)
 	s.lock.Lock()
@@ -126,7 +128,7 @@ func TestServerThatDoesntTellItsPlace(t *testing.T) {
 	s.until("an offer", func() bool { return s.lined("offer") > 0 })
 }
 
-// Stop has a last round made and says so; the audit goes on.
+// Stop makes a last round and reports it; the audit goes on.
 func TestStop(t *testing.T) {
 	opt := often
 	opt.Every, opt.Between, opt.Within = 1<<20, time.Hour, time.Hour
@@ -158,8 +160,8 @@ func TestStop(t *testing.T) {
 	}
 }
 
-// Restart begins again with the connections that are there. What was under way for the audit before is dropped: a
-// meeting that it began tells the new one nothing.
+// Restart begins again with the existing connections. What was under way for the previous audit is dropped: a meeting
+// that it began reports nothing to the new one.
 func TestRestart(t *testing.T) {
 	opt := often
 	opt.Every, opt.Between, opt.Within = 1<<20, time.Hour, time.Hour
@@ -180,7 +182,7 @@ func TestRestart(t *testing.T) {
 	s.until("offers of the new one, and the meeting's end", func() bool {
 		return s.model.remain() > 1 && s.meetings("met") == 1
 	})
-	for i := 0; i < 20; i++ { // what the meeting still says comes within some steps
+	for i := 0; i < 20; i++ { // what the meeting still reports arrives within some steps
 		s.update(1, "b")
 		time.Sleep(step)
 	}
@@ -205,7 +207,7 @@ func TestRestart(t *testing.T) {
 	}
 }
 
-// An audit ends for a reason, and tells it last; who feeds it is told that it has ended.
+// An audit ends for a reason, and reports it last; its feeders learn that it has ended.
 func TestEnd(t *testing.T) {
 	s := newStage(t, often)
 	s.connect(1)
@@ -228,7 +230,7 @@ func TestEnd(t *testing.T) {
 	}
 }
 
-// An audit that can't begin ends with that.
+// An audit that can't begin ends with that reason.
 func TestServerThatIsAwayAtFirst(t *testing.T) {
 	s := &stage{t: t, inbox: NewInbox(1000), failing: map[string]error{"base": errors.New("away")}}
 	err := New(often, s.inbox, plainTables{}, s, false, byStage{s}, s).Run(context.Background())
@@ -237,7 +239,7 @@ func TestServerThatIsAwayAtFirst(t *testing.T) {
 	}
 }
 
-// Marks of another audit are told, and nothing is forgotten by them.
+// Marks of another audit are reported, and nothing is forgotten because of them.
 func TestCutOfAnotherAudit(t *testing.T) {
 	opt := often
 	opt.Every, opt.Between, opt.Within = 1<<20, time.Hour, time.Hour
@@ -254,7 +256,7 @@ func TestCutOfAnotherAudit(t *testing.T) {
 	})
 }
 
-// What the auditor doesn't answer has the sessions meet no more, until it does.
+// While the auditor doesn't answer, the sessions don't meet.
 func TestRoundsWaitForTheAuditor(t *testing.T) {
 	s := newStage(t, often)
 	s.held = true

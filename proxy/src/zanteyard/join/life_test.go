@@ -8,8 +8,8 @@ import (
 	"zanteyard/record"
 )
 
-// settled is the model's cut: the last fence that everything else in the sessions stands before or behind, by fences
-// alone, and that every open session has passed. It gives the sessions' marks, and whether there is one.
+// settled is the model's cut: the last fence that everything else in the sessions comes before or after, by fences
+// alone, and that every open session has passed. It returns the sessions' marks, and whether there is such a fence.
 func (m *model) settled() ([]uint64, bool) {
 	place := m.chain()
 	marks, found := make([]uint64, len(m.sessions)), false
@@ -36,7 +36,7 @@ func (m *model) settled() ([]uint64, bool) {
 	return marks, found
 }
 
-// chain numbers the fences in the order in which each has read the one before.
+// chain numbers the fences in the order in which each has read the previous one.
 func (m *model) chain() map[[2]int]int {
 	next := map[[2]int64][2]int{}
 	for i, s := range m.sessions {
@@ -57,8 +57,8 @@ func (m *model) chain() map[[2]int]int {
 	return place
 }
 
-// front is how many of a session's transactions stand at or before the fence with this place in the chain. It is false
-// where that isn't known of all, or the session is open and hasn't passed the fence.
+// front returns how many of a session's transactions come at or before the fence with this place in the chain. It
+// returns false if that isn't known of all, or the session is open and hasn't passed the fence.
 func (m *model) front(session, at int, place map[[2]int]int) (uint64, bool) {
 	s := m.sessions[session]
 	count, passed := 0, s.closed
@@ -74,7 +74,7 @@ func (m *model) front(session, at int, place map[[2]int]int) (uint64, bool) {
 		if place[[2]int{session, n}] >= at {
 			passed = true
 			if place[[2]int{session, n}] > at && n > count {
-				return 0, false // what stands before this fence and behind the one before may be on either side
+				return 0, false // what comes between this fence and the previous one may be on either side
 			}
 			known = true
 			break
@@ -165,7 +165,7 @@ func (l *life) end(c *liveConnection) {
 	c.began = time.Time{}
 }
 
-// busy are the connections in the midst of a transaction: they aren't held by a meeting.
+// busy returns the connections in the middle of a transaction: a meeting doesn't hold them.
 func (l *life) busy() []*liveConnection {
 	var its []*liveConnection
 	for _, c := range l.live {
@@ -200,7 +200,7 @@ func (l *life) spares(sessions []int) {
 	}
 }
 
-// meet is a meeting, which a connection in the midst of a transaction misses.
+// meet is a meeting, which a connection in the middle of a transaction misses.
 func (l *life) meet() {
 	l.spares(l.core.meet())
 	var there []*liveConnection
@@ -252,7 +252,7 @@ func (l *life) meet() {
 	l.core.joining = nil
 }
 
-// note keeps when each offered transaction ran, before a cut has it forgotten.
+// note records when each offered transaction ran, before a cut makes it forgotten.
 func (l *life) note() {
 	for _, s := range l.core.sessions {
 		for i, one := range s.kept {
@@ -265,8 +265,8 @@ func (l *life) note() {
 	}
 }
 
-// Whatever happens, the auditor takes every line; each session's transactions follow one another in time, the fences
-// apart; and cuts come, so that few remain.
+// Whatever happens, the auditor accepts every line; each session's transactions follow one another in time, except
+// fences; and cuts come, so that few transactions remain.
 func TestLives(t *testing.T) {
 	for seed := int64(0); seed < 12; seed++ {
 		r := rand.New(rand.NewSource(seed))

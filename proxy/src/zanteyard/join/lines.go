@@ -6,8 +6,7 @@ import (
 	"zanteyard/record"
 )
 
-// write puts the session's transactions that are resolved into its fragment, in their order, and says whether there were
-// any.
+// write puts the session's resolved transactions into its fragment, in order, and reports whether there were any.
 func (c *core) write(s *session) bool {
 	moved := false
 	for len(s.waiting) > 0 {
@@ -81,10 +80,10 @@ func appendRead(to []byte, one source) []byte {
 	return append(to, ']')
 }
 
-// writeOffer gives out the session's fragment.
+// writeOffer writes the session's fragment.
 func (c *core) writeOffer(s *session) { c.writeFragment(s, "offer") }
 
-// writeJoin gives it out as the one by which the session comes back.
+// writeJoin writes it as the one by which the session comes back.
 func (c *core) writeJoin(s *session) { c.writeFragment(s, "join") }
 
 func (c *core) writeFragment(s *session, command string) {
@@ -105,14 +104,14 @@ func (c *core) writeFragment(s *session, command string) {
 	c.out(line)
 }
 
-// flush gives out all fragments.
+// flush writes all fragments.
 func (c *core) flush() {
 	for _, s := range c.sessions {
 		c.writeOffer(s)
 	}
 }
 
-// open is the first line of an audit.
+// open writes the first line of an audit.
 func (c *core) open() {
 	c.out([]byte(`["open",` + strconv.Itoa(len(c.sessions)) + `,` + strconv.Itoa(c.opt.Limit) + `,2]`))
 }
@@ -124,7 +123,7 @@ func (c *core) close(s *session) {
 	c.out([]byte(`["close",` + strconv.Itoa(s.index) + `]`))
 }
 
-// round has the auditor check all that was offered, and forget what is settled.
+// round makes the auditor check everything that was offered, and forget what is settled.
 func (c *core) round() {
 	c.flush()
 	c.counts.rounds++
@@ -132,7 +131,7 @@ func (c *core) round() {
 	c.out([]byte(`["truncate"]`))
 }
 
-// keep holds what people may ask of a transaction until it is gone.
+// keep stores what people may ask about a transaction, until it is gone.
 func (c *core) keep(s *session, e *entry, to *resolution) {
 	one := &told{its: e.its, reads: to.reads, writes: to.writes, used: c.used}
 	one.its.Reads, one.its.Absent, one.its.Versions = nil, nil, nil
@@ -159,7 +158,7 @@ func textsOf(its []record.Statement) int {
 	return n
 }
 
-// cut takes in how many transactions of each session are gone, and forgets them.
+// cut records how many transactions of each session are gone, and forgets them.
 func (c *core) cut(marks []uint64) bool {
 	if len(marks) != len(c.sessions) {
 		return false

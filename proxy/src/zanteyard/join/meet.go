@@ -2,32 +2,32 @@ package join
 
 import "time"
 
-// A meeting has every session make a fence, and a second one when all have made theirs; whatever was offered before
-// stands in front of the last of the first fences, and whatever comes later behind it. So the auditor can forget all that
-// is in front. The audit's own connection makes fences for those sessions whose connection doesn't: it has ended, or it is
-// in the midst of a transaction. The first of these is made while those that have come are held, so that it stands among
-// the first fences. The quiet moment between the first fences and the second ones (moments.go) is what allows all these
-// fences: the transaction that ran across the meeting is folded.
+// In a meeting every session makes a fence, and a second one when all have made theirs. Whatever was offered before
+// comes before the last of the first fences, and whatever is offered later comes after it, so the auditor can forget
+// everything before. The audit's own connection makes the fences for sessions whose connection doesn't, because it has
+// ended or is in the middle of a transaction. It makes the first of these while those that have come are held, so that
+// they are among the first fences. The quiet moment between the first fences and the second ones (moments.go) is what
+// permits all these fences: a transaction that ran across the meeting is folded.
 
 type phase uint8
 
 const (
 	apart    phase = iota
 	together       // fences are made
-	settling       // what was told before is on its way into lines
+	settling       // what was reported before is on its way into lines
 )
 
 type meeting struct {
 	phase  phase
-	upTo   []uint64 // of each session, the numbers that have to stand in lines before the round
+	upTo   []uint64 // for each session, the numbers that have to be in lines before the round
 	ended  time.Time
-	isLast bool // it was asked for by stop
+	isLast bool // it was requested by stop
 }
 
-// mostSettling is how long a round waits for what was told before its meeting.
+// mostSettling is how long a round waits for what was reported before its meeting.
 const mostSettling = 5 * time.Second
 
-// wantsMeeting says that it is time for one.
+// wantsMeeting reports whether it is time for a meeting.
 func (c *core) wantsMeeting(last time.Time) bool {
 	if c.since == 0 {
 		return false
@@ -35,7 +35,7 @@ func (c *core) wantsMeeting(last time.Time) bool {
 	room := c.opt.Limit - c.opt.fenceRoom() - c.remaining()
 	passed := c.now.Sub(last)
 	switch {
-	case room <= c.opt.Limit/8: // nothing more is taken soon
+	case room <= c.opt.Limit/8: // soon nothing more is taken
 		return passed >= c.opt.Between/4
 	case c.since >= c.opt.Every, room <= c.opt.Limit/2:
 		return passed >= c.opt.Between
@@ -43,8 +43,8 @@ func (c *core) wantsMeeting(last time.Time) bool {
 	return passed >= c.opt.Between && c.now.Sub(c.oldest) >= c.opt.Within
 }
 
-// meet begins a meeting. It returns the sessions that need a fence before the others come together: nobody makes one
-// for them, and something stands behind their last.
+// meet begins a meeting. It returns the sessions that need a fence before the others meet: nobody makes one for them,
+// and something comes after their last one.
 func (c *core) meet() []int {
 	var needs []int
 	if c.reserve = c.entered; c.reserve < c.opt.Reserve {
@@ -61,7 +61,7 @@ func (c *core) meet() []int {
 	return needs
 }
 
-// missing are the sessions that haven't come to the meeting, and have something behind their last fence.
+// missing returns the sessions that haven't come to the meeting and have something after their last fence.
 func (c *core) missing() []int {
 	var needs []int
 	for _, s := range c.sessions {
@@ -72,7 +72,7 @@ func (c *core) missing() []int {
 	return needs
 }
 
-// halfway says that the first fences are made: what is made from now on stands behind them.
+// halfway records that the first fences are made: those made from now on come after them.
 func (c *core) halfway() {
 	c.quiet()
 	for _, s := range c.sessions {
@@ -80,8 +80,8 @@ func (c *core) halfway() {
 	}
 }
 
-// met says which sessions need a fence after the others have made their second ones: those that are open and haven't.
-// Of those without a connection only the reserve is kept open, or comes back.
+// met returns the sessions that need a fence after the others have made their second ones: those that are open and have
+// none. Of those without a connection only the reserve is kept open, or comes back.
 func (c *core) met() []int {
 	var needs, closed []int
 	reserve := c.reserve
@@ -103,7 +103,7 @@ func (c *core) met() []int {
 	return append(needs, closed...)
 }
 
-// numbers are the sessions' next ones.
+// numbers returns the sessions' next ones.
 func (c *core) numbers() []uint64 {
 	its := make([]uint64, len(c.sessions))
 	for i, s := range c.sessions {
@@ -112,7 +112,7 @@ func (c *core) numbers() []uint64 {
 	return its
 }
 
-// isWritten says that everything below these numbers stands in lines.
+// isWritten reports whether everything below these numbers is in lines.
 func (c *core) isWritten(numbers []uint64) bool {
 	for i, s := range c.sessions {
 		if s.written < numbers[i] {
@@ -122,8 +122,8 @@ func (c *core) isWritten(numbers []uint64) bool {
 	return true
 }
 
-// closeVacant closes sessions that have no connection, beyond the reserve: one that is silent would keep all cuts away.
-// Before there is a fence none is closed, since none could join; and none that did something behind its last fence, since
+// closeVacant closes sessions without a connection, beyond the reserve: a silent session would prevent all cuts. Before
+// there is a fence none is closed, since none could join again; nor one that did something after its last fence, since
 // nothing would say where that stands.
 func (c *core) closeVacant() {
 	if len(c.fences) == 0 && c.fenced == 0 {

@@ -5,11 +5,11 @@ import (
 	"time"
 )
 
-// meet goes on with the meeting, or begins one when it is time.
+// meet continues the meeting, or begins one when it is time.
 func (j *Joiner) meet(ctx context.Context, now time.Time) {
 	switch j.meeting.phase {
 	case apart:
-		// A round that isn't answered yet would only have the next one wait behind it.
+		// While a round isn't answered yet, another one would only wait behind it.
 		if j.wanted || j.core.wantsMeeting(j.last) && (j.unanswered == 0 || now.Sub(j.last) > patience) {
 			j.wanted, j.last = false, now
 			j.meeting = meeting{phase: together, isLast: j.stopping}
@@ -22,7 +22,7 @@ func (j *Joiner) meet(ctx context.Context, now time.Time) {
 	}
 }
 
-// together has the sessions meet, beside the joiner's loop.
+// together makes the sessions meet, beside the joiner's loop.
 func (j *Joiner) together(ctx context.Context, core *core) {
 	var needs []int
 	if !j.do(core, func() { needs = core.meet() }) || !j.spare(ctx, core, needs) {
@@ -48,7 +48,7 @@ func (j *Joiner) together(ctx context.Context, core *core) {
 	j.do(core, func() { j.meeting.phase, j.meeting.ended, j.meeting.upTo = settling, core.now, core.numbers() })
 }
 
-// spare makes fences for sessions, one after another. It is false where the audit is over.
+// spare makes fences for sessions, one after another. It returns false if the audit is over.
 func (j *Joiner) spare(ctx context.Context, core *core, sessions []int) bool {
 	for _, session := range sessions {
 		asking, cancel := context.WithTimeout(ctx, questions)
@@ -69,7 +69,7 @@ func (j *Joiner) spare(ctx context.Context, core *core, sessions []int) bool {
 	return true
 }
 
-// endMeeting has the auditor check and forget.
+// endMeeting makes the auditor check and forget.
 func (j *Joiner) endMeeting() {
 	j.core.flush()
 	j.core.closeVacant()
@@ -84,7 +84,7 @@ func (j *Joiner) endMeeting() {
 	}
 }
 
-// letJoin has connections that got a closed session make the fence by which it comes back.
+// letJoin makes connections that got a closed session make the fence by which it comes back.
 func (j *Joiner) letJoin(ctx context.Context) {
 	for _, conn := range j.core.joining {
 		if !conn.joins || conn.ended {
@@ -94,13 +94,13 @@ func (j *Joiner) letJoin(ctx context.Context) {
 		go func() {
 			asking, cancel := context.WithTimeout(ctx, questions)
 			defer cancel()
-			j.meeter.Fence(asking, number) // if that fails, it makes one at the next meeting
+			j.meeter.Fence(asking, number) // if that fails, the connection makes one at the next meeting
 		}()
 	}
 	j.core.joining = nil
 }
 
-// warn tells people something, the same thing at most once a minute.
+// warn warns people, of the same thing at most once a minute.
 func (j *Joiner) warn(text string) {
 	now := time.Now()
 	j.warned.Lock()

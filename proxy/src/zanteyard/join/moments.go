@@ -7,26 +7,26 @@ import (
 	"zanteyard/record"
 )
 
-// Quiet moments. A quiet moment is one that no offered transaction spans: each ended before it or began after it, and
-// what spans one is folded. PostgreSQL's snapshots then put all that is before it in front of all that is after it: a
-// transaction sees what had ended before it began, and nothing of what began after it had ended. So an order that
-// explains what was offered can be sorted by the moments and still explains it, and what the auditor takes for granted
-// across a moment makes up no violation (docs/FOLDING.md, "Sessions"). That is how a session is handed on from one
-// connection to another, and where fences stand.
+// Quiet moments. A quiet moment is one that no offered transaction spans: each ended before it or began after it, and a
+// transaction that spans one is folded. PostgreSQL's snapshots then put everything before the moment in front of
+// everything after it: a transaction sees what had ended before it began, and nothing of what began after it had ended.
+// So an order that explains what was offered can be sorted by the moments and still explains it, and what the auditor
+// takes for granted across a moment makes up no violation (docs/FOLDING.md, "Sessions"). This is what allows a session
+// to be handed from one connection to another, and determines where fences stand.
 //
-// Without such a moment neither the clock nor fences do: a transaction that has begun before the first connection's end
-// and ends after the second one's beginning may have to stand between the second and the first.
+// Without such a moment neither the clock nor fences allow it: a transaction that began before the first connection's
+// end and ends after the second one's beginning may have to stand between the second and the first.
 
 // moments are the quiet moments of an audit, in order.
 type moments struct {
 	its    []time.Time
-	forgot bool // that there were others before the first
+	forgot bool // there were others before the first
 }
 
-// mostMoments is how many are kept. A transaction that began before the first of these counts as spanning one.
+// mostMoments is how many are kept. A transaction that began before the first of them counts as spanning one.
 const mostMoments = 4096
 
-// set adds a moment, if it is later than those before.
+// set adds a moment, if it is later than the others.
 func (m *moments) set(at time.Time) bool {
 	if len(m.its) > 0 && !at.After(m.last()) {
 		return false
@@ -38,7 +38,7 @@ func (m *moments) set(at time.Time) bool {
 	return true
 }
 
-// last is the latest one, the zero time if there is none.
+// last returns the latest one, or the zero time if there is none.
 func (m *moments) last() time.Time {
 	if len(m.its) == 0 {
 		return time.Time{}
@@ -46,18 +46,18 @@ func (m *moments) last() time.Time {
 	return m.its[len(m.its)-1]
 }
 
-// between says that there is one after the first time, and at or before the second one.
+// between reports whether there is one after the first time, and at or before the second one.
 func (m *moments) between(after, until time.Time) bool {
 	i := sort.Search(len(m.its), func(i int) bool { return m.its[i].After(after) })
 	return i < len(m.its) && !m.its[i].After(until)
 }
 
-// spanned says that a transaction may have spanned one.
+// spanned reports whether a transaction may have spanned one.
 func (m *moments) spanned(began, ended time.Time) bool {
 	return m.between(began, ended) || m.forgot && began.Before(m.its[0])
 }
 
-// quiet makes now a quiet moment: what runs now is folded when it ends.
+// quiet makes now a quiet moment: whatever is running is folded when it ends.
 func (c *core) quiet() {
 	if c.moments.set(c.now) {
 		c.closing = time.Time{}
@@ -65,11 +65,11 @@ func (c *core) quiet() {
 	}
 }
 
-// leastBetween is how far apart quiet moments are at least, those of meetings apart.
+// leastBetween is the least time between quiet moments, other than those of meetings.
 const leastBetween = 10 * time.Millisecond
 
-// wantsMoment says whether now should be one: sessions wait to be handed on, and that is worth more than what it folds,
-// which is about one transaction of each session that is busy.
+// wantsMoment reports whether now should be one: sessions are waiting to be handed on, and that is worth more than what
+// it folds, about one transaction of each busy session.
 func (c *core) wantsMoment(busy func() int) bool {
 	stale, ready := 0, 0
 	for _, s := range c.sessions {
@@ -89,19 +89,19 @@ func (c *core) wantsMoment(busy func() int) bool {
 	return n == 0 || stale/4 >= n || len(c.queue) > 0 && passed >= c.opt.Between
 }
 
-// isReady says that a connection which begins now may have the session: a moment lies behind all that was offered in it.
+// isReady reports whether a connection that begins now may have the session: there is a moment after everything that
+// was offered in it.
 func (c *core) isReady(s *session) bool {
 	return s.last.IsZero() || c.moments.between(s.last, c.now)
 }
 
-// mayStand says whether a transaction that is no fence may be offered next in the session. follows says that what stands
-// there last is of the same connection. The order of connections, and that of transactions around a fence, are granted
-// by a quiet moment alone: nothing else is asked of when a fence was made.
+// mayStand reports whether a transaction that isn't a fence may be offered next in the session. follows means that the
+// last one there is of the same connection. Only a quiet moment permits an order of connections, or of transactions
+// around a fence: it doesn't matter when the fence was made.
 //
-// Each fence belongs to a moment between what is in front of it and what is behind it in its session, and the fences of
-// an earlier moment have to be written before those of a later one. A fence that is followed by something in its
-// moment's own time (c.opened), and one that has something of that time in front of it (c.closing), are held apart by
-// when they ran.
+// Each fence belongs to a moment between what precedes and what follows it in its session, and the fences of an earlier
+// moment have to be written before those of a later one. A fence followed by something of its moment's own time
+// (c.opened) and one preceded by something of that time (c.closing) are told apart by when they ran.
 func (c *core) mayStand(s *session, it *record.Transaction, follows bool) bool {
 	began, ended := span(it)
 	switch {
@@ -122,9 +122,10 @@ func (c *core) mayStand(s *session, it *record.Transaction, follows bool) bool {
 	return true
 }
 
-// mayFence says whether a fence may be offered next in the session. It needn't have begun after what is in front of it
-// had ended, if no moment is between. But a fence that is told late, behind one that the audit's own connection made in
-// its place, may have been written in front of it: of two connections' fences the second began when the first had ended.
+// mayFence reports whether a fence may be offered next in the session. It needn't have begun after what precedes it had
+// ended, if no moment is in between. But a fence that is reported late, after one that the audit's own connection made
+// in its place, may have been written before that one: of two connections' fences the second must have begun after the
+// first had ended.
 func (c *core) mayFence(s *session, it *record.Transaction, follows bool) bool {
 	began, _ := span(it)
 	switch {
@@ -141,7 +142,7 @@ func (c *core) mayFence(s *session, it *record.Transaction, follows bool) bool {
 	return true
 }
 
-// stood notes what was named last in the session.
+// stood records what was named last in the session.
 func (s *session) stood(it *record.Transaction) {
 	_, ended := span(it)
 	if !it.Fence {

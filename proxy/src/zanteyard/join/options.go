@@ -1,9 +1,11 @@
-// Package join makes the auditor's transactions of what the sessions of a proxy saw and what a replication slot tells.
+// Package join makes the auditor's transactions from what the sessions of a proxy saw and what a replication slot
+// reports.
 //
 // Reads come from the sessions, with the version of each row that was returned; writes and the order of each row's
-// versions come from the slot. The package's argument, that it makes up no violation, is in docs/FOLDING.md; each place
-// that the argument needs says so. In short: whatever isn't known is left out, and leaving out is always right, if who
-// read a version that is left out is offered as a reader of the last offered version before it ("folding", versions.go).
+// versions come from the slot. The argument why the package makes up no violation is in docs/FOLDING.md; each place
+// that the argument needs is marked. In short: whatever isn't known is left out, and leaving out is always right if the
+// reader of a version that is left out is offered as a reader of the last offered version before it ("folding",
+// versions.go).
 package join
 
 import (
@@ -12,22 +14,22 @@ import (
 	"zanteyard/record"
 )
 
-// Options are the bounds of an audit. Zero values stand for the defaults.
+// Options are the limits of an audit. Zero values stand for the defaults.
 type Options struct {
 	Sessions int           // of the auditor: 1 to 64
-	Limit    int           // transactions that may remain at a time: at most 4,096, with Snapshot 2,048
+	Limit    int           // how many transactions may remain at a time: at most 4,096, with Snapshot 2,048
 	Every    int           // offered transactions after which the sessions should meet
 	Between  time.Duration // the least time between two meetings, unless the limit is near
-	Within   time.Duration // an offered transaction waits at most about this long for a round
+	Within   time.Duration // how long an offered transaction waits for a round, at most, about
 	Late     time.Duration // how long a commit waits for the session that made it, before it counts as somebody else's
-	Stale    time.Duration // versions that were overwritten longer ago are forgotten, also without a cut
-	Idle     time.Duration // a connection that is idle for so long gives its session to one that waits
+	Stale    time.Duration // versions that were overwritten longer ago than this are forgotten, even without a cut
+	Idle     time.Duration // a connection that has been idle for this long gives its session to one that waits
 	Sample   float64       // the part of the connections that is audited: 0 to 1
-	Rows     int           // rows whose last versions are kept
+	Rows     int           // number of rows whose last versions are kept
 	Texts    int           // bytes of statements that are kept
-	Reserve  int           // sessions without a connection that are kept open for the next ones
-	Budget   int           // of a round: nodes of the search
-	Snapshot bool          // what is offered is asked about snapshot isolation (docs/FOLDING.md)
+	Reserve  int           // number of sessions without a connection that are kept open for the next ones
+	Budget   int           // nodes of the search in a round
+	Snapshot bool          // the audit checks for snapshot isolation (docs/FOLDING.md)
 }
 
 func (o Options) withDefaults() Options {
@@ -69,8 +71,8 @@ func (o Options) withDefaults() Options {
 	return o
 }
 
-// fenceRoom is how many of the limit's places only fences may take: a meeting has up to four of them a session. A
-// transaction that took the last place would keep away the cut that makes room.
+// fenceRoom is how many of the limit's places are reserved for fences: a meeting has up to four for each session. A
+// transaction that took the last place would prevent the cut that makes room.
 func (o Options) fenceRoom() int {
 	room := 4 * o.Sessions
 	if room > o.Limit/2 {
@@ -79,11 +81,12 @@ func (o Options) fenceRoom() int {
 	return room
 }
 
-// Tables tells which table a partition belongs to, and how a row is named to people. Safe for use by many goroutines.
+// Tables knows which table a partition belongs to, and how to describe a row to people. Safe for use by many
+// goroutines.
 type Tables interface {
-	// Root is the table whose primary key a row of this table is found by: the topmost partitioned table that has one, or
-	// the table itself.
+	// Root returns the table whose primary key identifies the rows of this table: the topmost partitioned table that has
+	// one, or the table itself.
 	Root(record.Relation) record.Relation
-	// Words are the table's name and the row's key as a person reads them, and the names of the key's columns.
+	// Words returns the table's name and the row's key in words, and the names of the key's columns.
 	Words(record.Relation, record.Key) (table, row string, columns []string)
 }

@@ -68,7 +68,7 @@ func TestTheReserveComesBack(t *testing.T) {
 	if met := meet(0); !reflect.DeepEqual(met, []int{0, 1}) {
 		t.Errorf("with one in reserve fences are made for %v", met)
 	}
-	b.connect(6, 7) // one gets the session in reserve, the other one a closed one, which it has to join
+	b.connect(6, 7) // one gets the session in reserve, the other a closed one, which it has to join
 	if met := meet(3); !reflect.DeepEqual(met, []int{0, 1, 3, 4}) {
 		t.Errorf("with three in reserve fences are made for %v", met)
 	}

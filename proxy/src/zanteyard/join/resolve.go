@@ -8,10 +8,11 @@ import (
 	"zanteyard/record"
 )
 
-// mostOfEach is how many reads, and how many writes, the auditor takes of one transaction. The others are left out.
+// mostOfEach is the largest number of reads, and of writes, that the auditor takes from one transaction. The others are
+// left out.
 const mostOfEach = 256
 
-// Why a read of a transaction that is offered is left out.
+// Why a read of an offered transaction is left out.
 const (
 	versionUnknown = "its version is unknown"
 	subUnknown     = "its version may be from a savepoint, which can't be looked up"
@@ -28,8 +29,8 @@ type resolution struct {
 	writes []*row
 	left   map[string]uint64
 	own    uint64
-	before uint64 // of the reads, how many found a version that was written before the audit
-	folded uint64 // and how many one that isn't offered: they count as reads of the offered one before it
+	before uint64 // how many of the reads found a version that was written before the audit
+	folded uint64 // and how many one that isn't offered: they count as reads of the last offered one before it
 }
 
 func (r *resolution) leave(reason string) {
@@ -39,14 +40,14 @@ func (r *resolution) leave(reason string) {
 	r.left[reason]++
 }
 
-// resolve finds the sources of a transaction's reads. It is false as long as the slot hasn't told all that the
-// transaction may have seen, or it isn't known yet of one of these versions whether it is offered.
+// resolve finds the sources of a transaction's reads. It returns false as long as the slot hasn't reported everything
+// that the transaction may have seen, or it isn't known yet whether one of these versions is offered.
 func (c *core) resolve(e *entry) (resolution, bool) {
 	var to resolution
 	if e.batch > c.passed {
 		return to, false
 	}
-	if e.writer != nil && e.writer.place == 0 { // it wrote nothing that the slot tells of
+	if e.writer != nil && e.writer.place == 0 { // it wrote nothing that the slot reports
 		delete(c.writers, e.writer.number)
 		e.writer = nil
 	}
@@ -59,7 +60,7 @@ func (c *core) resolve(e *entry) (resolution, bool) {
 	return to, c.resolveReads(e, &to) && c.resolveAbsent(e, &to)
 }
 
-// resolveWrites makes of each write a read of the version before it.
+// resolveWrites makes each write a read of the version before it.
 func (c *core) resolveWrites(e *entry, to *resolution) bool {
 	if e.writer == nil {
 		return true
@@ -74,16 +75,16 @@ func (c *core) resolveWrites(e *entry, to *resolution) bool {
 			to.leave(readOfItself) // it wrote the row twice: the slot has each row once
 			continue
 		}
-		to.reads = append(to.reads, source{one.row, from})
+		to.reads = append(to.reads, source{row: one.row, from: from})
 	}
 	return true
 }
 
-// resolveReads finds the version that each row's xmin names. Those that nobody knows are left out: rows of tables that
-// the slot doesn't tell of, rows that an ALTER TABLE wrote anew, versions of unknown subtransactions, forgotten ones.
+// resolveReads finds the version that each row's xmin names. Unknown ones are left out: rows of tables that the slot
+// doesn't report, rows that an ALTER TABLE rewrote, versions of unknown subtransactions, forgotten ones.
 func (c *core) resolveReads(e *entry, to *resolution) bool {
 	asks := false
-	for _, one := range e.its.Reads {
+	for i, one := range e.its.Reads {
 		if e.its.Number != 0 && uint32(e.its.Number) == one.Version {
 			to.own++
 			continue
@@ -105,9 +106,9 @@ func (c *core) resolveReads(e *entry, to *resolution) bool {
 			if v.isFolded() {
 				to.folded++
 			}
-			c.add(e, to, id, r, from)
+			c.add(e, to, id, r, from, i+1)
 		case c.isOld(one.Version):
-			c.add(e, to, id, r, initial)
+			c.add(e, to, id, r, initial, i+1)
 			to.before++
 		case c.askSubs(r, one.Version):
 			asks = true
@@ -120,8 +121,8 @@ func (c *core) resolveReads(e *entry, to *resolution) bool {
 	return !asks
 }
 
-// add adds a read, if its row is one of those that are kept; a row that wasn't is kept from now on.
-func (c *core) add(e *entry, to *resolution, id rowID, r *row, from name) {
+// add adds a read, if its row is among those that are kept; a row that wasn't is kept from now on.
+func (c *core) add(e *entry, to *resolution, id rowID, r *row, from name, at int) {
 	if from == e.name {
 		to.leave(readOfItself)
 		return
@@ -129,12 +130,12 @@ func (c *core) add(e *entry, to *resolution, id rowID, r *row, from name) {
 	if r == nil {
 		r = c.rows.get(id)
 	}
-	to.reads = append(to.reads, source{r, from})
+	to.reads = append(to.reads, source{r, from, int32(at)})
 }
 
-// resolveAbsent finds the versions by which rows weren't there: a snapshot says which transactions it shows, and the last
-// one of these that wrote the row has to have left it deleted. At read committed each statement has its own snapshot,
-// which isn't known.
+// resolveAbsent finds the versions that made rows absent: a snapshot says which transactions it shows, and the last of
+// these that wrote the row must have deleted it. At read committed each statement has its own snapshot, which isn't
+// known.
 func (c *core) resolveAbsent(e *entry, to *resolution) bool {
 	if len(e.its.Absent) == 0 {
 		return true
@@ -146,7 +147,7 @@ func (c *core) resolveAbsent(e *entry, to *resolution) bool {
 		}
 		return true
 	}
-	for _, one := range e.its.Absent {
+	for i, one := range e.its.Absent {
 		id := rowID{c.tables.Root(one.Relation), one.Key}
 		r := c.rows.by[id]
 		if r != nil && r.wrote(e.writer) != nil {
@@ -177,7 +178,7 @@ func (c *core) resolveAbsent(e *entry, to *resolution) bool {
 			to.leave(absentUnknown)
 			continue
 		}
-		c.add(e, to, id, r, from)
+		c.add(e, to, id, r, from, -i-1)
 	}
 	return true
 }
@@ -188,7 +189,7 @@ type snapshot struct {
 	running []uint32
 }
 
-// snapshotOf reads the text of a pg_snapshot. Of its numbers of 64 bits the lower 32 are what the slot tells.
+// snapshotOf parses the text of a pg_snapshot. Of its 64-bit numbers, the slot reports the lower 32 bits.
 func snapshotOf(text string) (snapshot, bool) {
 	parts := strings.Split(text, ":")
 	if len(parts) != 3 {
@@ -224,11 +225,11 @@ func (s snapshot) has(number uint32) bool {
 	return true
 }
 
-// mostAsked bounds the commits that are looked into for one read, the last ones that wrote the row.
+// mostAsked limits the commits that are looked into for one read to the last ones that wrote the row.
 const mostAsked = 16
 
-// askSubs has the subtransactions of the commits asked for that the xmin may belong to, which are the row's versions with
-// a lower number. It says whether one of them isn't answered yet.
+// askSubs makes the joiner ask for the subtransactions of the commits that the xmin may belong to: the row's versions
+// with a lower number. It reports whether one of them isn't answered yet.
 func (c *core) askSubs(r *row, xmin uint32) bool {
 	if r == nil || !c.inspects {
 		return false
@@ -250,8 +251,8 @@ func (c *core) askSubs(r *row, xmin uint32) bool {
 	return waits
 }
 
-// mayBeSub says that an unknown xmin may be of a subtransaction of one of those who wrote the row: its number is greater
-// than that one's.
+// mayBeSub reports whether an unknown xmin may be a subtransaction of a transaction that wrote the row: its number is
+// greater than that one's.
 func (r *row) mayBeSub(xmin uint32) bool {
 	if r == nil {
 		return false
@@ -264,7 +265,7 @@ func (r *row) mayBeSub(xmin uint32) bool {
 	return false
 }
 
-// answered takes in the subtransactions that were asked for, in the same order; none where they couldn't be read.
+// answered records the subtransactions that were asked for, in the same order; none for those that couldn't be read.
 func (c *core) answered(writers []*writer, subs [][]uint32) {
 	for i, w := range writers {
 		w.subsAre = answered
@@ -274,8 +275,8 @@ func (c *core) answered(writers []*writer, subs [][]uint32) {
 	}
 }
 
-// settle sorts the reads, gives their rows numbers, and leaves out what is too much: reads of rows that are written
-// come first, since they say where the writes stand.
+// settle sorts the reads, numbers their rows, and leaves out what is too much: reads of rows that are written come
+// first, since they say where the writes stand.
 func (c *core) settle(to *resolution) {
 	if len(to.reads) > mostOfEach {
 		for range to.reads[mostOfEach:] {
@@ -292,7 +293,7 @@ func (c *core) settle(to *resolution) {
 	sort.Slice(to.reads, func(i, j int) bool { return to.reads[i].below(to.reads[j]) })
 	kept := to.reads[:0]
 	for i, one := range to.reads {
-		if i == 0 || one != to.reads[i-1] {
+		if i == 0 || !one.same(to.reads[i-1]) {
 			kept = append(kept, one)
 		}
 	}

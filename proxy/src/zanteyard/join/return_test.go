@@ -7,8 +7,8 @@ import (
 	"zanteyard/record"
 )
 
-// A closed session comes back by a fence that the slot tells of, that was committed, and that stands where a fence may. By
-// any other it doesn't: then its next fence may do.
+// A closed session comes back by a fence that the slot reports, that was committed, and that is where a fence may be.
+// It doesn't come back by any other: then its next fence may do.
 func TestWhichFencesBringASessionBack(t *testing.T) {
 	for _, one := range []struct {
 		name   string
@@ -63,7 +63,7 @@ func TestWhichFencesBringASessionBack(t *testing.T) {
 	}
 }
 
-// All reads that are told count, with rows that weren't there, of transactions that aren't offered as well.
+// All reported reads count, including absent rows, and those of transactions that aren't offered.
 func TestAllReadsAreCounted(t *testing.T) {
 	b := newBench(t, Options{Sessions: 1})
 	b.connect(1, 2)
@@ -111,8 +111,8 @@ func TestRoomForStatements(t *testing.T) {
 	}
 }
 
-// A transaction whose connection was lost may have been committed as late as the slot told of it, on whatever machine its
-// proxy runs: it stands behind what ended by then, and isn't offered if a quiet moment lies between.
+// A transaction whose connection was lost may have been committed as late as the slot reported it, on whatever machine
+// its proxy runs: it comes after what ended by then, and isn't offered if there is a quiet moment in between.
 func TestUnclearOnesMayHaveEndedLate(t *testing.T) {
 	for _, far := range []bool{false, true} {
 		for _, moment := range []bool{false, true} {

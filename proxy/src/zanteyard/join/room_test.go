@@ -7,7 +7,7 @@ import (
 	"zanteyard/record"
 )
 
-// At the limit transactions are folded, and fences are still taken, since a cut needs them.
+// At the limit transactions are folded, but fences are still accepted, since a cut needs them.
 func TestLimit(t *testing.T) {
 	b := newBench(t, Options{Sessions: 2, Limit: 20})
 	b.connect(1)
@@ -39,7 +39,7 @@ func TestLimit(t *testing.T) {
 	}
 }
 
-// TestUnsent: a transaction whose reads weren't sent is folded, also if its connection has got a session meanwhile.
+// TestUnsent: a transaction whose reads weren't sent is folded, even if its connection has got a session since.
 func TestUnsent(t *testing.T) {
 	b := newBench(t, Options{Sessions: 1})
 	b.connect(1)
@@ -82,7 +82,7 @@ func TestConnectionsBeyondTheSessions(t *testing.T) {
 	run(1, 0, 1001)
 	run(2, 0, 1002)
 	b.core.enter(record.Connection{Number: 1, Ended: true})
-	run(2, 1, 1003) // no quiet moment lies between this one and the first connection's
+	run(2, 1, 1003) // there is no quiet moment between this one and the first connection's
 	b.core.quiet()
 	run(2, 2, 1006)
 	b.later(2 * time.Second)
@@ -135,7 +135,7 @@ func TestSample(t *testing.T) {
 	}
 }
 
-// Numbers of 32 bits: which of them were used up before the audit began.
+// 32-bit numbers: which of them were used up before the audit began.
 func TestOldNumbers(t *testing.T) {
 	for _, one := range []struct {
 		base, newest uint32
@@ -160,7 +160,7 @@ func TestOldNumbers(t *testing.T) {
 		}
 	}
 	b := newBench(t, Options{})
-	for n := uint64(0); n < 3; n++ { // and when they have been used up nearly all, none can be told
+	for n := uint64(0); n < 3; n++ { // and when nearly all have been used up, no number is known to be old
 		b.core.commit(record.Commit{Number: uint32(base + (n+1)<<30)})
 	}
 	if b.core.isOld(999) {
@@ -168,7 +168,7 @@ func TestOldNumbers(t *testing.T) {
 	}
 }
 
-// The inbox drops what it has no room for, and nothing of connections.
+// The inbox drops what it has no room for, but no connections.
 func TestInbox(t *testing.T) {
 	b := NewInbox(2000)
 	for n := 0; n < 20; n++ {

@@ -2,12 +2,12 @@ package join
 
 import "zanteyard/record"
 
-// rows are the rows whose versions are known, or that a transaction has read which may remain.
+// rows has the rows whose versions are known, or that were read by a transaction which may remain.
 type rows struct {
 	by      map[rowID]*row
 	next    uint64 // the next key's number
 	most    int
-	written fifo   // rows that have versions, the longest known first
+	written fifo   // rows that have versions, those known longest first
 	read    []*row // rows that had none when they were made
 	many    []*row // rows that have more than one version
 	fence   *row
@@ -17,7 +17,7 @@ func newRows(most int) *rows {
 	return &rows{by: map[rowID]*row{}, next: 1, most: most, fence: &row{}}
 }
 
-// get is the row, made where it isn't known.
+// get returns the row, which is made if it isn't known.
 func (r *rows) get(id rowID) *row {
 	it := r.by[id]
 	if it == nil {
@@ -28,7 +28,7 @@ func (r *rows) get(id rowID) *row {
 	return it
 }
 
-// makeRoom forgets the rows that were written longest ago, beyond the most.
+// makeRoom forgets the rows that were written longest ago, beyond the limit.
 func (r *rows) makeRoom() {
 	for chances := 0; r.written.len() > r.most; chances++ {
 		old := r.written.pop()
@@ -48,14 +48,15 @@ func (r *rows) drop(old *row) {
 	}
 }
 
-// renew has another row under the same key: this one was deleted, or its table emptied, and the key is inserted again.
-// Who inserts needn't see in its snapshot that the row is gone, so that an insert is no read of what it comes after.
+// renew puts another row under the same key: this one was deleted, or its table was emptied, and the key is inserted
+// again. The inserting transaction needn't see in its snapshot that the row is gone, so an insert isn't a read of what
+// precedes it.
 func (r *rows) renew(old *row) *row {
 	r.drop(old)
 	return r.get(old.id)
 }
 
-// number gives the row its key's number.
+// number numbers the row's key.
 func (r *rows) number(it *row, used uint64) {
 	if it.number == 0 && it != r.fence {
 		it.number = r.next
@@ -64,7 +65,7 @@ func (r *rows) number(it *row, used uint64) {
 	it.used = used
 }
 
-// add puts a version behind the others of the row.
+// add appends a version to those of the row.
 func (r *rows) add(it *row, v *version) {
 	v.before, v.base, it.last = it.last, initial, v
 	if v.before == nil && it != r.fence {
@@ -92,12 +93,12 @@ func (r *rows) trim(old func(*version) bool) {
 	r.many = kept
 }
 
-// forgetRead forgets rows that nobody wrote and that only transactions read which are gone.
+// forgetRead forgets rows that nobody wrote and that were read only by transactions that are gone.
 func (r *rows) forgetRead(least uint64) {
 	kept := r.read[:0]
 	for _, it := range r.read {
 		switch {
-		case it.last != nil: // it stands among the written ones
+		case it.last != nil: // it is among the written ones
 		case it.used < least:
 			r.drop(it)
 		default:
@@ -110,7 +111,7 @@ func (r *rows) forgetRead(least uint64) {
 	r.read = kept
 }
 
-// emptied folds a version without the row into all known rows of the table.
+// emptied folds a version in which the row is absent into all known rows of the table.
 func (r *rows) emptied(relation record.Relation, w *writer) {
 	for id, it := range r.by {
 		if id.relation == relation && it.last != nil {

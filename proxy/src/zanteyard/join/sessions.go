@@ -6,47 +6,48 @@ import (
 	"zanteyard/record"
 )
 
-// session is one of the auditor's sessions. What is offered in it are the transactions of one connection after another,
-// and fences. The order of one connection is what is audited; every other one is granted by quiet moments (moments.go).
+// session is one of the auditor's sessions. The transactions of one connection after another are offered in it, and
+// fences. Only the order within one connection is audited; every other order is permitted by quiet moments
+// (moments.go).
 type session struct {
 	index   int
 	next    uint64 // the number to give next
-	written uint64 // the numbers below it stand in lines
+	written uint64 // the numbers below it are in lines
 	mark    uint64 // the numbers below it are gone
 	closed  bool
 	tenant  *connection
-	last    time.Time // when the last one that is named in it, and is no fence, had ended
-	fence   time.Time // when the last fence behind that had ended
-	own     bool      // what stands last in it is the tenant's
+	last    time.Time // when the last one that is named in it, other than fences, had ended
+	fence   time.Time // when the last fence after that had ended
+	own     bool      // the last one in it is the tenant's
 	had     uint64    // the connection whose transaction was named last
 	place   uint64    // of that in its connection
-	fences  int       // since the meeting began
-	half    int       // of these, first ones
-	fenced  bool      // nothing stands behind its last fence
-	waiting []*entry  // named, and not in a line yet
+	fences  int       // number of fences since the meeting began
+	half    int       // of these, the first ones
+	fenced  bool      // nothing comes after its last fence
+	waiting []*entry  // named, but not in a line yet
 	kept    []*told   // of numbers from mark on
-	line    []byte    // a fragment that is being made
+	line    []byte    // a fragment that is being built
 	first   uint64
 	count   int
 }
 
-// remains says how many of its transactions count for the limit.
+// remains returns how many of its transactions count towards the limit.
 func (s *session) remains() int { return int(s.next - s.mark) }
 
-// isGone says that nothing of it is left: it may come back by a join.
+// isGone reports whether nothing of it is left: it may come back by a join.
 func (s *session) isGone() bool { return s.mark == s.next }
 
-// connection is a client's.
+// connection is a client's connection.
 type connection struct {
 	its     record.Connection
 	session *session
-	joins   bool // its session is closed: it waits for a fence, by which it comes back
+	joins   bool // its session is closed, and it waits for the fence by which the session comes back
 	ended   bool
 	active  time.Time
 	held    *entry // its outcome isn't known yet, or it is the fence of a join
 }
 
-// told is what is kept of an offered transaction until it is gone.
+// told is what is kept about an offered transaction until it is gone.
 type told struct {
 	its     record.Transaction // without reads
 	from    record.Connection
@@ -54,7 +55,7 @@ type told struct {
 	writes  []*row
 	bytes   int
 	used    uint64 // the count of transactions in lines
-	dropped int    // statements that were given up
+	dropped int    // number of statements that were dropped
 }
 
 // entry is a transaction on its way into a line.
@@ -63,13 +64,13 @@ type entry struct {
 	conn    *connection
 	session *session
 	name    name
-	writer  *writer // nil where it wrote nothing that is offered
-	batch   uint64  // what it needs of the slot stands before this batch's place
-	asked   bool    // subtransactions were asked for on its behalf
-	joins   bool    // its session is closed, and comes back by it if it is a fence
+	writer  *writer // nil if it wrote nothing that is offered
+	batch   uint64  // what it needs from the slot comes before this batch's place
+	asked   bool    // subtransactions were asked for because of it
+	joins   bool    // its session is closed, and comes back with it if it is a fence
 }
 
-// enter takes in what a session said of a connection.
+// enter records what a session reported of a connection.
 func (c *core) enter(it record.Connection) {
 	if it.Ended {
 		if conn := c.connections[it.Number]; conn != nil {
@@ -80,7 +81,7 @@ func (c *core) enter(it record.Connection) {
 		}
 		return
 	}
-	if conn := c.connections[it.Number]; conn != nil { // its name is told once more, as by SET application_name
+	if conn := c.connections[it.Number]; conn != nil { // its name is reported again, for example after SET application_name
 		conn.its = it
 		return
 	}
@@ -95,13 +96,13 @@ func (c *core) enter(it record.Connection) {
 	c.place()
 }
 
-// isElsewhere says that a connection is of another database than the slot: there the same identifiers are those of other
-// tables.
+// isElsewhere reports whether a connection is of another database than the slot: there the same identifiers belong to
+// other tables.
 func (c *core) isElsewhere(it record.Connection) bool {
 	return c.database != "" && it.Database != "" && it.Database != c.database
 }
 
-// unqueue takes a connection out of those that wait.
+// unqueue removes a connection from those that wait.
 func (c *core) unqueue(conn *connection) {
 	for i, one := range c.queue {
 		if one == conn {
@@ -111,7 +112,7 @@ func (c *core) unqueue(conn *connection) {
 	}
 }
 
-// unaudited are the connections that have no session.
+// unaudited returns the connections without a session.
 func (c *core) unaudited() []uint64 {
 	var its []uint64
 	for number, conn := range c.connections {
@@ -122,7 +123,7 @@ func (c *core) unaudited() []uint64 {
 	return its
 }
 
-// sampled says whether a connection is one of those to be audited. It depends on nothing that a client does.
+// sampled reports whether a connection is among those to be audited. It depends on nothing that a client does.
 func (c *core) sampled(number uint64) bool {
 	if c.opt.Sample >= 1 {
 		return true
@@ -145,7 +146,7 @@ func (c *core) release(conn *connection) {
 	c.place()
 }
 
-// place gives sessions to the connections that wait, in their order: open ones first.
+// place gives sessions to waiting connections, in order: open sessions first.
 func (c *core) place() {
 	for len(c.queue) > 0 {
 		s, joins := c.vacant()
@@ -163,7 +164,7 @@ func (c *core) place() {
 	}
 }
 
-// vacant is a session without a connection that may be handed on, and whether it has to join.
+// vacant returns a session without a connection that may be handed on, and whether it has to join.
 func (c *core) vacant() (*session, bool) {
 	var closed *session
 	for _, s := range c.sessions {

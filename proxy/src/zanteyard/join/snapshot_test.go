@@ -9,13 +9,13 @@ import (
 )
 
 // Snapshot isolation by its definition, over all orders of begins and commits (Berenson et al. 1995): each connection's
-// own order is kept, a read gives the last version that was committed before its reader began, and of two writers of a
-// row one committed before the other began.
+// own order is kept, a read returns the last version that was committed before its reader began, and of two writers of
+// a row one committed before the other began.
 
-// events are those of such an order up to one place of it.
+// events are those of such an order up to one place in it.
 type events struct {
 	begun, over []bool
-	last        map[int]int // of each key the last committed version, as the transaction's place
+	last        map[int]int // the last committed version of each key, as the transaction's place
 	tried       map[string]bool
 }
 
@@ -30,9 +30,9 @@ func (p past) inserts(i, key int) bool {
 	return before < 0 || p.txns[before].deletes[key]
 }
 
-// keepsSnapshot says whether PostgreSQL at repeatable read could have made this: as the definition says, but that who
-// inserts a row again that was deleted needn't have begun after that was committed. Each row's versions have the order
-// in which the slot tells them.
+// keepsSnapshot reports whether PostgreSQL at repeatable read could have made this: by the definition, except that a
+// transaction which inserts a deleted row again needn't have begun after the deletion was committed. Each row's
+// versions have the order in which the slot reports them.
 func (p past) keepsSnapshot() bool {
 	before := map[[2]int]int{}
 	for key := 0; key < p.keys; key++ {
@@ -111,7 +111,7 @@ func (e *events) search(begins, commits func(int) bool, writes func(int) []int) 
 	return all
 }
 
-// keepsSnapshot is the same of what was offered, with the definition as it is and no order of versions.
+// keepsSnapshot is the same for what was offered, with the definition unchanged and no order of versions.
 func (m *model) keepsSnapshot() bool {
 	var its []modelTxn
 	var sessions []int
@@ -170,8 +170,8 @@ func share(one, other []int64) bool {
 	return false
 }
 
-// snapshotPast is what a store at snapshot isolation may have made, with rows inserted again as PostgreSQL lets them be.
-// spoils has some reads give another version, and has some writers miss that somebody has written since they began.
+// snapshotPast is what a store at snapshot isolation may have made, with rows inserted again as PostgreSQL permits.
+// spoils makes some reads return another version, and some writers miss that somebody has written since they began.
 func snapshotPast(r *rand.Rand, spoils bool) past {
 	p := past{keys: 1 + r.Intn(3)}
 	deleted := map[[2]int]bool{}
@@ -179,7 +179,7 @@ func snapshotPast(r *rand.Rand, spoils bool) past {
 	for key := range last {
 		last[key] = -1
 	}
-	began := make([]int, 4) // how many had committed as each connection's next one began
+	began := make([]int, 4) // how many had committed when each connection's next one began
 	for n := 2 + r.Intn(5); len(p.txns) < n; {
 		c := r.Intn(4)
 		t := pastTxn{connection: c, deletes: map[int]bool{}}
@@ -255,7 +255,7 @@ func TestFoldingMakesUpNoBrokenSnapshot(t *testing.T) {
 	}
 }
 
-// A row that is inserted again makes no violation, and would if its insert were a read of what it comes behind.
+// A row that is inserted again makes no violation, but would if its insert were a read of what precedes it.
 func TestInsertedAgain(t *testing.T) {
 	for _, one := range []struct {
 		snapshot, want bool
@@ -285,8 +285,8 @@ func transaction(number uint64) record.Transaction {
 	return record.Transaction{Number: number, Level: record.RepeatableRead}
 }
 
-// Sessions are handed on and fences made as in TestHandingOnMakesUpNothing, over a store that keeps snapshot isolation
-// alone: so does what was offered, with the sessions and the fences.
+// Sessions are handed on and fences made as in TestHandingOnMakesUpNothing, over a store that keeps only snapshot
+// isolation: what was offered keeps it too, with the sessions and the fences.
 func TestHandingOnMakesUpNoBrokenSnapshot(t *testing.T) {
 	var handed, joins, skewed uint64
 	for seed := int64(0); seed < int64(*worlds); seed++ {

@@ -6,8 +6,8 @@ import (
 	"zanteyard/record"
 )
 
-// span bounds when a transaction ran, by the joiner's clock: it didn't begin before the first time, nor end after the
-// second one. The clock of another machine's proxy isn't asked.
+// span bounds when a transaction ran, by the joiner's clock: it began no earlier than the first time, and ended no
+// later than the second. The clock of a proxy on another machine isn't used.
 func span(it *record.Transaction) (began, ended time.Time) {
 	if it.Known.IsZero() {
 		return it.Began, it.Ended

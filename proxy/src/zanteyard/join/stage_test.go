@@ -24,15 +24,15 @@ type stage struct {
 	at      uint64 // place in the server's log
 	number  uint32
 	rows    map[string]uint32 // who wrote the last version
-	places  map[uint64]uint64 // of a connection, what it tells next
+	places  map[uint64]uint64 // the place of each connection's next transaction
 	open    []uint64
 	busy    map[uint64]bool // they don't come to meetings
-	happens []string        // what was asked of server and sessions, in order
+	happens []string        // what was asked of the server and the sessions, in order
 	model   *model
 	lines   []string
 	events  []Event
 	held    bool          // the auditor doesn't answer
-	slow    chan struct{} // if it isn't nil the first thing that is asked when sessions meet waits for it
+	slow    chan struct{} // if not nil, the first question when sessions meet waits for it
 	failing map[string]error
 }
 
@@ -84,7 +84,7 @@ func (s *stage) Fence(context.Context) (uint64, error) {
 	return uint64(s.commit(nil, true)), nil
 }
 
-// commit has the server commit what writes these rows, and the slot tell it. The lock is held.
+// commit makes the server commit a transaction that writes these rows, and the slot report it. The lock is held.
 func (s *stage) commit(rows []string, fence bool) uint32 {
 	s.number++
 	s.at += 100
@@ -120,7 +120,7 @@ func (s *stage) leave(number uint64) {
 	s.inbox.Connection(record.Connection{Number: number, Ended: true})
 }
 
-// update has a connection read a row and overwrite it.
+// update makes a connection read a row and overwrite it.
 func (s *stage) update(connection uint64, row string) {
 	s.lock.Lock()
 	defer s.lock.Unlock()
@@ -171,7 +171,7 @@ func (s *stage) MeetAround(ctx context.Context, between func(context.Context)) (
 	return n + s.fences(), time.Millisecond, err
 }
 
-// fenceOf has a connection make a fence that the joiner asked it for.
+// fenceOf makes a connection make a fence that the joiner asked it for.
 func (s *stage) fenceOf(connection uint64) {
 	s.lock.Lock()
 	defer s.lock.Unlock()
@@ -182,7 +182,7 @@ func (s *stage) fenceOf(connection uint64) {
 // Busy implements Meeter.
 func (s *stage) Busy() int { return 0 }
 
-// Line implements Output: the auditor takes the lines, and tells what can be forgotten at once.
+// Line implements Output: the auditor takes the lines, and reports at once what can be forgotten.
 func (s *stage) Line(text []byte) {
 	s.lock.Lock()
 	defer s.lock.Unlock()
@@ -212,7 +212,7 @@ func (s *stage) Event(it Event) {
 	s.events = append(s.events, it)
 }
 
-// until waits for something that is to come.
+// until waits until something has happened.
 func (s *stage) until(what string, is func() bool) {
 	s.t.Helper()
 	for end := time.Now().Add(time.Minute); ; {
@@ -255,7 +255,7 @@ func (s byStage) Fence(_ context.Context, connection uint64) error {
 	return nil
 }
 
-// meetings counts those around which these things happened, in this order.
+// meetings counts the meetings around which these things happened, in this order.
 func (s *stage) meetings(want string) (n int) {
 	var its []string
 	for _, one := range s.happens {

@@ -8,7 +8,7 @@ import (
 	"zanteyard/record"
 )
 
-// unsub are the numbers of the commits that are to be asked for.
+// unsub returns the numbers of the commits that still have to be asked for.
 func (b *bench) unsub() []uint32 {
 	var its []uint32
 	for _, w := range b.core.unsub {
@@ -17,8 +17,8 @@ func (b *bench) unsub() []uint32 {
 	return its
 }
 
-// A version that nobody knows may be of a subtransaction of those who wrote the row with a lower number: the last 16 of
-// them are asked for theirs, once each, and the read waits for the answer.
+// An unknown version may belong to a subtransaction of the transactions with lower numbers that wrote the row: the last
+// 16 of them are asked for theirs, once each, and the read waits for the answer.
 func TestWhichSubtransactionsAreAskedFor(t *testing.T) {
 	counted := func(from, to uint32) (its []uint32) {
 		for ; from >= to; from-- {
@@ -41,7 +41,7 @@ func TestWhichSubtransactionsAreAskedFor(t *testing.T) {
 			b := newBench(t, Options{Late: time.Second})
 			b.core.inspects = true
 			b.connect(1)
-			b.commit(1200, "other") // so that the numbers below are no old ones
+			b.commit(1200, "other") // so that the numbers below aren't old ones
 			for n := 0; n < one.commits; n++ {
 				b.commit(uint32(1001+n), "a")
 			}
@@ -61,7 +61,7 @@ func TestWhichSubtransactionsAreAskedFor(t *testing.T) {
 	}
 }
 
-// A commit behind the version's number can't be the one that the subtransaction belongs to, and one whose record's place
+// A commit after the version's number can't be the one that the subtransaction belongs to, and one whose record's place
 // isn't known can't be looked into.
 func TestCommitsThatArentLookedInto(t *testing.T) {
 	b := newBench(t, Options{Late: time.Second})
@@ -79,7 +79,8 @@ func TestCommitsThatArentLookedInto(t *testing.T) {
 	}
 }
 
-// The answers come in the order of the questions, and the read finds its writer by them; without an answer it is left out.
+// The answers come in the order of the questions, and the read finds its writer by them; without an answer it is left
+// out.
 func TestAnswersSayWhoseAVersionIs(t *testing.T) {
 	for _, one := range []struct {
 		name    string
@@ -120,8 +121,8 @@ func TestAnswersSayWhoseAVersionIs(t *testing.T) {
 	}
 }
 
-// At the end of a page, the place at which the next record is inserted stands behind the next page's header: 24 bytes, or
-// 40 where a file of the log begins.
+// At the end of a page, the place where the next record is inserted comes after the next page's header: 24 bytes, or 40
+// where a file of the log begins.
 func TestHowFarTheSlotIs(t *testing.T) {
 	const page = 8192
 	for _, one := range []struct {

@@ -23,7 +23,7 @@ const (
 	noNumber     = "its transaction number is unknown"
 )
 
-// tell takes in a transaction that has ended.
+// tell handles a transaction that has ended.
 func (c *core) tell(it record.Transaction) {
 	c.counts.reads += readsOf(&it)
 	if it.Incomplete {
@@ -58,12 +58,12 @@ func (c *core) tell(it record.Transaction) {
 	}
 }
 
-// isEmpty says that a transaction has nothing to offer. It takes no number.
+// isEmpty reports whether a transaction has nothing to offer. Such a transaction takes no number.
 func isEmpty(it record.Transaction) bool {
 	return it.Number == 0 && !it.MayHaveWritten && len(it.Reads) == 0 && len(it.Absent) == 0
 }
 
-// readsOf is how many rows it has read, those that weren't there among them.
+// readsOf returns how many rows it read, including absent ones.
 func readsOf(it *record.Transaction) uint64 {
 	return uint64(len(it.Reads) + len(it.Absent) + it.Unsent)
 }
@@ -73,7 +73,7 @@ func (c *core) leave(it record.Transaction, reason string) {
 	c.counts.fold(reason)
 	c.counts.leftReads[reason] += readsOf(&it)
 	if it.Number == 0 {
-		return // what it may have written nobody tells of, and is folded as somebody else's
+		return // nobody reports what it may have written, which is folded as somebody else's
 	}
 	w := c.writer(it)
 	if w.fate == undecided {
@@ -90,7 +90,7 @@ func (c *core) leaveWriter(w *writer, reason string) {
 	}
 }
 
-// writer is the one with the transaction's number.
+// writer returns the one with the transaction's number.
 func (c *core) writer(it record.Transaction) *writer {
 	number := uint32(it.Number)
 	w := c.writers[number]
@@ -128,13 +128,13 @@ func (c *core) take(it record.Transaction, conn *connection) {
 	c.name(e)
 }
 
-// hold has it wait for what the slot tells.
+// hold makes the transaction wait for the slot.
 func (c *core) hold(e *entry) {
 	e.writer = c.writer(e.its)
 	c.held = append(c.held, e)
 }
 
-// name gives the transaction its number, if it stands behind the one before it in its session, and if there is room.
+// name numbers the transaction, if it may follow the previous one in its session, and if there is room.
 func (c *core) name(e *entry) {
 	s, it := e.session, e.its
 	follows := s.own && e.conn != nil && s.tenant == e.conn && it.Place > s.place
@@ -188,7 +188,8 @@ func (c *core) name(e *entry) {
 	s.waiting = append(s.waiting, e)
 }
 
-// hasRoom says whether one more may be named: what is named is offered, and what is offered remains until a cut.
+// hasRoom reports whether one more may be named: whatever is named is offered, and whatever is offered remains until a
+// cut.
 func (c *core) hasRoom(fence bool) bool {
 	room := c.opt.Limit - c.remaining()
 	if !fence {
@@ -205,7 +206,7 @@ func (c *core) remaining() int {
 	return n
 }
 
-// spare takes in a fence that the audit's own connection made for a session, because its connection has ended, or
+// spare records a fence that the audit's own connection made for a session, because its connection has ended or
 // couldn't make one, or because it is closed and connections are expected.
 func (c *core) spare(session int, number uint64, began, ended time.Time) {
 	s := c.sessions[session]
@@ -219,8 +220,8 @@ func (c *core) spare(session int, number uint64, began, ended time.Time) {
 	c.name(e)
 }
 
-// decideHeld names what was held back: a transaction of which the connection didn't learn whether it was committed, once
-// the slot says so, and the fence of a join, once the fence before it stands in a line. It says whether there was any.
+// decideHeld names what was held back: a transaction whose connection didn't learn whether it was committed, once the
+// slot reports it, and the fence of a join, once the fence before it is in a line. It reports whether there was any.
 func (c *core) decideHeld() bool {
 	kept := c.held[:0]
 	for _, e := range c.held {
@@ -246,8 +247,8 @@ func (c *core) decideHeld() bool {
 	return moved
 }
 
-// decideUnclear offers a transaction whose connection was lost, if the slot has told of it by now. It may have been
-// committed as late as that: nothing that began before is offered behind it.
+// decideUnclear offers a transaction whose connection was lost, if the slot has reported it by now. It may have been
+// committed at any time until now: nothing that began before is offered after it.
 func (c *core) decideUnclear(e *entry) {
 	w := e.writer
 	if w.place == 0 || w.fate != undecided || e.joins || e.its.Fence {
@@ -265,7 +266,7 @@ func (c *core) decideUnclear(e *entry) {
 	e.session.own = false
 }
 
-// join brings a closed session back with its fence. It is false as long as that has to wait.
+// join brings a closed session back with its fence. It returns false as long as that has to wait.
 func (c *core) join(e *entry) bool {
 	w, s := e.writer, e.session
 	if w.place == 0 || w.fate != undecided || !w.fence || e.its.Outcome != record.Committed ||
@@ -279,7 +280,7 @@ func (c *core) join(e *entry) bool {
 	if !known || from != initial && c.sessions[from.session()].written <= from.number() {
 		return false
 	}
-	if from == initial { // no fence of this audit stands before it
+	if from == initial { // no fence of this audit comes before it
 		c.leaveWriter(w, noFence)
 		return true
 	}

@@ -6,22 +6,23 @@ import (
 	"zanteyard/record"
 )
 
-// Folding. Let H be all committed transactions, those of others than the proxy too, and let an order of H explain it:
-// each read finds, before its reader, the version it names as the last one of its row. Every order of H has each row's
-// versions in the order in which the slot tells them, since each write reads the version before it. Take writes out of
-// H, any set of them; take reads out, and whole transactions; and let each remaining read name the last remaining
-// version at or before the one that it named. The same order, without what is gone, explains what remains: the remaining
-// versions of a row stand in it as they stood, and the last one before the reader is the last remaining one at or before
-// the version that was read. So where what remains has no order, H had none: nothing is made up.
+// Folding. Let H be all committed transactions, including those of others than the proxy, and let an order of H explain
+// it: each read finds, before its reader, the version it names as the last one of its row. Every order of H has each
+// row's versions in the order in which the slot reports them, since each write reads the version before it. Take any
+// set of writes out of H; take reads out, and whole transactions; and let each remaining read name the last remaining
+// version at or before the one that it named. The same order, without what is gone, explains what remains: the
+// remaining versions of a row stand in it as they stood before, and the last one before the reader is the last
+// remaining one at or before the version that was read. So if what remains has no order, H had none: nothing is made
+// up.
 //
-// Which writes are taken out may be decided by anything that isn't the order itself, at any time before a reader of them
-// is offered: that nobody knows them, that they came late, that there is no room.
+// Which writes are taken out may be decided by anything except the order itself, at any time before a reader of them is
+// offered: that nobody knows them, that they came late, that there is no room.
 
-// fate says whether the writes of a transaction are offered.
+// fate says whether a transaction's writes are offered.
 type fate uint8
 
 const (
-	undecided fate = iota // its session may still tell of it
+	undecided fate = iota // its session may still report it
 	offered
 	folded
 )
@@ -35,21 +36,21 @@ const (
 	answered
 )
 
-// writer is a transaction that wrote, as far as its versions need it. There may be as many as rows (Options.Rows): what
-// few of them have, or none for long, stands beside it.
+// writer is a transaction that wrote, with what its versions need. There may be as many as rows (Options.Rows): what
+// only few of them have, or none for long, is kept in beside.
 type writer struct {
 	fate    fate
 	subsAre inquiry
-	named   bool          // a session told of it: it isn't somebody else's
-	fences  bool          // and that it is a fence
-	fence   bool          // the slot tells that it wrote the fences' row
-	bare    bool          // the slot told of no row in it
+	named   bool          // a session reported it: it isn't somebody else's
+	fences  bool          // and reported that it is a fence
+	fence   bool          // the slot reports that it wrote the fences' row
+	bare    bool          // the slot reported no row in it
 	number  uint32        // the server's
 	name    name          // where it is offered
-	place   uint64        // in the order of commits, from 1; 0 until the slot has told of it
-	start   uint64        // where its commit record begins, 0 if that isn't known
-	seen    time.Duration // when the slot told of it, since the audit began
-	beside  *beside       // nil if there is nothing of it
+	place   uint64        // in the order of commits, from 1; 0 until the slot has reported it
+	start   uint64        // where its commit record begins, or 0 if unknown
+	seen    time.Duration // when the slot reported it, since the audit began
+	beside  *beside       // nil if it would be empty
 }
 
 type beside struct {
@@ -88,7 +89,7 @@ func (w *writer) needBeside() *beside {
 	return w.beside
 }
 
-// forgetWrites is for when it is resolved.
+// forgetWrites is called when it is resolved.
 func (w *writer) forgetWrites() {
 	if subs := w.subs(); len(subs) > 0 {
 		w.beside.writes = nil
@@ -97,7 +98,7 @@ func (w *writer) forgetWrites() {
 	}
 }
 
-// is says whether a row's xmin is this transaction's.
+// is reports whether a row's xmin is this transaction's.
 func (w *writer) is(xmin uint32) bool {
 	if w.number == xmin {
 		return true
@@ -119,23 +120,23 @@ type write struct {
 type version struct {
 	writer  *writer
 	before  *version
-	down    *version // where this one is folded: one before it, with only folded ones between them
-	base    name     // where before is nil: the last offered version before this one
+	down    *version // if this one is folded: one before it, with only folded ones in between
+	base    name     // if before is nil: the last offered version before this one
 	deleted bool     // the row isn't there
 	left    bool     // this write isn't offered, although its transaction may be
 }
 
-// row is a row of a table, by its primary key. A row that was forgotten gets another number when it comes again, and so
-// do the versions: for the auditor it is another row. That takes writes out of the history of the first one, and the
-// later one begins where all that was before is folded.
+// row is a row of a table, by its primary key. If a row that was forgotten comes again, it gets another number, and so
+// do its versions: to the auditor it is another row. That takes writes out of the history of the first one, and the
+// second begins as if everything before were folded.
 type row struct {
 	id      rowID
-	number  uint64 // the auditor's key: 0 is the fences', and none of other rows that weren't offered yet
+	number  uint64 // the auditor's key: 0 for the fences' row, and for rows that weren't offered yet
 	last    *version
 	trimmed bool   // versions before those in the list were forgotten
-	many    bool   // stands in the list of rows with more than one version
+	many    bool   // it is in the list of rows with more than one version
 	used    uint64 // the count of offered transactions when it was last used
-	queued  uint64 // used, when it was last looked at
+	queued  uint64 // the value of used when it was last looked at
 }
 
 type rowID struct {
@@ -145,7 +146,7 @@ type rowID struct {
 
 func (v *version) isFolded() bool { return v.left || v.writer.fate == folded }
 
-// next is the version to look at where this one is folded.
+// next returns the version to look at if this one is folded.
 func (v *version) next() *version {
 	if v.down != nil {
 		return v.down
@@ -153,8 +154,8 @@ func (v *version) next() *version {
 	return v.before
 }
 
-// under is the last offered version at v or before it. It isn't known while one of them is undecided. A row that only
-// others write has a long list of folded versions: it is gone through once.
+// under returns the last offered version at or before v. It isn't known while one of them is undecided. A row that only
+// others write has a long list of folded versions, which is gone through only once.
 func under(v *version) (name, bool) {
 	at := v
 	for at.isFolded() && at.before != nil {
@@ -172,7 +173,7 @@ func under(v *version) (name, bool) {
 	return at.writer.name, true
 }
 
-// predecessor is the last offered version before v.
+// predecessor returns the last offered version before v.
 func (v *version) predecessor() (name, bool) {
 	if v.before == nil {
 		return v.base, true
@@ -180,7 +181,7 @@ func (v *version) predecessor() (name, bool) {
 	return under(v.before)
 }
 
-// find is the version with this xmin.
+// find returns the version with this xmin.
 func (r *row) find(xmin uint32) *version {
 	for v := r.last; v != nil; v = v.before {
 		if v.writer.is(xmin) {
@@ -190,7 +191,7 @@ func (r *row) find(xmin uint32) *version {
 	return nil
 }
 
-// wrote is the version that the transaction made.
+// wrote returns the version that the transaction made.
 func (r *row) wrote(w *writer) *version {
 	if w == nil {
 		return nil
@@ -203,8 +204,8 @@ func (r *row) wrote(w *writer) *version {
 	return nil
 }
 
-// trim forgets the versions before the last one for which old holds. Who still reads one of them isn't resolved, and
-// that read is left out.
+// trim forgets the versions before the last one for which old holds. If somebody still reads one of them, that read
+// isn't resolved, and is left out.
 func (r *row) trim(old func(*version) bool) {
 	v := r.last
 	for v != nil && !old(v) {

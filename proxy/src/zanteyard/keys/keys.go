@@ -1,6 +1,6 @@
-// Package keys gives each value of a key column one text, whatever format and settings it came in, so that a row that a
-// client read and the same row in the replication slot have the same key. A type that isn't listed here has no such
-// text: tables with a key of such a type aren't seen.
+// Package keys gives each value of a key column one canonical text, whatever format and settings it came in, so that a
+// row that a client read and the same row in the replication slot have the same key. A type that isn't listed here has
+// no such text: tables with a key of such a type aren't seen.
 package keys
 
 import (
@@ -9,8 +9,8 @@ import (
 	"unicode/utf8"
 )
 
-// Object identifiers of the types that a key may have. Domains are given as their base type, and each enumeration as
-// Enum: the catalog says which types these are.
+// Object identifiers of the types that a key may have. Domains are passed as their base type, and each enumeration as
+// Enum: the catalog knows which types these are.
 const (
 	Bool        uint32 = 16
 	Bytea       uint32 = 17
@@ -38,7 +38,7 @@ const (
 	Enum        uint32 = 3500 // anyenum
 )
 
-// Known says whether values of the type have a canonical text.
+// Known reports whether values of the type have a canonical text.
 func Known(typeOID uint32) bool {
 	switch typeOID {
 	case Bool, Bytea, Name, Int8, Int2, Int4, Text, Oid, Cidr, Float4, Float8, Macaddr, Inet, Bpchar, Varchar, Date, Time,
@@ -48,9 +48,9 @@ func Known(typeOID uint32) bool {
 	return false
 }
 
-// Canonical is the canonical text of a value in the wire protocol's text or binary format. It is false where the type
-// isn't known, or the text's meaning depends on the session's settings (a date that isn't in ISO's form), or the value
-// isn't one of the type. Values of text are taken to be UTF-8, or bytes of a server without an encoding.
+// Canonical returns the canonical text of a value in the wire protocol's text or binary format. ok is false if the type
+// isn't known, if the text's meaning depends on the session's settings (a date that isn't in ISO's form), or if the
+// value isn't one of the type. Values of text are assumed to be UTF-8, or bytes from a server without an encoding.
 func Canonical(typeOID uint32, value []byte, binary bool) (string, bool) {
 	if binary {
 		return fromBinary(typeOID, value)
@@ -58,11 +58,11 @@ func Canonical(typeOID uint32, value []byte, binary bool) (string, bool) {
 	return fromText(typeOID, value)
 }
 
-// FromSlot is the canonical text of a value as wal2json or test_decoding writes it, without the quotes that these put
-// around it, on a connection with SlotSettings.
+// FromSlot returns the canonical text of a value as wal2json or test_decoding writes it on a connection with
+// SlotSettings, without the quotes around it.
 func FromSlot(typeOID uint32, text string) (string, bool) {
 	switch typeOID {
-	case Bytea: // wal2json leaves out the two characters in front
+	case Bytea: // wal2json omits the two characters in front
 		return hexText(strings.TrimPrefix(text, `\x`))
 	case Bit, Varbit: // test_decoding writes B'01'
 		if strings.HasPrefix(text, "B'") && strings.HasSuffix(text, "'") && len(text) > 2 {
@@ -72,7 +72,7 @@ func FromSlot(typeOID uint32, text string) (string, bool) {
 	return fromText(typeOID, []byte(text))
 }
 
-// SlotSettings are the settings that the replication slot's connection has to have, so that FromSlot understands its
+// SlotSettings returns the settings that the replication slot's connection must have for FromSlot to understand its
 // texts.
 func SlotSettings() map[string]string {
 	return map[string]string{
@@ -84,8 +84,8 @@ func SlotSettings() map[string]string {
 	}
 }
 
-// Family is the type that stands for all types whose values are compared as this one's are: a parameter that was
-// declared as int8 asks for a key of int4 as one of int4 would.
+// Family returns the type that stands for all types whose values are compared like this one's: a parameter declared as
+// int8 asks for a key of int4 just as one declared as int4 does.
 func Family(typeOID uint32) uint32 {
 	switch typeOID {
 	case Int2, Int4:
@@ -96,9 +96,8 @@ func Family(typeOID uint32) uint32 {
 	return typeOID
 }
 
-// Askable says whether a value that a statement asks for names the same row that its canonical text names. It doesn't
-// for floating-point numbers, which are compared as another type than the column's, and where the text has several
-// forms.
+// Askable reports whether a value that a statement asks for names the same row as its canonical text. It doesn't for
+// floating-point numbers, which are compared as another type than the column's, and if the text has several forms.
 func Askable(typeOID uint32) bool {
 	switch typeOID {
 	case Float4, Float8, Inet, Cidr, Macaddr, Bit, Varbit, Bool, Name, Oid:
@@ -107,20 +106,20 @@ func Askable(typeOID uint32) bool {
 	return Known(typeOID)
 }
 
-// Expression is the SQL for a hidden column that tells a key column's value, with one type whatever ALTER TABLE makes of
-// the column: else the server would refuse a statement that was prepared before. It is the value's text; where that
-// depends on settings of the session it is the type's binary form, as bytea.
+// Expression returns the SQL for a hidden column that contains a key column's value, with one type whatever ALTER TABLE
+// makes of the column: otherwise the server would refuse a statement that was prepared before. It is the value's text
+// or, if that depends on the session's settings, the type's binary form, as bytea.
 func Expression(typeOID uint32, column string) string {
 	if send := sendFunction(typeOID); send != "" {
 		return "pg_catalog." + send + "(" + column + ")"
 	}
-	if typeOID == Enum { // whose owner may have made a cast of his own
+	if typeOID == Enum { // the type's owner may have defined a cast
 		return "pg_catalog.concat(" + column + ")"
 	}
 	return column + "::text"
 }
 
-// ExpressionType is the type of Expression's column.
+// ExpressionType returns the type of Expression's column.
 func ExpressionType(typeOID uint32) uint32 {
 	if sendFunction(typeOID) != "" {
 		return Bytea
@@ -128,7 +127,7 @@ func ExpressionType(typeOID uint32) uint32 {
 	return Text
 }
 
-// FromHidden is the canonical text of a value of Expression's column.
+// FromHidden returns the canonical text of a value of Expression's column.
 func FromHidden(typeOID uint32, value []byte, binary bool) (string, bool) {
 	if sendFunction(typeOID) == "" {
 		return fromText(typeOID, value)
@@ -144,8 +143,8 @@ func FromHidden(typeOID uint32, value []byte, binary bool) (string, bool) {
 	return fromBinary(typeOID, value)
 }
 
-// sendFunction names the function that gives a type's binary form, for types whose text depends on DateStyle, TimeZone
-// or extra_float_digits.
+// sendFunction names the function that returns a type's binary form, for types whose text depends on DateStyle,
+// TimeZone or extra_float_digits.
 func sendFunction(typeOID uint32) string {
 	switch typeOID {
 	case Float4:
@@ -226,7 +225,7 @@ func fromBinary(typeOID uint32, value []byte) (string, bool) {
 	return "", false
 }
 
-// Show is a canonical text as a person reads it: what has a number in place of a date is shown as a date.
+// Show converts a canonical text to one for people: a date that is kept as a number is shown as a date.
 func Show(typeOID uint32, canonical string) string {
 	switch typeOID {
 	case Date, Time, Timestamp, Timestamptz:
@@ -243,5 +242,5 @@ func Show(typeOID uint32, canonical string) string {
 func int64Of(value []byte) int64 { return int64(binary.BigEndian.Uint64(value)) }
 func int32Of(value []byte) int32 { return int32(binary.BigEndian.Uint32(value)) }
 
-// Join makes one text of a key's columns, in the order of the primary key.
+// Join joins a key's columns, in the order of the primary key, to one text.
 func Join(columns ...string) string { return strings.Join(columns, "\x00") }

@@ -15,7 +15,7 @@ import (
 	"zanteyard/keys"
 )
 
-// kind is a type with values of it, as SQL writes them; those of one line are equal, and must have one canonical text.
+// kind is a type with values of it, as SQL writes them; values on one line are equal, and must have one canonical text.
 type kind struct {
 	oid    uint32
 	name   string
@@ -65,7 +65,7 @@ var kinds = []kind{
 	{keys.Macaddr, "macaddr", [][]string{{"'08:00:2B:01:02:03'", "'08002b010203'"}}},
 }
 
-// sessions are settings under which values are read as text.
+// sessions are the settings under which values are read as text.
 var sessions = []string{
 	"SET DateStyle = 'ISO, MDY'; SET TimeZone = 'UTC'; SET bytea_output = 'hex'",
 	"SET DateStyle = 'SQL, DMY'; SET TimeZone = 'America/St_Johns'; SET bytea_output = 'escape'; SET extra_float_digits = -3",
@@ -112,7 +112,7 @@ func run(t *testing.T, connection *pgconn.PgConn, sql string) []*pgconn.Result {
 }
 
 // TestCanonical reads values back from a server, in both formats and under several settings, and from its log by two
-// plugins: all of them have the same text, and values that differ have texts that differ.
+// plugins: all of them have the same text, and different values have different texts.
 func TestCanonical(t *testing.T) {
 	connection := connect(t)
 	run(t, connection, `CREATE TYPE mood AS ENUM ('sad', 'it''s "ok"', 'ü ')`)
@@ -162,7 +162,7 @@ func fromServer(t *testing.T, connection *pgconn.PgConn, k kind, n int) string {
 			} else {
 				t.Errorf("%s: the hidden value %q has no text in %s", k.name, row[1], way)
 			}
-			// Texts that depend on settings may be left out, but mustn't be read wrongly.
+			// Texts that depend on settings may be left out, but must not be misread.
 			if k.oid == keys.Float4 || k.oid == keys.Float8 {
 				continue
 			}
@@ -182,7 +182,7 @@ func fromServer(t *testing.T, connection *pgconn.PgConn, k kind, n int) string {
 	return ""
 }
 
-// fromSlots reads the values of all rows as the plugins tell them.
+// fromSlots reads the values of all rows as the plugins report them.
 func fromSlots(t *testing.T, connection *pgconn.PgConn, want []string) {
 	t.Helper()
 	for name, value := range keys.SlotSettings() {

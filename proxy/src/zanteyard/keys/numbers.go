@@ -7,8 +7,8 @@ import (
 	"strings"
 )
 
-// integerText takes what the server gives at once, and what a client writes besides: spaces around it, a plus, zeros in
-// front.
+// integerText accepts what the server sends quickly, and also what a client may write: spaces around it, a plus,
+// leading zeros.
 func integerText(typeOID uint32, value []byte) (string, bool) {
 	if plainInteger(value) {
 		return string(value), true
@@ -31,7 +31,7 @@ func integerText(typeOID uint32, value []byte) (string, bool) {
 	return strconv.FormatInt(number, 10), true
 }
 
-// plainInteger says that digits stand there as the server writes them, few enough for any of the types.
+// plainInteger reports whether these are digits as the server writes them, few enough for any of the types.
 func plainInteger(value []byte) bool {
 	digits := value
 	if len(digits) > 1 && digits[0] == '-' {
@@ -51,8 +51,7 @@ func plainInteger(value []byte) bool {
 	return true
 }
 
-// integerBinary takes any of the integers' widths: a parameter may have been declared with another one than the
-// column's.
+// integerBinary accepts any width of integer: a parameter may have been declared with another one than the column's.
 func integerBinary(typeOID uint32, value []byte) (string, bool) {
 	switch {
 	case len(value) == 4 && typeOID == Oid:
@@ -67,7 +66,7 @@ func integerBinary(typeOID uint32, value []byte) (string, bool) {
 	return "", false
 }
 
-// numericText gives equal numbers the same digits: 1, 1.0, 01.00 and 10e-1 are one key.
+// numericText returns the same digits for equal numbers: 1, 1.0, 01.00 and 10e-1 are one key.
 func numericText(value []byte) (string, bool) {
 	text := strings.Trim(string(value), " \t\n\r\f\v")
 	if special, ok := specialNumber(text); ok {
@@ -105,7 +104,7 @@ func specialNumber(text string) (string, bool) {
 	return "", false
 }
 
-// decimal writes digits with the point behind the first `point` of them (which may lie outside), without zeros at either
+// decimal writes digits with the point after the first `point` of them (which may be outside), without zeros at either
 // end.
 func decimal(negative bool, digits string, point int) string {
 	trimmed := strings.TrimLeft(digits, "0")
@@ -134,8 +133,8 @@ func decimal(negative bool, digits string, point int) string {
 	return out.String()
 }
 
-// numericBinary reads groups of four decimal digits behind a header of four 16-bit words: how many groups, the weight of
-// the first, the sign, and how many digits are shown behind the point (which doesn't change the value).
+// numericBinary reads groups of four decimal digits after a header of four 16-bit words: the number of groups, the
+// weight of the first, the sign, and how many digits are shown after the point (which doesn't change the value).
 func numericBinary(value []byte) (string, bool) {
 	if len(value) < 8 {
 		return "", false
@@ -200,7 +199,7 @@ func floatBits(typeOID uint32) int {
 
 func floatOf(number float64, bits int) string {
 	switch {
-	case number == 0: // also -0, which is equal to it
+	case number == 0: // including -0, which is equal to it
 		return "0"
 	case math.IsNaN(number):
 		return "NaN"

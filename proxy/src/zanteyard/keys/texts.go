@@ -25,7 +25,7 @@ func hexText(text string) (string, bool) {
 }
 
 // appendBytea appends the bytes that a text of type bytea stands for, in the form of hexadecimal digits (\x00ff) or of
-// escapes (\000\377): bytea_output says which of them the server sends.
+// escapes (\000\377): bytea_output determines which of them the server sends.
 func appendBytea(to, value []byte) ([]byte, bool) {
 	if len(value) >= 2 && value[0] == '\\' && value[1] == 'x' {
 		return appendHex(to, value[2:])
@@ -78,7 +78,7 @@ func hexDigit(c byte) byte {
 	return 255
 }
 
-// uuidText takes what the server gives at once (lower case, four hyphens), and other ways to write 32 digits.
+// uuidText accepts what the server sends quickly (lower case, four hyphens), and also other ways to write 32 digits.
 func uuidText(value []byte) (string, bool) {
 	var digits [32]byte
 	plain, n := len(value) == 36, 0
@@ -150,8 +150,8 @@ func bitBinary(value []byte) (string, bool) {
 	return string(out), true
 }
 
-// inetText gives an address with the length of its network part, also where the server leaves that out because it is
-// the whole address.
+// inetText returns an address with the length of its network part, even if the server omits that because it is the
+// whole address.
 func inetText(text string) (string, bool) {
 	address, length, _ := strings.Cut(text, "/")
 	parsed, err := netip.ParseAddr(address)

@@ -7,7 +7,7 @@ import (
 	"strings"
 )
 
-// Dates are days, and times microseconds, since the beginning of the year 2000, as the server stores them. Its infinities
+// Dates are days, and times microseconds, since the beginning of the year 2000, as the server stores them. Infinities
 // are words.
 
 const (
@@ -41,7 +41,7 @@ func instant(number int64, last, first bool) string {
 	return strconv.FormatInt(number, 10)
 }
 
-// timeText takes ISO's form alone, with an offset where the type has one: that has one meaning under any DateStyle and
+// timeText accepts only ISO's form, with an offset if the type has one: that has one meaning under any DateStyle and
 // TimeZone.
 func timeText(typeOID uint32, text string) (string, bool) {
 	text = strings.Trim(text, " \t\n\r\f\v")
@@ -78,7 +78,7 @@ func timeText(typeOID uint32, text string) (string, bool) {
 	return strconv.FormatInt(microseconds, 10), rest == ""
 }
 
-// number reads as many digits as stand in front, from least to most of them.
+// number reads the leading digits, from `least` to `most` of them.
 func number(text string, least, most int) (int64, string, bool) {
 	n := 0
 	for n < len(text) && text[n] >= '0' && text[n] <= '9' {
@@ -123,7 +123,7 @@ func monthDays(year, month int64) int64 {
 	return 31
 }
 
-// julianDay counts days by the Gregorian calendar, also before it was in use, as the server does.
+// julianDay counts days by the Gregorian calendar, even before it was in use, as the server does.
 func julianDay(year, month, day int64) int64 {
 	if month > 2 {
 		month, year = month+1, year+4800
@@ -135,7 +135,7 @@ func julianDay(year, month, day int64) int64 {
 	return julian + 7834*month/256 + day
 }
 
-// clock reads hours, minutes and, if they are there, seconds with at most six digits behind the point.
+// clock reads hours, minutes and, if present, seconds with at most six digits after the point.
 func clock(text string) (int64, string, bool) {
 	hours, rest, ok := number(text, 2, 2)
 	if !ok || hours > 24 || rest == "" || rest[0] != ':' {
@@ -196,7 +196,7 @@ func offset(text string) (int64, bool) {
 	}
 }
 
-// showTime writes a canonical text as ISO does, times with a zone in UTC.
+// showTime writes a canonical text in ISO's form, times with a zone in UTC.
 func showTime(typeOID uint32, canonical string) string {
 	value, err := strconv.ParseInt(canonical, 10, 64)
 	if err != nil {

@@ -6,17 +6,17 @@ import (
 	"syscall"
 )
 
-// Conn is a plain socket that a loop waits for. Read by one goroutine at a time; its other methods are safe for use by
-// several.
+// Conn is a plain socket that a loop waits for. It is read by one goroutine at a time; its other methods are safe for
+// use by several.
 type Conn struct {
 	socket
 	number uint64
 
-	lock    sync.Mutex // over all below
+	lock    sync.Mutex // guards everything below
 	loop    *loop
 	freed   bool
-	asked   uint32 // what the loop waits for
-	ready   func() // whom it calls when there is something to read
+	asked   uint32 // the events that the loop waits for
+	ready   func() // called when there is something to read
 	readers chan struct{}
 	writers chan struct{}
 }
@@ -31,7 +31,7 @@ func newConn(from net.Conn, its *loop, number uint64) *Conn {
 	return c
 }
 
-// abandon lets go of the descriptor without an end of the connection.
+// abandon releases the descriptor without ending the connection.
 func (c *Conn) abandon() {
 	c.lock.Lock()
 	defer c.lock.Unlock()
@@ -51,7 +51,7 @@ func (c *Conn) free() {
 	c.unuse()
 }
 
-// move hands the socket to another loop. Called by its own.
+// move hands the socket to another loop. Called by its present one.
 func (c *Conn) move(to *loop) {
 	c.lock.Lock()
 	defer c.lock.Unlock()
@@ -69,7 +69,7 @@ func (c *Conn) move(to *loop) {
 	}
 }
 
-// Serve has f be called by the loop whenever there is something to read, until Leave. It mustn't wait.
+// Serve makes the loop call f whenever there is something to read, until Leave. f must not wait.
 func (c *Conn) Serve(f func()) {
 	c.lock.Lock()
 	defer c.lock.Unlock()
@@ -77,7 +77,7 @@ func (c *Conn) Serve(f func()) {
 	c.update()
 }
 
-// Leave ends that. To be called by what the loop calls.
+// Leave ends that. Must be called by what the loop calls.
 func (c *Conn) Leave() {
 	c.lock.Lock()
 	defer c.lock.Unlock()
@@ -85,7 +85,7 @@ func (c *Conn) Leave() {
 	c.update()
 }
 
-// update has the loop wait for what is wanted. Called with lock held.
+// update makes the loop wait for the events that are wanted. Called with lock held.
 func (c *Conn) update() {
 	var want uint32
 	if c.ready != nil || c.readers != nil {
@@ -103,7 +103,7 @@ func (c *Conn) update() {
 	}
 }
 
-// unwatched ends a connection that the kernel has no room to watch. No loop will tell anybody of that.
+// unwatched ends a connection that the kernel has no room to watch: no loop will report its events.
 func (c *Conn) unwatched() {
 	c.asked = 0
 	c.ended.Store(true)
@@ -115,7 +115,7 @@ func (c *Conn) unwatched() {
 	}
 }
 
-// happened takes what the loop was told.
+// happened handles the events that the loop got.
 func (c *Conn) happened(events uint32) {
 	const either = syscall.EPOLLHUP | syscall.EPOLLERR
 	c.lock.Lock()
@@ -142,7 +142,7 @@ func wake(those *chan struct{}) {
 	}
 }
 
-// wait waits for the loop to say that the socket can be read, or written.
+// wait waits until the loop says that the socket can be read, or written.
 func (c *Conn) wait(those *chan struct{}) error {
 	c.lock.Lock()
 	if c.ended.Load() {
@@ -172,7 +172,7 @@ func (c *Conn) Read(p []byte) (int, error) {
 	}
 }
 
-// Write waits until all is written.
+// Write waits until everything is written.
 func (c *Conn) Write(p []byte) (int, error) {
 	for done := 0; ; {
 		n, err := c.TryWrite(p[done:])
@@ -186,7 +186,7 @@ func (c *Conn) Write(p []byte) (int, error) {
 	}
 }
 
-// CloseWrite tells the other side that nothing more is written.
+// CloseWrite tells the other side that nothing more will be written.
 func (c *Conn) CloseWrite() error {
 	if !c.use() {
 		return net.ErrClosed
@@ -195,8 +195,8 @@ func (c *Conn) CloseWrite() error {
 	return syscall.Shutdown(c.fd, syscall.SHUT_WR)
 }
 
-// Close ends the connection: all that waits for it fails, and so does what is tried later. The descriptor is there until
-// Free.
+// Close ends the connection: everything that waits for it fails, and so does anything tried later. The descriptor stays
+// until Free.
 func (c *Conn) Close() error {
 	if !c.use() {
 		return net.ErrClosed
@@ -205,7 +205,7 @@ func (c *Conn) Close() error {
 	if c.ended.Swap(true) {
 		return net.ErrClosed
 	}
-	syscall.Shutdown(c.fd, syscall.SHUT_RDWR) // the loop is told of that
+	syscall.Shutdown(c.fd, syscall.SHUT_RDWR) // the loop gets an event for that
 	c.lock.Lock()
 	defer c.lock.Unlock()
 	wake(&c.readers)
@@ -214,7 +214,7 @@ func (c *Conn) Close() error {
 	return nil
 }
 
-// Free ends the connection, and lets go of its descriptor. To be called when nothing is called by the loop any more.
+// Free ends the connection, and releases its descriptor. Must be called when the loop calls nothing of it any more.
 func (c *Conn) Free() {
 	c.Close()
 	c.lock.Lock()

@@ -1,9 +1,9 @@
-// Package loop waits for many sockets by few threads, and calls whom one of them has something for. Go's own way, a
-// goroutine that waits for each, takes two more system calls for each message, and often has a sleeping thread be woken
-// for it, which takes longer than to pass the message on.
+// Package loop waits for many sockets with few threads, and calls a function of each socket that has something to read.
+// Go's usual way, a goroutine waiting for each, takes two more system calls for each message, and often a sleeping
+// thread has to be woken for it, which takes longer than passing the message on.
 //
-// What a socket calls mustn't wait: it reads and writes by TryRead and TryWrite. What has to wait is done by a
-// goroutine meanwhile, with Read and Write.
+// A function that a loop calls must not wait: it reads and writes by TryRead and TryWrite. Whatever has to wait is done
+// by a goroutine in the meantime, with Read and Write.
 package loop
 
 import (
@@ -18,7 +18,7 @@ import (
 
 // Loops are the threads. There is one until Share asks for more.
 type Loops struct {
-	last    atomic.Uint64 // number that was given to a socket
+	last    atomic.Uint64 // number that was last given to a socket
 	shares  atomic.Pointer[[]*loop]
 	hastily atomic.Bool
 
@@ -26,14 +26,14 @@ type Loops struct {
 	all  []*loop
 }
 
-// New starts one.
+// New starts one loop.
 func New() (*Loops, error) {
 	l := &Loops{}
 	return l, l.Share(1)
 }
 
-// Share has so many loops share the connections. Those that a loop has had too many of are handed on when it has
-// something to do next.
+// Share makes n loops share the connections. If a loop has too many of them, it hands some on when it next has
+// something to do.
 func (l *Loops) Share(n int) error {
 	l.lock.Lock()
 	defer l.lock.Unlock()
@@ -49,8 +49,8 @@ func (l *Loops) Share(n int) error {
 	return nil
 }
 
-// Busy is for how long the loops haven't waited, all together. On a machine whose processors are wanted by others that is
-// more than the processor time that they took.
+// Busy returns how long the loops haven't been waiting, in total. If others want the machine's processors, that is more
+// than the processor time that they took.
 func (l *Loops) Busy() (sum time.Duration) {
 	l.lock.Lock()
 	defer l.lock.Unlock()
@@ -60,11 +60,11 @@ func (l *Loops) Busy() (sum time.Duration) {
 	return sum
 }
 
-// of is the loop of the connections with this number.
+// of returns the loop of the connections with this number.
 func of(shares []*loop, pair uint64) *loop { return shares[pair%uint64(len(shares))] }
 
-// Take takes the sockets of a connection of a client's and of its server's out of Go's hands, and closes what they were.
-// It leaves both as they are if one isn't a plain socket, or there is no room for them.
+// Take takes the sockets of a client's connection and of its server's out of Go's hands, and closes the originals. It
+// leaves both as they are if one isn't a plain socket, or if there is no room for them.
 func (l *Loops) Take(client, server net.Conn) (*Conn, *Conn, bool) {
 	pair := l.last.Add(1)
 	its := of(*l.shares.Load(), pair)
@@ -87,13 +87,13 @@ type loop struct {
 	loops  *Loops
 	epoll  int
 	busy   atomic.Int64
-	events [atOnce]syscall.EpollEvent // what happened, of the last wait
+	events [atOnce]syscall.EpollEvent // the events of the last wait
 
 	lock  sync.Mutex
 	conns map[uint64]*Conn
 }
 
-// atOnce is how many sockets are looked at between two waits.
+// atOnce is how many sockets are handled between two waits.
 const atOnce = 128
 
 func start(l *Loops) (*loop, error) {
@@ -125,17 +125,18 @@ func (l *loop) run() {
 	}
 }
 
-// shortly is for how many milliseconds a thread waits without Go's knowledge.
+// shortly is how many milliseconds a thread waits without Go's knowledge.
 const shortly = 1
 
-// Hastily says whether a thread waits without Go's knowledge at first. Go's monitor has a thread give up its processor
-// if it waits in a call that Go knows of, then looks every 20 us whether there are others of that kind, and the thread
-// has to be given one when it goes on: between two messages that takes longer than to pass one on. One that waits
-// without its knowledge keeps its processor, so that there have to be more processors (GOMAXPROCS) than loops. If Go has
-// to stop it then it does so by a signal, which ends the wait.
+// Hastily sets whether a thread first waits without Go's knowledge. If a thread waits in a call that Go knows of, Go's
+// monitor makes it give up its processor, then checks every 20 us whether there are others like it, and the thread has
+// to get a processor again when it goes on: between two messages that takes longer than passing one on. A thread that
+// waits without Go's knowledge keeps its processor, so there have to be more processors (GOMAXPROCS) than loops. If Go
+// has to stop it, it does so by a signal, which ends the wait.
 func (l *Loops) Hastily(is bool) { l.hastily.Store(is) }
 
-// wait waits for something to happen to the sockets, and says to how many. It is 0 if Go has to stop the thread.
+// wait waits for something to happen to the sockets, and returns to how many. It returns 0 if Go has to stop the
+// thread.
 func (l *loop) wait() int {
 	if l.loops.hastily.Load() {
 		n, _, errno := syscall.RawSyscall6(syscall.SYS_EPOLL_PWAIT, uintptr(l.epoll),
@@ -155,8 +156,8 @@ func (l *loop) wait() int {
 	return int(n)
 }
 
-// share hands on what other loops are to wait for from now on. Called when nothing of what the loop was told is left:
-// so nothing of a socket is called by two loops at once.
+// share hands on the sockets that other loops will wait for. Called when all events of the loop have been handled, so
+// two loops never call functions of one socket at the same time.
 func (l *loop) share(shares []*loop) {
 	l.lock.Lock()
 	var gone []*Conn
@@ -171,8 +172,8 @@ func (l *loop) share(shares []*loop) {
 	}
 }
 
-// A socket's number takes the place of its descriptor: it is never used again, so that what was told of a socket that
-// is closed isn't taken for another one's.
+// A socket's number takes the place of its descriptor: it is never used again, so an event of a closed socket isn't
+// taken for another one's.
 func numberOf(e *syscall.EpollEvent) uint64 { return uint64(uint32(e.Fd)) | uint64(uint32(e.Pad))<<32 }
 
 func (l *loop) find(number uint64) *Conn {
@@ -194,7 +195,7 @@ func (l *loop) leave(c *Conn) {
 	delete(l.conns, c.number)
 }
 
-// control changes what a socket is waited for.
+// control changes the events that are waited for on a socket.
 func (l *loop) control(c *Conn, from, to uint32) error {
 	e := syscall.EpollEvent{Events: to, Fd: int32(uint32(c.number)), Pad: int32(uint32(c.number >> 32))}
 	what := syscall.EPOLL_CTL_MOD
@@ -202,7 +203,7 @@ func (l *loop) control(c *Conn, from, to uint32) error {
 	case from == 0:
 		what = syscall.EPOLL_CTL_ADD
 	case to == 0:
-		what = syscall.EPOLL_CTL_DEL // otherwise it would still tell of errors
+		what = syscall.EPOLL_CTL_DEL // otherwise it would still report errors
 	}
 	return syscall.EpollCtl(l.epoll, what, c.fd, &e)
 }

@@ -12,10 +12,10 @@ import (
 	"time"
 )
 
-// enough is a bound for what takes no time, on a machine that is busy.
+// enough is a bound for things that take no time, even on a busy machine.
 const enough = time.Minute
 
-// pair is a connection over a listener of TCP, or of a socket in a folder.
+// pair returns a connection over a TCP listener, or a Unix socket.
 func pair(t testing.TB, network string) (near, far net.Conn) {
 	t.Helper()
 	address := "127.0.0.1:0"
@@ -38,7 +38,7 @@ func pair(t testing.TB, network string) (near, far net.Conn) {
 	return near, far
 }
 
-// taken is two connections of which the loops have one side each.
+// taken returns two connections, one side of each taken by the loops.
 func taken(t testing.TB, l *Loops, network string) (a, b *Conn, farA, farB net.Conn) {
 	t.Helper()
 	nearA, farA := pair(t, network)
@@ -80,7 +80,7 @@ func until(t testing.TB, what string, f func() bool) {
 	}
 }
 
-// echo answers with what it reads, as long as it needn't wait. It counts the calls that overlap with another one.
+// echo answers with what it reads, as long as it needn't wait. It counts calls that overlap.
 type echo struct {
 	c       *Conn
 	calling sync.Mutex
@@ -195,7 +195,7 @@ func TestWaits(t *testing.T) {
 		if got := <-read; got != "abc" {
 			t.Errorf("read %q", got)
 		}
-		// More than there is room for: it is written as the other side reads.
+		// More than there is room for: it is written while the other side reads.
 		large := make([]byte, 16<<20)
 		rand.New(rand.NewSource(1)).Read(large)
 		part, err := a.TryWrite(large)
@@ -235,7 +235,7 @@ func TestWaits(t *testing.T) {
 	}
 }
 
-// TestEnds: whom the loop calls is told of each end: the other side's, a reset, one half, and that of Close.
+// TestEnds: a loop reports each kind of end: the other side's, a reset, one half, and Close.
 func TestEnds(t *testing.T) {
 	l := started(t, 1)
 	for _, x := range []struct {
@@ -273,7 +273,7 @@ func TestEnds(t *testing.T) {
 	}
 }
 
-// TestRests: a loop does nothing for sockets that nobody waits for, whatever has happened to them.
+// TestRests: a loop does nothing for sockets that nobody waits for, whatever happened to them.
 func TestRests(t *testing.T) {
 	l := started(t, 1)
 	a, b, farA, farB := taken(t, l, "tcp")

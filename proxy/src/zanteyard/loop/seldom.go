@@ -7,17 +7,17 @@ import (
 	"time"
 )
 
-// Seldom is a plain socket that is looked at from time to time, for who isn't in a hurry: what arrives meanwhile wakes
-// nobody, neither here nor where it is sent from, and is read at once. Its methods are safe for use by several
-// goroutines, but that Read is for one at a time.
+// Seldom is a plain socket that is looked at from time to time, for readers that aren't in a hurry: data that arrives
+// in between wakes nobody, neither here nor at the sender, and is read together. Its methods are safe for use by
+// several goroutines, except that only one may call Read at a time.
 type Seldom struct {
 	socket
 	pause time.Duration
 	close sync.Once
 }
 
-// NewSeldom takes a plain socket out of Go's hands, and closes what it was. It leaves it as it is if it is no plain
-// socket.
+// NewSeldom takes a plain socket out of Go's hands, and closes the original. If it isn't a plain socket, it is left as
+// it is.
 func NewSeldom(from net.Conn, pause time.Duration) (*Seldom, bool) {
 	s := &Seldom{pause: pause}
 	if !s.duplicate(from) {
@@ -38,7 +38,7 @@ func (s *Seldom) Read(p []byte) (int, error) {
 	}
 }
 
-// Write waits until all is written.
+// Write waits until everything is written.
 func (s *Seldom) Write(p []byte) (int, error) {
 	for done := 0; ; {
 		n, err := s.TryWrite(p[done:])
@@ -49,7 +49,7 @@ func (s *Seldom) Write(p []byte) (int, error) {
 	}
 }
 
-// Close ends the connection: what is tried later fails.
+// Close ends the connection: anything tried later fails.
 func (s *Seldom) Close() error {
 	s.close.Do(func() {
 		s.ended.Store(true)

@@ -10,7 +10,7 @@ import (
 	"time"
 )
 
-// TestSeldom: what a socket that is looked at seldom gets and sends is whole, both ends are seen, and nothing of it is left.
+// TestSeldom: a rarely read socket receives and sends everything, both ends are noticed, and nothing of it is left.
 func TestSeldom(t *testing.T) {
 	for _, network := range []string{"tcp", "unix"} {
 		before := descriptors(t)
@@ -51,7 +51,7 @@ func TestSeldom(t *testing.T) {
 	}
 }
 
-// TestSeldomIsClosed: whoever waits for such a socket is told when it is closed.
+// TestSeldomIsClosed: a read or write that waits for such a socket ends when it is closed.
 func TestSeldomIsClosed(t *testing.T) {
 	near, _ := pair(t, "tcp")
 	s, _ := NewSeldom(near, time.Millisecond)
@@ -75,7 +75,7 @@ func TestSeldomIsClosed(t *testing.T) {
 	}
 }
 
-// TestHastily: Go can stop threads that wait without its knowledge, and messages are passed on meanwhile.
+// TestHastily: Go can stop threads that wait without its knowledge, and messages are passed on in the meantime.
 func TestHastily(t *testing.T) {
 	l := started(t, 2)
 	defer runtime.GOMAXPROCS(runtime.GOMAXPROCS(4))

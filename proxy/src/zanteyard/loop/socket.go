@@ -10,7 +10,7 @@ import (
 	"unsafe"
 )
 
-// ErrWait says that a socket has nothing to read now, or no room for what is to be written.
+// ErrWait means that a socket has nothing to read now, or no room for what is to be written.
 var ErrWait = errors.New("loop: it would have to wait")
 
 // socket is the descriptor of a plain connection.
@@ -18,11 +18,11 @@ type socket struct {
 	fd      int
 	network string
 
-	uses  atomic.Int64 // of the descriptor: it is closed when there are none
+	uses  atomic.Int64 // of the descriptor, which is closed when there are none
 	ended atomic.Bool
 }
 
-// plain says that a connection is a plain socket.
+// plain reports whether a connection is a plain socket.
 func plain(c net.Conn) bool {
 	switch c.(type) {
 	case *net.TCPConn, *net.UnixConn:
@@ -52,7 +52,7 @@ func (c *socket) duplicate(from net.Conn) bool {
 	return true
 }
 
-// use keeps the descriptor from being closed, so that its number isn't another one's meanwhile.
+// use keeps the descriptor from being closed, so that its number doesn't become another one's in the meantime.
 func (c *socket) use() bool {
 	for {
 		n := c.uses.Load()
@@ -71,7 +71,7 @@ func (c *socket) unuse() {
 	}
 }
 
-// TryRead reads what is there. It doesn't wait: ErrWait says that there is nothing.
+// TryRead reads what is there. It doesn't wait: ErrWait means that there is nothing.
 func (c *socket) TryRead(p []byte) (int, error) {
 	if !c.use() {
 		return 0, net.ErrClosed
@@ -94,7 +94,7 @@ func (c *socket) TryRead(p []byte) (int, error) {
 	}
 }
 
-// TryWrite writes as much as there is room for. If that isn't all it says ErrWait.
+// TryWrite writes as much as there is room for. If that isn't everything, it returns ErrWait.
 func (c *socket) TryWrite(p []byte) (int, error) {
 	if !c.use() {
 		return 0, net.ErrClosed

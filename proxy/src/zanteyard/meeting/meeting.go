@@ -1,7 +1,7 @@
-// Package meeting has the sessions of a proxy meet: each makes a fence, a transaction of the proxy's own on a row
-// kept for that; when all have made theirs, each makes a second one. Nothing of a client runs between the two fences
-// of its session. So all that was done before the meeting is in front of the last of the first fences, and all that
-// is done later is behind it: there the auditor may forget.
+// Package meeting makes the sessions of a proxy meet: each makes a fence, which is a transaction of the proxy on a row
+// reserved for that; when all have made theirs, each makes a second one. Nothing of a client runs between the two
+// fences of its session. So everything done before the meeting comes before the last of the first fences, and
+// everything done later comes after it: up to there the auditor may forget.
 package meeting
 
 import (
@@ -12,28 +12,28 @@ import (
 	"time"
 )
 
-// Member is a session that can be held between two messages of its client's, and make fences then.
+// Member is a session that can be held between two messages of its client, and can make fences then.
 type Member interface {
 	Number() uint64
-	// Hold has what the client sends next wait once it has nothing under way; Release ends that.
+	// Hold makes the client's next messages wait once it has nothing under way; Release ends that.
 	Hold()
 	// Fence makes a fence as soon as the client has nothing under way; done is called once, by any goroutine, and must not
 	// wait.
 	Fence(done func(number uint64, err error))
-	// Try makes the fence that is due, if that is possible now.
+	// Try makes the fence that is due, if possible now.
 	Try()
 	Release()
-	// Busy says whether something of the client's is under way.
+	// Busy reports whether the client has anything under way.
 	Busy() bool
 }
 
-// Errors of Meet. A meeting that failed has done no harm: the fences that were made are transactions like others.
+// Errors of Meet. A meeting that failed did no harm: the fences that were made are transactions like others.
 var (
 	ErrBusy    = errors.New("meeting: a session stayed in a transaction for too long")
 	ErrUnknown = errors.New("meeting: no such connection")
 )
 
-// Room knows the sessions that are there. Safe for use by many goroutines.
+// Room knows the present sessions. Safe for use by many goroutines.
 type Room struct {
 	bound time.Duration
 
@@ -55,7 +55,7 @@ func (r *Room) Enter(m Member) {
 	r.members[m.Number()] = m
 }
 
-// Leave takes a session out.
+// Leave removes a session.
 func (r *Room) Leave(m Member) {
 	r.lock.Lock()
 	defer r.lock.Unlock()
@@ -84,15 +84,15 @@ type made struct {
 	err    error
 }
 
-// Meet has all sessions meet. It returns how many fences were made and how long it took. Sessions that end meanwhile
-// don't count. A session that is busy for too long makes it fail.
+// Meet makes all sessions meet. It returns how many fences were made and how long it took. Sessions that end in the
+// meantime don't count. If a session is busy for too long, Meet fails.
 func (r *Room) Meet(ctx context.Context) (fences int, took time.Duration, err error) {
 	return r.meet(ctx, nil)
 }
 
-// MeetAround has the sessions meet without those that are busy for half of the bound. Between the first fences and the
-// second ones, while those that have come are held, it calls between, in which fences can be made for the others. If
-// none has come it is called all the same.
+// MeetAround makes the sessions meet without those that are busy for half of the bound. Between the first fences and
+// the second ones, while those that have come are held, it calls between, in which fences can be made for the others.
+// It calls it even if none has come.
 func (r *Room) MeetAround(ctx context.Context, between func(context.Context)) (
 	fences int, took time.Duration, err error) {
 	return r.meet(ctx, between)
@@ -126,13 +126,13 @@ func (r *Room) meet(ctx context.Context, between func(context.Context)) (fences 
 	}
 	for _, m := range members {
 		if !contains(there, m) {
-			m.Release() // it has ended, or is busy
+			m.Release() // the session has ended, or is busy
 		}
 	}
 	members = there
 	_, n, err := r.fences(ctx, members, true)
 	if between != nil && errors.Is(err, ErrBusy) {
-		err = nil // the audit's own connection makes a fence for who didn't
+		err = nil // the audit's own connection makes a fence for those that didn't
 	}
 	return fences + n, time.Since(began), err
 }
@@ -146,7 +146,7 @@ func contains(all []Member, m Member) bool {
 	return false
 }
 
-// fences has each member make one fence. It returns those that are still there.
+// fences makes each member make one fence. It returns those that are still there.
 func (r *Room) fences(ctx context.Context, members []Member, release bool) (there []Member, n int, err error) {
 	results := make(chan made, len(members))
 	for _, m := range members {
@@ -185,7 +185,7 @@ func (r *Room) fences(ctx context.Context, members []Member, release bool) (ther
 	return there, n, err
 }
 
-// Busy is how many sessions have something of their clients' under way.
+// Busy returns how many sessions have something of their clients' under way.
 func (r *Room) Busy() int {
 	n := 0
 	for _, m := range r.all() {
@@ -196,8 +196,8 @@ func (r *Room) Busy() int {
 	return n
 }
 
-// Fence has one session make a fence, for it to join an audit that goes on. It waits until the session has nothing
-// under way, at most until ctx ends; the client is held for the bound at most.
+// Fence makes one session make a fence, by which it joins an audit that is already running. It waits until the session
+// has nothing under way, or until ctx ends; the client is held for the bound at most.
 func (r *Room) Fence(ctx context.Context, connection uint64) error {
 	r.meets.Lock()
 	defer r.meets.Unlock()

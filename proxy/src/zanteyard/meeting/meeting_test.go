@@ -11,9 +11,9 @@ import (
 // fake is a session without a server. It makes a fence when it is tried for the busy-th time.
 type fake struct {
 	number uint64
-	busy   int   // it has something under way for so many tries
-	err    error // what its fences end with
-	gone   *Room // it leaves the room in place of its second fence
+	busy   int   // it is busy for this many tries
+	err    error // the result of its fences
+	gone   *Room // the room that it leaves instead of making its second fence
 
 	lock     sync.Mutex
 	held     bool
@@ -100,7 +100,7 @@ func TestMeet(t *testing.T) {
 	}
 }
 
-// TestLeaving: a session that ends in the midst of a meeting doesn't make it fail.
+// TestLeaving: a session that ends in the middle of a meeting doesn't make it fail.
 func TestLeaving(t *testing.T) {
 	room := NewRoom(time.Minute)
 	stays, leaves := &fake{number: 1}, &fake{number: 2, gone: room}

@@ -9,7 +9,7 @@ import (
 	"zanteyard/record"
 )
 
-// askedPart is one value that a SELECT asks for a key by: a parameter, or a constant in the text. A LIMIT is one more
+// askedPart is one value that a SELECT asks for a key by: a parameter, or a constant in the text. A LIMIT is another
 // part, which has to be more than 0.
 type askedPart struct {
 	column    uint32 // the key column's type, 0 for LIMIT
@@ -18,7 +18,8 @@ type askedPart struct {
 	negative  bool
 }
 
-// askedPart reads a constant or parameter that a key column is compared with, maybe with a cast to the column's type.
+// askedPart reads a constant or parameter that a key column is compared with, possibly with a cast to the column's
+// type.
 func (m *maker) askedPart(column catalog.Column, value any) (askedPart, bool) {
 	if !keys.Askable(column.Type) {
 		return askedPart{}, false
@@ -54,13 +55,13 @@ func (m *maker) valuePart(column uint32, value any) (askedPart, bool) {
 		next := part.token + 1
 		kind := m.tokens[part.token].kind
 		ok := kind == numberToken || kind == stringToken && !part.negative
-		// A string may go on in the next line, as a token of its own.
+		// A string may continue on the next line, as another token.
 		return part, ok && (next >= len(m.tokens) || m.tokens[next].kind != stringToken && !m.is(next, "uescape"))
 	}
 	return askedPart{}, false
 }
 
-// castType gives the object identifier of some of the server's own types, without a length.
+// castType returns the object identifier of some of the server's own types, without a length.
 func castType(name node) uint32 {
 	if name.has("typmods") || name.has("arrayBounds") || name.flag("setof") {
 		return 0
@@ -96,9 +97,9 @@ func castType(name node) uint32 {
 	return 0
 }
 
-// AskedKey gives the whole primary key that a SELECT asks one row of, from the constants of its text, or from Bind's
-// parameters with their formats (none, one for all, or one each) and the types that the client declared for them in Parse
-// (none, or 0 where the server finds the type). It is false where the key isn't known for certain.
+// AskedKey returns the whole primary key by which a SELECT asks for one row, from the constants of its text, or from
+// Bind's parameters with their formats (none, one for all, or one each) and the types that the client declared for them
+// in Parse (none, or 0 if the server determines the type). ok is false if the key isn't known for certain.
 func (p *Plan) AskedKey(text string, tokens Tokens, parameters [][]byte, formats []int16, types []uint32) (record.Key, bool) {
 	if !p.Asked {
 		return "", false
@@ -150,7 +151,7 @@ func (a askedPart) value(text string, at span, parameters [][]byte, formats []in
 	return parameters[i], format == 1, format == 0 || format == 1
 }
 
-// constant is the value that a constant's text stands for.
+// constant returns the value of a constant's text.
 func constant(text string, negative bool) ([]byte, bool) {
 	switch {
 	case text == "":

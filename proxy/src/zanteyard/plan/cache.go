@@ -11,11 +11,11 @@ import (
 
 const (
 	shards    = 16
-	maxAsked  = 4  // columns of a key that a statement may ask for
-	mostPaths = 64 // search paths that have plans of their own
+	maxAsked  = 4  // how many columns a key that a statement asks for may have
+	mostPaths = 64 // how many search paths have their own plans
 )
 
-// Bounds of each of a shard's two generations: entries, and bytes of keys and samples.
+// Limits of each of a shard's two generations: entries, and bytes of keys and samples.
 const (
 	shardEntries = 256
 	shardBytes   = 1 << 20
@@ -23,8 +23,7 @@ const (
 	pathBytes    = 64 << 10
 )
 
-// Cache holds plans by the texts of statements without their constants and comments. It is safe for use by many
-// goroutines.
+// Cache holds plans, by the statements' texts without constants and comments. It is safe for use by many goroutines.
 type Cache struct {
 	state    atomic.Pointer[cached]
 	scanners sync.Pool
@@ -44,8 +43,8 @@ type cached struct {
 	paths map[string]*cached // by search path
 }
 
-// shard keeps its plans in two generations: where the younger is full it becomes the older one, which is forgotten but
-// for plans that are used meanwhile.
+// shard keeps its plans in two generations: when the younger one is full it becomes the older one, whose plans are
+// forgotten unless they are used in the meantime.
 type shard struct {
 	lock       sync.RWMutex
 	young, old map[string]*Plan
@@ -60,7 +59,7 @@ func NewCache(c *catalog.Catalog) *Cache {
 	return cache
 }
 
-// Use forgets all plans, and makes those to come for another catalog.
+// Use forgets all plans, and makes future ones for another catalog.
 func (c *Cache) Use(with *catalog.Catalog) {
 	next := &cached{
 		catalog: with, generation: 1, entries: shardEntries, bytes: shardBytes, paths: map[string]*cached{},
@@ -72,8 +71,8 @@ func (c *Cache) Use(with *catalog.Catalog) {
 	c.state.Store(next)
 }
 
-// in is the part of the cache for a search path. Beyond some of them, names are resolved by the catalog's own: the trial
-// on a connection says whether that is right.
+// in returns the cache for a search path. Beyond a number of paths, names are resolved by the catalog's own path: the
+// trial on a connection shows whether that is right.
 func (s *cached) in(path string) *cached {
 	s.lock.RLock()
 	found, ok := s.paths[path]
@@ -102,15 +101,15 @@ func (s *cached) in(path string) *cached {
 // Generation counts the catalogs that the cache was given.
 func (c *Cache) Generation() uint64 { return c.state.Load().generation }
 
-// Catalog is the one that plans are made for now.
+// Catalog returns the one that plans are made for now.
 func (c *Cache) Catalog() *catalog.Catalog { return c.state.Load().catalog }
 
-// Plan gives the plan of a statement's text, and where in this text its places are. It never fails: what can't be
-// understood has a plan that leaves it as it is.
+// Plan returns the plan of a statement's text, and its places in this text. It never fails: a text that can't be
+// understood has a plan that leaves it unchanged.
 func (c *Cache) Plan(text string) (*Plan, Tokens) { return c.lookUp(c.state.Load(), text) }
 
-// PlanIn is Plan for a connection with another search path than the catalog was loaded with, as catalog.PathSQL gives it
-// there. For "" it is Plan.
+// PlanIn is Plan for a connection with another search path than the one the catalog was loaded with, as catalog.PathSQL
+// reports it there. For "" it is Plan.
 func (c *Cache) PlanIn(path, text string) (*Plan, Tokens) {
 	state := c.state.Load()
 	if path != "" {
@@ -190,7 +189,7 @@ func (c *Cache) locate(state *cached, p *Plan, text string, list []token) (*Plan
 	return p, tokens
 }
 
-// within says that a constant means one of the statement's own columns, or nothing that is a column.
+// within reports whether a constant means one of the statement's own columns, or no column at all.
 func within(text string, tokens []token, at position) bool {
 	t := tokens[at.token]
 	place := 0

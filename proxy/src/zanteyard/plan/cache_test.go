@@ -91,7 +91,7 @@ func TestCacheIsSharedByManyGoroutines(t *testing.T) {
 	all.Wait()
 }
 
-// Texts made to exhaust a parser's stack are refused, or parsed: never the end of the program.
+// Texts made to exhaust a parser's stack are refused, or parsed, but never end the program.
 func TestDeepTexts(t *testing.T) {
 	cache := NewCache(none(t))
 	for _, text := range []string{
@@ -125,7 +125,7 @@ func TestDeepTexts(t *testing.T) {
 	}
 }
 
-// processorTime measures the processor time of this goroutine: on a busy machine the other time says little.
+// processorTime measures this goroutine's processor time: on a busy machine the elapsed time says little.
 func processorTime(b *testing.B) func() int64 {
 	runtime.LockOSThread()
 	b.Cleanup(runtime.UnlockOSThread)
@@ -141,7 +141,7 @@ func processorTime(b *testing.B) func() int64 {
 	return func() int64 { return now() - began }
 }
 
-// BenchmarkPlan is the cost of a text that was seen before.
+// BenchmarkPlan measures a text that was seen before.
 func BenchmarkPlan(b *testing.B) {
 	connection := connect(b, fmt.Sprintf("bench%d", b.N), schema)
 	known := load(b, connection)

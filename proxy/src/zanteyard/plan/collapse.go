@@ -2,19 +2,19 @@ package plan
 
 import "strings"
 
-// Lists of constants: (1, 2, 3) has the key of (1), and VALUES of many like rows the key of two. Without this each
-// length of a list would be a plan of its own.
+// Lists of constants: (1, 2, 3) has the same key as (1), and VALUES of many similar rows the same key as two. Otherwise
+// each length of a list would need another plan.
 
-// listState is how far a list of constants, directly behind a parenthesis, has been read.
+// listState is how far a list of constants, directly after a parenthesis, has been read.
 type listState uint8
 
 const (
 	noList    listState = iota
-	opened              // behind the parenthesis
-	openMinus           // behind the parenthesis and a minus
-	listed              // behind a constant
-	comma               // behind a constant and a comma
-	minus               // behind a constant, a comma and a minus
+	opened              // after the parenthesis
+	openMinus           // after the parenthesis and a minus
+	listed              // after a constant
+	comma               // after a constant and a comma
+	minus               // after a constant, a comma and a minus
 )
 
 // valuesState is what has been read of VALUES (..), (..).
@@ -22,9 +22,9 @@ type valuesState struct {
 	active   bool
 	depth    int // of the word VALUES
 	start    int // the first token of the row that is being read, -1 between rows
-	previous int // the first token of the row before, -1 where there is none
+	previous int // the first token of the previous row, -1 if there is none
 	rows     int
-	many     bool // of this or a VALUES before it
+	many     bool // of this VALUES or an earlier one
 }
 
 func (s *scanner) collapseList(start, end int, kind tokenKind, symbol byte) {
@@ -77,7 +77,8 @@ func (s *scanner) collapseRows(symbol byte) {
 		v.rows++
 		v.many = v.many || v.rows > manyRows
 		length := last + 1 - v.start
-		// Two rows stay, so that many have another key than one. A third that is like the second goes, with its comma.
+		// Two rows stay, so that many rows have another key than one. A third that is like the second is removed, with its
+		// comma.
 		if v.rows > 2 && v.previous+length+1 == v.start && s.likeRow(v.previous, v.start, length) {
 			s.pop(length + 1)
 		} else {
@@ -87,7 +88,7 @@ func (s *scanner) collapseRows(symbol byte) {
 	}
 }
 
-// likeRow says that two rows differ in nothing but constants and the numbers of parameters.
+// likeRow reports whether two rows differ only in constants and the numbers of parameters.
 func (s *scanner) likeRow(one, other, length int) bool {
 	if s.sameKey(one, other, length) {
 		return true

@@ -5,8 +5,8 @@ import (
 	"strings"
 )
 
-// Comment reads the comments of a statement in the form of sqlcommenter: /*key='value',key='value'*/, each key and value
-// encoded as in a URL. What comes later counts. It is nil where the statement has none.
+// Comment reads a statement's comments in the form of sqlcommenter: /*key='value',key='value'*/, each key and value
+// encoded as in a URL. Later pairs replace earlier ones. It returns nil if the statement has none.
 func Comment(text string) map[string]string {
 	var found map[string]string
 	scan := scanner{text: text}
@@ -37,7 +37,7 @@ func Comment(text string) map[string]string {
 	return found
 }
 
-// pairs reads key='value' pairs; nil where anything else stands there.
+// pairs reads key='value' pairs, and returns nil if there is anything else.
 func pairs(inside string) map[string]string {
 	all := map[string]string{}
 	for inside != "" {

@@ -9,13 +9,13 @@ import (
 	"zanteyard/record"
 )
 
-// Decode gives the rows that one row of a result was made of, from its hidden columns, all of them in one format. A group
-// that an outer join left NULL gives none.
+// Decode returns the rows that one row of a result was made from, by its hidden columns, all of them in one format. A
+// group that an outer join left NULL yields none.
 func (p *Plan) Decode(values [][]byte, binary bool) ([]record.Read, error) {
 	return p.AppendReads(nil, values, binary)
 }
 
-// AppendReads is Decode into memory that is there.
+// AppendReads is Decode into existing memory.
 func (p *Plan) AppendReads(to []record.Read, values [][]byte, binary bool) ([]record.Read, error) {
 	if len(values) != p.Hidden() {
 		return to, fmt.Errorf("a row has %d hidden columns in place of %d", len(values), p.Hidden())
@@ -70,7 +70,7 @@ func (s *Source) decode(group [][]byte, binary bool) (record.Read, error) {
 	return record.Read{Relation: record.Relation(relation), Key: record.Key(key), Version: version}, nil
 }
 
-// Number is the transaction's number, from a row's hidden columns, where the plan tells it.
+// Number returns the transaction's number from a row's hidden columns, if the plan asks for it.
 func (p *Plan) Number(values [][]byte, isBinary bool) (uint64, bool) {
 	if !p.TellsNumber || len(values) == 0 || values[0] == nil {
 		return 0, false
@@ -85,7 +85,7 @@ func (p *Plan) Number(values [][]byte, isBinary bool) (uint64, bool) {
 	return number, err == nil
 }
 
-// Version is the number of the transaction or subtransaction that the row was written by, where the plan tells it.
+// Version returns the number of the transaction or subtransaction that wrote the row, if the plan asks for it.
 func (p *Plan) Version(values [][]byte, binary bool) (uint32, bool) {
 	if !p.TellsVersion || len(values) < 2 || values[1] == nil {
 		return 0, false

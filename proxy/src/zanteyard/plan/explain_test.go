@@ -10,7 +10,7 @@ import (
 	"github.com/jackc/pgconn"
 )
 
-// many makes the tables of nasty large enough for the server to use their indexes, and says so.
+// many makes the tables of nasty large enough for the server to use their indexes.
 const many = `
 INSERT INTO a SELECT i, i % 100, 's' || i FROM generate_series(10, 3000) i;
 INSERT INTO "A" SELECT * FROM a ON CONFLICT DO NOTHING;
@@ -20,8 +20,8 @@ INSERT INTO "returning" SELECT i, i FROM generate_series(10, 3000) i;
 INSERT INTO parts SELECT i, i % 6 FROM generate_series(10, 3000) i;
 CREATE INDEX ON "select" (n)`
 
-// TestPlansOfTheServer explains random statements: rewritten they read no table more, and none that an index gave alone,
-// but for a few rows.
+// TestPlansOfTheServer explains random statements: rewritten, they read no additional table, and none for which an
+// index alone was enough, except for a few rows.
 func TestPlansOfTheServer(t *testing.T) {
 	connection := connect(t, "explained", nasty)
 	for _, sql := range []string{many, "VACUUM ANALYZE", "SET enable_seqscan TO off; SET enable_bitmapscan TO off"} {
@@ -64,7 +64,7 @@ func explain(connection *pgconn.PgConn, text string) (string, bool) {
 	return strings.Join(lines, "\n"), true
 }
 
-// alone counts the scans of an index alone that give more than a few rows.
+// alone counts the index-only scans that return more than a few rows.
 func alone(plan string) int {
 	count := 0
 	for _, found := range regexp.MustCompile(`Index Only Scan.* rows=(\d+)`).FindAllStringSubmatch(plan, -1) {

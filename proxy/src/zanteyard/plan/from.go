@@ -8,7 +8,7 @@ import (
 	"zanteyard/record"
 )
 
-// fromClause is what stands behind FROM or USING of a statement.
+// fromClause is what follows FROM or USING in a statement.
 type fromClause struct {
 	maker *maker
 	plan  *Plan
@@ -27,28 +27,28 @@ type fromClause struct {
 type item struct {
 	table    *catalog.Table
 	name     string // by which the statement knows it
-	written  string // the table's name as the statement has it, quoted
+	written  string // the table's name as in the statement, quoted
 	nullable bool
 	only     bool
 	sampled  bool
-	optional int // the join that the server may leave out if nothing else uses the table, 0 where it may not
+	optional int // the join that the server may leave out if nothing else uses the table, or 0 if it may not
 	natural  bool
 }
 
-// read takes a statement's FROM clause and what it mentions elsewhere.
+// read reads a statement's FROM clause and what the rest of the statement mentions.
 func (f *fromClause) read(body node, field string) {
 	for _, entry := range body.list(field) {
 		f.walk(entry, place{})
 	}
 	for name, value := range body {
-		if name != field && name != "withClause" { // whose queries don't know the FROM clause
+		if name != field && name != "withClause" { // their queries don't know the FROM clause
 			f.collect(value, 0)
 		}
 	}
 	f.locks, f.where, f.group = body.has("lockingClause"), body["whereClause"], body.list("groupClause")
 }
 
-// place is what the joins around an item say of it.
+// place is what the joins around an item mean for it.
 type place struct {
 	nullable, natural bool
 	optional          int
@@ -72,7 +72,7 @@ func (f *fromClause) walk(entry any, at place) {
 			f.plan.leaveOut("a subquery in FROM")
 		}
 		f.collect(entry, 0)
-	default: // a function, whose reads are counted as those of all functions
+	default: // a function, whose reads are counted like those of all functions
 		f.items++
 		f.collect(entry, 0)
 	}
@@ -120,7 +120,7 @@ func (f *fromClause) table(r node, at place, sampled bool) {
 	case !ok && (schema == "pg_catalog" || schema == "information_schema" || schema == "" && strings.HasPrefix(name, "pg_")):
 		return // the server's own tables have no versions that are audited
 	case ok && t.Kind == 'S':
-		return // nor have sequences
+		return // nor do sequences
 	case !ok:
 		reason = "unknown table"
 	case t.Hidden != "":
@@ -149,7 +149,7 @@ func newItem(r node, t *catalog.Table, at place, sampled bool) *item {
 	return it
 }
 
-// groups gives the SQL of the hidden columns of all tables that are seen, and counts those that aren't.
+// groups returns the SQL of the hidden columns of all tables that can be seen, and counts the others.
 func (f *fromClause) groups() (string, []*item) {
 	named := map[string]int{}
 	for _, it := range f.found {
@@ -175,8 +175,8 @@ func (f *fromClause) groups() (string, []*item) {
 	return out.String(), seen
 }
 
-// grouped says that GROUP BY names a table's whole key: each group is of one row of it, and SQL lets its other columns be
-// selected.
+// grouped reports whether GROUP BY names a table's whole key: then each group has one row of it, and SQL allows its
+// other columns to be selected.
 func (f *fromClause) grouped(it *item) bool {
 	named := map[string]bool{}
 	for _, entry := range f.group {

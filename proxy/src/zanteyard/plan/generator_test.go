@@ -46,7 +46,7 @@ func (w *writer) text() string {
 	return out.String()
 }
 
-// column refers to a column of the tables in FROM.
+// column returns a reference to a column of the tables in FROM.
 func (w *writer) column() []string {
 	if len(w.names) == 0 {
 		return []string{"1"}
@@ -136,7 +136,7 @@ func (w *writer) condition(depth int) {
 	}
 }
 
-// table says a table of FROM, and its name.
+// table writes a table of FROM, and its name.
 func (w *writer) table() {
 	if w.once(12) {
 		w.say(w.pick("LATERAL", ""), "(", "SELECT", "id", ",", "n", "FROM", w.pick(nastyTables...), "ORDER BY", "id", ",", "n",
@@ -254,7 +254,7 @@ func (w *writer) query() string {
 		w.say(w.pick("UNION", "UNION ALL", "EXCEPT"), "SELECT", "1", "FROM", w.pick(nastyTables...))
 	}
 	limit := w.pick("", "", "", "LIMIT 2", "OFFSET 1", "LIMIT 3 OFFSET 1", "FETCH FIRST 2 ROWS ONLY", "FETCH NEXT ROW WITH TIES")
-	total := limit != "" || strings.HasPrefix(distinct, "DISTINCT ON") // which rows these are has to be certain
+	total := limit != "" || strings.HasPrefix(distinct, "DISTINCT ON") // it must be certain which rows these are
 	if w.once(2) || total {
 		w.say("ORDER", "BY", w.pick("1", "2", "1 DESC, 2", "3", "label", "1 NULLS FIRST"))
 		if w.once(2) {

@@ -6,7 +6,7 @@ import (
 	"zanteyard/record"
 )
 
-// plan says what a statement is, and sees through those that read or write rows.
+// plan determines what a statement is, and analyses those that read or write rows.
 func (m *maker) plan(stmt statement) *Plan {
 	name, body := only(stmt.tree)
 	p := &Plan{Shape: m.shape}
@@ -49,7 +49,7 @@ func (m *maker) plan(stmt statement) *Plan {
 	return p
 }
 
-// other is for statements that the proxy never changes.
+// other handles statements that the proxy never changes.
 func (m *maker) other(p *Plan, name string, body node) {
 	switch name {
 	case "VariableShowStmt", "LockStmt", "NotifyStmt", "ListenStmt", "UnlistenStmt", "CheckPointStmt", "VacuumStmt",
@@ -73,7 +73,7 @@ func (m *maker) other(p *Plan, name string, body node) {
 	}
 }
 
-// explain runs its query if it is asked to analyze it.
+// explain: EXPLAIN runs its query only with ANALYZE.
 func (m *maker) explain(p *Plan, body node) {
 	analyze := false
 	for _, option := range body.list("options") {
@@ -112,7 +112,7 @@ func transaction(p *Plan, body node) {
 	case "TRANS_STMT_ROLLBACK":
 		p.Kind = Rollback
 	case "TRANS_STMT_PREPARE":
-		p.Kind = PrepareTransaction // whose name is a constant, which isn't the plan's
+		p.Kind = PrepareTransaction // its name is a constant, which isn't part of the plan
 	case "TRANS_STMT_SAVEPOINT":
 		p.Kind, p.Name = Savepoint, body.text("savepoint_name")
 	case "TRANS_STMT_ROLLBACK_TO":
@@ -140,7 +140,7 @@ func levelOf(options []any) record.Level {
 	return record.UnknownLevel
 }
 
-// setting is SET and RESET. What names and rights depend on is search_path and the role.
+// setting handles SET and RESET. Names and rights depend on search_path and the role.
 func setting(p *Plan, body node) {
 	switch name := strings.ToLower(body.text("name")); name {
 	case "transaction":
@@ -156,7 +156,7 @@ func setting(p *Plan, body node) {
 	}
 }
 
-// wrapped is a statement around a query, which begins behind a keyword.
+// wrapped plans a statement around a query that begins after a keyword.
 func (m *maker) wrapped(p *Plan, stmt statement, kind Kind, name string, body node, keyword string) *Plan {
 	p.Kind, p.Name = kind, name
 	inner, query := only(body["query"])
@@ -190,7 +190,7 @@ func (m *maker) wrapped(p *Plan, stmt statement, kind Kind, name string, body no
 	return p
 }
 
-// writesWithin says whether something in a statement writes: a part of WITH.
+// writesWithin reports whether a part of a statement writes: a part of WITH.
 func writesWithin(value any) bool {
 	found := false
 	visit(value, func(kind string, _ node) bool {
@@ -203,7 +203,7 @@ func writesWithin(value any) bool {
 	return found
 }
 
-// calls looks at what a statement's functions and operators may do.
+// calls checks what a statement's functions and operators may do.
 func (m *maker) calls(p *Plan, value any) {
 	visit(value, func(kind string, body node) bool {
 		switch kind {

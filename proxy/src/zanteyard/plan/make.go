@@ -8,16 +8,16 @@ import (
 )
 
 // maker makes the plan of one statement. It parses the statement without its comments and without what the scanner left
-// out of lists, one token a line, so that a place in this text says which token it is.
+// out of lists, one token on each line, so that a position in this text says which token it is.
 type maker struct {
 	catalog *catalog.Catalog
 	text    string
 	tokens  []token
 	joined  string
 	offsets []int // of the tokens in the joined text
-	depths  []int // in how many parentheses each stands; a parenthesis itself stands outside
+	depths  []int // how many parentheses each is in; a parenthesis itself counts as outside
 	shape   string
-	many    bool // VALUES has more rows than are returned
+	many    bool // VALUES has more rows than are to be returned
 }
 
 func newMaker(c *catalog.Catalog, s *scanner) *maker {
@@ -44,12 +44,12 @@ func newMaker(c *catalog.Catalog, s *scanner) *maker {
 
 func (m *maker) word(i int) string { return m.text[m.tokens[i].start:m.tokens[i].end] }
 
-// is says whether a token is this keyword.
+// is reports whether a token is this keyword.
 func (m *maker) is(i int, keyword string) bool {
 	return i >= 0 && i < len(m.tokens) && m.tokens[i].kind == wordToken && strings.EqualFold(m.word(i), keyword)
 }
 
-// tokenAt gives the token that begins at a place of the joined text, -1 where none does.
+// tokenAt returns the token that begins at a position of the joined text, or -1 if none does.
 func (m *maker) tokenAt(location int) int {
 	i := sort.SearchInts(m.offsets, location)
 	if i < len(m.offsets) && m.offsets[i] == location {
@@ -58,7 +58,7 @@ func (m *maker) tokenAt(location int) int {
 	return -1
 }
 
-// statement is a parsed statement with the tokens that are its own, without a semicolon.
+// statement is a parsed statement with its own tokens, without a semicolon.
 type statement struct {
 	tree     node
 	from, to int
@@ -113,7 +113,7 @@ func (p *Plan) stamp(generation uint64) {
 	}
 }
 
-// unknownPlan is for texts that aren't parsed at all.
+// unknownPlan is for texts that aren't parsed.
 func unknownPlan(generation uint64) *Plan {
 	p := &Plan{
 		Shape: "(a very long or incomplete statement)", Generation: generation,
@@ -123,7 +123,7 @@ func unknownPlan(generation uint64) *Plan {
 	return p
 }
 
-// several plans each statement of a text by itself, so that it is known where it comes alone, too.
+// several also plans each statement of a text by itself, so that it is known when it comes alone.
 func (c *Cache) several(state *cached, m *maker, stmts []statement) *Plan {
 	p := &Plan{Kind: Several, Shape: m.shape}
 	for _, stmt := range stmts {
@@ -148,7 +148,7 @@ func (c *Cache) parts(state *cached, p *Plan, text string, tokens []token) []Par
 	return parts
 }
 
-// shorten writes the statement as people read it, without constants, and not longer than a line or two.
+// shorten writes the statement for people, without constants, and at most a line or two long.
 func (m *maker) shorten() string {
 	const most = 200
 	var out strings.Builder
@@ -173,7 +173,7 @@ func (m *maker) shorten() string {
 	return out.String()
 }
 
-// spaced names the keywords that a parenthesis behind stands apart from.
+// spaced has the keywords that are followed by a space before a parenthesis.
 func spaced(word string) bool {
 	switch strings.ToLower(word) {
 	case "in", "values", "as", "and", "or", "not", "where", "from", "join", "on", "using", "select", "exists", "any",

@@ -14,11 +14,11 @@ import (
 	"unsafe"
 )
 
-// node is a node of PostgreSQL's parse tree: its fields by name, as pg_query.proto lists them. A field that has the value
-// zero isn't there.
+// node is a node of PostgreSQL's parse tree: its fields by name, as in pg_query.proto. A field whose value is zero is
+// missing.
 type node map[string]any
 
-// parse gives the statements of a text.
+// parse returns the statements of a text.
 func parse(text string) ([]node, error) {
 	c := C.CString(text)
 	defer C.free(unsafe.Pointer(c))
@@ -34,7 +34,7 @@ func parse(text string) ([]node, error) {
 	return tree.Stmts, nil
 }
 
-// asNode takes a value as encoding/json gives it.
+// asNode converts a value as encoding/json returns it.
 func asNode(value any) node {
 	switch v := value.(type) {
 	case node:
@@ -45,7 +45,7 @@ func asNode(value any) node {
 	return nil
 }
 
-// only opens a node that has one field, which says what it is: {"RangeVar": {..}}.
+// only opens a node with one field that says what it is: {"RangeVar": {..}}.
 func only(value any) (string, node) {
 	for name, body := range asNode(value) {
 		return name, asNode(body)
@@ -66,7 +66,7 @@ func (n node) number(name string) int {
 }
 func (n node) has(name string) bool { _, ok := n[name]; return ok }
 
-// as gives what a field holds, if it is a node of the kind.
+// as returns a field's content, if it is a node of the kind.
 func (n node) as(field, kind string) node {
 	name, body := only(n[field])
 	if name != kind {
@@ -75,7 +75,7 @@ func (n node) as(field, kind string) node {
 	return body
 }
 
-// names are the strings of a list of String nodes; a star is "*".
+// names returns the strings of a list of String nodes; a star is "*".
 func names(list []any) []string {
 	all := make([]string, 0, len(list))
 	for _, item := range list {
@@ -89,7 +89,7 @@ func names(list []any) []string {
 	return all
 }
 
-// visit calls f with each node under a value, from above; it goes below a node where f says so.
+// visit calls f with each node under a value, from the top; it goes below a node if f returns true.
 func visit(value any, f func(kind string, body node) bool) {
 	switch v := value.(type) {
 	case node:
@@ -108,7 +108,7 @@ func visit(value any, f func(kind string, body node) bool) {
 	}
 }
 
-// alike compares two trees, apart from where in the text things stand.
+// alike compares two trees, ignoring positions in the text.
 func alike(one, other any) bool {
 	switch a := one.(type) {
 	case node:

@@ -1,10 +1,10 @@
-// Package plan says what the proxy does with a statement: which hidden columns it asks for besides, and what it can't
-// see. A plan inserts text in front of one token of a statement and leaves every other byte as it is. It depends on the
-// statement's text without constants and comments, and on the catalog; it isn't used on a connection before it was tried
-// there (Trial).
+// Package plan determines what the proxy does with a statement: which hidden columns it adds, and what it can't see. A
+// plan inserts text before one token of a statement and leaves every other byte unchanged. It depends on the
+// statement's text without constants and comments, and on the catalog; it isn't used on a connection before it has been
+// tried there (Trial).
 //
-// Texts are taken to be UTF-8 with standard_conforming_strings on. A session with another client_encoding (SQL_ASCII
-// apart), or with that setting off, has to send its statements as they are.
+// Texts are assumed to be UTF-8 with standard_conforming_strings on. A session with another client_encoding (except
+// SQL_ASCII), or with that setting off, must send its statements unchanged.
 package plan
 
 import (
@@ -12,14 +12,14 @@ import (
 	"zanteyard/record"
 )
 
-// Kind tells the session what a statement does to its transaction and its prepared statements.
+// Kind says what a statement does to its transaction and its prepared statements.
 type Kind uint8
 
-// The kinds of statements that a session tells apart.
+// The kinds of statements that a session distinguishes.
 const (
 	Other Kind = iota
 	Select
-	Write // INSERT, UPDATE, DELETE, MERGE, also inside WITH
+	Write // INSERT, UPDATE, DELETE, MERGE, including those inside WITH
 	Begin // BEGIN, START TRANSACTION
 	Commit
 	Rollback
@@ -27,9 +27,9 @@ const (
 	Savepoint
 	RollbackTo
 	Release
-	Set        // SET, RESET, set_config of what names and rights depend on. What was set may end with the transaction
-	DiscardAll // DISCARD ALL, DEALLOCATE ALL: the proxy's own statements are gone, too
-	Definition // DDL and whatever else may change what names mean
+	Set        // SET, RESET, set_config of something that names and rights depend on. It may be undone at the end of the transaction
+	DiscardAll // DISCARD ALL, DEALLOCATE ALL: the proxy's own statements are gone too
+	Definition // DDL and anything else that may change what names mean
 	Declare    // DECLARE CURSOR: Inner is the plan of its query
 	Fetch      // FETCH, MOVE: Name is the cursor's
 	CloseCursor
@@ -41,63 +41,63 @@ const (
 	Empty
 )
 
-// Source is one table whose rows' versions a plan asks for: a group of hidden columns, which are xmin, tableoid and then
-// the key's columns in the order of the primary key. These come as text or bytea (package keys), so that a statement that
-// was prepared outlives a change of their types.
+// Source is a table for whose rows' versions a plan asks: a group of hidden columns, which are xmin, tableoid and then
+// the key's columns in the order of the primary key. They come as text or bytea (package keys), so that a prepared
+// statement survives a change of their types.
 type Source struct {
 	Relation record.Relation
 	Types    []uint32 // types of the key's columns in the table, as package catalog resolves them
-	// Nullable says that an outer join may leave the whole group NULL: then no row was read.
+	// Nullable means that an outer join may leave the whole group NULL: then no row was read.
 	Nullable bool
 }
 
-// Hidden is the number of columns of the group.
+// Hidden returns the number of columns in the group.
 func (s Source) Hidden() int { return 2 + len(s.Types) }
 
-// Plan is what is done with all statements of one normalized text. It is never changed after it was made.
+// Plan is what is done with all statements of one normalized text. It never changes after it is made.
 type Plan struct {
 	Kind Kind
-	// Shape is the statement without its constants and comments, shortened, for counts that people read.
+	// Shape is the statement without constants and comments, shortened, for counts that people read.
 	Shape string
-	// Generation is the catalog's, as Cache.Generation counts them: a plan of an older one isn't to be used any more.
+	// Generation is the catalog's, as counted by Cache.Generation: a plan of an older one must not be used any more.
 	Generation uint64
-	// Sources are the groups of hidden columns, in their order behind the statement's own columns and what TellsNumber
-	// and TellsVersion add. Empty where no rows are seen.
+	// Sources are the groups of hidden columns, in order, after the statement's own columns and those that TellsNumber and
+	// TellsVersion add. Empty if no rows are seen.
 	Sources []Source
-	// AddsReturning says that the statement had no RETURNING of its own: all that it returns is the proxy's.
+	// AddsReturning means that the statement has no RETURNING clause: everything that it returns is the proxy's.
 	AddsReturning bool
-	// TellsNumber says that the first hidden column is pg_current_xact_id_if_assigned().
+	// TellsNumber means that the first hidden column is pg_current_xact_id_if_assigned().
 	TellsNumber bool
-	// TellsVersion says that the hidden column after it is the xmin of the row that the statement wrote: the number of
-	// the transaction or of a subtransaction.
+	// TellsVersion means that the next hidden column is the xmin of the row that the statement wrote: the number of the
+	// transaction or of a subtransaction.
 	TellsVersion bool
-	// MayWriteUnseen says that the statement may write without telling a number: a function, COPY, MERGE, a view, an
+	// MayWriteUnseen means that the statement may write without returning a number: a function, COPY, MERGE, a view, an
 	// UPDATE of any number of rows.
 	MayWriteUnseen bool
-	// ChangesNames says of any kind that what names and rights mean may be another thing afterwards.
+	// ChangesNames means, for any kind, that names and rights may have another meaning afterwards.
 	ChangesNames bool
-	// Unknown says that the text couldn't be parsed, or was too long: it may be any number of statements of any kind.
+	// Unknown means that the text couldn't be parsed, or was too long: it may be any number of statements of any kind.
 	Unknown bool
-	// Unseen are the reasons for which reads or writes of the statement are left out.
+	// Unseen are the reasons why reads or writes of the statement are left out.
 	Unseen []record.Unseen
-	// Asked says that the statement asks for one row of Sources[0] by its whole primary key: AskedKey gives it.
+	// Asked means that the statement asks for one row of Sources[0] by its whole primary key, which AskedKey returns.
 	Asked bool
-	// Level is what BEGIN or SET TRANSACTION sets; UnknownLevel where they leave it as it was.
+	// Level is what BEGIN or SET TRANSACTION sets; UnknownLevel if they leave it unchanged.
 	Level record.Level
-	// TakesSnapshot says that it is SET TRANSACTION SNAPSHOT: from there on the transaction reads by an older snapshot.
+	// TakesSnapshot means SET TRANSACTION SNAPSHOT: from then on the transaction reads from an older snapshot.
 	TakesSnapshot bool
 	Chain         bool   // COMMIT or ROLLBACK begins the next transaction at once
 	All           bool   // CLOSE ALL
 	Name          string // of a cursor, prepared statement or savepoint, for kinds that have one
 	Inner         *Plan
-	// Parts are the plans of several statements, as they were where the plan was made. For a text it is Tokens.Parts
-	// that has them.
+	// Parts are the plans of several statements, in the text for which the plan was made. For another text, Tokens.Parts
+	// has them.
 	Parts []*Plan
 
 	insertion insertion
 	asked     []askedPart
 	positions []position
-	misplaced *Plan // the same without an insertion, for texts that the positions forbid
+	misplaced *Plan // the same without an insertion, for texts whose positions forbid it
 	sample    string
 	relations []relation
 	ranges    []tokenRange // of Parts
@@ -105,26 +105,26 @@ type Plan struct {
 
 type tokenRange struct{ from, to int }
 
-// insertion is text that is put into a statement: in front of a token, or behind it.
+// insertion is text that is inserted into a statement, before or after a token.
 type insertion struct {
 	text   string
 	token  int
 	behind bool
 }
 
-// position is a constant that means a column by its place, as in ORDER BY 1: it mustn't come to mean a hidden one.
+// position is a constant that means a column by its position, as in ORDER BY 1: it must not come to mean a hidden one.
 type position struct {
 	token, columns int
 }
 
-// relation is a table that a plan names, as it has to be on a connection for the plan to be used there.
+// relation is a table that a plan names, as it has to be on a connection where the plan is used.
 type relation struct {
-	name    string // as it stands in the statement, quoted
+	name    string // as in the statement, quoted
 	oid     uint32
 	columns []int16 // of the key, by number; all of them and the system columns have to be readable
 }
 
-// Hidden is the number of hidden columns behind those of the statement.
+// Hidden returns the number of hidden columns after those of the statement.
 func (p *Plan) Hidden() int {
 	hidden := 0
 	if p.TellsNumber {
@@ -139,7 +139,7 @@ func (p *Plan) Hidden() int {
 	return hidden
 }
 
-// HiddenTypes are the types of the hidden columns, by object identifier, as a description of the result has them.
+// HiddenTypes returns the types of the hidden columns, by object identifier, as a description of the result has them.
 func (p *Plan) HiddenTypes() []uint32 {
 	const xid8, xid, oid = 5069, 28, 26
 	var types []uint32

@@ -49,7 +49,7 @@ func TestShapes(t *testing.T) {
 	}
 }
 
-// seen names the tables of a plan's groups.
+// seen returns the names of the tables of a plan's groups.
 func seen(known *catalog.Catalog, p *Plan) string {
 	var all []string
 	for _, source := range p.Sources {
@@ -87,7 +87,7 @@ func flags(p *Plan) string {
 	return strings.Join(all, ", ")
 }
 
-// untouched checks that nothing but the insertion changes the text.
+// untouched checks that only the insertion changes the text.
 func untouched(t *testing.T, text string, p *Plan, tokens Tokens) {
 	t.Helper()
 	rewritten, at, length := p.Rewrite(text, tokens)
@@ -96,7 +96,7 @@ func untouched(t *testing.T, text string, p *Plan, tokens Tokens) {
 	}
 }
 
-// tried checks whether a plan's trial goes well on a connection.
+// tried checks whether a plan's trial succeeds on a connection.
 func tried(t *testing.T, connection *pgconn.PgConn, p *Plan, want bool) {
 	t.Helper()
 	ctx := context.Background()
@@ -119,7 +119,7 @@ func tried(t *testing.T, connection *pgconn.PgConn, p *Plan, want bool) {
 	}
 }
 
-// answer is what a statement gave.
+// answer is what a statement returned.
 type answer struct {
 	fields []string
 	types  []uint32
@@ -160,8 +160,8 @@ func ask(connection *pgconn.PgConn, sql string, format int16) answer {
 	return a
 }
 
-// compare runs a statement as it is and as it was rewritten, from the same state, and compares what comes back. It says
-// whether both failed.
+// compare runs a statement unchanged and rewritten, from the same state, and compares the results. It reports whether
+// both failed.
 func compare(t *testing.T, connection *pgconn.PgConn, known *catalog.Catalog, sql string, p *Plan, tokens Tokens,
 	format int16, inOrder bool) bool {
 	t.Helper()
@@ -206,7 +206,7 @@ func compare(t *testing.T, connection *pgconn.PgConn, known *catalog.Catalog, sq
 	return false
 }
 
-// visible writes down the columns in front of the hidden ones, in the order of the rows if inOrder.
+// visible writes the columns before the hidden ones, in the order of the rows if inOrder.
 func visible(rows [][][]byte, width int, inOrder bool) string {
 	all := make([]string, len(rows))
 	for i, row := range rows {
@@ -218,7 +218,7 @@ func visible(rows [][][]byte, width int, inOrder bool) string {
 	return strings.Join(all, "\n")
 }
 
-// told checks what a row's hidden columns tell against what is stored.
+// told compares what a row's hidden columns report with what is stored.
 func told(t *testing.T, p *Plan, hidden [][]byte, binary bool, number string, versions map[string]uint32) {
 	t.Helper()
 	reads, err := p.Decode(hidden, binary)

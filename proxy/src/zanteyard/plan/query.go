@@ -52,7 +52,7 @@ func kindFound(value any, wanted string) bool {
 	return found
 }
 
-// finish checks an insertion by parsing what comes of it, and writes the sample that is tried on a connection.
+// finish checks an insertion by parsing the result, and writes the sample that is tried on a connection.
 func (m *maker) finish(p *Plan, stmt statement, field string, start int) {
 	if p.insertion.text == "" {
 		return
@@ -74,10 +74,10 @@ func (m *maker) finish(p *Plan, stmt statement, field string, start int) {
 	p.sample = m.sample(p, stmt, start)
 }
 
-// maxSample bounds the text that a plan keeps for its trial.
+// maxSample limits the text that a plan keeps for its trial.
 const maxSample = 16 << 10
 
-// sample is the rewritten text of a query, or, where that is long, a text with shorter lists.
+// sample returns the rewritten text of a query or, if that is long, a text with shorter lists.
 func (m *maker) sample(p *Plan, stmt statement, start int) string {
 	first, last := int(m.tokens[start].start), int(m.tokens[stmt.to-1].last)
 	if last-first > maxSample {
@@ -91,7 +91,7 @@ func (m *maker) sample(p *Plan, stmt statement, start int) string {
 	return m.text[first:at] + p.insertion.text + m.text[at:last]
 }
 
-// place is where the insertion goes in the joined text.
+// place returns where the insertion goes in the joined text.
 func (m *maker) place(p *Plan) int {
 	at := m.offsets[p.insertion.token]
 	if p.insertion.behind {
@@ -100,7 +100,7 @@ func (m *maker) place(p *Plan) int {
 	return at
 }
 
-// without is the plan that leaves the statement as it is.
+// without returns the plan that leaves the statement unchanged.
 func (p *Plan) without(reason string) *Plan {
 	bare := &Plan{
 		Kind: p.Kind, Shape: p.Shape, ChangesNames: p.ChangesNames, Unseen: append(p.Unseen[:0:0], p.Unseen...),
@@ -119,8 +119,8 @@ func (m *maker) mentions(name string) bool {
 	return false
 }
 
-// sound says whether the rewritten text means what the text means, with the hidden columns behind the others and nothing
-// else: the parser says so.
+// sound reports whether the rewritten text means the same as the text, except for the hidden columns after the others:
+// the parser decides.
 func (m *maker) sound(p *Plan, stmt statement, field string) bool {
 	at := m.place(p)
 	trees, err := parse(m.joined[:at] + p.insertion.text + m.joined[at:])

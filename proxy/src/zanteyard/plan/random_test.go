@@ -41,7 +41,7 @@ UPDATE a SET s = 's' || id; DELETE FROM "A" WHERE id = 2; UPDATE parts SET n = n
 DROP FUNCTION filled;
 `
 
-// wanted is how many random statements a test is to try: a longer run by hand sets it.
+// wanted returns how many random statements a test tries: a longer run by hand sets it.
 func wanted(usual int) int {
 	if number, err := strconv.Atoi(os.Getenv("ZANTEYARD_STATEMENTS")); err == nil {
 		return number
@@ -49,7 +49,7 @@ func wanted(usual int) int {
 	return usual
 }
 
-// TestRandomStatements compares statements with what they are rewritten to.
+// TestRandomStatements compares statements with their rewritten forms.
 func TestRandomStatements(t *testing.T) {
 	connection := connect(t, "random", nasty)
 	known := load(t, connection)
@@ -73,7 +73,7 @@ func TestRandomStatements(t *testing.T) {
 		}
 		changed++
 		untouched(t, text, p, tokens)
-		// Rows without an order come as the server's plan has it, and wider rows may have another plan.
+		// Rows without an order come as the server's plan produces them, and wider rows may have another plan.
 		if compare(t, connection, known, text, p, tokens, int16(seed%2), false) {
 			failed++
 		} else {

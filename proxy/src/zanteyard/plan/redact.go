@@ -2,7 +2,7 @@ package plan
 
 import "strings"
 
-// Redacted is a statement with a question mark for each constant, and without comments.
+// Redacted returns a statement with a question mark for each constant, and without comments.
 func Redacted(text string) string {
 	var s scanner
 	if !s.scan(text) {

@@ -2,22 +2,22 @@ package plan
 
 import "zanteyard/catalog"
 
-// What a statement mentions of its tables decides whether the server may leave a table out, or an index may stand for it.
-// Then hidden columns would make the statement slower, and the table isn't seen.
+// What a statement mentions of its tables decides whether the server may leave out a table, or read an index instead.
+// Hidden columns would then make the statement slower, so the table isn't seen.
 
-// reference is a column that a statement mentions, and the join whose condition it stands in, 0 where it stands elsewhere.
+// reference is a column that a statement mentions, and the join whose condition mentions it, or 0 if it is elsewhere.
 type reference struct {
 	fields []string
 	join   int
 }
 
-// inner is what a subquery's own FROM clause has: names that aren't those of the statement around it.
+// inner has the names of a subquery's own FROM clause, which aren't those of the statement around it.
 type inner struct {
 	names  map[string]bool
 	tables []*catalog.Table
 }
 
-// has says whether a column is one of a subquery's own.
+// has reports whether a column is one of a subquery's own.
 func (in *inner) has(fields []string) bool {
 	if in == nil || len(fields) == 0 {
 		return false
@@ -33,7 +33,7 @@ func (in *inner) has(fields []string) bool {
 	return fields[0] == "*" || in.names[fields[0]]
 }
 
-// collect notes the columns that a part of a statement mentions.
+// collect records the columns that a part of a statement mentions.
 func (f *fromClause) collect(value any, join int) { f.collectWithin(value, join, nil) }
 
 func (f *fromClause) collectWithin(value any, join int, in *inner) {
@@ -60,7 +60,7 @@ func (f *fromClause) collectWithin(value any, join int, in *inner) {
 	}
 }
 
-// inside adds the tables of a subquery to those of the subqueries around it.
+// inside adds a subquery's tables to those of the subqueries around it.
 func (f *fromClause) inside(query node, around *inner) *inner {
 	in := &inner{names: map[string]bool{}}
 	if around != nil {
@@ -83,7 +83,7 @@ func (f *fromClause) inside(query node, around *inner) *inner {
 	return in
 }
 
-// removable says that nothing but its own join's condition mentions a table on the inner side of an outer join: the
+// removable reports whether a table on the inner side of an outer join is mentioned only in that join's condition: the
 // server doesn't read it if there is at most one such row.
 func (f *fromClause) removable(it *item) bool {
 	if it.optional == 0 || f.locks {
@@ -97,11 +97,12 @@ func (f *fromClause) removable(it *item) bool {
 	return true
 }
 
-// fewRows is how many rows of a table are read by a hidden xmin though an index has all that is asked for.
+// fewRows is how many rows of a table may be read for a hidden xmin though an index has everything that is asked for.
 const fewRows = 10
 
-// indexOnly says that all that is read of a table is in one index: the server may answer without the table, which a
-// hidden xmin would forbid. Where conditions leave a few rows these are read nevertheless: that costs as many pages.
+// indexOnly reports whether everything that is read of a table is in one index: the server may answer without the
+// table, which a hidden xmin would prevent. If conditions leave only a few rows, these are read nevertheless: that
+// costs as many pages.
 func (f *fromClause) indexOnly(it *item) bool {
 	if f.locks {
 		return false
@@ -126,7 +127,7 @@ func (f *fromClause) indexOnly(it *item) bool {
 	return it.table.Covered(columns) && !f.few(it)
 }
 
-// common adds the columns of a table that have a name which another one has, too: NATURAL compares these.
+// common adds those columns of a table whose names another one has too: NATURAL compares these.
 func common(columns map[int16]bool, of, with *catalog.Table) {
 	for _, column := range of.Columns {
 		if _, ok := with.Column(column.Name); ok {
@@ -135,8 +136,8 @@ func common(columns map[int16]bool, of, with *catalog.Table) {
 	}
 }
 
-// few says that conditions compare each of a table's key columns with a constant or parameter, or a column that has few
-// rows of one value.
+// few reports whether conditions compare each of a table's key columns with a constant or parameter, or a column that
+// has few rows for each value.
 func (f *fromClause) few(it *item) bool {
 	sole := f.items == 1
 	if key, _ := wholeKey(f.where, it, sole); key != nil {
@@ -151,7 +152,7 @@ func (f *fromClause) few(it *item) bool {
 	return false
 }
 
-// width says how many columns a target list has at least: a star is counted as the columns of one table.
+// width returns the least number of columns in a target list: a star counts as the columns of one table.
 func (f *fromClause) width(targets []any) int {
 	columns := 0
 	for _, target := range targets {
@@ -170,7 +171,7 @@ func (f *fromClause) width(targets []any) int {
 	return columns
 }
 
-// column says which of a table's columns a reference may mean, or that it means all of them or a system column.
+// column returns which of a table's columns a reference may mean, or that it means all of them or a system column.
 func (f *fromClause) column(r reference, it *item) (number int16, all, hit bool) {
 	if len(r.fields) == 0 {
 		return 0, false, false
@@ -190,7 +191,7 @@ func (f *fromClause) column(r reference, it *item) (number int16, all, hit bool)
 		return 0, false, false
 	}
 	for _, other := range f.found {
-		if _, ok := other.table.Column(last); ok { // a column goes before a whole row
+		if _, ok := other.table.Column(last); ok { // a column takes precedence over a whole row
 			return 0, false, false
 		}
 	}

@@ -6,14 +6,15 @@ const nowhere = -1
 
 type span struct{ from, to int32 }
 
-// Tokens are a plan's places in one text: where text is inserted, and where the constants stand that a key is asked by.
+// Tokens are a plan's places in one text: where text is inserted, and where the constants are by which a key is asked
+// for.
 type Tokens struct {
-	at        int // nowhere where nothing is inserted
+	at        int // nowhere if nothing is inserted
 	constants [maxAsked + 1]span
 	parts     []Part
 }
 
-// Part is one of several statements in a text: where it stands, without its semicolon, its plan, and its own places in
+// Part is one of several statements in a text: its position, without its semicolon, its plan, and its own places in
 // that part of the text.
 type Part struct {
 	From, To int
@@ -21,11 +22,11 @@ type Part struct {
 	Tokens   Tokens
 }
 
-// Parts are the statements of a text, where its plan is Several.
+// Parts returns the statements of a text, if its plan is Several.
 func (t Tokens) Parts() []Part { return t.parts }
 
-// Rewrite gives the text with the plan's hidden columns in it, and what was inserted: length bytes in front of what was
-// byte `at`. Where nothing is inserted length is 0.
+// Rewrite returns the text with the plan's hidden columns, and what was inserted: length bytes before what was byte
+// `at`. If nothing is inserted, length is 0.
 func (p *Plan) Rewrite(text string, tokens Tokens) (rewritten string, at, length int) {
 	if tokens.at == nowhere {
 		return text, 0, 0
@@ -33,8 +34,8 @@ func (p *Plan) Rewrite(text string, tokens Tokens) (rewritten string, at, length
 	return text[:tokens.at] + p.insertion.text + text[tokens.at:], tokens.at, len(p.insertion.text)
 }
 
-// MoveBack turns a position in a rewritten text, as an error tells it (in characters, from 1), into the position in the
-// text that the client sent. What stands in the insertion is told as what follows it.
+// MoveBack converts a position in a rewritten text, as an error reports it (in characters, from 1), to the position in
+// the text that the client sent. A position inside the insertion becomes that of what follows it.
 func MoveBack(rewritten string, at, length, position int) int {
 	if length == 0 {
 		return position
@@ -50,17 +51,17 @@ func MoveBack(rewritten string, at, length, position int) int {
 	return position - inserted
 }
 
-// Trial is what has to go well on a connection before a plan is used there. Parse finds names and types, and looks at
-// no rights; Privileges looks at these, and whether the names mean what the plan takes them for.
+// Trial is what has to succeed on a connection before a plan is used there. Parse resolves names and types, but doesn't
+// check rights; Privileges checks these, and whether the names mean what the plan takes them for.
 type Trial struct {
-	// Statements are texts that Parse has to take, as they were rewritten. Parameters need the types that the client
-	// declared for them.
+	// Statements are texts that Parse must accept, as rewritten. Parameters need the types that the client declared for
+	// them.
 	Statements []string
-	// Privileges is a SELECT of one boolean, which has to be true. "" where nothing has to be looked at.
+	// Privileges is a SELECT of one boolean, which must be true; "" if nothing has to be checked.
 	Privileges string
 }
 
-// Trial says how the plan is tried out. A plan that inserts nothing needs no trial: both are empty.
+// Trial returns how the plan is tried. A plan that inserts nothing needs no trial: both fields are empty.
 func (p *Plan) Trial() Trial {
 	if p.insertion.text == "" {
 		return Trial{}

@@ -5,8 +5,8 @@ import (
 	"strings"
 )
 
-// The scanner cuts a text into tokens as PostgreSQL's does (scan.l), and makes the key of the cache of them at the same
-// time: constants are left out, and lists of constants that differ in their length alone have the same key.
+// The scanner cuts a text into tokens as PostgreSQL's does (scan.l), and builds the key of the cache from them at the
+// same time: constants are left out, and lists of constants that differ only in length have the same key.
 
 type tokenKind uint8
 
@@ -21,7 +21,7 @@ const (
 
 type token struct {
 	start, end int32
-	last       int32 // the end of what was left out behind it, or its own
+	last       int32 // the end of what was left out after it, or its own
 	key        int32 // where the key's part for this token begins
 	kind       tokenKind
 }
@@ -29,11 +29,11 @@ type token struct {
 const (
 	maxText   = 1 << 20
 	maxTokens = 4096
-	maxDepth  = 200 // of parentheses: the parser's recursion has to be bounded
+	maxDepth  = 200 // of parentheses: the parser's recursion has to be limited
 	manyRows  = 100 // VALUES of more rows than this aren't asked to return them
 )
 
-// scanner is the memory that scanning takes, used again and again.
+// scanner is the memory for scanning, which is reused.
 type scanner struct {
 	text   string
 	tokens []token
@@ -70,7 +70,8 @@ var classes = func() (table [256]uint8) {
 	return table
 }()
 
-// scan fills tokens and key. It is false where the text ends within a token, or is too long or too deep to be planned.
+// scan fills tokens and key. It returns false if the text ends within a token, or is too long or too deeply nested to
+// be planned.
 func (s *scanner) scan(text string) bool {
 	s.text, s.tokens, s.key = text, s.tokens[:0], s.key[:0]
 	s.list, s.values, s.depth = noList, valuesState{}, 0
@@ -105,7 +106,7 @@ func (s *scanner) scan(text string) bool {
 	return true
 }
 
-// next gives the end of the token that begins at a byte, 0 where it has none.
+// next returns the end of the token that begins at a byte, or 0 if it has none.
 func (s *scanner) next(at int, c byte, class uint8) (int, tokenKind) {
 	text := s.text
 	switch {
@@ -139,7 +140,7 @@ func (s *scanner) next(at int, c byte, class uint8) (int, tokenKind) {
 	return at + 1, symbolToken
 }
 
-// comment gives the end of a comment that begins here, the same place where none does, -1 where it doesn't end.
+// comment returns the end of a comment that begins here, the same position if none does, -1 if it doesn't end.
 func comment(text string, at int) int {
 	switch {
 	case text[at] == '-' && text[at+1] == '-':
@@ -186,7 +187,7 @@ func prefixed(text string, at int, c byte) (int, tokenKind) {
 	return 0, wordToken
 }
 
-// quotation gives the end of a quoted token, -1 where the text ends before it.
+// quotation returns the end of a quoted token, or -1 if the text ends before it.
 func quotation(text string, at int, quote byte, escapes bool) int {
 	for at++; at < len(text); at++ {
 		switch {
@@ -204,7 +205,7 @@ func quotation(text string, at int, quote byte, escapes bool) int {
 	return -1
 }
 
-// dollar reads a parameter ($1) or a string between dollars ($tag$ .. $tag$).
+// dollar reads a parameter ($1) or a dollar-quoted string ($tag$ .. $tag$).
 func dollar(text string, at int) (int, tokenKind) {
 	end := at + 1
 	if end < len(text) && classes[text[end]]&digitByte != 0 {
@@ -254,7 +255,8 @@ func numeral(text string, at int) int {
 	return at
 }
 
-// operator ends where a comment begins, and, where none of certain characters is in it, doesn't end in a plus or minus.
+// operator returns an operator's end: it ends where a comment begins and, unless it contains certain characters,
+// doesn't end in a plus or minus.
 func operator(text string, at int) int {
 	end, special := at, false
 	for end < len(text) && classes[text[end]]&operatorByte != 0 {
@@ -270,7 +272,7 @@ func operator(text string, at int) int {
 	return end
 }
 
-// push takes one token more.
+// push adds a token.
 func (s *scanner) push(start, end int, kind tokenKind) bool {
 	if len(s.tokens) >= maxTokens {
 		return false
@@ -308,7 +310,7 @@ func (s *scanner) push(start, end int, kind tokenKind) bool {
 	return s.depth <= maxDepth
 }
 
-// pop takes back the last tokens: they count as a part of the one in front of them.
+// pop removes the last tokens: they count as part of the one before them.
 func (s *scanner) pop(count int) {
 	keep := len(s.tokens) - count
 	s.tokens[keep-1].last = s.tokens[len(s.tokens)-1].last

@@ -42,14 +42,14 @@ func (m *maker) selects(p *Plan, body node, start, end int) {
 	m.asks(p, body, found, f)
 }
 
-// merges says why a SELECT's rows aren't the rows that it read, "" where they are.
+// merges returns why a SELECT's rows aren't the rows that it read, or "" if they are.
 func (m *maker) merges(body node) string {
 	switch {
 	case body.text("op") != "" && body.text("op") != "SETOP_NONE":
 		return "UNION, INTERSECT or EXCEPT"
 	case body.has("distinctClause") && !distinctOn(body):
 		return "DISTINCT"
-	case body.has("groupClause"): // some tables may be seen
+	case body.has("groupClause"): // some tables may still be seen
 		return ""
 	case body.has("havingClause"):
 		return "HAVING"
@@ -60,7 +60,7 @@ func (m *maker) merges(body node) string {
 	return ""
 }
 
-// distinctOn tells DISTINCT ON, which gives one of the rows that were read, from DISTINCT.
+// distinctOn distinguishes DISTINCT ON, which returns one of the rows that were read, from DISTINCT.
 func distinctOn(body node) bool {
 	for _, item := range body.list("distinctClause") {
 		if kind, _ := only(item); kind != "" {
@@ -70,8 +70,8 @@ func distinctOn(body node) bool {
 	return false
 }
 
-// aggregates looks for aggregates of the query itself. One within a subquery that is of the outer query makes the server
-// refuse the rewritten statement when it is tried.
+// aggregates looks for aggregates of the query itself. If an aggregate in a subquery belongs to the outer query, the
+// server refuses the rewritten statement when it is tried.
 func (m *maker) aggregates(value any) bool {
 	found := false
 	visit(value, func(kind string, body node) bool {
@@ -93,8 +93,8 @@ func (m *maker) aggregates(value any) bool {
 	return found
 }
 
-// fromWord finds the word FROM of a query that begins at a token, maybe in parentheses. It isn't that of IS DISTINCT FROM,
-// nor a column's name.
+// fromWord finds the word FROM of a query that begins at a token, possibly in parentheses, but not that of IS DISTINCT
+// FROM, nor a column's name.
 func (m *maker) fromWord(start, end int) int {
 	first := start
 	for first < end && m.word(first) == "(" {
@@ -117,7 +117,7 @@ func (m *maker) fromWord(start, end int) int {
 	return nowhere
 }
 
-// orders notes the constants of ORDER BY, GROUP BY and DISTINCT ON that mean a column by its place.
+// orders records the constants of ORDER BY, GROUP BY and DISTINCT ON that mean a column by its position.
 func (m *maker) orders(p *Plan, body node, columns int) {
 	var entries []any
 	for _, item := range body.list("sortClause") {
@@ -145,7 +145,8 @@ func withNames(body node) map[string]bool {
 	return with
 }
 
-// asks notes the whole key of one row that a SELECT asks for, and nothing else: where no row comes, there is none.
+// asks records the whole key of the one row that a SELECT asks for, if it asks for nothing else: if no row comes back,
+// there is none.
 func (m *maker) asks(p *Plan, body node, found []*item, f *fromClause) {
 	if len(found) != 1 || f.items != 1 || found[0].only || found[0].sampled || found[0].table.RowSecurity {
 		return
@@ -199,8 +200,8 @@ func (m *maker) setReturning(value any) bool {
 	return found
 }
 
-// wholeKey gives the values that a condition compares a whole key with, in the key's order, nil where it doesn't; exact
-// says that it is nothing but that. Such a condition is true of one row at most.
+// wholeKey returns the values that a condition compares a whole key with, in the key's order, or nil if it doesn't;
+// exact means that the condition is nothing else. Such a condition is true of one row at most.
 func wholeKey(where any, of *item, sole bool) (values []any, exact bool) {
 	values = make([]any, len(of.table.Key))
 	parts := conjuncts(where)
@@ -235,7 +236,7 @@ func conjuncts(where any) []any {
 	return []any{where}
 }
 
-// equality reads column = value, on either side, where the value doesn't depend on the row.
+// equality reads column = value, on either side, if the value doesn't depend on the row.
 func equality(part any, of *item, sole bool) (string, any) {
 	kind, body := only(part)
 	if kind != "A_Expr" || body.text("kind") != "AEXPR_OP" {
@@ -257,7 +258,7 @@ func equality(part any, of *item, sole bool) (string, any) {
 	return "", nil
 }
 
-// bound says that an expression has one value for all rows.
+// bound reports whether an expression has the same value for all rows.
 func bound(value any) bool {
 	free := false
 	visit(value, func(kind string, _ node) bool {

@@ -13,7 +13,7 @@ import (
 	"zanteyard/cluster"
 )
 
-// server is the one that this package's tests share; nil where PostgreSQL isn't installed.
+// server is shared by this package's tests; nil if PostgreSQL isn't installed.
 var server *cluster.Cluster
 
 func TestMain(m *testing.M) {
@@ -30,7 +30,7 @@ func TestMain(m *testing.M) {
 	os.Exit(status)
 }
 
-// connect gives a connection to a new database with a schema.
+// connect returns a connection to a new database with a schema.
 func connect(t testing.TB, database, schema string) *pgconn.PgConn {
 	t.Helper()
 	if server == nil {
@@ -48,7 +48,7 @@ func connect(t testing.TB, database, schema string) *pgconn.PgConn {
 	return connection
 }
 
-// again gives one more connection to a database.
+// again returns another connection to a database.
 func again(t testing.TB, user, database string) *pgconn.PgConn {
 	t.Helper()
 	ctx := context.Background()

@@ -1,6 +1,6 @@
 package plan
 
-// schema is what the shapes are planned and run over.
+// schema is the schema that the shapes are planned for and run on.
 const schema = `
 CREATE TABLE t (id int PRIMARY KEY, v int, s text);
 CREATE TABLE u (id int PRIMARY KEY, t int, w text);
@@ -53,8 +53,8 @@ INSERT INTO other.t VALUES (1, 1), (2, 2);
 INSERT INTO other.z VALUES ('00000000-0000-0000-0000-00000000000f', 1);
 `
 
-// shape is a statement with what is seen of it: the tables of its groups of hidden columns, in order, and the reasons for
-// what is left out.
+// shape is a statement with what can be seen of it: the tables of its groups of hidden columns, in order, and the
+// reasons for what is left out.
 type shape struct {
 	sql    string
 	seen   string   // tables, separated by commas
@@ -122,7 +122,7 @@ var shapes = []shape{
 	{sql: "SELECT 1"},
 	{sql: "VALUES (1, 2), (3, 4)"},
 	{sql: "TABLE t", unseen: []string{"unknown form of statement"}},
-	// What an index may answer without the table.
+	// Statements that an index may answer without the table.
 	{sql: "SELECT id FROM t WHERE id > 3 ORDER BY id", unseen: []string{"an index may answer without the table"}},
 	{sql: "SELECT id FROM t WHERE id > 3 AND v > 0 ORDER BY id", seen: "t"},
 	{sql: "SELECT id FROM t WHERE id > 3 ORDER BY id FOR SHARE", seen: "t"},
@@ -171,7 +171,7 @@ var shapes = []shape{
 	{sql: "SELECT t.v, l.w FROM t, LATERAL (SELECT w FROM u WHERE u.t = t.id LIMIT 1) l ORDER BY t.id", seen: "t",
 		unseen: []string{"a subquery in FROM"}},
 	{sql: "SELECT t.v FROM t, public.t", unseen: []string{"two tables with the same name"}, flags: "error"},
-	// What makes one row of many.
+	// Clauses that make one row of many.
 	{sql: "SELECT count(*) FROM t", unseen: []string{"an aggregate"}},
 	{sql: "SELECT max(v) FROM t WHERE id > 2", unseen: []string{"an aggregate"}},
 	{sql: "SELECT v % 2, count(*) FROM t GROUP BY 1 ORDER BY 1", unseen: []string{"GROUP BY"}},
@@ -210,7 +210,7 @@ var shapes = []shape{
 	{sql: "WITH x AS (SELECT 1) (SELECT v FROM t ORDER BY id)", unseen: []string{"WITH", "unknown form of statement"}},
 	{sql: "SELECT writes(1), v FROM t ORDER BY id", seen: "t", unseen: []string{"what a function reads"},
 		flags: "unseen writes"},
-	// Places in ORDER BY.
+	// Positions in ORDER BY.
 	{sql: "SELECT v FROM t ORDER BY 2", unseen: []string{"ORDER BY or GROUP BY may refer to a column by its position"},
 		flags: "error"},
 	{sql: "SELECT v FROM t ORDER BY 0", unseen: []string{"ORDER BY or GROUP BY may refer to a column by its position"},

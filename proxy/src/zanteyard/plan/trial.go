@@ -11,8 +11,8 @@ const (
 	tableoidNumber = -6
 )
 
-// privileges is a SELECT of one boolean: each name means the relation that it was taken for, and its hidden columns may be
-// read. A column that isn't there any more gives NULL.
+// privileges returns a SELECT of one boolean: each name means the relation that it was taken for, and its hidden
+// columns may be read. A column that isn't there any more yields NULL.
 func privileges(relations []relation) string {
 	var out strings.Builder
 	out.WriteString("SELECT coalesce(pg_catalog.has_function_privilege(" +
@@ -39,7 +39,7 @@ func (r relation) condition() string {
 	return condition
 }
 
-// literal writes a string that means the same whatever standard_conforming_strings is.
+// literal writes a string that means the same with any setting of standard_conforming_strings.
 func literal(text string) string {
 	text = strings.ReplaceAll(text, "'", "''")
 	if strings.Contains(text, `\`) {

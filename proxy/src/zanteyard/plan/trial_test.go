@@ -11,7 +11,7 @@ import (
 	"zanteyard/record"
 )
 
-// TestTrial tries plans on connections on which names or rights are other ones.
+// TestTrial tries plans on connections with other names or rights.
 func TestTrial(t *testing.T) {
 	connection := connect(t, "trial", schema+`
 		CREATE ROLE narrow LOGIN; CREATE ROLE wide LOGIN;
@@ -134,7 +134,7 @@ func TestAskedKey(t *testing.T) {
 		parameters [][]byte
 		formats    []int16
 		types      []uint32
-		want       string // "no" where no key is known
+		want       string // "no" if no key is known
 	}{
 		{text: "SELECT v FROM t WHERE id = 12", want: "12"},
 		{text: "SELECT v FROM t WHERE id = -12", want: "-12"},
@@ -201,8 +201,8 @@ func TestAskedKey(t *testing.T) {
 	}
 }
 
-// TestLockedRow reads a row FOR UPDATE that another transaction changes meanwhile: at read committed the version that is
-// returned is the new one, and the hidden columns are of that.
+// TestLockedRow reads a row FOR UPDATE that another transaction changes meanwhile: at read committed the new version is
+// returned, and the hidden columns are those of that version.
 func TestLockedRow(t *testing.T) {
 	connection := connect(t, "locked", schema)
 	cache := NewCache(load(t, connection))
@@ -244,8 +244,8 @@ func TestLockedRow(t *testing.T) {
 	}
 }
 
-// TestPreparedOutlivesNewType changes a key's type while a statement is prepared: the statement as the client wrote it
-// would go on, so the rewritten one has to.
+// TestPreparedOutlivesNewType changes a key's type while a statement is prepared: the client's own statement would keep
+// working, so the rewritten one has to.
 func TestPreparedOutlivesNewType(t *testing.T) {
 	connection := connect(t, "newtype", schema)
 	cache := NewCache(load(t, connection))
@@ -282,12 +282,12 @@ func TestLongTexts(t *testing.T) {
 			t.Errorf("%.40q has the plan %+v", text, p)
 		}
 		untouched(t, text, p, tokens)
-		tried(t, connection, p, !strings.HasPrefix(text, "INSERT")) // its columns are more than its values
+		tried(t, connection, p, !strings.HasPrefix(text, "INSERT")) // its shortened text has more columns than values
 		compare(t, connection, known, text, p, tokens, 0, true)
 	}
 }
 
-// TestSearchPaths plans the same text for connections whose names mean other tables.
+// TestSearchPaths plans the same text for connections on which its names mean other tables.
 func TestSearchPaths(t *testing.T) {
 	connection := connect(t, "paths", `CREATE SCHEMA one; CREATE TABLE one.t (id int PRIMARY KEY, v int);
 		CREATE SCHEMA "Two"; CREATE TABLE "Two".t (k text PRIMARY KEY, v int); CREATE TABLE "Two".sole (id int PRIMARY KEY, v int)`)
@@ -311,7 +311,7 @@ func TestSearchPaths(t *testing.T) {
 			t.Error("it is planned twice")
 		}
 	}
-	// A name that one schema alone has is taken to mean that.
+	// A name that only one schema has is taken to mean that one.
 	p, _ := cache.Plan("SELECT v FROM sole")
 	run(t, connection, `SET search_path TO "Two"`)
 	tried(t, connection, p, true)

@@ -2,8 +2,8 @@ package plan
 
 import "strings"
 
-// Writes are asked for the number of their transaction by RETURNING, where that returns few rows or the client asked for
-// rows itself. A statement that may write any number of rows is asked for it at COMMIT.
+// Writes are asked for their transaction's number by RETURNING, if that returns few rows or the client asked for rows
+// itself. A statement that may write any number of rows is asked for it at COMMIT.
 
 const numberColumn = "pg_catalog.pg_current_xact_id_if_assigned() AS " + alias
 
@@ -29,7 +29,7 @@ func (m *maker) inserts(p *Plan, body node, end int) {
 	m.returns(p, body, target, !target.table.Partitioned(), nil, "", end)
 }
 
-// changes plans UPDATE and DELETE, whose other tables stand in a field.
+// changes plans UPDATE and DELETE, which have their other tables in a field.
 func (m *maker) changes(p *Plan, body node, end int, others string) {
 	target := m.target(p, body.node("relation"))
 	if target == nil {
@@ -52,7 +52,7 @@ func (m *maker) changes(p *Plan, body node, end int, others string) {
 	m.returns(p, body, target, others == "fromClause" && !target.table.Partitioned(), found, groups, end)
 }
 
-// target finds the table that is written to. It is nil where nothing can be asked of it.
+// target finds the table that is written to, or nil if nothing can be asked of it.
 func (m *maker) target(p *Plan, r node) *item {
 	t, ok := m.catalog.Find(r.text("schemaname"), r.text("relname"))
 	reason := ""
@@ -72,12 +72,12 @@ func (m *maker) target(p *Plan, r node) *item {
 	return newItem(r, t, place{}, false)
 }
 
-// mayReturn says whether RETURNING may be added, or added to. With row security it isn't added: it would make the server
-// look at more policies.
+// mayReturn reports whether RETURNING may be added or extended. With row security it isn't added, since it would make
+// the server check more policies.
 func (m *maker) mayReturn(p *Plan, body node, target *item, few bool) bool {
 	own := body.has("returningList")
 	if target.table.Triggers {
-		p.MayWriteUnseen = true // also where no row is returned
+		p.MayWriteUnseen = true // even if no row is returned
 	}
 	if !own && (!few || target.table.RowSecurity) {
 		p.MayWriteUnseen = true
@@ -86,8 +86,8 @@ func (m *maker) mayReturn(p *Plan, body node, target *item, few bool) bool {
 	return true
 }
 
-// returns adds what RETURNING is to tell: the number, the version that was written, and the rows that were read: those of
-// other tables, and the one that a DELETE took away.
+// returns adds what RETURNING should report: the number, the version that was written, and the rows that were read:
+// those of other tables, and the one that a DELETE removed.
 func (m *maker) returns(p *Plan, body node, target *item, version bool, found []*item, groups string, end int) {
 	var out strings.Builder
 	p.AddsReturning = !body.has("returningList")
@@ -117,7 +117,7 @@ func (m *maker) returns(p *Plan, body node, target *item, version bool, found []
 	p.insertion = insertion{text: out.String(), token: end - 1, behind: true}
 }
 
-// deletes tells DELETE from the others: it has no list of columns, values or rows.
+// deletes distinguishes DELETE from the others: it has no list of columns, values or rows.
 func (m *maker) deletes(body node) bool {
 	return !body.has("targetList") && !body.has("selectStmt") && !body.has("override") && !body.has("cols")
 }

@@ -1,15 +1,14 @@
-// Package record holds what the parts of the proxy tell each other about transactions: the sessions, which see what
-// clients read, the replication slot, which sees what was committed, and the joiner, which makes the auditor's lines of
-// both.
+// Package record has what the parts of the proxy report to each other about transactions: the sessions, which see what
+// clients read; the replication slot, which sees what was committed; and the joiner, which makes the auditor's lines
+// from both.
 package record
 
 import "time"
 
-// Level is an isolation level, as a transaction ran at.
+// Level is the isolation level that a transaction ran at.
 type Level uint8
 
-// The levels of PostgreSQL (read uncommitted runs as read committed). A level that the proxy didn't learn is
-// UnknownLevel.
+// The levels of PostgreSQL (read uncommitted runs as read committed). UnknownLevel is one that the proxy didn't learn.
 const (
 	UnknownLevel Level = iota
 	ReadCommitted
@@ -17,10 +16,10 @@ const (
 	Serializable
 )
 
-// Outcome is how a transaction ended, as far as the connection tells.
+// Outcome is how a transaction ended, as far as the connection shows.
 type Outcome uint8
 
-// A connection that was lost between COMMIT and its answer leaves Unclear: the slot decides.
+// If a connection is lost between COMMIT and its answer, the outcome is Unclear: the slot decides.
 const (
 	Committed Outcome = iota
 	Aborted
@@ -30,75 +29,78 @@ const (
 // Relation names a table or a partition by its object identifier in the database's catalog.
 type Relation uint32
 
-// Key is a row's primary key in one canonical text: each column's value in the form that keys.Canonical gives for its
-// type, NUL bytes between columns. Two keys are of one row exactly where their texts are the same.
+// Key is a row's primary key as one canonical text: each column's value in the form that keys.Canonical returns for its
+// type, with NUL bytes between columns. Two keys are of the same row exactly if their texts are equal.
 type Key string
 
 // Read is one version of a row that was returned to a client.
 type Read struct {
-	Relation Relation // the row's tableoid: a partition's leaf, where the table is partitioned
+	Relation Relation // the row's tableoid: of the leaf partition, if the table is partitioned
 	Key      Key
 	Version  uint32 // the row's xmin: 32 bits of the number of the transaction or subtransaction that wrote it
 }
 
-// Absence is a whole primary key that a statement asked for and didn't find, by the transaction's snapshot.
+// Absence is a whole primary key that a statement asked for and didn't find, in the transaction's snapshot.
 type Absence struct {
 	Relation Relation // the table that the statement names
 	Key      Key
 }
 
-// Statement is one statement of a transaction, for people who read an explanation.
+// Statement is one statement of a transaction, for readers of an explanation.
 type Statement struct {
 	Text       string
 	Parameters []string // as text, if the policy allows them, otherwise nil
 	At         time.Time
-	Unseen     []Unseen // what of it the proxy couldn't see
+	Unseen     []Unseen // what the proxy couldn't see of it
+	// From and To delimit those of the transaction's Reads that it made, except reads that an earlier statement made too.
+	From, To int
+	Absent   int // which of the transaction's Absent it asked for, counted from 1; 0 for none
 }
 
 // Unseen counts reads or writes that were left out: by shape of statement, with a reason in a few words.
 type Unseen struct {
 	Shape  string
 	Reason string
-	Writes bool // it is writes that are left out, not reads
+	Writes bool // writes are left out, not reads
 }
 
-// Transaction is what the proxy saw of one transaction of one connection, told once it has ended.
+// Transaction is what the proxy saw of one transaction of one connection, reported once it has ended.
 type Transaction struct {
-	Connection uint64 // counted from 1 in the life of a proxy, never used again
-	Place      uint64 // of the transaction in its connection, counted from 0 with no gap
+	Connection uint64 // counted from 1 in the life of a proxy, never reused
+	Place      uint64 // of the transaction in its connection, counted from 0 without gaps
 	Began      time.Time
 	Ended      time.Time
 	Level      Level
 	Outcome    Outcome
-	// Number is the 64-bit number of the transaction, 0 where it has none or it wasn't learned.
+	// Number is the 64-bit number of the transaction, or 0 if it has none or it wasn't learned.
 	Number uint64
-	// MayHaveWritten says that it may have written although Number is 0: what it wrote is somebody's writes in the slot,
-	// and is folded.
+	// MayHaveWritten means that it may have written although Number is 0: its writes appear in the slot as somebody's, and
+	// are folded.
 	MayHaveWritten bool
-	// Versions are the xmins of rows that the transaction itself wrote, where RETURNING told them: its own number and
-	// those of its subtransactions. None that a rollback to a savepoint took back needs to be left out.
+	// Versions are the xmins of rows that the transaction wrote, as RETURNING reported them: its own number and those of
+	// its subtransactions. Those that a rollback to a savepoint undid needn't be left out.
 	Versions []uint32
-	// Snapshot is the text of pg_current_snapshot() at its end, "" where it wasn't asked for. At repeatable read and
+	// Snapshot is the text of pg_current_snapshot() at its end, or "" if it wasn't asked for. At repeatable read and
 	// serializable it is the snapshot of all its statements.
 	Snapshot string
 	Reads    []Read // in the order of the answers, each once
 	Absent   []Absence
-	// Incomplete says that reads were dropped because there were more than the limit.
+	// Incomplete means that reads were dropped because there were more than the limit.
 	Incomplete bool
 	// After and Known bound when a transaction of another machine's proxy ran, by the joiner's clock: it began after the
-	// one (the zero time where that isn't known), and had ended by the other. Known is zero for the joiner's own proxy,
+	// first (the zero time if that isn't known), and had ended by the second. Known is zero for the joiner's own proxy,
 	// whose clock is the joiner's.
 	After, Known time.Time
-	// Unsent is how many reads another machine's proxy left out, since it was told that the connection isn't audited:
-	// nothing of the transaction is offered.
+	// Unsent is how many reads another machine's proxy left out because the connection isn't audited: nothing of the
+	// transaction is offered.
 	Unsent int
 	// Fence is set for the proxy's own transactions on the fence table. They have no statement.
 	Fence      bool
 	Statements []Statement
 }
 
-// Connection is told as a connection begins, and again, with Ended set, as it ends. Its last transaction was told
-// before.
+// Connection is reported when a connection begins, and again, with Ended set, when it ends. Its last transaction was
+// reported before.
 type Connection struct {
 	Number          uint64
 	ApplicationName string
@@ -112,30 +114,30 @@ type Connection struct {
 type Write struct {
 	Relation Relation
 	Key      Key
-	Deleted  bool // the row isn't there afterwards
-	Inserted bool // it wasn't there when the transaction first wrote it
+	Deleted  bool // the row is absent afterwards
+	Inserted bool // it was absent when the transaction first wrote it
 }
 
-// Commit is a committed transaction, as the replication slot tells it, in commit order.
+// Commit is a committed transaction, as the replication slot reports it, in commit order.
 type Commit struct {
-	Number  uint32 // 32 bits: what the slot tells
+	Number  uint32 // 32 bits, as the slot reports it
 	LSN     uint64 // of the commit record's end
-	Start   uint64 // of the commit record's beginning, 0 where the slot doesn't tell it
+	Start   uint64 // of the commit record's beginning, 0 if the slot doesn't report it
 	At      time.Time
-	Subs    []uint32   // its subtransactions, where they could be learned
+	Subs    []uint32   // its subtransactions, if they could be learned
 	Writes  []Write    // each row once; the first change decides Inserted, the last one Deleted
 	Fence   bool       // it wrote the fence table's row
 	Emptied []Relation // tables that it truncated
-	Names   uint64     // how often tables' names had changed their meaning as it was read
-	Bare    bool       // the slot told of no row in it, not even of a table without a key
+	Names   uint64     // how often tables' names had changed their meaning when it was read
+	Bare    bool       // the slot reported no row in it, not even of a table without a key
 }
 
-// Sink takes what the sessions of a proxy tell. Its calls don't wait longer than it takes to append to a buffer: where a
-// buffer is full the sink drops transactions and counts them, which leaves them out of the audit as if others than the
-// proxy had made them; an application is never held up. Safe for use by many goroutines.
+// Sink takes what the sessions of a proxy report. Its calls wait no longer than it takes to append to a buffer: if a
+// buffer is full, the sink drops transactions and counts them, which leaves them out of the audit as if somebody other
+// than the proxy had made them; an application is never delayed. Safe for use by many goroutines.
 type Sink interface {
 	Connection(Connection)
 	Transaction(Transaction)
-	// Unseen counts what was left out, also of transactions that are never told.
+	// Unseen counts what was left out, including that of transactions that are never reported.
 	Unseen(shape, reason string, reads bool)
 }

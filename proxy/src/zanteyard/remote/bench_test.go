@@ -7,7 +7,8 @@ import (
 	"zanteyard/record"
 )
 
-// BenchmarkTransactions is what both sides do for one transaction of three reads and four statements, Redis apart.
+// BenchmarkTransactions measures what both sides do for one transaction of three reads and four statements, without
+// Redis.
 func BenchmarkTransactions(b *testing.B) {
 	to := newHeard()
 	h := newTestHub(b, to)

@@ -12,11 +12,11 @@ import (
 	"zanteyard/record"
 )
 
-// Sink takes what proxies elsewhere tell, as that of this proxy's own sessions.
+// Sink takes what proxies elsewhere report, like the reports of this proxy's own sessions.
 type Sink interface {
 	record.Sink
 	UnseenMany(shape, reason string, reads bool, n uint64)
-	// Lose counts transactions that never arrive, for a reason.
+	// Lose counts transactions that never arrive, by reason.
 	Lose(reason string, n uint64)
 }
 
@@ -26,33 +26,33 @@ const (
 	noRoomThere  = "reported faster than another proxy could send them"
 )
 
-// Hub takes what proxies elsewhere send, and has them meet. Safe for use by many goroutines.
+// Hub receives what proxies elsewhere send, and makes them meet. Safe for use by many goroutines.
 type Hub struct {
 	options Options
 	sink    Sink
-	running func() bool // there is an audit
+	running func() bool // whether there is an audit
 	logs    complaints
 	run     string
 	base    time.Time // ticks count from it
 	out     chan fromHub
 
 	lock     sync.Mutex
-	changed  chan struct{} // closed, and made anew, when a proxy has answered or is gone
+	changed  chan struct{} // closed, and replaced, when a proxy has answered or is gone
 	who      identity
 	mark     int64 // 0 while there is none
 	proxies  map[string]*attached
 	epochs   uint64
 	numbers  uint64            // connections
-	of       map[uint64]remote // by our numbers of them
+	of       map[uint64]remote // by our numbers for them
 	number   uint64            // of the last message
 	meetings uint64
 	refused  uint64
 	down     string // why Redis can't be reached
 	owns     bool   // no other watch has the audit's name
-	// sees says whether the audit's connection to the server sees the mark, too: nil before the first audit.
+	// sees reports whether the audit's connection to the server sees the mark too: nil before the first audit.
 	sees   func(context.Context, int64) (bool, error)
 	audits int
-	left   bool // proxies were told of connections that aren't audited
+	left   bool // proxies were sent the list of connections that aren't audited
 }
 
 // attached is a proxy elsewhere.
@@ -60,22 +60,22 @@ type attached struct {
 	id, name    string
 	try         uint64
 	epoch       uint64 // 0: not any more
-	next        uint64 // number of the message that has to come
-	received    uint64 // transactions that were told, also those that were lost
+	next        uint64 // number of the message that has to come next
+	received    uint64 // transactions that were reported, including lost ones
 	arrived     uint64
 	dropped     uint64
 	heard       time.Time
 	connections map[uint64]uint64 // ours, by theirs
-	first       uint64            // the last meeting whose first fences it has made
+	first       uint64            // the last meeting for which it has made its first fences
 	met         met
 }
 
 type remote struct{ epoch, connection uint64 }
 
-// firstConnection is above all numbers that this proxy's own connections have.
+// firstConnection is above all numbers of this proxy's own connections.
 const firstConnection = 1 << 32
 
-// NewHub makes one. running says whether there is an audit.
+// NewHub makes a hub. running reports whether there is an audit.
 func NewHub(options Options, sink Sink, running func() bool) (*Hub, error) {
 	run, err := drawn()
 	if err != nil {
@@ -85,7 +85,7 @@ func NewHub(options Options, sink Sink, running func() bool) (*Hub, error) {
 		out: make(chan fromHub, 256), changed: make(chan struct{}), proxies: map[string]*attached{}, of: map[uint64]remote{}}, nil
 }
 
-// Run takes what comes until ctx ends.
+// Run receives messages until ctx ends.
 func (h *Hub) Run(ctx context.Context) {
 	var all sync.WaitGroup
 	for _, one := range []func(context.Context){h.write, h.look, h.keepMark} {
@@ -100,7 +100,7 @@ func (h *Hub) Run(ctx context.Context) {
 	all.Wait()
 }
 
-// reached notes whether Redis is there.
+// reached records whether Redis can be reached.
 func (h *Hub) reached(ctx context.Context, err error) {
 	h.lock.Lock()
 	defer h.lock.Unlock()
@@ -115,14 +115,14 @@ func (h *Hub) reached(ctx context.Context, err error) {
 	}
 }
 
-// take takes messages in, and has Redis forget them.
+// take handles messages, and makes Redis forget them.
 func (h *Hub) take(l *link, its []entry) {
 	now := time.Now()
 	h.lock.Lock()
 	owns := h.owns
 	h.lock.Unlock()
 	if !owns {
-		return // another watch reads them, and has Redis forget them
+		return // another watch reads them, and makes Redis forget them
 	}
 	for _, one := range its {
 		var m toHub
@@ -132,7 +132,7 @@ func (h *Hub) take(l *link, its []entry) {
 		case err != nil:
 			h.refused++
 			h.logs.say("refused messages: " + err.Error())
-		case m.Run != h.run: // for a watch that was before this one
+		case m.Run != h.run: // for an earlier watch
 		case m.Hello != nil:
 			h.greet(&m, now)
 		default:
@@ -152,7 +152,7 @@ func (h *Hub) greet(m *toHub, now time.Time) {
 	its := m.Hello
 	a := h.proxies[m.Proxy]
 	if a != nil && its.Try <= a.try {
-		return // once more
+		return // a repeated one
 	}
 	reply := answer{Proxy: m.Proxy, Try: its.Try, Mark: h.mark, Redacts: h.options.Redacts, Refused: h.refuses(its)}
 	if reply.Refused != "" || h.mark == 0 {
@@ -180,7 +180,7 @@ func (h *Hub) greet(m *toHub, now time.Time) {
 	h.options.Log("the proxy " + a.name + " feeds this audit")
 }
 
-// refuses says why a proxy can't feed this audit, "" if it can. Called with lock held.
+// refuses returns why a proxy can't feed this audit, or "" if it can. Called with lock held.
 func (h *Hub) refuses(its *hello) string {
 	switch {
 	case its.Protocol != protocol:
@@ -195,7 +195,7 @@ func (h *Hub) refuses(its *hello) string {
 	return ""
 }
 
-// one takes a message of an attachment, if it is the next one. Called with lock held.
+// one handles a message of an attachment, if it is the next one. Called with lock held.
 func (h *Hub) one(m *toHub, now time.Time) {
 	a := h.proxies[m.Proxy]
 	switch {
@@ -205,7 +205,7 @@ func (h *Hub) one(m *toHub, now time.Time) {
 		}
 		return
 	case m.Number < a.next:
-		return // once more
+		return // a repeated one
 	case m.Number > a.next:
 		h.end(a, "a message from it was lost")
 		h.say(fromHub{Gone: m.Epoch})
@@ -232,7 +232,7 @@ func (h *Hub) item(a *attached, it *item, now time.Time) {
 		h.connection(a, *it.Connection)
 	case it.Transaction != nil:
 		its := it.Transaction.Its
-		its.Connection = a.connections[its.Connection] // 0 where it isn't known
+		its.Connection = a.connections[its.Connection] // 0 if it isn't known
 		its.After, its.Known = h.at(it.Transaction.Tick, now), now
 		a.arrived++
 		h.sink.Transaction(its)
@@ -247,7 +247,7 @@ func (h *Hub) item(a *attached, it *item, now time.Time) {
 	}
 }
 
-// at is when a tick was made; the zero time, before everything, for one that wasn't.
+// at returns when a tick was made, or the zero time, which is before everything, if there was no such tick.
 func (h *Hub) at(tick int64, now time.Time) time.Time {
 	at := h.base.Add(time.Duration(tick))
 	if tick <= 0 || at.After(now) {
@@ -297,101 +297,6 @@ func (h *Hub) end(a *attached, why string) {
 	h.signal()
 }
 
-// signal wakes those who wait for proxies. Called with lock held.
-func (h *Hub) signal() {
-	close(h.changed)
-	h.changed = make(chan struct{})
-}
-
-// say has a message be sent, with the time of this moment. Called with lock held. What Redis doesn't take in time is
-// left out: each message but an answer's is of use at its moment alone, and a hello is said again.
-func (h *Hub) say(m fromHub) {
-	h.number++
-	m.Run, m.Number, m.Tick, m.Idle = h.run, h.number, int64(time.Since(h.base)), !h.running()
-	select {
-	case h.out <- m:
-	default:
-	}
-}
-
-// write sends messages, and forgets what is too old where Redis was away.
-func (h *Hub) write(ctx context.Context) {
-	l := &link{url: h.options.Redis}
-	defer l.close()
-	var expires time.Time
-	claims := time.NewTicker(time.Second)
-	defer claims.Stop()
-	owns := h.claim(ctx, l)
-	for {
-		var m fromHub
-		select {
-		case <-claims.C:
-			owns = h.claim(ctx, l)
-			continue
-		case <-ctx.Done():
-			h.lock.Lock()
-			h.number++
-			m = fromHub{Run: h.run, Number: h.number, Tick: int64(time.Since(h.base)), Bye: true}
-			h.lock.Unlock()
-			if owns {
-				h.add(l, m)
-				l.do(0, "DEL", h.options.owner())
-			}
-			return
-		case m = <-h.out:
-		}
-		if !owns || time.Since(h.base)-time.Duration(m.Tick) > time.Second {
-			continue
-		}
-		if err := h.add(l, m); err != nil {
-			h.reached(ctx, err)
-			pause(ctx, 100*time.Millisecond)
-			continue
-		}
-		if time.Since(expires) > time.Minute { // what both sides leave behind goes by itself
-			expires = time.Now()
-			for _, name := range []string{h.options.watch(), h.options.proxies()} {
-				l.do(0, "EXPIRE", name, 3600)
-			}
-		}
-	}
-}
-
-// claim has this watch be the one of the audit's name, and says whether it is.
-func (h *Hub) claim(ctx context.Context, l *link) bool {
-	reply, err := l.do(0, "SET", h.options.owner(), h.run, "NX", "PX", silence.Milliseconds())
-	owns := err == nil && reply != nil
-	if err == nil && !owns {
-		if reply, err = l.do(0, "GET", h.options.owner()); err == nil {
-			text, _ := reply.([]byte)
-			if owns = string(text) == h.run; owns {
-				_, err = l.do(0, "PEXPIRE", h.options.owner(), silence.Milliseconds())
-			}
-		}
-	}
-	if err != nil {
-		h.reached(ctx, err)
-	}
-	h.lock.Lock()
-	defer h.lock.Unlock()
-	if err != nil {
-		return h.owns
-	}
-	if !owns {
-		h.logs.say("another `zanteyard watch` has the audit " + h.options.Audit + " in this Redis: proxies on other machines feed that one")
-	}
-	h.owns = owns
-	return owns
-}
-
-func (h *Hub) add(l *link, m fromHub) error {
-	text, err := encode(m)
-	if err != nil {
-		return err
-	}
-	return l.add(h.options.watch(), text, h.options.sign(downwards, text))
-}
-
 // look sends ticks, and ends the attachments of proxies that are silent.
 func (h *Hub) look(ctx context.Context) {
 	for ctx.Err() == nil {
@@ -416,7 +321,7 @@ func (h *Hub) look(ctx context.Context) {
 	}
 }
 
-// keepMark keeps the lock by which proxies know the server. Without it none can feed the audit.
+// keepMark keeps the lock by which proxies recognize the server. Without it none can feed the audit.
 func (h *Hub) keepMark(ctx context.Context) {
 	s := &server{config: h.options.Server}
 	defer s.close()
@@ -437,8 +342,8 @@ func (h *Hub) keepMark(ctx context.Context) {
 	}
 }
 
-// Begins has an audit's connection asked whether it is to the server that the proxies reach. What is attached by then may
-// be of another one, and attaches anew.
+// Begins makes the hub ask an audit's connection whether it is to the server that the proxies reach. Proxies that are
+// attached by then may be at another one, and attach again.
 func (h *Hub) Begins(sees func(context.Context, int64) (bool, error)) {
 	h.lock.Lock()
 	defer h.lock.Unlock()
@@ -449,8 +354,8 @@ func (h *Hub) Begins(sees func(context.Context, int64) (bool, error)) {
 	}
 }
 
-// audited says whether the audit's connection sees the mark. Where it can't say so the audit ends, and then it doesn't
-// matter.
+// audited reports whether the audit's connection sees the mark. If that connection can't tell, the audit ends, and then
+// it doesn't matter.
 func (h *Hub) audited(ctx context.Context, mark int64) error {
 	h.lock.Lock()
 	sees := h.sees
@@ -499,7 +404,7 @@ func (h *Hub) keep(ctx context.Context, s *server) error {
 	return nil
 }
 
-// Remotes says how proxies elsewhere are.
+// Remotes returns the state of the proxies elsewhere.
 func (h *Hub) Remotes() join.Remotes {
 	h.lock.Lock()
 	defer h.lock.Unlock()

@@ -14,7 +14,7 @@ import (
 	"zanteyard/record"
 )
 
-// heard notes what a hub passes on.
+// heard records what a hub passes on.
 type heard struct {
 	live  map[uint64]bool
 	its   []record.Transaction
@@ -61,7 +61,7 @@ func someHello(h *Hub, proxy string, try uint64) *toHub {
 		System: "1", Fence: "f"}}
 }
 
-// sealed is a message as Redis has it.
+// sealed returns a message as Redis has it.
 func sealed(t testing.TB, o Options, direction string, it any) entry {
 	t.Helper()
 	text, err := encode(it)
@@ -103,7 +103,7 @@ func TestSigned(t *testing.T) {
 	}
 }
 
-// TestRefuses: who isn't of the audit's server and database has no attachment.
+// TestRefuses: a proxy of another server or database than the audit's gets no attachment.
 func TestRefuses(t *testing.T) {
 	for name, change := range map[string]func(*hello){
 		"":                func(*hello) {},
@@ -122,15 +122,15 @@ func TestRefuses(t *testing.T) {
 	}
 }
 
-// TestLostAndTwice has messages lost, doubled, reordered and replayed on their way. What is passed on is of each
-// connection what its proxy has told, in its order, nothing twice, and without a gap within a connection.
+// TestLostAndTwice loses, doubles, reorders and replays messages on their way. For each connection the hub passes on
+// what its proxy reported, in order, nothing twice, and without a gap within a connection.
 func TestLostAndTwice(t *testing.T) {
 	for seed := int64(0); seed < 300; seed++ {
 		lossy(t, rand.New(rand.NewSource(seed)))
 	}
 }
 
-// lossy is one run. A proxy's side is played by hand: it attaches anew when it is told that it isn't attached.
+// lossy is one run. The proxy's side is simulated: it attaches again when it is told that it isn't attached.
 func lossy(t *testing.T, random *rand.Rand) {
 	to := newHeard()
 	h := newTestHub(t, to)
@@ -206,13 +206,13 @@ func lossy(t *testing.T, random *rand.Rand) {
 	if len(to.wrong) > 0 {
 		t.Fatal(to.wrong)
 	}
-	attach() // whose hello says how many there were
+	attach() // the hello says how many there were
 	if n := uint64(len(to.its)) + to.lost[lostOnTheWay]; n != told {
 		t.Fatalf("%d transactions were told, %d are passed on, and %d count as lost", told, len(to.its), to.lost[lostOnTheWay])
 	}
 }
 
-// TestBounds: when a transaction ran is said by the hub's clock alone.
+// TestBounds: only the hub's clock determines when a transaction ran.
 func TestBounds(t *testing.T) {
 	to := newHeard()
 	h := newTestHub(t, to)
@@ -246,7 +246,7 @@ func TestBounds(t *testing.T) {
 	}
 }
 
-// someRoom is a room of sessions that make so many fences.
+// someRoom is a room of sessions that make a fixed number of fences.
 type someRoom struct{ bound time.Duration }
 
 func (r someRoom) MeetAround(ctx context.Context, between func(context.Context)) (int, time.Duration, error) {
@@ -259,7 +259,7 @@ func (r someRoom) MeetAround(ctx context.Context, between func(context.Context))
 
 func (someRoom) Fence(context.Context, uint64) error { return nil }
 
-// TestMeeting: a proxy elsewhere that doesn't answer keeps nobody, here or there, for longer than the bound.
+// TestMeeting: a proxy elsewhere that doesn't answer delays nobody, here or there, for longer than the bound.
 func TestMeeting(t *testing.T) {
 	const bound, busy = 100 * time.Millisecond, 2 * time.Second // the second one is for a machine that is
 	h := newTestHub(t, newHeard())
@@ -274,7 +274,7 @@ func TestMeeting(t *testing.T) {
 	began := time.Now()
 	done := make(chan time.Duration, 1)
 	go func() {
-		second := make(chan struct{}) // which never comes
+		second := make(chan struct{}) // never comes
 		post.meet(context.Background(), 1, second)
 		done <- time.Since(began)
 	}()
@@ -305,7 +305,7 @@ func TestRoom(t *testing.T) {
 	if err != nil {
 		t.Fatal(err)
 	}
-	p.Transaction(record.Transaction{}) // nobody is told
+	p.Transaction(record.Transaction{}) // nobody takes it
 	p.attach(&answer{Epoch: 1})
 	for i := 0; i < 20; i++ {
 		p.Transaction(record.Transaction{Number: uint64(i)})
@@ -323,7 +323,7 @@ func TestRoom(t *testing.T) {
 	}
 }
 
-// TestUnaudited: of connections without a session no reads are sent, and those count.
+// TestUnaudited: for connections without a session no reads are sent, but they are counted.
 func TestUnaudited(t *testing.T) {
 	p, err := NewPost(someOptions(), "p", 1<<20, someRoom{})
 	if err != nil {

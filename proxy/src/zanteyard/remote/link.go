@@ -12,13 +12,13 @@ import (
 	"github.com/gomodule/redigo/redis"
 )
 
-// link is a connection to Redis, made anew where it is lost. For one goroutine.
+// link is a connection to Redis, made again if it is lost. For one goroutine.
 type link struct {
 	url  string
 	conn redis.Conn
 }
 
-// do runs a command, for which Redis may wait for some time.
+// do runs a command for which Redis may wait for some time.
 func (l *link) do(waits time.Duration, command string, arguments ...any) (any, error) {
 	if l.conn == nil {
 		conn, err := dial(l.url)
@@ -34,7 +34,7 @@ func (l *link) do(waits time.Duration, command string, arguments ...any) (any, e
 	return reply, err
 }
 
-// dial connects to a Redis by a URL as redis-py has them: redis://, rediss:// (TLS) or unix:///socket?db=0.
+// dial connects to a Redis by a URL as redis-py uses: redis://, rediss:// (TLS) or unix:///socket?db=0.
 func dial(text string) (redis.Conn, error) {
 	options := []redis.DialOption{redis.DialConnectTimeout(patience), redis.DialReadTimeout(patience), redis.DialWriteTimeout(patience)}
 	its, err := url.Parse(text)
@@ -54,7 +54,7 @@ func dial(text string) (redis.Conn, error) {
 	return redis.Dial("unix", its.Path, options...)
 }
 
-// CheckURL says what is wrong with a Redis's URL, as far as that shows without connecting.
+// CheckURL returns what is wrong with the URL of a Redis, as far as that can be checked without connecting.
 func CheckURL(text string) error {
 	its, err := url.Parse(text)
 	switch {
@@ -73,7 +73,7 @@ func (l *link) close() {
 	}
 }
 
-// add appends a message to a stream, which is kept short.
+// add appends a message to a stream, whose length is limited.
 func (l *link) add(stream string, text, signature []byte) error {
 	_, err := l.do(0, "XADD", stream, "MAXLEN", "~", backlog, "*", "m", text, "s", signature)
 	return err
@@ -87,7 +87,7 @@ type entry struct {
 
 var errReply = errors.New("remote: unexpected form of an answer from Redis")
 
-// read waits for a moment for what stands in a stream behind an id.
+// read waits for a moment for the messages of a stream after an id.
 func (l *link) read(stream, after string) ([]entry, error) {
 	const wait = 200 * time.Millisecond
 	reply, err := l.do(wait, "XREAD", "COUNT", backlog, "BLOCK", wait.Milliseconds(), "STREAMS", stream, after)
@@ -116,7 +116,7 @@ func (l *link) read(stream, after string) ([]entry, error) {
 		if err != nil {
 			return nil, errReply
 		}
-		fields, _ := redis.ByteSlices(parts[1], nil) // what has another form isn't signed
+		fields, _ := redis.ByteSlices(parts[1], nil) // a message in another form isn't signed
 		e := entry{id: id}
 		for i := 0; i+1 < len(fields); i += 2 {
 			switch string(fields[i]) {
@@ -131,8 +131,8 @@ func (l *link) read(stream, after string) ([]entry, error) {
 	return entries, nil
 }
 
-// begunAnew says that what a stream has begins before an id: Redis has lost what it had, and its ids are those of another
-// clock.
+// begunAnew reports whether a stream's messages begin before an id: Redis has lost what it had, and its ids come from
+// another clock.
 func (l *link) begunAnew(stream, after string) (bool, error) {
 	reply, err := l.do(0, "XREVRANGE", stream, "+", "-", "COUNT", 1)
 	if err != nil {
@@ -154,7 +154,7 @@ func (l *link) begunAnew(stream, after string) (bool, error) {
 	return a[0] < b[0] || a[0] == b[0] && a[1] < b[1], nil
 }
 
-// idOf is an id's two numbers.
+// idOf returns an id's two numbers.
 func idOf(text string) (its [2]uint64) {
 	head, tail, _ := strings.Cut(text, "-")
 	its[0], _ = strconv.ParseUint(head, 10, 64)
@@ -162,9 +162,9 @@ func idOf(text string) (its [2]uint64) {
 	return its
 }
 
-// stream reads a stream from now on, until ctx ends. take gets what came at once. Redis may have lost what it had, and
-// its ids may begin anew: that is looked at where nothing has come for a while. lost is told what goes wrong, and nil when
-// it goes well again.
+// stream reads a stream from now on, until ctx ends. take gets what arrived at once. Redis may have lost what it had,
+// and its ids may start again: that is checked if nothing has arrived for a while. lost gets each error, and nil when
+// things work again.
 func stream(ctx context.Context, o *Options, name string, take func(*link, []entry), lost func(error)) {
 	l := &link{url: o.Redis}
 	defer l.close()
@@ -206,7 +206,7 @@ func pause(ctx context.Context, d time.Duration) {
 	}
 }
 
-// complaints are logged once a minute each.
+// complaints are logged at most once a minute each.
 type complaints struct {
 	log  func(string)
 	told map[string]time.Time
@@ -223,7 +223,7 @@ func (c *complaints) say(text string) {
 	c.log(text)
 }
 
-// behind is the id after one.
+// behind returns the id after one.
 func behind(id string) string {
 	its := idOf(id)
 	return strconv.FormatUint(its[0], 10) + "-" + strconv.FormatUint(its[1]+1, 10)

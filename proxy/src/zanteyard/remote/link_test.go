@@ -10,7 +10,7 @@ import (
 	"time"
 )
 
-// TestLink: what is asked of a real Redis.
+// TestLink checks a link against a real Redis.
 func TestLink(t *testing.T) {
 	program, err := exec.LookPath("redis-server")
 	if err != nil {
@@ -27,7 +27,7 @@ func TestLink(t *testing.T) {
 	})
 	l := &link{url: "unix://" + socket + "?db=3"}
 	t.Cleanup(l.close)
-	// again is for a machine that is so busy that Redis doesn't answer in time.
+	// again repeats f on a machine that is so busy that Redis doesn't answer in time.
 	again := func(f func() error) {
 		t.Helper()
 		for end := time.Now().Add(time.Minute); ; time.Sleep(10 * time.Millisecond) {
@@ -100,7 +100,7 @@ func TestLink(t *testing.T) {
 		})
 		return is
 	}
-	must("SET", first.options.owner(), first.run) // with no end, however busy the machine is
+	must("SET", first.options.owner(), first.run) // without expiry, however busy the machine is
 	if claims(second) || second.owns {
 		t.Error("two watches have one name")
 	}

@@ -12,10 +12,10 @@ import (
 	"zanteyard/slot"
 )
 
-// The mark is an advisory lock with a number drawn by chance, which the hub has in the audit's database. Who sees it is
-// connected to the same database of the same server: a standby, a copy and another database don't have it.
+// The mark is an advisory lock with a random number, which the hub holds in the audit's database. Whoever sees it is
+// connected to the same database of the same server: a standby, a copy or another database doesn't have it.
 
-// server is a connection for questions, made anew where it is lost. For one goroutine.
+// server is a connection for questions, made again if it is lost. For one goroutine.
 type server struct {
 	config *pgconn.Config
 	conn   *pgconn.PgConn
@@ -63,7 +63,7 @@ func (s *server) identity(ctx context.Context) (identity, error) {
 	}
 	its := identity{database: texts[0]}
 	if texts, err = s.ask(ctx, "SELECT system_identifier FROM pg_catalog.pg_control_system()"); err == nil && len(texts) == 1 {
-		its.system = texts[0] // a role that may not ask goes by the mark alone
+		its.system = texts[0] // a role without the right to ask relies on the mark alone
 	}
 	return its, nil
 }
@@ -79,7 +79,7 @@ func (s *server) setMark(ctx context.Context) (int64, error) {
 	return number, err
 }
 
-// sees says whether the lock is there.
+// sees reports whether the lock is there.
 func (s *server) sees(ctx context.Context, mark int64) (bool, error) {
 	texts, err := s.ask(ctx, slot.LockSQL(mark))
 	return err == nil && len(texts) == 1 && texts[0] == "1", err

@@ -13,7 +13,7 @@ import (
 	"zanteyard/cluster"
 )
 
-// TestMark: who is connected to the same database of the same server sees the audit's lock, and nobody else.
+// TestMark: a connection sees the audit's lock only if it is to the same database of the same server.
 func TestMark(t *testing.T) {
 	c, err := cluster.Start(nil, nil)
 	if errors.Is(err, cluster.ErrMissing) {
@@ -58,7 +58,7 @@ func TestMark(t *testing.T) {
 	h.options.Server, h.mark = audit.config, 0
 	keeper := &server{config: audit.config}
 	t.Cleanup(keeper.close)
-	for name, one := range map[string]*server{"": same, "another server": other} { // whom the audit's log is of
+	for name, one := range map[string]*server{"": same, "another server": other} { // the server that the audit's log comes from
 		h.Begins(one.sees)
 		if err := h.keep(ctx, keeper); (name == "") != (err == nil) || err != nil && !strings.Contains(err.Error(), name) {
 			t.Errorf("%q: %v", name, err)

@@ -8,20 +8,20 @@ import (
 	"zanteyard/join"
 )
 
-// Meeter has the sessions of this proxy and those of proxies elsewhere meet at once. It implements join.Meeter.
+// Meeter makes the sessions of this proxy and those of proxies elsewhere meet at once. It implements join.Meeter.
 type Meeter struct {
 	room  Room
 	hub   *Hub
 	bound time.Duration
 }
 
-// NewMeeter makes one of the room of this proxy's own sessions, whose bound it is given.
+// NewMeeter makes one from the room of this proxy's own sessions and that room's bound.
 func NewMeeter(room Room, hub *Hub, bound time.Duration) *Meeter {
 	return &Meeter{room: room, hub: hub, bound: bound}
 }
 
-// MeetAround implements join.Meeter. Proxies elsewhere that haven't made their first fences when three quarters of the
-// bound have passed take no part. Each holds its clients for its own bound at most.
+// MeetAround implements join.Meeter. Proxies elsewhere that haven't made their first fences after three quarters of the
+// bound take no part. Each holds its clients for its own bound at most.
 func (m *Meeter) MeetAround(ctx context.Context, between func(context.Context)) (fences int, took time.Duration, err error) {
 	began := time.Now()
 	meeting, those := m.hub.hold()
@@ -41,7 +41,7 @@ func (m *Meeter) MeetAround(ctx context.Context, between func(context.Context)) 
 	return fences + m.hub.fencesOf(those, meeting), time.Since(began), err
 }
 
-// Fence implements join.Meeter. It doesn't wait for a connection elsewhere: what that makes is told as any transaction.
+// Fence implements join.Meeter. It doesn't wait for a connection elsewhere: its fence is reported like any transaction.
 func (m *Meeter) Fence(ctx context.Context, connection uint64) error {
 	if connection < firstConnection {
 		return m.room.Fence(ctx, connection)
@@ -54,7 +54,7 @@ func (m *Meeter) Fence(ctx context.Context, connection uint64) error {
 	return nil
 }
 
-// Unaudited says which connections have no session of the auditor, ours and others.
+// Unaudited reports which connections have no session of the auditor, ours and others'.
 func (m *Meeter) Unaudited(connections []uint64) {
 	its := map[uint64][]uint64{}
 	m.hub.lock.Lock()
@@ -70,10 +70,10 @@ func (m *Meeter) Unaudited(connections []uint64) {
 	}
 }
 
-// Remotes is how the other proxies are, for the coverage that the joiner tells.
+// Remotes returns the state of the other proxies, for the joiner's coverage.
 func (m *Meeter) Remotes() join.Remotes { return m.hub.Remotes() }
 
-// Busy is about how many sessions have something under way: nobody knows that of proxies elsewhere.
+// Busy returns about how many sessions have something under way: nobody knows that of proxies elsewhere.
 func (m *Meeter) Busy() int {
 	m.hub.lock.Lock()
 	defer m.hub.lock.Unlock()
@@ -88,13 +88,13 @@ func (m *Meeter) Busy() int {
 	return 0
 }
 
-// participant is a proxy in a meeting: one that attaches anew meanwhile takes no part.
+// participant is a proxy in a meeting: one that attaches again meanwhile takes no part.
 type participant struct {
 	its   *attached
 	epoch uint64
 }
 
-// hold begins a meeting of the proxies elsewhere that are there.
+// hold begins a meeting of the proxies elsewhere that are present.
 func (h *Hub) hold() (meeting uint64, those []participant) {
 	h.lock.Lock()
 	defer h.lock.Unlock()
@@ -110,14 +110,14 @@ func (h *Hub) hold() (meeting uint64, those []participant) {
 	return h.meetings, those
 }
 
-// second has proxies make their second fences. What begins there afterwards begins after this moment.
+// second makes proxies make their second fences. Whatever begins there afterwards begins after this moment.
 func (h *Hub) second(meeting uint64) {
 	h.lock.Lock()
 	defer h.lock.Unlock()
 	h.say(fromHub{Second: meeting})
 }
 
-// await waits until all that are still there have come so far.
+// await waits until all that are still present have come this far.
 func (h *Hub) await(ctx context.Context, those []participant, so func(*attached) bool) {
 	for {
 		h.lock.Lock()

@@ -10,12 +10,12 @@ import (
 	"zanteyard/record"
 )
 
-// toHub is what a proxy sends. Keys aren't text, so messages are gob's and not JSON.
+// toHub is what a proxy sends. Keys aren't text, so messages are encoded by gob, not as JSON.
 type toHub struct {
-	Run, Proxy string // the watch that it is for, and who sends it
+	Run, Proxy string // the watch that it is for, and its sender
 	Epoch      uint64 // of the attachment, 0 for a hello
-	Number     uint64 // from 0 with no gap, in each attachment
-	Sent       uint64 // transactions in all messages of the proxy's up to this one
+	Number     uint64 // from 0 without gaps, in each attachment
+	Sent       uint64 // transactions in all of the proxy's messages up to this one
 	Dropped    uint64 // transactions that it had no room for
 	Hello      *hello
 	Items      []item
@@ -28,18 +28,18 @@ type hello struct {
 	Name, Database, System, Fence string
 }
 
-// item is one thing that a proxy tells.
+// item is one thing that a proxy reports.
 type item struct {
 	Connection  *record.Connection
 	Transaction *transaction
 	Unseen      *unseen
-	First       uint64 // the meeting whose first fences are made
+	First       uint64 // the meeting for which the first fences are made
 	Met         *met
 }
 
 type transaction struct {
 	Its  record.Transaction
-	Tick int64 // the last one that was received before it began, 0 if there was none
+	Tick int64 // the last one received before it began, 0 if there was none
 }
 
 type unseen struct {
@@ -57,7 +57,7 @@ type met struct {
 type fromHub struct {
 	Run    string
 	Number uint64 // rises
-	Tick   int64  // nanoseconds of the watch's clock, from its start on, when this was made
+	Tick   int64  // nanoseconds of the watch's clock since its start, when this was made
 	Idle   bool   // there is no audit for now
 	Bye    bool   // the watch ends
 	Hold   uint64 // a meeting begins
@@ -65,24 +65,24 @@ type fromHub struct {
 	Answer *answer
 	Gone   uint64 // this attachment has ended
 	Fence  *order
-	// Unaudited are the connections of each attachment that have no session: of these no reads and statements need be sent.
+	// Unaudited are the connections of each attachment that have no session: their reads and statements need not be sent.
 	Unaudited map[uint64][]uint64
 }
 
-// answer is that to a hello.
+// answer is the answer to a hello.
 type answer struct {
 	Proxy   string
 	Try     uint64
 	Epoch   uint64
-	Mark    int64  // the lock by which the server is known
+	Mark    int64  // the lock by which the server is recognized
 	Redacts bool   // constants and parameters aren't to be sent
 	Refused string // why there is no attachment
 }
 
-// order has a connection make a fence.
+// order makes a connection make a fence.
 type order struct{ Epoch, Connection uint64 }
 
-// Directions, so that nobody can send one side's messages back to it.
+// Directions, so that nobody can send messages of one side back to it.
 const (
 	upwards   = "zanteyard proxy to watch 1\x00"
 	downwards = "zanteyard watch to proxy 1\x00"
@@ -107,7 +107,7 @@ func encode(it any) ([]byte, error) {
 
 var errSigned = errors.New("remote: a message isn't signed with the audit's key")
 
-// open reads a message, if it is signed.
+// open decodes a message, if its signature is valid.
 func (o *Options) open(direction string, text, signature []byte, to any) error {
 	if !o.isSigned(direction, text, signature) {
 		return errSigned

@@ -13,14 +13,14 @@ import (
 	"zanteyard/record"
 )
 
-// Room has the sessions of this proxy make fences (package meeting).
+// Room makes the sessions of this proxy make fences (package meeting).
 type Room interface {
 	MeetAround(ctx context.Context, between func(context.Context)) (fences int, took time.Duration, err error)
 	Fence(ctx context.Context, connection uint64) error
 }
 
-// Post sends what the sessions of a proxy tell to the watch elsewhere. It implements record.Sink. While no watch is heard
-// nothing is gathered. Safe for use by many goroutines.
+// Post sends what this proxy's sessions report to the watch elsewhere. It implements record.Sink. While no watch is
+// heard nothing is gathered. Safe for use by many goroutines.
 type Post struct {
 	options Options
 	name    string
@@ -29,7 +29,7 @@ type Post struct {
 	held    int // bytes that may wait
 	logs    complaints
 	wake    chan struct{}
-	takes   atomic.Bool // what is told is taken: there is an attachment, and an audit
+	takes   atomic.Bool // reports are accepted: there is an attachment, and an audit
 
 	lock    sync.Mutex
 	live    map[uint64]record.Connection
@@ -48,14 +48,14 @@ type Post struct {
 	items   []item
 	bytes   int
 	unseen  map[unseen]uint64
-	wanted  *answer // a hello's answer, whose mark is still to be looked for
+	wanted  *answer // a hello's answer, whose mark still has to be looked for
 	mark    int64
-	looked  time.Time // when it was seen last
-	meeting uint64    // the last one that was begun
+	looked  time.Time // when it was last seen
+	meeting uint64    // the last one that began
 	second  chan struct{}
 }
 
-// NewPost makes one. The name is for people. Up to so many bytes of what sessions tell wait for Redis.
+// NewPost makes one. The name is for people. Up to `held` bytes of reports wait for Redis.
 func NewPost(options Options, name string, held int, room Room) (*Post, error) {
 	id, err := drawn()
 	if err != nil {
@@ -65,7 +65,7 @@ func NewPost(options Options, name string, held int, room Room) (*Post, error) {
 		wake: make(chan struct{}, 1), live: map[uint64]record.Connection{}, unseen: map[unseen]uint64{}}, nil
 }
 
-// Auditing says whether a watch takes what is told.
+// Auditing reports whether a watch accepts reports.
 func (p *Post) Auditing() bool { return p.takes.Load() }
 
 // Connection implements record.Sink.
@@ -114,7 +114,7 @@ func (p *Post) Unseen(shape, reason string, reads bool) {
 	p.unseen[key]++
 }
 
-// redact leaves out the constants and parameters of statements.
+// redact removes the constants and parameters of statements.
 func redact(it *record.Transaction) {
 	its := make([]record.Statement, len(it.Statements))
 	for i, one := range it.Statements {
@@ -144,7 +144,7 @@ func sizeOf(it *record.Transaction) int {
 	return n
 }
 
-// put has something be sent. Called with lock held.
+// put queues an item for sending. Called with lock held.
 func (p *Post) put(it item, bytes int) {
 	if p.epoch == 0 {
 		return
@@ -182,7 +182,8 @@ func (p *Post) say(text string) {
 	p.logs.say(text)
 }
 
-// take takes what the watch has sent. What has waited in Redis for longer than a meeting is no reason to hold clients.
+// take handles what the watch has sent. A message that has waited in Redis for longer than a meeting is no reason to
+// hold clients.
 func (p *Post) take(ctx context.Context, its []entry) {
 	const tooOld = time.Second
 	var messages []fromHub
@@ -209,12 +210,12 @@ func (p *Post) one(ctx context.Context, m *fromHub, isNew bool) {
 	defer p.lock.Unlock()
 	switch {
 	case m.Run != p.run && now.Sub(p.heard) < silence:
-		return // of another watch: that of an earlier time, or a second one
+		return // from another watch: an earlier one, or a second one
 	case m.Run != p.run:
 		p.detach()
 		p.run, p.number = m.Run, 0
 	case m.Number <= p.number:
-		return // once more
+		return // a repeated one
 	}
 	p.number, p.heard = m.Number, now
 	p.takes.Store(p.epoch != 0 && !m.Idle)
@@ -236,7 +237,7 @@ func (p *Post) one(ctx context.Context, m *fromHub, isNew bool) {
 		go func(connection uint64) {
 			fencing, cancel := context.WithTimeout(ctx, patience)
 			defer cancel()
-			p.room.Fence(fencing, connection) // if that fails, it makes one at the next meeting
+			p.room.Fence(fencing, connection) // if that fails, the connection makes one at the next meeting
 		}(m.Fence.Connection)
 	case m.Hold > p.meeting && p.epoch != 0 && isNew:
 		p.meeting, p.second = m.Hold, make(chan struct{})
@@ -247,17 +248,17 @@ func (p *Post) one(ctx context.Context, m *fromHub, isNew bool) {
 	}
 }
 
-// answered takes the answer to a hello. Called with lock held.
+// answered handles the answer to a hello. Called with lock held.
 func (p *Post) answered(it *answer) {
 	if it.Refused != "" {
 		p.logs.say("the audit refused this proxy, which passes traffic on without auditing: " + it.Refused)
 		p.tried = time.Now().Add(verifying) // not soon again
 		return
 	}
-	p.wanted = it // look goes on
+	p.wanted = it // look continues
 }
 
-// detach ends the attachment: what isn't sent yet is never told. Called with lock held.
+// detach ends the attachment: what hasn't been sent is never reported. Called with lock held.
 func (p *Post) detach() {
 	if p.epoch != 0 {
 		p.options.Log("this proxy no longer feeds the audit; traffic is passed on without auditing")
@@ -274,7 +275,7 @@ func (p *Post) detach() {
 	p.ticks.forget()
 }
 
-// attach begins one: all connections that are there are told first. Called with lock held.
+// attach begins one: all existing connections are reported first. Called with lock held.
 func (p *Post) attach(it *answer) {
 	p.takes.Store(true)
 	p.redacts = p.options.Redacts || it.Redacts
@@ -287,7 +288,7 @@ func (p *Post) attach(it *answer) {
 	p.options.Log("this proxy feeds the audit")
 }
 
-// look asks for an attachment where there is none, and sees to it that the server is the audit's.
+// look asks for an attachment if there is none, and checks that the server is the audit's.
 func (p *Post) look(ctx context.Context) {
 	s := &server{config: p.options.Server}
 	defer s.close()
@@ -360,8 +361,8 @@ func (p *Post) greet(ctx context.Context, s *server, l *link, run string) error 
 	return l.add(p.options.proxies(), text, p.options.sign(upwards, text))
 }
 
-// send sends what there is, in order, and a sign of life where there is nothing. A message that may not have arrived is
-// sent again as it is.
+// send sends what there is, in order, and a sign of life if there is nothing. A message that may not have arrived is
+// sent again unchanged.
 func (p *Post) send(ctx context.Context) {
 	l := &link{url: p.options.Redis}
 	defer l.close()
@@ -391,7 +392,7 @@ func (p *Post) send(ctx context.Context) {
 	}
 }
 
-// message takes what is sent next, nil where there is nothing. It says whether there is more.
+// message returns what is sent next, or nil if there is nothing, and whether there is more.
 func (p *Post) message(alive bool) (m *toHub, more bool) {
 	p.lock.Lock()
 	defer p.lock.Unlock()
@@ -445,7 +446,7 @@ func (p *Post) deliver(ctx context.Context, l *link, m *toHub) {
 	}
 }
 
-// meet has the sessions here meet. Clients are held for the room's own bound at most, whatever the watch says.
+// meet makes the sessions here meet. Clients are held for the room's own bound at most, whatever the watch says.
 func (p *Post) meet(ctx context.Context, meeting uint64, second <-chan struct{}) {
 	ctx, cancel := context.WithTimeout(ctx, patience)
 	defer cancel()

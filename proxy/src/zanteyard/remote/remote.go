@@ -1,12 +1,12 @@
 // Package remote lets several proxies feed one audit. A proxy beside another application server sends what its sessions
-// tell over a Redis stream (Post); beside the joiner it is passed on as if the sessions were here (Hub). Another stream
-// takes what the joiner asks of proxies: to meet, and to make fences.
+// report over a Redis stream (Post); beside the joiner it is passed on as if the sessions were here (Hub). Another
+// stream has what the joiner asks of proxies: to meet, and to make fences.
 //
-// Nothing rests on Redis, nor on the clocks of two machines. Each message is signed with a key that the proxies share,
-// and numbered. A message that is lost, comes twice or in another order leaves transactions out, which folds them
-// (docs/FOLDING.md); it never changes what one has read. When a transaction ran is bounded by the joiner's own clock: the
-// hub's messages have its time (a tick), and a transaction began after the last tick that its proxy had then received;
-// it had ended when the hub received it.
+// Correctness doesn't depend on Redis, nor on the clocks of two machines. Each message is numbered, and signed with a
+// key that the proxies share. A message that is lost, repeated or out of order leaves transactions out, which folds
+// them (docs/FOLDING.md); it never changes what a transaction has read. When a transaction ran is bounded by the
+// joiner's own clock: the hub's messages contain its time (a tick). A transaction began after the last tick that its
+// proxy had received by then, and had ended when the hub received it.
 package remote
 
 import (
@@ -25,33 +25,33 @@ const (
 	every     = 20 * time.Millisecond // between two ticks, while proxies are attached
 	seldom    = 250 * time.Millisecond
 	again     = time.Second          // between two hellos
-	gather    = 2 * time.Millisecond // for how long a proxy gathers what it sends
+	gather    = 2 * time.Millisecond // how long a proxy gathers what it sends
 	heartbeat = 500 * time.Millisecond
 	silence   = 3 * time.Second // after which the other side counts as gone
 	verifying = 10 * time.Second
 	patience  = 5 * time.Second // with Redis and with the server
-	backlog   = 4096            // messages that wait in a stream at most
+	backlog   = 4096            // how many messages may wait in a stream
 	mostBytes = 64 << 10        // of a message, unless one transaction is longer
 	mostOfOne = 4 << 20         // bytes of one transaction
 	leastKey  = 16
 )
 
-// Options are those that both sides need.
+// Options are the options that both sides need.
 type Options struct {
 	Redis  string // its URL
-	Audit  string // the audit's name: several don't meet
-	Key    []byte // with which messages are signed
+	Audit  string // the audit's name: audits of different names don't meet
+	Key    []byte // the key that messages are signed with
 	Server *pgconn.Config
 	Fence  string // the fences' table
-	// Redacts has no constants and parameters of statements be sent. If the hub has it all proxies do so.
+	// Redacts means that statements are sent without their constants and parameters. If the hub has it, all proxies do so.
 	Redacts bool
 	Log     func(string)
 }
 
-// ErrKey is the reason why a key isn't taken.
+// ErrKey is wrapped by the errors for a key that isn't accepted.
 var ErrKey = errors.New("the key that proxies and watch share")
 
-// ReadKey reads a key, in whose file nobody else may look.
+// ReadKey reads a key from a file that nobody else may read.
 func ReadKey(path string) ([]byte, error) {
 	state, err := os.Stat(path)
 	if err != nil {
@@ -70,7 +70,7 @@ func ReadKey(path string) ([]byte, error) {
 	return key, nil
 }
 
-// drawn is a name that nobody else has.
+// drawn returns a random name that nobody else has.
 func drawn() (string, error) {
 	var its [16]byte
 	if _, err := rand.Read(its[:]); err != nil {

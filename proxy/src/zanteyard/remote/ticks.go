@@ -5,7 +5,7 @@ import (
 	"time"
 )
 
-// ticks are those that were received, with when that was by this machine's clock.
+// ticks are those that were received, with the times by this machine's clock.
 type ticks struct {
 	its []tickAt
 }
@@ -15,7 +15,7 @@ type tickAt struct {
 	tick int64
 }
 
-// mostTicks are kept, some two minutes of them.
+// mostTicks is how many are kept, about two minutes of them.
 const mostTicks = 8192
 
 func (t *ticks) add(at time.Time, tick int64) {
@@ -25,7 +25,7 @@ func (t *ticks) add(at time.Time, tick int64) {
 	t.its = append(t.its, tickAt{at, tick})
 }
 
-// before is the last tick that was received before a time, 0 if that isn't known.
+// before returns the last tick that was received before a time, or 0 if unknown.
 func (t *ticks) before(at time.Time) int64 {
 	i := sort.Search(len(t.its), func(i int) bool { return t.its[i].at.After(at) })
 	if i == 0 {

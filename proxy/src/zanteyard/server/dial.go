@@ -13,15 +13,15 @@ import (
 	"github.com/jackc/pgconn"
 )
 
-// target is one way to the server: libpq's sslmode gives one or two of them.
+// target is one way to reach the server: libpq's sslmode yields one or two of them.
 type target struct {
 	network, address string
 	tls              *tls.Config // nil: none
 }
 
-// targets are the ways to the server that a connection string describes, the preferred one first, as libpq has it: for
-// sslmode=prefer, which is the default, TLS without a look at the certificate, then none; for allow the other way
-// round.
+// targets returns the ways to reach the server that a connection string describes, the preferred one first, as in
+// libpq: for sslmode=prefer, which is the default, TLS without checking the certificate, then none; for allow the other
+// way round.
 func targets(config *pgconn.Config) []target {
 	network, address := pgconn.NetworkAddress(config.Host, config.Port)
 	all := []target{{network, address, config.TLSConfig}}
@@ -70,7 +70,8 @@ func (t target) dial(ctx context.Context) (net.Conn, error) {
 	return secure, nil
 }
 
-// secure asks the server for TLS. Exactly one byte answers: what came behind it in the clear would be somebody else's.
+// secure asks the server for TLS. Exactly one byte is the answer: anything after it in the clear would be somebody
+// else's.
 func (t target) secure(c net.Conn) (net.Conn, error) {
 	var request [8]byte
 	binary.BigEndian.PutUint32(request[:], 8)

@@ -5,7 +5,7 @@ import (
 	"syscall"
 )
 
-// isFull says that there are too many open files, which passes.
+// isFull reports whether an error means that too many files are open, which passes.
 func isFull(err error) bool {
 	return errors.Is(err, syscall.EMFILE) || errors.Is(err, syscall.ENFILE) || errors.Is(err, syscall.ECONNABORTED)
 }

@@ -17,7 +17,7 @@ import (
 	"zanteyard/wire"
 )
 
-// raw is a client that speaks the protocol by itself.
+// raw is a client that speaks the protocol itself.
 type raw struct {
 	*net.TCPConn
 	in   *wire.Reader
@@ -86,8 +86,7 @@ func until(t *testing.T, what string, f func() bool) {
 	}
 }
 
-// inUse is how many bytes of memory are in use. If these are more than so many with what isn't used any more, that is
-// taken away first.
+// inUse returns how many bytes of memory are in use. If that is above the limit, garbage is collected first.
 func inUse(most uint64) uint64 {
 	var m runtime.MemStats
 	if runtime.ReadMemStats(&m); m.HeapAlloc > most {
@@ -97,7 +96,7 @@ func inUse(most uint64) uint64 {
 	return m.HeapAlloc
 }
 
-// TestSlowReaders: clients that don't read what they are sent, and servers that don't read what clients send, hold up
+// TestSlowReaders: clients that don't read what they are sent, and servers that don't read what clients send, delay
 // nobody else, take no memory, and lose nothing.
 func TestSlowReaders(t *testing.T) {
 	needServer(t)
@@ -125,7 +124,7 @@ func TestSlowReaders(t *testing.T) {
 		full = append(full, f)
 	}
 	var writers sync.WaitGroup
-	for _, f := range full { // some 20 MB each
+	for _, f := range full { // about 20 MB each
 		f := f
 		writers.Add(1)
 		go func() {

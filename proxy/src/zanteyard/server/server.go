@@ -20,20 +20,20 @@ import (
 	"zanteyard/session"
 )
 
-// Options of a server.
+// Options are the options of a server.
 type Options struct {
-	Server    *pgconn.Config // where the server is, and how it is reached
-	ClientTLS *tls.Config    // of clients' connections; nil: none
-	Database  string         // that is audited; connections to others are passed on without looking
+	Server    *pgconn.Config // where the server is, and how to reach it
+	ClientTLS *tls.Config    // for clients' connections; nil: none
+	Database  string         // the database to audit; connections to others are passed on without looking
 	Session   *session.Options
 	Room      *meeting.Room
-	Loops     *loop.Loops // that serve connections without TLS; nil: none
+	Loops     *loop.Loops // they serve connections without TLS; nil: none
 	Log       func(string)
 	// Patience is how long a client may take for its startup, and the proxy to reach the server.
 	Patience time.Duration
 }
 
-// Server takes clients' connections.
+// Server accepts clients' connections.
 type Server struct {
 	options Options
 	targets []target
@@ -53,7 +53,7 @@ func New(options Options) *Server {
 	return &Server{options: options, targets: targets(options.Server), conns: map[net.Conn]io.Closer{}}
 }
 
-// Serve takes connections until the listener is closed or ctx ends, then ends those that are there.
+// Serve accepts connections until the listener is closed or ctx ends, then ends the existing ones.
 func (s *Server) Serve(ctx context.Context, listener net.Listener) error {
 	stop := make(chan struct{})
 	defer close(stop)
@@ -100,7 +100,7 @@ func (s *Server) accept(ctx context.Context, listener net.Listener) error {
 	}
 }
 
-// enter counts a connection among those that are there. It closes it if the server has ended.
+// enter adds a connection to the existing ones. If the server has ended, it closes the connection.
 func (s *Server) enter(c net.Conn) bool {
 	s.lock.Lock()
 	defer s.lock.Unlock()
@@ -130,7 +130,7 @@ func (s *Server) end() {
 	}
 }
 
-// serve is one connection, from its first byte to its last.
+// serve handles one connection, from its first byte to its last.
 func (s *Server) serve(ctx context.Context, raw net.Conn) {
 	defer s.leave(raw)
 	raw.SetDeadline(time.Now().Add(s.options.Patience))
@@ -207,7 +207,8 @@ func (s *Server) loops(raw, server net.Conn) (session.Conn, session.Conn) {
 	return from, to
 }
 
-// address is where a client is, for people. One that connects by a socket of this machine has no name of its own there.
+// address returns where a client is, for people. A client on this machine that connects by a Unix socket has no
+// address.
 func address(c net.Conn) string {
 	switch a := c.RemoteAddr(); {
 	case a == nil:
@@ -219,8 +220,8 @@ func address(c net.Conn) string {
 	}
 }
 
-// cancel passes a request to cancel on. Clients have the server's own key, so it means the same there. The server
-// closes the connection when it has dealt with it, and then so does the proxy: a client may wait for that.
+// cancel passes a cancel request on. Clients have the server's own key, so it means the same there. The server closes
+// the connection when it has handled the request, and then so does the proxy: a client may wait for that.
 func (s *Server) cancel(ctx context.Context, request packet) {
 	server, err := s.dial(ctx)
 	if err != nil {

@@ -80,7 +80,7 @@ func prepare() error {
 	return err
 }
 
-// makeCertificate makes one for 127.0.0.1, which is its own authority.
+// makeCertificate makes a self-signed certificate for 127.0.0.1.
 func makeCertificate() error {
 	key, err := ecdsa.GenerateKey(elliptic.P256(), rand.Reader)
 	if err != nil {
@@ -115,7 +115,7 @@ func needServer(t *testing.T) {
 	}
 }
 
-// counted counts what is told.
+// counted counts reports.
 type counted struct{ begun, ended, transactions atomic.Int64 }
 
 func (c *counted) Connection(it record.Connection) {
@@ -164,7 +164,7 @@ func proxy(t *testing.T, target string, change func(*Options)) (int, *counted) {
 	return listener.Addr().(*net.TCPAddr).Port, sink
 }
 
-// ask connects and asks for a value; it gives the value or the error.
+// ask connects and asks for a value; it returns the value or the error.
 func ask(connection, sql string) (string, error) {
 	ctx, cancel := context.WithTimeout(context.Background(), time.Minute)
 	defer cancel()
@@ -180,8 +180,7 @@ func ask(connection, sql string) (string, error) {
 	return string(results[0].Rows[0][0]), nil
 }
 
-// TestPasswords: each way of saying a password passes through, also a wrong one.
-// TestAddress: what people are told of where a client is.
+// TestAddress: how people are told where a client is.
 func TestAddress(t *testing.T) {
 	for _, x := range []struct{ network, at, want string }{
 		{"unix", filepath.Join(t.TempDir(), "socket"), "a local socket"},
@@ -211,6 +210,7 @@ func TestAddress(t *testing.T) {
 	}
 }
 
+// TestPasswords: each way of giving a password passes through, including a wrong one.
 func TestPasswords(t *testing.T) {
 	needServer(t)
 	port, sink := proxy(t, url("postgres", theCluster.Port, "sslmode=disable"), nil)
@@ -267,7 +267,7 @@ func tlsCluster(t *testing.T) *cluster.Cluster {
 	}
 }
 
-// TestTLS: on each side by itself, and on both; the certificate is looked at as sslmode says.
+// TestTLS: on each side separately, and on both; the certificate is checked as sslmode says.
 func TestTLS(t *testing.T) {
 	needServer(t)
 	secure := tlsCluster(t)
@@ -280,7 +280,7 @@ func TestTLS(t *testing.T) {
 		server, client string
 		withTLS        bool // the proxy has a certificate for clients
 		works          bool
-		inServer       string // what the server says of TLS
+		inServer       string // the server's view of TLS
 	}{
 		{"sslmode=require", "sslmode=disable", false, true, "t"},
 		{"sslmode=verify-full&sslrootcert=" + root, "sslmode=disable", false, true, "t"},
@@ -307,8 +307,8 @@ func TestTLS(t *testing.T) {
 	psqlWithTLS(t, secure.Port, own)
 }
 
-// psqlWithTLS: libpq would bind SCRAM to the TLS channel, which can't be done through the proxy. It isn't offered, and
-// with TLS on both sides a client has to say that it doesn't want to.
+// psqlWithTLS: libpq would bind SCRAM to the TLS channel, which can't work through the proxy. It isn't offered, and
+// with TLS on both sides a client has to say that it doesn't want it.
 func psqlWithTLS(t *testing.T, server int, own *tls.Config) {
 	path, err := exec.LookPath("psql")
 	if err != nil {
@@ -329,7 +329,7 @@ func psqlWithTLS(t *testing.T, server int, own *tls.Config) {
 	}
 }
 
-// TestCancel: a client's request to cancel ends its statement.
+// TestCancel: a client's cancel request ends its statement.
 func TestCancel(t *testing.T) {
 	needServer(t)
 	port, _ := proxy(t, url("postgres", theCluster.Port, "sslmode=disable"), nil)
@@ -394,7 +394,7 @@ func TestReplication(t *testing.T) {
 	}
 }
 
-// TestStartup: what isn't a startup message ends the connection, encryption by GSSAPI is declined.
+// TestStartup: anything other than a startup message ends the connection; encryption by GSSAPI is declined.
 func TestStartup(t *testing.T) {
 	needServer(t)
 	port, _ := proxy(t, url("postgres", theCluster.Port, "sslmode=disable"), nil)
@@ -436,7 +436,7 @@ func TestStartup(t *testing.T) {
 	}
 }
 
-// TestNoServer: the client is told that the server can't be reached.
+// TestNoServer: the client gets an error that the server can't be reached.
 func TestNoServer(t *testing.T) {
 	listener, err := net.Listen("tcp", "127.0.0.1:0")
 	if err != nil {
@@ -451,7 +451,7 @@ func TestNoServer(t *testing.T) {
 	}
 }
 
-// TestServerEnds: a backend that is ended by its administrator is told to the client as without the proxy.
+// TestServerEnds: if an administrator ends a backend, the client gets the same as without the proxy.
 func TestServerEnds(t *testing.T) {
 	needServer(t)
 	port, sink := proxy(t, url("postgres", theCluster.Port, "sslmode=disable"), nil)

@@ -12,24 +12,25 @@ import (
 	"zanteyard/wire"
 )
 
-// The codes that stand where a startup message has the protocol's version.
+// The codes that replace the protocol's version in a startup message.
 const (
 	cancelCode = 80877102
 	sslCode    = 80877103
 	gssCode    = 80877104
 )
 
-// longestStartup is PostgreSQL's own bound (MAX_STARTUP_PACKET_LENGTH).
+// longestStartup is PostgreSQL's own limit (MAX_STARTUP_PACKET_LENGTH).
 const longestStartup = 10000
 
 var errStartup = errors.New("server: not a PostgreSQL startup message")
 
-// packet is a message without a type, as a connection begins with: a startup message, or a request for something else.
+// packet is a message without a type, which a connection begins with: a startup message, or a request for something
+// else.
 type packet []byte
 
 func (p packet) code() uint32 { return binary.BigEndian.Uint32(p[4:]) }
 
-// readPacket reads one, and no byte that comes behind it: what comes behind a request for TLS has to be part of that.
+// readPacket reads one packet, and no byte after it: what follows a request for TLS has to be part of TLS.
 func readPacket(from io.Reader) (packet, error) {
 	head := make([]byte, 8)
 	if _, err := io.ReadFull(from, head); err != nil {
@@ -46,7 +47,7 @@ func readPacket(from io.Reader) (packet, error) {
 	return p, nil
 }
 
-// startup is what the proxy looks at of a startup message. The message itself is passed on as it is.
+// startup is what the proxy uses of a startup message. The message itself is passed on unchanged.
 type startup struct {
 	user, database, application string
 	replication                 bool
@@ -82,7 +83,7 @@ func (p packet) startup() startup {
 	return s
 }
 
-// no says that a setting is off.
+// no reports whether a setting is off.
 func no(value []byte) bool {
 	switch string(bytes.ToLower(value)) {
 	case "false", "off", "no", "0", "f", "n":

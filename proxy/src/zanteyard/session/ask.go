@@ -10,10 +10,10 @@ import (
 	"zanteyard/wire"
 )
 
-// ask puts the proxy's own question in front of a COMMIT (or PREPARE TRANSACTION): the transaction's number, if it may
-// have written and didn't tell it, and its snapshot, if a row wasn't there. It goes in the same write, so it costs no
-// round trip. It has a Sync of its own, since otherwise its error would have the server skip the COMMIT; that is only
-// possible in a block (T) and with nothing under way. Behind other messages of a pipeline it isn't asked.
+// ask inserts the proxy's own question before a COMMIT (or PREPARE TRANSACTION): the transaction's number, if it may
+// have written without reporting it, and its snapshot, if a row wasn't found. It goes out in the same write, so it
+// costs no round trip. It has its own Sync, since otherwise an error in it would make the server skip the COMMIT; that
+// is only possible in a block (T) with nothing under way. After other messages of a pipeline it isn't asked.
 func (s *Session) ask(o *output, p *plan.Plan) {
 	if p.Kind != plan.Commit && p.Kind != plan.PrepareTransaction {
 		return
@@ -32,18 +32,18 @@ func (s *Session) ask(o *output, p *plan.Plan) {
 	s.queue.push(expectation{kind: askEnd, message: 'S'})
 }
 
-// askFailed is called for an error in the question, as by a cancel request that the client meant for its COMMIT. The
-// transaction is aborted by it, and the server will answer the COMMIT with ROLLBACK, which many a driver takes for
-// success. So the client gets the error in place of that.
+// askFailed handles an error in the question, such as one caused by a cancel request that the client meant for its
+// COMMIT. The error aborts the transaction, and the server will answer the COMMIT with ROLLBACK, which many drivers
+// take for success. So the client gets the error instead.
 func (s *Session) askFailed(m []byte) {
 	s.failure = append(s.failure[:0], m...)
 	s.trust.doubtful()
 }
 
-// settingOf is the level by the text of a setting.
+// settingOf returns the level that a setting's text names.
 func settingOf(v []byte) record.Level { return levelNamed(string(v)) }
 
-// mentions says whether a text has a word, in letters of any case.
+// mentions reports whether a text contains a word, ignoring case.
 func mentions(text, word string) bool {
 	return strings.Contains(strings.ToLower(text), word)
 }
@@ -56,7 +56,8 @@ const (
 	mostAgain     = 64 << 10
 )
 
-// texts gives parameters as texts, long ones shortened. Binary ones whose type isn't a whole number are in hexadecimal.
+// texts returns parameters as texts, long ones shortened. Binary ones are in hexadecimal, unless their type is a whole
+// number.
 func texts(b *wire.Bind, types []byte) []string {
 	all := make([]string, len(b.Parameters))
 	for i, v := range b.Parameters {

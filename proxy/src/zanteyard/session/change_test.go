@@ -11,7 +11,7 @@ import (
 )
 
 // TestChanges: something that a plan needs is changed by others between its trial and its use, and the proxy isn't
-// told. Outside of a block nothing of it reaches the client.
+// told. Outside a block the client notices nothing.
 func TestChanges(t *testing.T) {
 	needServer(t)
 	for _, x := range []struct {
@@ -73,8 +73,8 @@ func TestChanges(t *testing.T) {
 	}
 }
 
-// TestChangesBeforeSync: an error that could be undone, but with a Query behind it, and the client's Sync isn't sent yet.
-// The client isn't made to wait for what only its Sync brings.
+// TestChangesBeforeSync: an error that could be undone, but is followed by a Query, and the client's Sync hasn't been
+// sent yet. The client must not wait for what only its Sync brings.
 func TestChangesBeforeSync(t *testing.T) {
 	needServer(t)
 	sql(t, "DROP TABLE IF EXISTS r; CREATE TABLE r (id int PRIMARY KEY, v int); INSERT INTO r VALUES (1, 1)")
@@ -96,7 +96,7 @@ func TestChangesBeforeSync(t *testing.T) {
 	}
 }
 
-// TestTrialDoesNotWait: a trial that would wait for a lock gives up, and the client's next statement isn't held.
+// TestTrialDoesNotWait: a trial that would wait for a lock gives up, and the client's next statement isn't delayed.
 func TestTrialDoesNotWait(t *testing.T) {
 	needServer(t)
 	sql(t, fill)
@@ -118,7 +118,7 @@ func TestTrialDoesNotWait(t *testing.T) {
 	if got := p.query("SELECT 2"); len(got) != 4 {
 		t.Errorf("got %s", show(got))
 	}
-	if got := p.query("SELECT 3"); len(got) != 4 { // answered behind the trial
+	if got := p.query("SELECT 3"); len(got) != 4 { // answered after the trial
 		t.Errorf("got %s", show(got))
 	}
 	locker.query("ROLLBACK")
@@ -130,7 +130,7 @@ func TestTrialDoesNotWait(t *testing.T) {
 	}
 }
 
-// TestCancelOfTheQuestion: what the client cancels is the proxy's question in front of its COMMIT. The client gets an
+// TestCancelOfTheQuestion: the client's cancel request hits the proxy's question before its COMMIT. The client gets an
 // error, not an answer that drivers take for success.
 func TestCancelOfTheQuestion(t *testing.T) {
 	needServer(t)
@@ -140,7 +140,7 @@ func TestCancelOfTheQuestion(t *testing.T) {
 		p.warm("BEGIN", "UPDATE t SET v = 1 WHERE v > 20", "COMMIT")
 		p.query("BEGIN")
 		p.query("UPDATE t SET v = 1 WHERE v > 20")
-		// The question is made to fail: its statement is dropped.
+		// The question is made to fail by dropping its statement.
 		p.query("DO $$BEGIN EXECUTE 'DEALLOCATE \"zanteyard.ask\"'; END$$")
 		p.session.state.Lock()
 		p.session.trust.doubt, p.session.trust.asks = false, true
@@ -155,7 +155,7 @@ func TestCancelOfTheQuestion(t *testing.T) {
 	}
 }
 
-// TestNoRewriting: texts in encodings that the lexer can't read, or with other rules for literals, are left alone.
+// TestNoRewriting: texts in encodings that the lexer can't read, or with other rules for literals, are left unchanged.
 func TestNoRewriting(t *testing.T) {
 	needServer(t)
 	for _, setting := range []string{"SET client_encoding TO 'SJIS'", "SET standard_conforming_strings TO off"} {
@@ -174,7 +174,7 @@ func TestNoRewriting(t *testing.T) {
 	}
 }
 
-// TestSearchPath: names are resolved as the connection's search path has it.
+// TestSearchPath: names are resolved by the connection's search path.
 func TestSearchPath(t *testing.T) {
 	needServer(t)
 	sql(t, fill)

@@ -6,7 +6,7 @@ import (
 	"zanteyard/wire"
 )
 
-// fromClient takes whole messages of the client's, and says what is sent to the server. Called with writes and state
+// fromClient takes whole messages from the client and returns what to send to the server. Called with writes and state
 // locked.
 func (s *Session) fromClient(o *output, batch []byte) []byte {
 	o.begin(batch)
@@ -59,20 +59,20 @@ func (s *Session) fromClient(o *output, batch []byte) []byte {
 	return o.all()
 }
 
-// never is no value of trust.plans.
+// never is a value that trust.plans never has.
 const never = ^uint64(0)
 
-// opaque stands for what wasn't looked at.
+// opaque stands for a statement that wasn't looked at.
 var opaque = &statement{}
 
-// look makes a statement of a text.
+// look makes a statement from a text.
 func (s *Session) look(name string, text []byte) *statement {
 	if !s.plain || s.options.Plans == nil {
 		return &statement{name: name}
 	}
 	st := &statement{name: name, text: string(text), looked: never}
 	if !s.options.Auditing() {
-		return st // it may be run when an audit has begun
+		return st // it may be run after an audit has begun
 	}
 	st.looked = s.trust.plans
 	st.plan, st.tokens = s.options.Plans.PlanIn(s.trust.path, st.text)
@@ -82,12 +82,12 @@ func (s *Session) look(name string, text []byte) *statement {
 	return st
 }
 
-// looking says whether statements are looked at.
+// looking reports whether statements are looked at.
 func (s *Session) looking() bool {
 	return s.plain && s.options.Auditing()
 }
 
-// fresh renews what is known of a statement's plan if the catalog or the search path has changed since.
+// fresh looks up a statement's plan again if the catalog or the search path has changed since.
 func (s *Session) fresh(st *statement) {
 	if st.text == "" || !s.looking() {
 		return
@@ -97,7 +97,7 @@ func (s *Session) fresh(st *statement) {
 	if p == st.plan {
 		return
 	}
-	if !st.altered { // what is on the server stays what it is
+	if !st.altered { // what is on the server stays as it is
 		st.plan, st.tokens = p, tokens
 		st.use = nil
 		if p != nil {
@@ -106,18 +106,18 @@ func (s *Session) fresh(st *statement) {
 	}
 }
 
-// usable says whether a statement may be rewritten now.
+// usable reports whether a statement may be rewritten now.
 func (s *Session) usable(st *statement) bool {
 	return st.use != nil && s.looking() && rewritable(st) && !s.replay.plain && s.trust.usable(st.use, st)
 }
 
-// rewritable leaves cursors alone whose rows don't come in their own transaction, or not in the format that was asked
+// rewritable excludes cursors that return their rows outside their own transaction, or in another format than was asked
 // for.
 func rewritable(st *statement) bool {
 	return st.plan.Kind != plan.Prepare && (st.plan.Kind != plan.Declare || !differs(st.text))
 }
 
-// differs says that a cursor is, or may be, one WITH HOLD or BINARY.
+// differs reports whether a cursor is, or may be, WITH HOLD or BINARY.
 func differs(declare string) bool { return mentions(declare, "hold") || mentions(declare, "binary") }
 
 func (s *Session) query(o *output, m []byte, start, end int) {
@@ -158,7 +158,7 @@ func (s *Session) query(o *output, m []byte, start, end int) {
 	s.queue.push(e)
 }
 
-// wantsAbsent says whether it is of use to know which row wasn't there: only if the snapshot is that of the whole
+// wantsAbsent reports whether it is useful to know which row wasn't found: only if the snapshot is that of the whole
 // transaction.
 func (s *Session) wantsAbsent() bool {
 	level := s.tx.Level
@@ -196,7 +196,7 @@ func (s *Session) parse(o *output, m []byte, start, end int) {
 	} else {
 		s.replay.valid = false // an error doesn't undo it
 		if st.use != nil && rewritable(st) {
-			s.trust.usable(st.use, st) // to be tried: it is likely to be run again
+			s.trust.usable(st.use, st) // to be tried, since it is likely to be run again
 		}
 		o.pass(start, end)
 	}
@@ -239,14 +239,14 @@ func (s *Session) bind(o *output, m []byte, start, end int) {
 	}
 	may := s.usable(st)
 	if st.name == "" && !st.altered {
-		may = false // it was prepared as it is: the plan has become usable since then
+		may = false // it was prepared unchanged: the plan has become usable since
 	}
 	if n := len(b.Results) / 2; may && n > 1 && n != st.use.own {
-		may = st.plan.AddsReturning // otherwise the server refuses it, and says how many columns there are
+		may = st.plan.AddsReturning // otherwise the server refuses it, and its error says how many columns there are
 	}
 	switch {
 	case st.altered && !may:
-		// Prepared rewritten, and since then something has changed: the client's own text is prepared in its place.
+		// It was prepared rewritten, and something has changed since: the client's own text is prepared in its place.
 		s.original(o, st)
 		o.pass(start, end)
 	case st.altered || may:
@@ -263,7 +263,7 @@ func (s *Session) bind(o *output, m []byte, start, end int) {
 	s.bindTo(p)
 }
 
-// bindTo takes a portal that was bound.
+// bindTo records a portal that was bound.
 func (s *Session) bindTo(p *portal) {
 	s.open = true
 	s.queue.push(expectation{message: 'B', undo: undoPortal, name: p.name, before: s.names.portals[p.name], on: p.on,
@@ -271,7 +271,7 @@ func (s *Session) bindTo(p *portal) {
 	s.names.setPortal(p.name, p)
 }
 
-// bindHidden binds to what has hidden columns: the unnamed statement, or a named one's twin.
+// bindHidden binds to the statement that has hidden columns: the unnamed one, or the twin of a named one.
 func (s *Session) bindHidden(o *output, b *wire.Bind, st *statement, p *portal) {
 	name := st.name
 	if name != "" {
@@ -282,7 +282,7 @@ func (s *Session) bindHidden(o *output, b *wire.Bind, st *statement, p *portal) 
 		p.hides, p.hidden = st.plan, st.use.hidden
 	}
 	if st.plan.AddsReturning {
-		b.Results, p.binary = nil, false // the client's formats are of no columns
+		b.Results, p.binary = nil, false // the client's formats are for no columns
 	}
 	o.buf = b.Append(o.own(), name, p.hidden)
 	if st.plan.Asked && s.wantsAbsent() {
@@ -290,7 +290,7 @@ func (s *Session) bindHidden(o *output, b *wire.Bind, st *statement, p *portal) 
 	}
 }
 
-// formats are the formats of a Bind's parameters.
+// formats returns the formats of a Bind's parameters.
 func (s *Session) formats(b *wire.Bind) []int16 {
 	to := s.int16s[:0]
 	for i := 0; i+1 < len(b.Formats); i += 2 {
@@ -300,7 +300,7 @@ func (s *Session) formats(b *wire.Bind) []int16 {
 	return to
 }
 
-// declared are the types of parameters by the end of a Parse.
+// declared returns the types of parameters from the end of a Parse.
 func declared(types []byte) []uint32 {
 	var all []uint32
 	for i := 2; i+4 <= len(types); i += 4 {
@@ -309,7 +309,7 @@ func declared(types []byte) []uint32 {
 	return all
 }
 
-// twin gives the name of a named statement's rewritten twin. It is made when it is first used.
+// twin returns the name of a named statement's rewritten twin, which is made at its first use.
 func (s *Session) twin(o *output, st *statement) string {
 	if st.twin != "" && st.twinOf == st.plan && st.twinIn == s.trust.generation {
 		return st.twin
@@ -319,8 +319,8 @@ func (s *Session) twin(o *output, st *statement) string {
 		to = appendClose(to, st.twin)
 		s.queue.push(expectation{kind: silent, message: 'C'})
 	}
-	// What the client prepared may not be run any more if definitions have changed since: then this says so, as its Bind
-	// would. The twin is new, and would be run.
+	// If definitions have changed, the server may refuse to run what the client prepared: then this Describe returns that
+	// error, as the client's Bind would. The twin is new, and would run.
 	to = appendDescribe(to, st.name)
 	s.queue.push(expectation{kind: twin, message: 'D', on: st})
 	s.names.twins++
@@ -345,7 +345,7 @@ func appendDescribe(to []byte, name string) []byte {
 	return wire.End(wire.AppendText(append(wire.Begin(to, 'D'), 'S'), name), start)
 }
 
-// original prepares the client's own text as the unnamed statement again.
+// original prepares the client's own text again as the unnamed statement.
 func (s *Session) original(o *output, st *statement) {
 	o.buf = appendParse(o.own(), "", st.text, st.types)
 	s.queue.push(expectation{kind: reparse, message: 'P', on: st, undo: undoAltered})
@@ -388,7 +388,8 @@ func (s *Session) execute(o *output, m []byte, start, end int) {
 		s.trust.doubtful()
 	}
 	if e.hides != nil && e.hides.AddsReturning && len(m) >= wire.Header+5 {
-		// The client asked for no rows, so its limit meant nothing; with rows it would mean PortalSuspended.
+		// The client's statement returned no rows, so its limit meant nothing; now that it returns rows, the limit would mean
+		// PortalSuspended.
 		to := append(o.own(), m[:len(m)-4]...)
 		o.buf = append(to, 0, 0, 0, 0)
 	} else {

@@ -22,7 +22,7 @@ func fences(all []record.Transaction) int {
 	return n
 }
 
-// TestMeeting has silent and busy sessions meet.
+// TestMeeting makes silent and busy sessions meet.
 func TestMeeting(t *testing.T) {
 	needServer(t)
 	sql(t, fill)
@@ -35,7 +35,7 @@ func TestMeeting(t *testing.T) {
 		room.Enter(p.session)
 		all = append(all, p)
 	}
-	// The unnamed statement and portals of the client stay what they are.
+	// The client's unnamed statement and portals stay what they are.
 	all[0].do(messages('Z', &pgproto3.Parse{Query: "SELECT v FROM t WHERE id = $1"}, &pgproto3.Sync{}))
 	all[2].query("BEGIN")
 	result := make(chan error, 1)
@@ -51,7 +51,7 @@ func TestMeeting(t *testing.T) {
 		defer all[1].sink.lock.Unlock()
 		return fences(all[1].sink.transactions) == 1
 	})
-	// What a client sends now waits for the one that is in a transaction.
+	// What a client sends now waits for the session that is in a transaction.
 	all[1].send(query("SELECT v FROM t WHERE id = 2").send)
 	all[2].query("SELECT v FROM t WHERE id = 3")
 	select {
@@ -84,7 +84,7 @@ func TestMeeting(t *testing.T) {
 	}
 }
 
-// TestMeetingFails: a session stays in a transaction. The meeting fails, and nobody is held any more.
+// TestMeetingFails: a session stays in a transaction. The meeting fails, and nobody is held any longer.
 func TestMeetingFails(t *testing.T) {
 	needServer(t)
 	sql(t, fill)
@@ -107,7 +107,7 @@ func TestMeetingFails(t *testing.T) {
 	}
 }
 
-// TestFenceFails: without a right on the fence table, or with its row locked, there is no fence; the client sees
+// TestFenceFails: without privileges on the fence table, or with its row locked, there is no fence; the client sees
 // nothing.
 func TestFenceFails(t *testing.T) {
 	needServer(t)
@@ -142,8 +142,8 @@ func TestFenceFails(t *testing.T) {
 	}
 }
 
-// TestMeetingInTheMidst: no fence is made between messages of the extended protocol that no Sync has ended: its
-// transaction would end theirs.
+// TestMeetingInTheMidst: no fence is made between messages of the extended protocol before their Sync: its transaction
+// would end theirs.
 func TestMeetingInTheMidst(t *testing.T) {
 	needServer(t)
 	sql(t, fill)
@@ -162,7 +162,7 @@ func TestMeetingInTheMidst(t *testing.T) {
 	}
 }
 
-// TestFenceOfOne has one session make a fence.
+// TestFenceOfOne makes one session make a fence.
 func TestFenceOfOne(t *testing.T) {
 	needServer(t)
 	room := meeting.NewRoom(10 * time.Second)

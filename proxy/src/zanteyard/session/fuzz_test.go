@@ -17,7 +17,7 @@ import (
 
 var theSeed = flag.Int64("seed", 1, "of the random programs and messages; 0: by the clock")
 
-// seeded gives random numbers, the same ones in each run unless the seed is the clock's.
+// seeded returns random numbers, the same in each run unless the seed is the clock's.
 func seeded(t *testing.T) *rand.Rand {
 	seed := *theSeed
 	if seed == 0 {
@@ -27,8 +27,8 @@ func seeded(t *testing.T) *rand.Rand {
 	return rand.New(rand.NewSource(seed))
 }
 
-// TestNonsense sends messages that are well-formed but for some bytes, in any order. Direct and by way of a session,
-// the server may refuse them or end the connection; the session must not fail by itself, and others are to be
+// TestNonsense sends messages that are well-formed except for some bytes, in any order. Both directly and through a
+// session, the server may refuse them or end the connection; the session itself must not fail, and others have to be
 // answered.
 func TestNonsense(t *testing.T) {
 	needServer(t)
@@ -48,7 +48,7 @@ func TestNonsense(t *testing.T) {
 		&pgproto3.CopyData{Data: []byte("1\t2\n")}, &pgproto3.CopyDone{}, &pgproto3.CopyFail{Message: "no"},
 		&pgproto3.Query{String: ""},
 		&pgproto3.Query{String: "BEGIN"}, &pgproto3.Query{String: "ROLLBACK"},
-		// Messages in the midst of a COPY make it fail, and which of them are lost then nobody can know.
+		// Messages in the middle of a COPY make it fail, and then nobody can know which of them are lost.
 		&pgproto3.Query{String: "COPY t FROM STDIN"}, &pgproto3.Parse{Query: "COPY t FROM STDIN"},
 	}
 	for round := 0; round < 60; round++ {
@@ -78,11 +78,11 @@ func TestNonsense(t *testing.T) {
 				all = append(all, encoded(&pgproto3.Sync{})...)
 			}
 		}
-		var cuts []int // drawn first: the same ones whatever the server does
+		var cuts []int // drawn first, so they are the same whatever the server does
 		for left := len(all); left > 0; left -= cuts[len(cuts)-1] {
 			cuts = append(cuts, 1+r.Intn(left))
 		}
-		go func() { // what comes back isn't looked at
+		go func() { // the answers aren't looked at
 			b := make([]byte, 4096)
 			for {
 				if _, err := p.conn.Read(b); err != nil {
@@ -112,8 +112,8 @@ func TestNonsense(t *testing.T) {
 	}
 }
 
-// recovered waits until the server's process of a session is gone, and the server takes connections. Nonsense may crash
-// that process, as it has one of PostgreSQL 15.18. The server then ends all connections and starts anew.
+// recovered waits until the server's process of a session is gone, and the server accepts connections. Nonsense may
+// crash that process, as it crashed one of PostgreSQL 15.18. The server then ends all connections and restarts.
 func recovered(t *testing.T, process int) {
 	t.Helper()
 	until(t, "the server's process has ended", func() bool { return syscall.Kill(process, 0) == syscall.ESRCH })

@@ -23,12 +23,12 @@ import (
 	"zanteyard/wire"
 )
 
-// One server and one catalog serve all tests of the package.
+// One server and one catalog serve all tests in the package.
 var (
 	theCluster   *cluster.Cluster
 	definitions_ *definitions.Definitions
 	missing      error
-	// loops_ serve all sessions of the tests, nil if each has goroutines of its own, as connections with TLS have.
+	// loops_ serve all sessions in the tests; nil if each has its own goroutines, as connections with TLS do.
 	loops_  *loop.Loops
 	without = flag.Bool("without-loop", false, "have each session be served by goroutines of its own")
 )
@@ -56,7 +56,7 @@ GRANT SELECT (v) ON t TO limited;
 GRANT SELECT, UPDATE ON u TO limited;
 `
 
-// fill brings all rows to where they were, without a change of definitions.
+// fill restores all rows without changing definitions.
 const fill = `
 DELETE FROM child; DELETE FROM t; DELETE FROM u; DELETE FROM big; DELETE FROM keyless; DELETE FROM part;
 DELETE FROM serials;
@@ -149,12 +149,12 @@ func sql(t testing.TB, text string) [][]string {
 	return all
 }
 
-// told is a sink that remembers.
+// told is a sink that records.
 type told struct {
 	lock         sync.Mutex
 	transactions []record.Transaction
 	unseen       []string
-	untimed      int // transactions that weren't told to have begun, and then ended
+	untimed      int // transactions reported without a beginning, or with an end before it
 }
 
 func (s *told) Connection(record.Connection) {}
@@ -193,7 +193,7 @@ func (s *told) left(part string) bool {
 	return false
 }
 
-// proxied is one connection by way of a session.
+// proxied is one connection through a session.
 type proxied struct {
 	*client
 	session *Session
@@ -209,10 +209,10 @@ var early_ []byte
 // pooler_ is the port of a pooler between sessions and the server, 0 for none.
 var pooler_ int
 
-// shared_ is what all connections of all tests tell one another: what was tried on one is used on the next.
+// shared_ is shared by all connections of all tests: what was tried on one is used on the next.
 var shared_ = NewShared()
 
-// through connects by way of a session.
+// through connects through a session.
 func through(t testing.TB, user string, change func(*Options)) *proxied {
 	t.Helper()
 	p := &proxied{sink: &told{}, ended: make(chan error, 1)}
@@ -273,7 +273,7 @@ func through(t testing.TB, user string, change func(*Options)) *proxied {
 	return p
 }
 
-// taken are two connections that a loop serves, if there is one.
+// taken returns two connections that a loop serves, if there is one.
 func taken(client, server net.Conn) (Conn, Conn) {
 	if loops_ == nil {
 		return client, server
@@ -282,7 +282,7 @@ func taken(client, server net.Conn) (Conn, Conn) {
 	return a, b
 }
 
-// settle waits until all that waits for a trial was tried, unless a transaction is open.
+// settle waits until everything that waits for a trial was tried, unless a transaction is open.
 func (p *proxied) settle() {
 	p.t.Helper()
 	until(p.t, "all is tried", func() bool {
@@ -345,7 +345,7 @@ func (c *client) send(b []byte) {
 	}
 }
 
-// next gives one message.
+// next returns one message.
 func (c *client) next() []byte {
 	c.t.Helper()
 	if len(c.left) == 0 {
@@ -366,7 +366,7 @@ func (c *client) next() []byte {
 	return m
 }
 
-// until gives the messages up to one of a type.
+// until returns the messages up to one of a type.
 func (c *client) until(kind byte) [][]byte {
 	c.t.Helper()
 	var all [][]byte
@@ -379,7 +379,7 @@ func (c *client) until(kind byte) [][]byte {
 	}
 }
 
-// step is what a client sends, and what it reads before it goes on: messages up to one of a type, some times.
+// step is what a client sends, and what it reads before it continues: messages up to one of a type, a number of times.
 type step struct {
 	send  []byte
 	until byte

@@ -10,14 +10,14 @@ import (
 	"zanteyard/record"
 )
 
-// idle says that the server has answered everything and no transaction is open: also not one that a Sync would end.
-// Called with state locked.
+// idle reports whether the server has answered everything and no transaction is open, not even one that a Sync would
+// end. Called with state locked.
 func (s *Session) idle() bool {
 	return s.status == 'I' && !s.open && !s.partial && !s.replay.running && !s.copying && s.queue.empty() &&
 		!s.blind.Load()
 }
 
-// between says that the client has nothing under way, though something of the proxy's may be.
+// between reports whether the client has nothing under way, though the proxy may have.
 func (s *Session) between() bool {
 	if s.status != 'I' || s.open || s.partial || s.replay.running || s.copying || s.blind.Load() {
 		return false
@@ -30,15 +30,15 @@ func (s *Session) between() bool {
 	return true
 }
 
-// Busy says whether something of the client's is under way.
+// Busy reports whether the client has anything under way.
 func (s *Session) Busy() bool {
 	s.state.Lock()
 	defer s.state.Unlock()
 	return s.status != 0 && !s.between()
 }
 
-// rest uses an idle moment: for a fence that is due, otherwise for trials. If the client's messages are just being
-// written, then whoever writes them uses it, if it still is one.
+// rest uses an idle moment: for a fence that is due, otherwise for trials. If somebody is just writing the client's
+// messages, then they use the moment, if it still is one.
 func (s *Session) rest() {
 	for again := true; again; again = s.missed.Load() {
 		if !s.writes.TryLock() {
@@ -55,8 +55,8 @@ func (s *Session) rest() {
 	}
 }
 
-// sendIdle sends the messages of an idle moment. If that would have a loop wait then somebody else does it, unlocks
-// writes, and uses what idle moment there is then. An error shows at the next read.
+// sendIdle sends the messages of an idle moment. If a loop would have to wait for that, then a goroutine sends them,
+// unlocks writes, and uses the idle moment that there is then, if any. An error shows at the next read.
 func (s *Session) sendIdle(out []byte) bool {
 	server, is := s.server.(*loop.Conn)
 	if !is {
@@ -77,7 +77,7 @@ func (s *Session) sendIdle(out []byte) bool {
 	return false
 }
 
-// useIdle gives the messages for an idle moment. Called with writes locked.
+// useIdle returns the messages for an idle moment. Called with writes locked.
 func (s *Session) useIdle() []byte {
 	s.state.Lock()
 	defer s.state.Unlock()
@@ -91,16 +91,17 @@ func (s *Session) useIdle() []byte {
 	return nil
 }
 
-// hold is a meeting's grip on a session.
+// hold is a meeting's hold on a session.
 type hold struct {
-	due      func(number uint64, err error) // not nil: a fence is due, and who is to be told of it
+	due      func(number uint64, err error) // not nil: a fence is due, and this is called with its result
 	released chan struct{}
 	once     sync.Once
 }
 
 func (h *hold) release() { h.once.Do(func() { close(h.released) }) }
 
-// Hold has what the client sends next wait, once it has nothing under way, until Release; but at most for the bound.
+// Hold makes the client's next messages wait until Release, once the client has nothing under way, but for the bound at
+// most.
 func (s *Session) Hold() {
 	s.hold.Store(&hold{released: make(chan struct{})})
 }
@@ -115,12 +116,12 @@ func (s *Session) Release() {
 	}
 }
 
-// ErrNoFence says that a session can't make fences.
+// ErrNoFence means that a session can't make fences.
 var ErrNoFence = errors.New("session: it can't make a fence")
 
-// Fence makes a fence as soon as the session has nothing under way. It returns at once; done is called with the
-// number of the fence's transaction, or with what went wrong. After Release it isn't begun any more, and done isn't
-// called. To be called while the session is held.
+// Fence makes a fence as soon as the session has nothing under way. It returns at once; done is called with the number
+// of the fence's transaction, or with an error. After Release a fence isn't begun any more, and done isn't called. Must
+// be called while the session is held.
 func (s *Session) Fence(done func(number uint64, err error)) {
 	h := s.hold.Load()
 	if h == nil || s.options.Fence == nil {
@@ -143,13 +144,13 @@ func (s *Session) Try() {
 	}
 }
 
-// due says whether a fence is to be made. Called with state locked.
+// due reports whether a fence is to be made. Called with state locked.
 func (s *Session) due() bool {
 	h := s.hold.Load()
 	return h != nil && h.due != nil
 }
 
-// fence gives a fence's messages. Called with writes and state locked.
+// fence returns a fence's messages. Called with writes and state locked.
 func (s *Session) fence() []byte {
 	h := s.hold.Load()
 	s.fenced, h.due = h.due, nil
@@ -160,7 +161,7 @@ func (s *Session) fence() []byte {
 	return append(append([]byte(nil), f.first...), f.second...)
 }
 
-// fenceDone takes the end of a fence.
+// fenceDone handles the end of a fence.
 func (s *Session) fenceDone() {
 	done, n, bad := s.fenced, s.tx.Number, s.tx.failed || s.tx.Number == 0
 	s.fenced = nil
@@ -185,7 +186,7 @@ var (
 	errGone  = errors.New("session: the connection ended")
 )
 
-// fenceLost tells whoever waits for a fence that there will be none.
+// fenceLost reports to whoever waits for a fence that there will be none.
 func (s *Session) fenceLost() {
 	if s.fenced != nil {
 		s.fenced(0, errGone)
@@ -197,8 +198,8 @@ func (s *Session) fenceLost() {
 	}
 }
 
-// wait holds what the client has sent, if it has nothing under way. Called with writes locked, without which no fence
-// is begun: so what isn't held is in front of the session's first fence.
+// wait holds what the client has sent, if the client has nothing under way. Called with writes locked. No fence begins
+// without that lock, so whatever isn't held comes before the session's first fence.
 func (s *Session) wait(h *hold) {
 	s.state.Lock()
 	between := s.between()

@@ -4,8 +4,8 @@ import (
 	"zanteyard/wire"
 )
 
-// long takes the beginning of a message that is too long to be looked at whole, and says what is sent for it: the rest
-// follows as it comes. Called with writes and state locked.
+// long takes the beginning of a message that is too long to be looked at whole, and returns what to send for it: the
+// rest follows as it arrives. Called with writes and state locked.
 func (s *Session) long(begin []byte) []byte {
 	o := &s.toServer
 	o.begin(begin)
@@ -34,7 +34,7 @@ func (s *Session) long(begin []byte) []byte {
 		portalName, name, _, _ := wire.Names(begin)
 		st := s.names.statements[string(name)]
 		if st != nil && st.altered {
-			s.original(o, st) // the formats of its columns come last, and the length, which counts them, first
+			s.original(o, st) // the formats of its columns come last, but the length, which includes them, first
 		}
 		s.bindTo(&portal{name: string(portalName), on: st})
 	case 'F':

@@ -4,31 +4,31 @@ import (
 	"zanteyard/plan"
 )
 
-// statement is what a client prepared, or a text that it sent as a Query.
+// statement is a statement that a client prepared, or a text that it sent as a Query.
 type statement struct {
 	name   string
 	text   string // "" if it was too long to look at
 	tokens plan.Tokens
 	plan   *plan.Plan // nil if it wasn't looked at
-	types  []byte     // the end of its Parse: how many types of parameters, and these
-	// parameters are the types that the server has found, in the same form, nil if it wasn't asked: they stay what they
-	// were when the statement was prepared.
+	types  []byte     // the end of its Parse: the number of parameter types, and the types
+	// parameters holds the types that the server has found, in the same form, or nil if it wasn't asked. They stay what
+	// they were when the statement was prepared.
 	parameters []byte
 	use        *use
-	// altered says that the server's statement of this name has hidden columns. Only unnamed ones are altered: a named
-	// one is left as it is, and a rewritten twin of it is made.
+	// altered means that the server's statement of this name has hidden columns. Only unnamed statements are altered: a
+	// named one is left as it is, and gets a rewritten twin.
 	altered            bool
-	rewritten          string // the text of several statements with what was inserted
-	renamed, renamedAt int    // an EXECUTE whose name is longer by so many characters, from one of them on
+	rewritten          string // the text of several statements, with the insertions
+	renamed, renamedAt int    // an EXECUTE: how many characters longer its name is, and from which statement on
 	asked              asked
-	// A named statement's rewritten twin: its name, the plan that it was made by, and the generation of trust then.
+	// A named statement's rewritten twin: its name, the plan that it was made from, and the generation of trust then.
 	twin   string
 	twinOf *plan.Plan
 	twinIn uint64
 	looked uint64 // trust.plans when the plan was made
 }
 
-// kind is what the statement does, as far as that is known.
+// kind returns what the statement does, as far as is known.
 func (s *statement) kind() plan.Kind {
 	if s == nil || s.plan == nil {
 		return plan.Other
@@ -40,7 +40,7 @@ func (s *statement) kind() plan.Kind {
 type portal struct {
 	name       string
 	on         *statement
-	changed    bool       // it is of a rewritten statement
+	changed    bool       // its statement is rewritten
 	hides      *plan.Plan // nil if it has no hidden columns
 	hidden     int
 	binary     bool
@@ -48,11 +48,12 @@ type portal struct {
 	parameters []string
 }
 
-// names is what the names of a connection stand for. What the server didn't get to is put back (queue.skipped).
+// names records what the names of a connection stand for. Changes that the server didn't get to are undone
+// (queue.skipped).
 type names struct {
 	statements map[string]*statement
 	portals    map[string]*portal
-	// cursors are those whose query was rewritten: of DECLARE. prepared are the statements of SQL's PREPARE.
+	// cursors has the cursors that DECLARE made with a rewritten query, prepared the statements of SQL's PREPARE.
 	cursors  map[string]*plan.Plan
 	prepared map[string]*statement
 	twins    int // made so far
@@ -79,7 +80,7 @@ func (n *names) setPortal(name string, p *portal) {
 	}
 }
 
-// back puts back what a message had changed that the server didn't run.
+// back undoes what a message changed that the server didn't run.
 func (n *names) back(e *expectation) {
 	switch e.undo {
 	case undoStatement:
@@ -95,7 +96,7 @@ func (n *names) back(e *expectation) {
 	}
 }
 
-// ended forgets what ends with a transaction: all portals of the protocol, and cursors (those WITH HOLD aren't
+// ended forgets what ends with a transaction: all of the protocol's portals, and cursors (those WITH HOLD aren't
 // rewritten).
 func (n *names) ended() {
 	for k := range n.portals {

@@ -11,13 +11,13 @@ import (
 	"zanteyard/wire"
 )
 
-// exchange is a list of steps that a client makes on one connection.
+// exchange is a list of a client's steps on one connection.
 type exchange struct {
 	name  string
 	user  string // postgres if ""
 	steps []step
-	sees  int  // at least so many reads are told once all is tried
-	once  bool // it is run only once: it leaves something behind on the connection
+	sees  int  // at least this many reads are reported once everything is tried
+	once  bool // it is run only once, since it leaves something on the connection
 }
 
 func queries(texts ...string) []step {
@@ -52,7 +52,7 @@ func bound(name string, formats []int16, parameters ...string) step {
 		&pgproto3.Describe{ObjectType: 'P'}, &pgproto3.Execute{}, &pgproto3.Sync{})
 }
 
-// binaryBound has an int for a parameter, as binary.
+// binaryBound has an int parameter in binary format.
 func binaryBound(name string, parameter byte) step {
 	return messages('Z', &pgproto3.Bind{PreparedStatement: name, ParameterFormatCodes: []int16{1},
 		Parameters: [][]byte{{0, 0, 0, parameter}}}, &pgproto3.Execute{}, &pgproto3.Sync{})
@@ -70,8 +70,9 @@ func join(all ...[]step) []step {
 	return to
 }
 
-// TestSame runs each exchange directly and through a session, several times on one connection: with nothing tried, and
-// with all tried that can be before a run, and before each step. Every byte that the client gets has to be the same.
+// TestSame runs each exchange directly and through a session, several times on one connection: with nothing tried, with
+// everything possible tried before a run, and with everything possible tried before each step. Every byte that the
+// client gets must be the same.
 func TestSame(t *testing.T) {
 	needServer(t)
 	for _, x := range exchanges() {
@@ -80,7 +81,7 @@ func TestSame(t *testing.T) {
 	}
 }
 
-// exchangeSame compares what is answered with what the server answers directly, some times over.
+// exchangeSame compares the answers with the server's direct answers, several times.
 func exchangeSame(t *testing.T, x exchange, runs int) {
 	user := x.user
 	if user == "" {
@@ -135,7 +136,7 @@ func same(a, b [][]byte) bool {
 	return true
 }
 
-// mask takes the identifiers of tables out of descriptions: those of tables that the exchange makes differ.
+// mask removes the identifiers of tables from descriptions: those of tables that the exchange makes differ.
 func mask(all [][]byte) {
 	for _, m := range all {
 		if m[0] != 'T' {

@@ -1,6 +1,6 @@
 package session
 
-// output collects what is passed on of a batch of messages. A batch that is passed on as it is isn't copied.
+// output collects what is passed on from a batch of messages. A batch that is passed on unchanged isn't copied.
 type output struct {
 	batch    []byte
 	from, to int // the part of the batch that is to be passed on next
@@ -27,13 +27,13 @@ func (o *output) flush() {
 	o.from, o.to = 0, 0
 }
 
-// own gives the buffer, to append something else to.
+// own returns the buffer, for appending something else.
 func (o *output) own() []byte {
 	o.flush()
 	return o.buf
 }
 
-// all is all that is passed on.
+// all returns everything that is passed on.
 func (o *output) all() []byte {
 	if len(o.buf) == 0 {
 		return o.batch[o.from:o.to]

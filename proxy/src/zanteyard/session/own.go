@@ -9,19 +9,19 @@ import (
 	"zanteyard/catalog"
 )
 
-// The names of the proxy's own statements and portals begin with this. They are named, as the unnamed ones are the
-// client's: a simple Query, too, would drop those.
+// The names of the proxy's own statements and portals begin with this. They are named because the unnamed ones are the
+// client's, and a simple Query would drop those too.
 const prefix = "zanteyard."
 
 const (
 	askName = prefix + "ask"
-	// The transaction's number and snapshot and its level: asked in front of COMMIT.
+	// The transaction's number, its snapshot and its level, asked before COMMIT.
 	askText = "SELECT pg_catalog.pg_current_xact_id_if_assigned(), pg_catalog.pg_current_snapshot(), " +
 		"pg_catalog.current_setting('transaction_isolation')"
 
 	signatureName = prefix + "signature"
-	// All that decides what a name means on a connection and what its user may do, in one text: if it is the same as
-	// before, or as on another connection, then so is the meaning of what was tried. It ends with an empty string where
+	// Everything that decides what a name means on a connection and what its user may do, in one text: if it is the same
+	// as before, or as on another connection, then what was tried still means the same. It ends with an empty string if
 	// there are no temporary objects. The second column is the level that transactions begin at, the third the search path
 	// (catalog.PathSQL), the fourth the backend's process.
 	signatureText = "SELECT pg_catalog.json_build_array(pg_catalog.current_setting('search_path'), current_user, " +
@@ -32,7 +32,7 @@ const (
 		"pg_catalog.current_setting('default_transaction_isolation'), (" + catalog.PathSQL + "), " +
 		"pg_catalog.pg_backend_pid()"
 
-	// A trial that would wait for a lock fails instead, so that no client waits for it: the setting ends with the
+	// A trial that would wait for a lock fails instead, so no client waits for the trial. The setting ends with the
 	// transaction, which is that of the trial's messages up to their Sync.
 	impatientName = prefix + "impatient"
 	impatientText = "SELECT pg_catalog.set_config('lock_timeout', '20ms', true)"
@@ -50,13 +50,14 @@ func encoded(messages ...pgproto3.FrontendMessage) []byte {
 	return b
 }
 
-// again is the messages that run a statement that was prepared under its own name.
+// again returns the messages that run a statement prepared under its own name.
 func again(name string) []byte {
 	return encoded(&pgproto3.Bind{DestinationPortal: name, PreparedStatement: name}, &pgproto3.Execute{Portal: name},
 		&pgproto3.Close{ObjectType: 'P', Name: name})
 }
 
-// once is the messages that prepare a statement, run it and forget it. It is there from before if that failed.
+// once returns the messages that prepare a statement, run it and forget it. If an earlier attempt failed, the statement
+// may still be there.
 func once(name, text string) []byte {
 	forget := encoded(&pgproto3.Close{ObjectType: 'S', Name: name})
 	b := append(forget, encoded(&pgproto3.Parse{Name: name, Query: text})...)
@@ -75,12 +76,12 @@ var (
 	closeTrial    = encoded(&pgproto3.Close{ObjectType: 'S', Name: trialName})
 )
 
-// step appends the expectation of a message of which only the failure matters.
+// step appends the expectation of a message for which only a failure matters.
 func (q *queue) step(message byte, u *use) {
 	q.push(expectation{kind: silent, message: message, use: u})
 }
 
-// again appends the expectations of again's messages.
+// again appends the expectations for the messages of again.
 func (q *queue) again(row expectation) {
 	q.step('B', row.use)
 	row.message = 'E'
@@ -88,7 +89,7 @@ func (q *queue) again(row expectation) {
 	q.step('C', row.use)
 }
 
-// once appends those of once's.
+// once appends the expectations for the messages of once.
 func (q *queue) once(row expectation) {
 	q.step('C', row.use)
 	q.step('P', row.use)
@@ -96,12 +97,12 @@ func (q *queue) once(row expectation) {
 	q.step('C', row.use)
 }
 
-// Fence is the transaction that a session makes at a meeting, as messages that are made once.
+// Fence is the transaction that a session makes at a meeting, as messages that are built once.
 type Fence struct{ first, second []byte }
 
-// NewFence makes the fence on a table, whose name may have a schema in front. Its transaction is at read committed,
-// since fences of all sessions write the same row; it waits for no disk; and it gives up when it has waited for the row
-// for some milliseconds, so that a session whose server hangs holds nobody up.
+// NewFence makes a fence on a table, whose name may be qualified with a schema. Its transaction is at read committed,
+// since the fences of all sessions write the same row; it doesn't wait for the disk; and it gives up after waiting some
+// milliseconds for the row, so a session whose server hangs delays nobody.
 func NewFence(table string, wait int) *Fence {
 	name := func(i int) string { return fmt.Sprintf("%sfence%d", prefix, i) }
 	settings := fmt.Sprintf("SELECT pg_catalog.set_config('synchronous_commit', 'off', true), "+
@@ -114,7 +115,7 @@ func NewFence(table string, wait int) *Fence {
 	return &Fence{append(first, syncMessage...), append(once(name(4), "COMMIT"), syncMessage...)}
 }
 
-// quoted makes an SQL name of a name whose parts are separated by dots.
+// quoted quotes an SQL name whose parts are separated by dots.
 func quoted(name string) string {
 	parts := strings.Split(name, ".")
 	for i, p := range parts {
@@ -123,7 +124,7 @@ func quoted(name string) string {
 	return strings.Join(parts, ".")
 }
 
-// expected appends the expectations of a fence's messages.
+// expected appends the expectations for a fence's messages.
 func (f *Fence) expected(q *queue) {
 	q.once(expectation{kind: silent})
 	q.once(expectation{kind: silent})

@@ -9,10 +9,10 @@ import (
 	"testing"
 )
 
-// pieces_ has what clients and servers send arrive in pieces, cut anywhere, nil if it isn't cut.
+// pieces_ makes what clients and servers send arrive in pieces, cut anywhere; nil if it isn't cut.
 var pieces_ *cuts
 
-// cuts says how long the next piece is.
+// cuts determines how long the next piece is.
 type cuts struct {
 	lock sync.Mutex
 	r    *rand.Rand
@@ -31,7 +31,7 @@ func (c *cuts) next(most int) int {
 	return n
 }
 
-// inPieces writes so.
+// inPieces writes in pieces.
 type inPieces struct {
 	net.Conn
 	cuts *cuts
@@ -49,7 +49,7 @@ func (p inPieces) Write(b []byte) (int, error) {
 	return done, nil
 }
 
-// behindRelay connects to the server by way of something that passes on what it sends in pieces.
+// behindRelay connects to the server through a relay that passes on in pieces what it sends.
 func behindRelay(t testing.TB, port int) net.Conn {
 	t.Helper()
 	listener, err := net.Listen("tcp", "127.0.0.1:0")
@@ -80,7 +80,7 @@ func behindRelay(t testing.TB, port int) net.Conn {
 	return near
 }
 
-// TestPieces: the answers are the same however messages are cut on their way, on both sides.
+// TestPieces: the answers are the same however messages are cut on their way, in both directions.
 func TestPieces(t *testing.T) {
 	needServer(t)
 	pieces_ = &cuts{r: seeded(t)}

@@ -7,8 +7,8 @@ import (
 	"zanteyard/cluster"
 )
 
-// TestPoolerBehind: behind a pooler each transaction may reach another backend, where nothing of the proxy's own is
-// prepared. So nothing is rewritten or asked for there; fences are made all the same.
+// TestPoolerBehind: with a pooler between proxy and server, each transaction may reach another backend, where nothing
+// of the proxy's is prepared. So nothing is rewritten or asked there; fences are made all the same.
 func TestPoolerBehind(t *testing.T) {
 	needServer(t)
 	for _, mode := range []string{"session", "transaction"} {

@@ -9,11 +9,11 @@ import (
 	"zanteyard/wire"
 )
 
-// A statement that SQL's PREPARE has made is left as it is: CREATE TABLE AS EXECUTE and EXPLAIN EXECUTE show what it
-// returns. A rewritten twin is prepared under a name of the proxy's own, and EXECUTE is given that name.
+// A statement made by SQL's PREPARE is left as it is: CREATE TABLE AS EXECUTE and EXPLAIN EXECUTE show what it returns.
+// A rewritten twin is prepared under one of the proxy's own names, and EXECUTE is given that name.
 
-// executes takes a Query that is an EXECUTE, and says whether it was sent with the twin's name. The twin is prepared in
-// front of it if it isn't there yet, with a Sync of its own, as the question in front of COMMIT.
+// executes handles a Query that is an EXECUTE, and reports whether it was sent with the twin's name. If the twin isn't
+// there yet, it is prepared first, with its own Sync, like the question before COMMIT.
 func (s *Session) executes(o *output, st *statement, e *expectation) bool {
 	of := s.names.prepared[st.plan.Name]
 	if of == nil || s.names.statements[st.plan.Name] != nil || s.status == 'E' || s.open || !s.queue.empty() {
@@ -42,7 +42,7 @@ func (s *Session) executes(o *output, st *statement, e *expectation) bool {
 	return true
 }
 
-// prepares sends the rewritten PREPARE under a name of the proxy's own.
+// prepares sends the rewritten PREPARE under one of the proxy's own names.
 func (s *Session) prepares(o *output, of *statement) bool {
 	rewritten, _, _ := of.plan.Rewrite(of.text, of.tokens)
 	from, to, ok := nameIn(rewritten, "prepare")
@@ -61,7 +61,7 @@ func (s *Session) prepares(o *output, of *statement) bool {
 	return true
 }
 
-// nameIn finds the name behind the keyword that a statement begins with.
+// nameIn finds the name after the keyword that a statement begins with.
 func nameIn(text, keyword string) (from, to int, ok bool) {
 	at := blank(text, 0)
 	if len(text)-at < len(keyword) || !strings.EqualFold(text[at:at+len(keyword)], keyword) {
@@ -91,7 +91,7 @@ func isWord(c byte) bool {
 	return c == '_' || c == '$' || c >= 0x80 || c >= '0' && c <= '9' || c >= 'a' && c <= 'z' || c >= 'A' && c <= 'Z'
 }
 
-// blank is where spaces and comments end.
+// blank returns where spaces and comments end.
 func blank(text string, at int) int {
 	for at < len(text) {
 		switch {
@@ -125,7 +125,8 @@ func blank(text string, at int) int {
 	return at
 }
 
-// madeBySQL takes a PREPARE that has run: its statement is tried when there is time, since it is there to be run again.
+// madeBySQL handles a PREPARE that has run: its statement is tried when there is time, since it was made to be run
+// again.
 func (s *Session) madeBySQL(p *plan.Plan, of *statement) {
 	if of.plan != p || p.Inner == nil { // one of several statements
 		of = &statement{plan: p}

@@ -6,14 +6,14 @@ import (
 	"zanteyard/plan"
 )
 
-// purpose is what a message of the proxy's own is for. What is answered to it is never passed on.
+// purpose is the purpose of one of the proxy's own messages. The answers to those are never passed on.
 type purpose uint8
 
 const (
-	clients purpose = iota // the client's, no message of the proxy's own
-	silent                 // a step of which only the failure matters
-	askRow                 // the row with number, snapshot and level in front of COMMIT
-	askEnd                 // the Sync behind it
+	clients purpose = iota // the client's own message
+	silent                 // a step for which only a failure matters
+	askRow                 // the row with number, snapshot and level before COMMIT
+	askEnd                 // the Sync after it
 	signatureRow
 	privilegeRow
 	trialColumns
@@ -21,31 +21,32 @@ const (
 	fenceRow
 	fenceHalf
 	fenceEnd
-	reparse    // the original text of an unnamed statement, whose failure is the client's
-	twin       // a statement's rewritten twin, right in front of the client's Bind
-	prepareEnd // the Sync behind the twin of what SQL's PREPARE made
+	reparse    // the original text of an unnamed statement, whose failure goes to the client
+	twin       // a statement's rewritten twin, just before the client's Bind
+	prepareEnd // the Sync after the twin of a statement of SQL's PREPARE
 )
 
-// expectation is what the server owes for one message that was sent to it. They are answered in order.
+// expectation is what the server owes for one message that was sent to it. Messages are answered in order.
 type expectation struct {
 	kind purpose
-	// message is the type of the message: P B D E C S Q F; H is a malformed Flush; c is the end of a copy, which is owed
+	// message is the message's type: P B D E C S Q F; H is a malformed Flush; c is the end of a copy, which is owed
 	// nothing.
 	message byte
-	mute    bool // what is answered isn't passed on, though it is the client's
+	mute    bool // the answer isn't passed on, though the message is the client's
 	binary  bool // hidden columns come as binary
-	cleared bool // the unnamed statement is gone, even if this fails
+	cleared bool // the unnamed statement is gone, even if this one fails
 	changed bool // the statement was rewritten
-	hidden  int  // hidden columns in what is answered
-	part    int  // which statement of several is answered now
+	hidden  int  // number of hidden columns in the answer
+	part    int  // which of several statements is being answered
 	pieces  []piece
-	rows    int
-	sent    time.Time  // when the client's message was sent, or its predecessor
-	hides   *plan.Plan // whose columns these are
+	rows    int        // rows of the statement that is being answered
+	from    int        // number of reads before its first row
+	sent    time.Time  // when the client's message was sent, or the one before it
+	hides   *plan.Plan // the plan that added the hidden columns
 	on      *statement
 	at      *portal
 	use     *use
-	// What names stood for before this message, if it changes that: to be put back if the server doesn't get to it.
+	// What names stood for before this message, if it changes that: restored if the server doesn't get to it.
 	undo     undo
 	name     string
 	previous *statement
@@ -58,15 +59,15 @@ const (
 	nothing undo = iota
 	undoStatement
 	undoPortal
-	undoTwin    // the twin of on wasn't made
+	undoTwin    // the twin wasn't made
 	undoAltered // the unnamed statement is still the rewritten one
 )
 
-// queue is a list of expectations, the oldest first, in memory that is used again.
+// queue is a list of expectations, oldest first, in memory that is reused.
 type queue struct {
 	list []expectation
 	head int
-	sent time.Time // when the client's messages were sent that are put in now
+	sent time.Time // when the client's messages that are added now were sent
 }
 
 func (q *queue) empty() bool { return q.head == len(q.list) }
@@ -77,7 +78,7 @@ func (q *queue) push(e expectation) {
 	q.list = append(q.list, e)
 }
 
-// next is when the first of the client's messages that aren't answered was sent; zero if all are.
+// next returns when the first of the client's unanswered messages was sent, or zero if all are answered.
 func (q *queue) next() time.Time {
 	for i := q.head; i < len(q.list); i++ {
 		if q.list[i].kind == clients {
@@ -87,7 +88,7 @@ func (q *queue) next() time.Time {
 	return time.Time{}
 }
 
-// first is the oldest expectation, nil if nothing is owed.
+// first returns the oldest expectation, or nil if nothing is owed.
 func (q *queue) first() *expectation {
 	if q.head == len(q.list) {
 		return nil
@@ -110,8 +111,8 @@ func (q *queue) pop() {
 	}
 }
 
-// skipped drops what the server leaves out after an error: all up to the next Sync. It calls back for each, the last
-// one first, so that names can be put back. The one that failed is among them if it is no Sync.
+// skipped drops what the server skips after an error: everything up to the next Sync. It calls f for each, last one
+// first, to restore names. The message that failed is among them unless it is a Sync.
 func (q *queue) skipped(f func(e *expectation)) {
 	end := q.head
 	for end < len(q.list) && q.list[end].message != 'S' {
@@ -128,7 +129,7 @@ func (q *queue) skipped(f func(e *expectation)) {
 	}
 }
 
-// ahead is where the next Sync is.
+// ahead returns the index of the next Sync.
 func (q *queue) ahead() int {
 	end := q.head
 	for end < len(q.list) && q.list[end].message != 'S' {
@@ -137,8 +138,8 @@ func (q *queue) ahead() int {
 	return end
 }
 
-// copies drops the Syncs that the server ignores since a COPY FROM STDIN has begun: those in front of its end, or of
-// any other message, which ends it with an error.
+// copies drops the Syncs that the server ignores once a COPY FROM STDIN has begun: those before the end of the copy, or
+// before any other message, which ends it with an error.
 func (q *queue) copies() {
 	from := q.head + 1
 	to := from
@@ -148,7 +149,7 @@ func (q *queue) copies() {
 	q.list = append(q.list[:from], q.list[to:]...)
 }
 
-// copied drops the ends of a copy that is over: they are owed nothing.
+// copied drops the ends of copies that are over: they are owed nothing.
 func (q *queue) copied() {
 	for q.head < len(q.list) && q.list[q.head].message == 'c' {
 		q.pop()

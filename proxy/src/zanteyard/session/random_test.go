@@ -22,8 +22,8 @@ import (
 
 var lockstep = flag.Int("lockstep", 400, "transactions of the random programs")
 
-// tagged are tables whose rows carry the tag of the transaction that wrote them: so each row that a statement returns
-// says itself whose version it is.
+// tagged are tables whose rows have the tag of the transaction that wrote them, so each returned row shows whose
+// version it is.
 const tagged = `
 DROP TABLE IF EXISTS one, two, parts, trail CASCADE;
 CREATE TABLE one (id int PRIMARY KEY, tag text NOT NULL, n int);
@@ -39,7 +39,7 @@ CREATE OR REPLACE FUNCTION tag(i int, w text) RETURNS void LANGUAGE plpgsql AS
    UPDATE one SET tag = w WHERE id = i + 1; END; END';
 `
 
-// seen is a version as a row tells it: its key and the tag of who wrote it.
+// seen is a version as a row shows it: its key and the tag of its writer.
 type seen struct{ table, key, tag string }
 
 // walker runs transactions of one connection, one statement at a time.
@@ -51,13 +51,13 @@ type walker struct {
 	open     bool
 	left     int
 	level    string
-	rows     map[seen]bool // that its statements have returned
+	rows     map[seen]bool // returned by its statements
 	prepared map[string]string
-	// deleted says that it has run a DELETE, of which the versions that it deleted are told.
+	// deleted means that it has run a DELETE, for which the deleted versions are reported.
 	deleted bool
 }
 
-// forward takes connections for sessions, until the test ends.
+// forward accepts connections for sessions, until the test ends.
 func forward(t *testing.T, change func(*Options)) (dial func() (*pgconn.PgConn, *told)) {
 	listener, err := net.Listen("tcp", "127.0.0.1:0")
 	if err != nil {
@@ -100,7 +100,7 @@ func forward(t *testing.T, change func(*Options)) (dial func() (*pgconn.PgConn, 
 	}
 }
 
-// run runs a statement as one of the protocol's ways, and gives its rows as text.
+// run runs a statement in one of the protocol's ways, and returns its rows as text.
 func (w *walker) run(r *rand.Rand, text string, parameters ...string) ([][]string, error) {
 	ctx, cancel := context.WithTimeout(context.Background(), time.Minute)
 	defer cancel()
@@ -150,7 +150,7 @@ func (w *walker) run(r *rand.Rand, text string, parameters ...string) ([][]strin
 type shape struct {
 	text string
 	args func(r *rand.Rand, tag string) []string
-	// versions says which versions a row of the result is of.
+	// versions returns the versions that a row of the result shows.
 	versions func(row []string) []seen
 }
 
@@ -194,9 +194,9 @@ func shapes() []shape {
 	}
 }
 
-// TestRandomPrograms runs random transactions over some connections in lockstep. Each read that is told has to be of a
-// row that a statement of its transaction returned, with the version that the row says; each row that was returned has
-// to be told, if its statement isn't counted as left out; and each number has to be that of the rows' xmin.
+// TestRandomPrograms runs random transactions over some connections in lockstep. Each reported read must be of a row
+// that a statement of its transaction returned, with the version that the row shows; each returned row must be
+// reported, unless its statement is counted as left out; and each number must be that of the rows' xmin.
 func TestRandomPrograms(t *testing.T) {
 	needServer(t)
 	r := seeded(t)
@@ -240,11 +240,11 @@ func TestRandomPrograms(t *testing.T) {
 type historian struct {
 	t                                *testing.T
 	observer                         *pgconn.PgConn
-	tags                             map[uint32]string // whose each xmin is
+	tags                             map[uint32]string // the tag for each xmin
 	ended, reads, rows, met, numbers int
 }
 
-// look learns whose the rows' versions are.
+// look learns which transaction wrote which rows.
 func (h *historian) look() {
 	results, err := h.observer.Exec(context.Background(),
 		"SELECT xmin, tag FROM one UNION SELECT xmin, tag FROM two UNION SELECT xmin, tag FROM parts").ReadAll()
@@ -296,7 +296,7 @@ func (h *historian) step(r *rand.Rand, w *walker) {
 	h.end(w, end)
 }
 
-// end ends a transaction and compares what is told of it.
+// end ends a transaction and compares what is reported of it.
 func (h *historian) end(w *walker, how string) {
 	results, err := w.conn.Exec(context.Background(), how).ReadAll()
 	committed := err == nil && results[0].CommandTag.String() == "COMMIT"

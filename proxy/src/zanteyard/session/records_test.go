@@ -15,7 +15,7 @@ import (
 	"zanteyard/record"
 )
 
-// warm runs statements until they are tried, and forgets what was told.
+// warm runs statements until they are tried, and discards what was reported.
 func (p *proxied) warm(texts ...string) {
 	p.t.Helper()
 	for i := 0; i < 2; i++ {
@@ -35,7 +35,7 @@ func keysOf(reads []record.Read) []string {
 	return all
 }
 
-// TestRecords runs transactions whose statements were tried, and compares what is told of them.
+// TestRecords runs transactions whose statements were tried, and compares what is reported of them.
 func TestRecords(t *testing.T) {
 	needServer(t)
 	type want struct {
@@ -138,7 +138,7 @@ func TestRecords(t *testing.T) {
 	}
 }
 
-// TestVersions compares the versions that are told with what the server says.
+// TestVersions compares the reported versions with what the server says.
 func TestVersions(t *testing.T) {
 	needServer(t)
 	sql(t, fill)
@@ -170,7 +170,7 @@ func TestVersions(t *testing.T) {
 	}
 }
 
-// TestReadLimit: more reads than the limit are dropped, and that is told.
+// TestReadLimit: reads beyond the limit are dropped, and that is reported.
 func TestReadLimit(t *testing.T) {
 	needServer(t)
 	sql(t, fill)
@@ -222,7 +222,7 @@ func TestUnclear(t *testing.T) {
 	p.warm("BEGIN", "UPDATE t SET v = 1 WHERE id = 1", "COMMIT")
 	p.query("BEGIN")
 	p.query("UPDATE t SET v = 1 WHERE id = 1")
-	p.session.state.Lock() // what the server answers isn't looked at yet
+	p.session.state.Lock() // the server's answer isn't looked at yet
 	p.session.queue.push(expectation{message: 'Q', on: opaque})
 	p.session.state.Unlock()
 	p.conn.Close()
@@ -244,8 +244,8 @@ func TestUnclear(t *testing.T) {
 	}
 }
 
-// TestBegan: a transaction that is sent before the one in front of it is answered began no later than it was sent, and
-// no earlier than the first of them.
+// TestBegan: a transaction that is sent before the previous one is answered began no later than it was sent, and no
+// earlier than the first of them was sent.
 func TestBegan(t *testing.T) {
 	needServer(t)
 	p := through(t, "postgres", nil)
@@ -278,8 +278,8 @@ func TestBegan(t *testing.T) {
 	}
 }
 
-// TestBorrowedSnapshot: a transaction that reads by a snapshot which another one exported may miss what its own
-// connection has committed before. None of its reads is told; what it writes is.
+// TestBorrowedSnapshot: a transaction that reads from a snapshot exported by another one may miss what its own
+// connection committed before. None of its reads are reported; its writes are.
 func TestBorrowedSnapshot(t *testing.T) {
 	needServer(t)
 	sql(t, fill)
@@ -346,8 +346,8 @@ func TestPreparedBefore(t *testing.T) {
 	}
 }
 
-// TestCursorsThatArentSeen: what a cursor gives after its transaction, or in its own format, is no read of any transaction,
-// and is counted by its reason.
+// TestCursorsThatArentSeen: rows that a cursor returns after its transaction, or in its own format, aren't reads of any
+// transaction, and are counted by reason.
 func TestCursorsThatArentSeen(t *testing.T) {
 	needServer(t)
 	sql(t, fill)

@@ -5,27 +5,27 @@ import (
 	"zanteyard/wire"
 )
 
-// mostNow is how many bytes of a client's are looked at by a loop. To parse a long statement takes time.
+// mostNow is how many of a client's bytes a loop looks at itself, since parsing a long statement takes time.
 const mostNow = 16 << 10
 
-// direction is one of a session's two directions while a loop serves it. What has to wait is done by a goroutine, which
-// then takes all that comes, until nothing is there to be read.
+// direction is one of a session's two directions while a loop serves it. Whatever has to wait is done by a goroutine,
+// which then takes everything that arrives until there is nothing left to read.
 type direction struct {
 	session  *Session
 	from, to *loop.Conn
 	waits    bool // reading waits
 	in       *wire.Reader
-	// now takes some messages as far as that is possible without waiting, and gives what is left to be done.
+	// now handles messages as far as it can without waiting, and returns a function for the rest.
 	now func(d *direction, batch []byte, more int) (left func() error, err error)
-	// later takes them, waiting where it has to.
+	// later handles messages, waiting where it has to.
 	later func(in *wire.Reader, batch []byte, more int) error
-	// blind passes all on without looking.
+	// blind passes everything on without looking.
 	blind func(in *wire.Reader) error
 	turn  func()
 	ended chan error
 }
 
-// Read is for its reader.
+// Read implements io.Reader for the direction's wire.Reader.
 func (d *direction) Read(p []byte) (int, error) {
 	if d.waits {
 		return d.from.Read(p)
@@ -44,7 +44,7 @@ func (s *Session) direction(from, to *loop.Conn) *direction {
 	return d
 }
 
-// served has a loop pass messages on.
+// served lets a loop pass messages on.
 func (s *Session) served(client, server *loop.Conn) error {
 	forth, back := s.direction(client, server), s.direction(server, client)
 	forth.now, forth.later = (*direction).forth, s.send
@@ -88,7 +88,7 @@ func (d *direction) take() error {
 	return err
 }
 
-// away does what has to wait. It gives the direction back to the loop when there is nothing to be read.
+// away does what has to wait. It gives the direction back to the loop when there is nothing left to read.
 func (d *direction) away(left func() error) {
 	var given bool
 	err := d.session.guarded(func() (err error) {
@@ -124,12 +124,12 @@ func (d *direction) end(err error) {
 	d.ended <- err
 }
 
-// sendLater is for what waits for somebody else, or takes long.
+// sendLater returns a function for work that waits for somebody else, or takes long.
 func (d *direction) sendLater(batch []byte, more int) func() error {
 	return func() error { return d.session.send(d.in, batch, more) }
 }
 
-// forth takes messages of the client's.
+// forth handles messages from the client.
 func (d *direction) forth(batch []byte, more int) (left func() error, err error) {
 	s := d.session
 	if more > 0 || len(batch) > mostNow || s.greeting.Load() != nil || !s.writes.TryLock() {
@@ -152,7 +152,7 @@ func (d *direction) forth(batch []byte, more int) (left func() error, err error)
 	return nil, err
 }
 
-// back takes messages of the server's.
+// back handles messages from the server.
 func (d *direction) back(batch []byte, more int) (left func() error, err error) {
 	s := d.session
 	if more > 0 {

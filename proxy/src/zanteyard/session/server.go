@@ -8,7 +8,7 @@ import (
 	"zanteyard/wire"
 )
 
-// fromServer takes whole messages of the server's, and says what is passed on to the client. Called with state locked.
+// fromServer takes whole messages from the server and returns what to pass on to the client. Called with state locked.
 func (s *Session) fromServer(batch []byte) []byte {
 	o := &s.toClient
 	o.begin(batch)
@@ -20,7 +20,7 @@ func (s *Session) fromServer(batch []byte) []byte {
 	return o.all()
 }
 
-// answer takes one message.
+// answer handles one message.
 func (s *Session) answer(o *output, m []byte, start, end int) {
 	s.queue.copied()
 	e := s.queue.first()
@@ -79,7 +79,7 @@ func (s *Session) answer(o *output, m []byte, start, end int) {
 	}
 }
 
-// synced gives the expectation that a ReadyForQuery answers. What is in front of it wasn't answered.
+// synced returns the expectation that a ReadyForQuery answers. Expectations before it weren't answered.
 func (s *Session) synced() *expectation {
 	e := s.queue.first()
 	for ; e != nil && e.message != 'S' && e.message != 'Q' && e.message != 'F'; e = s.queue.first() {
@@ -89,7 +89,7 @@ func (s *Session) synced() *expectation {
 	return e
 }
 
-// unasked takes what comes without having been asked for: parameters, notifications, notices between transactions.
+// unasked handles messages that come unasked: parameters, notifications, notices between transactions.
 func (s *Session) unasked(o *output, m []byte, start, end int) {
 	switch m[0] {
 	case 'R':
@@ -114,7 +114,7 @@ func (s *Session) unasked(o *output, m []byte, start, end int) {
 	o.pass(start, end)
 }
 
-// parameter takes a ParameterStatus.
+// parameter handles a ParameterStatus.
 func (s *Session) parameter(m []byte) {
 	name, rest, _ := wire.Text(m[wire.Header:])
 	value, _, ok := wire.Text(rest)
@@ -136,7 +136,7 @@ func (s *Session) parameter(m []byte) {
 	s.plain = s.encoding && s.standard
 }
 
-// description takes a RowDescription.
+// description handles a RowDescription.
 func (s *Session) description(o *output, e *expectation, m []byte, start, end int, pass bool) {
 	alone := e.message == 'D'
 	s.fetched(e)
@@ -151,7 +151,7 @@ func (s *Session) description(o *output, e *expectation, m []byte, start, end in
 		case !ok || keep < 0:
 			o.pass(start, end)
 		case e.hides.AddsReturning:
-			if alone && pass && s.replay.pass() { // in place of NoData
+			if alone && pass && s.replay.pass() { // instead of NoData
 				o.buf = wire.End(wire.Begin(o.own(), 'n'), len(o.buf))
 			}
 		default:
@@ -172,7 +172,8 @@ func (s *Session) description(o *output, e *expectation, m []byte, start, end in
 	}
 }
 
-// fetched finds out whether rows are those of a rewritten cursor: only now is it sure which cursor a name stands for.
+// fetched determines whether rows are those of a rewritten cursor: only now is it certain which cursor a name stands
+// for.
 func (s *Session) fetched(e *expectation) {
 	fetch := e.current()
 	if e.hides != nil || fetch == nil || fetch.Kind != plan.Fetch {
@@ -183,7 +184,7 @@ func (s *Session) fetched(e *expectation) {
 	}
 }
 
-// row takes a DataRow: the proxy's own, or one of which the hidden columns are cut off.
+// row handles a DataRow: the proxy's own, or one whose hidden columns are cut off.
 func (s *Session) row(o *output, e *expectation, m []byte, start, end int, pass bool) {
 	if e.kind != clients {
 		s.ownRow(e, m)
@@ -191,6 +192,7 @@ func (s *Session) row(o *output, e *expectation, m []byte, start, end int, pass 
 	}
 	e.rows++
 	if e.rows == 1 {
+		e.from = len(s.tx.Reads)
 		s.fetched(e)
 	}
 	if e.hidden == 0 {
@@ -234,7 +236,7 @@ func (s *Session) hidden(p *plan.Plan, values [][]byte, isBinary bool) {
 	}
 }
 
-// ownRow takes a row that the proxy asked for.
+// ownRow handles a row that the proxy asked for.
 func (s *Session) ownRow(e *expectation, m []byte) {
 	n := wire.Int16(m[wire.Header:])
 	if n < 0 {
@@ -251,7 +253,7 @@ func (s *Session) ownRow(e *expectation, m []byte) {
 	case signatureRow:
 		if s.trial != nil && n == 4 {
 			if string(values[3]) != strconv.Itoa(s.backend) {
-				// What was prepared here may be missing at the next statement.
+				// What was prepared here may be missing when the next statement runs.
 				s.trust.pooled, s.trust.broken, s.trial.failed = true, true, true
 			}
 			s.trial.path = string(values[2])
@@ -265,13 +267,18 @@ func (s *Session) ownRow(e *expectation, m []byte) {
 	}
 }
 
-// complete takes the end of a statement that went well.
+// complete handles the successful end of a statement.
 func (s *Session) complete(e *expectation, m []byte) {
 	if e.kind == clients {
 		s.copying = false
-		if m[0] == 'C' {
+		switch m[0] {
+		case 'C':
 			tag, _, _ := wire.Text(m[wire.Header:])
 			s.ran(e, tag)
+		case 's': // its Execute had a row limit
+			if s.note(e) != nil {
+				s.tx.paused = e.at
+			}
 		}
 		e.rows = 0
 	}
@@ -280,7 +287,7 @@ func (s *Session) complete(e *expectation, m []byte) {
 	}
 }
 
-// failed takes an error.
+// failed handles an error.
 func (s *Session) failed(o *output, e *expectation, m []byte, start, end int, pass bool) {
 	s.copying = false
 	if wire.Fatal(m) {
@@ -316,14 +323,14 @@ func (s *Session) failed(o *output, e *expectation, m []byte, start, end int, pa
 	cleared := e.cleared
 	s.queue.skipped(s.names.back)
 	if s.skipping = s.queue.empty(); s.skipping {
-		s.open = true // also behind a Query that was left out: nothing but the client's Sync ends this
+		s.open = true // also after a Query that was skipped: only the client's Sync ends this
 	}
 	if cleared {
 		s.names.setStatement("", nil)
 	}
 }
 
-// owner is the next Sync that is expected.
+// owner returns the next Sync that is expected.
 func (s *Session) owner() *expectation {
 	for i := s.queue.head; i < len(s.queue.list); i++ {
 		if s.queue.list[i].message == 'S' {
@@ -333,8 +340,8 @@ func (s *Session) owner() *expectation {
 	return nil
 }
 
-// ownFailed takes an error in the proxy's own messages in front of a client's: the question in front of COMMIT, or the
-// twin of what SQL's PREPARE made. It says whether it was one of these.
+// ownFailed handles an error in the proxy's own messages before a client's: the question before COMMIT, or the twin of
+// a statement of SQL's PREPARE. It reports whether the error was in one of these.
 func (s *Session) ownFailed(m []byte) bool {
 	sync := s.owner()
 	if sync == nil || sync.kind != askEnd && sync.kind != prepareEnd {
@@ -346,12 +353,12 @@ func (s *Session) ownFailed(m []byte) bool {
 	if s.status == 'T' {
 		s.askFailed(m)
 	} else {
-		s.tx.failed = false // EXECUTE will find no twin, and is sent again as it was
+		s.tx.failed = false // EXECUTE will find no twin, and is sent again unchanged
 	}
 	return true
 }
 
-// ready takes a ReadyForQuery.
+// ready handles a ReadyForQuery.
 func (s *Session) ready(o *output, e *expectation, m []byte, start, end int) {
 	s.status = m[wire.Header]
 	kind := e.kind
@@ -378,7 +385,7 @@ func (s *Session) ready(o *output, e *expectation, m []byte, start, end int) {
 		o.pass(start, end)
 	case askEnd, prepareEnd:
 		if len(s.failure) > 0 {
-			// It is told now; all that is answered up to the client's own Sync or Query is left out.
+			// The error is reported now; all answers up to the client's own Sync or Query are left out.
 			o.buf = append(o.own(), s.failure...)
 		}
 	case trialEnd:
@@ -389,7 +396,7 @@ func (s *Session) ready(o *output, e *expectation, m []byte, start, end int) {
 	}
 }
 
-// completes is the type of the message that another completes.
+// completes returns the type of the message that an answer completes.
 func completes(kind byte) byte {
 	switch kind {
 	case '1':

@@ -1,9 +1,9 @@
-// Package session is one connection of a client's to its server by way of the proxy. Two goroutines pass messages on,
-// one a direction. What each message is owed in answer stands in a queue, so it is known which rows are whose, in
-// pipelines too. Statements are rewritten by their plans where these were tried on the connection; hidden columns are
-// cut off, and told as a record of each transaction.
+// Package session handles one client's connection to its server through the proxy. Two goroutines pass messages on, one
+// in each direction. The answers owed for each message are kept in a queue, so it is known which rows belong to which
+// statement, in pipelines too. Statements are rewritten by their plans if those were tried on the connection; the
+// hidden columns are cut off, and reported in a record of each transaction.
 //
-// The client gets what it would get without the proxy. What isn't understood is passed on as it is.
+// The client gets what it would get without the proxy. Whatever isn't understood is passed on unchanged.
 package session
 
 import (
@@ -22,15 +22,15 @@ import (
 	"zanteyard/wire"
 )
 
-// Planner gives the plan of a statement's text on a connection with a search path, as catalog.PathSQL gives it; ""
+// Planner returns the plan for a statement's text on a connection with a search path, as catalog.PathSQL reports it; ""
 // stands for the catalog's own. The plan is nil if there is no catalog.
 type Planner interface {
 	PlanIn(path, text string) (*plan.Plan, plan.Tokens)
-	// Own says that a search path is the catalog's own.
+	// Own reports whether a search path is the catalog's own.
 	Own(path string) bool
 }
 
-// Policy says what is kept of statements for people who read an explanation.
+// Policy says what is kept of statements, for readers of an explanation.
 type Policy struct {
 	Statements bool // their texts
 	Parameters bool // and the parameters of prepared ones
@@ -41,13 +41,13 @@ type Options struct {
 	Plans      Planner
 	Sink       record.Sink
 	Policy     Policy
-	ReadLimit  int           // reads of a transaction that are kept
+	ReadLimit  int           // how many reads of a transaction are kept
 	Fence      *Fence        // nil: no fences
 	Auditing   func() bool   // whether statements are looked at
-	Generation func() uint64 // the catalog's, which rises with each change
+	Generation func() uint64 // the catalog's generation, which rises with each change
 	Defined    func()        // a session is about to change a definition
-	Log        func(string)  // for people who run the proxy
-	Bound      time.Duration // for how long a meeting holds what clients send
+	Log        func(string)  // for the people who run the proxy
+	Bound      time.Duration // how long a meeting holds a client's messages
 	Shared     *Shared       // nil: each connection tries its plans itself
 }
 
@@ -57,38 +57,38 @@ type Session struct {
 	options        *Options
 	client, server Conn
 
-	// writes is held over what is written to the server and the expectations for it, in one order. Who holds it may take
-	// state; never the other way round.
+	// writes is held while writing to the server and recording the expectations for it, so that both have the same order.
+	// Its holder may take state; never the other way round.
 	writes   sync.Mutex
 	toServer output
 	sent     time.Time
 	bound    wire.Bind
 	int16s   []int16
 
-	// blind: all is passed on without looking, as on a replication connection.
+	// blind: everything is passed on without looking, as on a replication connection.
 	blind atomic.Bool
 	hold  atomic.Pointer[hold]
-	// missed: an idle moment couldn't be used, since writes was held.
+	// missed: an idle moment couldn't be used, because writes was held.
 	missed atomic.Bool
-	// greeting is there while the connection's signature is asked for at its first moment.
+	// greeting is set while the connection's signature is asked for, before its client may begin.
 	greeting atomic.Pointer[chan struct{}]
 
-	state    sync.Mutex // over all below
-	waiting  sync.Cond  // for a replay to have been sent
+	state    sync.Mutex // guards everything below
+	waiting  sync.Cond  // for whoever waits until a replay is sent
 	queue    queue
 	status   byte // of the last ReadyForQuery: I, T or E; 0 before the first
 	open     bool // messages of the extended protocol were sent since the last Sync
-	skipping bool // the server leaves out what it gets up to the next Sync, after an error, which hasn't been sent yet
-	partial  bool // the server has a part of a message
-	backend  int  // the server's process, as it was told when the connection began
-	early    bool // the client has sent something before the server was ready for it
+	skipping bool // after an error, the server skips everything up to the next Sync, which hasn't been sent yet
+	partial  bool // the server has part of a message
+	backend  int  // the server's process, from the beginning of the connection
+	early    bool // the client sent something before the server was ready for it
 	copying  bool
 	replay   replay
-	failure  []byte // the error that the client got in place of the answer to its COMMIT
-	encoding bool   // texts can be looked at: the client's encoding, and its settings
+	failure  []byte // the error that the client gets in place of the answer to its COMMIT
+	encoding bool   // texts can be looked at: the client's encoding and settings allow it
 	standard bool
 	plain    bool
-	level    record.Level // that transactions begin at, if it is known
+	level    record.Level // the level that transactions begin at, if known
 	names    names
 	trust    trust
 	trial    *trial
@@ -109,7 +109,7 @@ type Conn interface {
 	io.ReadWriteCloser
 }
 
-// New makes a session of two connections, after the startup message was passed on. Its number has to be its own.
+// New makes a session from two connections, after the startup message was passed on. Its number must be unique.
 func New(number uint64, client, server Conn, options *Options) *Session {
 	s := &Session{number: number, options: options, client: client, server: server, names: newNames()}
 	s.waiting.L = &s.state
@@ -123,10 +123,11 @@ func New(number uint64, client, server Conn, options *Options) *Session {
 // Number is the session's number.
 func (s *Session) Number() uint64 { return s.number }
 
-// Blind has all be passed on without looking, as a connection for replication needs it. To be called before Run.
+// Blind makes the session pass everything on without looking, as a replication connection needs it. Must be called
+// before Run.
 func (s *Session) Blind() { s.blind.Store(true) }
 
-// Run passes messages on until one of the connections ends, and closes both.
+// Run passes messages on until one of the connections ends, then closes both.
 func (s *Session) Run() error {
 	defer s.over()
 	client, plain := s.client.(*loop.Conn)
@@ -146,7 +147,7 @@ func (s *Session) Run() error {
 	return ending(err, <-ended)
 }
 
-// sendEnds ends what is sent to the server. It may still have answers for what was sent: it closes the connection after
+// sendEnds ends the direction to the server. The server may still have answers to send: it closes the connection after
 // Terminate, or when it finds the client gone.
 func (s *Session) sendEnds(err error) {
 	if half, ok := s.server.(interface{ CloseWrite() error }); ok && errors.Is(err, io.EOF) {
@@ -156,7 +157,7 @@ func (s *Session) sendEnds(err error) {
 	}
 }
 
-// ending says why a session has ended, by why each direction has.
+// ending returns why a session has ended, from why each direction has.
 func ending(err, back error) error {
 	if err == nil || errors.Is(err, io.EOF) {
 		err = back
@@ -167,7 +168,7 @@ func ending(err, back error) error {
 	return err
 }
 
-// guarded has a fault of the proxy's own end this connection, not those of everybody.
+// guarded turns a panic of the proxy into the end of this connection, not of all.
 func (s *Session) guarded(f func() error) (err error) {
 	defer func() {
 		if fault := recover(); fault != nil {
@@ -177,7 +178,7 @@ func (s *Session) guarded(f func() error) (err error) {
 	return f()
 }
 
-// over tells what the connection's end leaves: a transaction whose COMMIT, or whose only statement, wasn't answered.
+// over reports what the connection's end leaves: a transaction whose COMMIT, or whose only statement, wasn't answered.
 func (s *Session) over() {
 	s.state.Lock()
 	defer s.state.Unlock()
@@ -213,7 +214,7 @@ func (s *Session) forth() error {
 	}
 }
 
-// send passes on some messages, or the beginning of a long one and then the rest of it.
+// send passes on messages, or the beginning of a long one and then its rest.
 func (s *Session) send(in *wire.Reader, batch []byte, more int) error {
 	if greeting := s.greeting.Load(); greeting != nil {
 		s.waitGreeting(*greeting)
@@ -239,7 +240,7 @@ func (s *Session) send(in *wire.Reader, batch []byte, more int) error {
 	return err
 }
 
-// written is called when all is written that was to be sent for some messages. Called with writes locked.
+// written is called when everything to be sent for some messages has been written. Called with writes locked.
 func (s *Session) written() {
 	s.toServer.release()
 	s.writes.Unlock()
@@ -258,8 +259,8 @@ func (s *Session) looked(batch []byte, more int) []byte {
 	return s.lookAt(batch, more)
 }
 
-// lookedNow is looked without waiting. ok is false if it would have to wait: for a replay, for a meeting, for whoever
-// looks at something else of the session.
+// lookedNow is looked without waiting. ok is false if it would have to wait: for a replay, for a meeting, or for
+// another goroutine that has the session locked.
 func (s *Session) lookedNow(batch []byte) (out []byte, ok bool) {
 	if !s.state.TryLock() {
 		return nil, false
@@ -271,7 +272,7 @@ func (s *Session) lookedNow(batch []byte) (out []byte, ok bool) {
 	return s.lookAt(batch, 0), true
 }
 
-// lookAt is both without a wait. Called with writes and state locked.
+// lookAt is the common part of both, which doesn't wait. Called with writes and state locked.
 func (s *Session) lookAt(batch []byte, more int) []byte {
 	s.sent = clock()
 	s.queue.sent = s.sent
@@ -309,7 +310,7 @@ func (s *Session) back() error {
 	}
 }
 
-// passLong passes on some messages of the server's, or the beginning of a long one and then the rest of it.
+// passLong passes on messages from the server, or the beginning of a long one and then its rest.
 func (s *Session) passLong(in *wire.Reader, batch []byte, more int) error {
 	if more > 0 {
 		return s.backLong(in, batch, more)
@@ -317,10 +318,10 @@ func (s *Session) passLong(in *wire.Reader, batch []byte, more int) error {
 	return s.pass(batch)
 }
 
-// pass passes on some whole messages of the server's.
+// pass passes on whole messages from the server.
 func (s *Session) pass(batch []byte) error { return s.passOn(s.answered(batch)) }
 
-// passOn does what answered has said.
+// passOn does what answered returned.
 func (s *Session) passOn(out []byte, again, rest bool) error {
 	if again {
 		if err := s.sendAgain(); err != nil {
@@ -338,15 +339,15 @@ func (s *Session) passOn(out []byte, again, rest bool) error {
 	return err
 }
 
-// answered says what is passed on of some messages, and what else is to be done: to send the client's own messages
-// again, or to use an idle moment.
+// answered returns what to pass on for some messages, and what else to do: send the client's own messages again, or use
+// an idle moment.
 func (s *Session) answered(batch []byte) (out []byte, again, rest bool) {
 	s.state.Lock()
 	defer s.state.Unlock()
 	return s.answers(batch)
 }
 
-// answeredNow is answered without waiting for whoever looks at something else of the session: ok is false then.
+// answeredNow is answered without waiting for another goroutine that has the session locked: ok is false then.
 func (s *Session) answeredNow(batch []byte) (out []byte, again, rest, ok bool) {
 	if !s.state.TryLock() {
 		return nil, false, false, false
@@ -356,7 +357,7 @@ func (s *Session) answeredNow(batch []byte) (out []byte, again, rest, ok bool) {
 	return out, again, rest, true
 }
 
-// answers is both, called with state locked.
+// answers is the common part of both. Called with state locked.
 func (s *Session) answers(batch []byte) (out []byte, again, rest bool) {
 	s.now = clock()
 	if s.blind.Load() {
@@ -367,7 +368,7 @@ func (s *Session) answers(batch []byte) (out []byte, again, rest bool) {
 	return out, s.replay.due, s.idle() && (s.trust.work() || s.due())
 }
 
-// backLong passes on a long message of the server's.
+// backLong passes on a long message from the server.
 func (s *Session) backLong(in *wire.Reader, begin []byte, more int) error {
 	s.state.Lock()
 	e := s.queue.first()
@@ -383,8 +384,8 @@ func (s *Session) backLong(in *wire.Reader, begin []byte, more int) error {
 	}
 	s.state.Unlock()
 	if !plain {
-		// A row whose hidden columns are to be cut off: its length is in front, and what they take is known at its end.
-		// So it is held whole, as the server holds it.
+		// The hidden columns of this row have to be cut off: its length comes first, but what they take is known only at its
+		// end. So the row is held whole, as the server holds it.
 		all, err := in.Rest(begin)
 		if err != nil {
 			return err
@@ -401,7 +402,7 @@ func (s *Session) backLong(in *wire.Reader, begin []byte, more int) error {
 	return err
 }
 
-// unseen passes all on that comes from here on.
+// unseen passes on everything from here on.
 func (s *Session) unseen(to, from Conn, in *wire.Reader) error {
 	if b := in.Buffered(); len(b) > 0 {
 		if _, err := to.Write(b); err != nil {
@@ -415,7 +416,7 @@ func (s *Session) unseen(to, from Conn, in *wire.Reader) error {
 	return err
 }
 
-// lost says that an answer wasn't one that was expected: a fault of the proxy's. It goes on without rewriting.
+// lost handles an answer that wasn't expected, which is a bug in the proxy. The session goes on without rewriting.
 func (s *Session) lost(answer, message byte) {
 	go s.options.Log("connection " + itoa(s.number) + ": an answer of type " + string(rune(answer)) +
 		" to a message of type " + string(rune(message)) + "; it is passed on without looking from here on")

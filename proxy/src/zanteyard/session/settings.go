@@ -6,8 +6,8 @@ import (
 	"zanteyard/plan"
 )
 
-// before takes a statement that is about to be sent: what it may change isn't relied on from here on, whether it will
-// succeed or not.
+// before handles a statement that is about to be sent: whatever it may change isn't relied on from here on, whether or
+// not it succeeds.
 func (s *Session) before(p *plan.Plan) {
 	if p == nil {
 		s.trust.doubtful()
@@ -34,8 +34,8 @@ func (s *Session) before(p *plan.Plan) {
 	}
 }
 
-// plain says that an encoding of texts has only ASCII's bytes where it means ASCII's characters, so that PostgreSQL's
-// parser and the lexer read them right. Texts in others aren't looked at.
+// plain reports whether an encoding uses ASCII's bytes only for ASCII's characters, so that PostgreSQL's parser and the
+// lexer read texts correctly. Texts in other encodings aren't looked at.
 func plain(encoding string) bool {
 	switch strings.ToUpper(encoding) {
 	case "SJIS", "SHIFT_JIS_2004", "BIG5", "GBK", "UHC", "GB18030", "JOHAB":

@@ -1,29 +1,37 @@
 package session
 
 import (
+	"strings"
+
 	"zanteyard/plan"
 	"zanteyard/wire"
 )
 
 // piece is one of several statements in one Query.
 type piece struct {
+	text       string // with the comments around it
 	plan       *plan.Plan
 	use        *use
 	changed    bool
-	at, length int // of what was inserted, in the rewritten text of all
+	at, length int // of the insertion, in the rewritten text of all
 }
 
-// pieces rewrites those of several statements that may be. What one of them may change isn't relied on for those behind
-// it.
+// pieces rewrites those of several statements that may be rewritten. Whatever one of them may change isn't relied on
+// for those after it.
 func (s *Session) pieces(st *statement) (string, []piece) {
 	var to []byte
 	var all []piece
-	last := 0
-	for _, part := range st.tokens.Parts() {
+	last, begins := 0, 0
+	parts := st.tokens.Parts()
+	for i, part := range parts {
 		p := part.Plan
 		one := &statement{text: st.text[part.From:part.To], plan: p, tokens: part.Tokens, looked: s.trust.plans,
 			use: s.trust.of(p)}
-		it := piece{plan: p, use: one.use}
+		behind := len(st.text)
+		if i+1 < len(parts) {
+			behind = parts[i+1].From
+		}
+		it := piece{text: strings.Trim(st.text[begins:behind], "; \t\r\n"), plan: p, use: one.use}
 		to = append(to, st.text[last:part.From]...)
 		if s.usable(one) {
 			rewritten, at, length := p.Rewrite(one.text, part.Tokens)
@@ -33,13 +41,13 @@ func (s *Session) pieces(st *statement) (string, []piece) {
 			to = append(to, one.text...)
 		}
 		s.before(p)
-		last = part.To
+		last, begins = part.To, behind
 		all = append(all, it)
 	}
 	return string(append(to, st.text[last:]...)), all
 }
 
-// several takes a Query of several statements.
+// several handles a Query of several statements.
 func (s *Session) several(o *output, st *statement, e *expectation, start, end int) {
 	text, pieces := s.pieces(st)
 	e.pieces = pieces
@@ -68,7 +76,7 @@ func (e *expectation) piece(i int) {
 	}
 }
 
-// current is the plan of the statement that is answered, nil if it isn't known.
+// current returns the plan of the statement that is being answered, or nil if it isn't known.
 func (e *expectation) current() *plan.Plan {
 	switch {
 	case e.part < len(e.pieces):
@@ -79,18 +87,18 @@ func (e *expectation) current() *plan.Plan {
 	return e.on.plan
 }
 
-// altered says that the text which an error is about was rewritten.
+// altered reports whether the text that an error is about was rewritten.
 func (e *expectation) altered() bool {
 	return e.changed || len(e.pieces) > 0 && e.on.altered
 }
 
-// moved gives the position of an error in a rewritten text as one in the client's own.
+// moved returns a function from the position of an error in a rewritten text to the one in the client's own.
 func (e *expectation) moved() func(position int) int {
 	st := e.on
 	if len(e.pieces) > 0 {
 		return func(position int) int {
 			text := st.rewritten
-			for i := len(e.pieces) - 1; i >= 0; i-- { // what is inserted in front is still there
+			for i := len(e.pieces) - 1; i >= 0; i-- { // the insertions before this one are still there
 				it := e.pieces[i]
 				position = plan.MoveBack(text, it.at, it.length, position)
 				text = text[:it.at] + text[it.at+it.length:]

@@ -8,21 +8,20 @@ import (
 	"zanteyard/plan"
 )
 
-// Shared is what the sessions of a proxy tell one another of the plans that they have tried. What a trial finds out
-// depends on the catalog, and on what the connection's signature has: who its user is, the search path, and whether it
-// has temporary objects. So where these are the same, a plan that was tried on one connection may be used on another
-// one, which need not live long enough to try it. Connections that have temporary objects share nothing. Safe for use by
-// many goroutines.
+// Shared is where the sessions of a proxy share which plans they have tried. What a trial finds depends on the catalog
+// and on the connection's signature: its user, its search path, and whether it has temporary objects. If these are the
+// same, a plan that was tried on one connection may be used on another, which may be too short-lived to try it.
+// Connections that have temporary objects share nothing. Safe for use by many goroutines.
 type Shared struct {
 	lock   sync.RWMutex
 	kinds  map[string]*kind // by signature
-	paused time.Time        // until then nobody is asked for its signature as it begins
+	paused time.Time        // until then no new connection is asked for its signature
 }
 
-// kind is what was tried on connections of one signature.
+// kind has what was tried on connections of one signature.
 type kind struct {
 	catalog uint64
-	tried   map[*plan.Plan]int // and how many columns its statement returns, the hidden ones apart
+	tried   map[*plan.Plan]int // and how many columns its statement returns, without the hidden ones
 }
 
 const (
@@ -30,13 +29,13 @@ const (
 	mostShared = 4096 // plans of a kind
 )
 
-// NewShared makes one that knows nothing.
+// NewShared returns a Shared that knows nothing.
 func NewShared() *Shared { return &Shared{kinds: map[string]*kind{}} }
 
-// shareable says that a signature tells all: there are no temporary objects.
+// shareable reports whether a signature says everything: there are no temporary objects.
 func shareable(signature []byte) bool { return bytes.HasSuffix(signature, []byte(`, ""]`)) }
 
-// add notes that a plan was tried on a connection.
+// add records that a plan was tried on a connection.
 func (s *Shared) add(signature []byte, catalog uint64, u *use) {
 	if s == nil || !shareable(signature) {
 		return
@@ -46,7 +45,7 @@ func (s *Shared) add(signature []byte, catalog uint64, u *use) {
 	k := s.kinds[string(signature)]
 	switch {
 	case k != nil && catalog < k.catalog:
-		return // an old plan's
+		return // from an old plan
 	case k == nil || catalog > k.catalog || len(k.tried) >= mostShared:
 		if len(s.kinds) >= mostKinds {
 			s.kinds = map[string]*kind{}
@@ -69,7 +68,7 @@ func (s *Shared) drop(signature []byte, p *plan.Plan) {
 	}
 }
 
-// has says whether a plan was tried on a connection of this signature, and how many columns its statement returns.
+// has reports whether a plan was tried on a connection of this signature, and how many columns its statement returns.
 func (s *Shared) has(signature []byte, catalog uint64, p *plan.Plan) (own int, is bool) {
 	if s == nil || !shareable(signature) {
 		return 0, false
@@ -84,18 +83,17 @@ func (s *Shared) has(signature []byte, catalog uint64, p *plan.Plan) (own int, i
 	return own, is
 }
 
-// greetingPause is for how long no connection is asked for its signature as it begins, after the server has taken too
-// long to tell one.
+// greetingPause is how long no new connection is asked for its signature after the server took too long to return one.
 const greetingPause = time.Second
 
-// pause is called when that has happened.
+// pause is called when the server took too long.
 func (s *Shared) pause() {
 	s.lock.Lock()
 	defer s.lock.Unlock()
 	s.paused = clock().Add(greetingPause)
 }
 
-// knows says whether anything was tried with this catalog, and the server has the time to say for whom it is good.
+// knows reports whether anything was tried with this catalog, and the server isn't too slow to return signatures.
 func (s *Shared) knows(catalog uint64) bool {
 	if s == nil {
 		return false
@@ -113,8 +111,8 @@ func (s *Shared) knows(catalog uint64) bool {
 	return false
 }
 
-// greet has the connection's signature be asked for at its first moment, if plans were tried elsewhere that it may use.
-// A client that has sent something before it was told that it may is left alone.
+// greet asks for the connection's signature before the client may begin, if plans were tried elsewhere that it may use.
+// A client that sends something before it may begin is left alone.
 func (s *Session) greet() {
 	catalog := s.options.Generation()
 	if s.early || !s.looking() || !s.options.Shared.knows(catalog) {
@@ -132,8 +130,8 @@ func (s *Session) greeted() {
 	}
 }
 
-// waitGreeting holds the client's first message until the connection's signature is there, for the bound at most. The
-// server was asked for it before the client was told that it may begin, so it would answer that first in any case.
+// waitGreeting holds the client's first message until the connection's signature has arrived, for the bound at most.
+// The server was asked before the client was told that it may begin, so it would answer that first in any case.
 func (s *Session) waitGreeting(greeting chan struct{}) {
 	timer := time.NewTimer(s.options.Bound)
 	defer timer.Stop()

@@ -6,8 +6,8 @@ import (
 	"github.com/jackc/pgproto3/v2"
 )
 
-// TestShared: what was tried on one connection is used by another one's first statement, if its user, its search path
-// and its temporary objects are the same.
+// TestShared: what was tried on one connection is used for another's first statement, if its user, its search path and
+// its temporary objects are the same.
 func TestShared(t *testing.T) {
 	needServer(t)
 	sql(t, fill)
@@ -58,8 +58,8 @@ func TestShared(t *testing.T) {
 	}
 }
 
-// TestSharedBetweenParseAndBind: a plan that becomes usable after an unnamed statement was prepared as it is isn't used
-// for that statement.
+// TestSharedBetweenParseAndBind: a plan that becomes usable after an unnamed statement was prepared unchanged isn't
+// used for that statement.
 func TestSharedBetweenParseAndBind(t *testing.T) {
 	needServer(t)
 	sql(t, fill)
@@ -83,7 +83,7 @@ func TestSharedBetweenParseAndBind(t *testing.T) {
 	}
 }
 
-// TestSharedIsDropped: a plan that has failed on one connection isn't taken from there any more.
+// TestSharedIsDropped: a plan that failed on one connection isn't taken from there any more.
 func TestSharedIsDropped(t *testing.T) {
 	needServer(t)
 	sql(t, fill)
@@ -105,7 +105,7 @@ func TestSharedIsDropped(t *testing.T) {
 	}
 }
 
-// TestEarly: a client that sends something before the server is ready isn't asked about itself first.
+// TestEarly: a client that sends something before the server is ready isn't asked about its signature first.
 func TestEarly(t *testing.T) {
 	needServer(t)
 	sql(t, fill)

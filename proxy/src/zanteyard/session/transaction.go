@@ -9,25 +9,27 @@ import (
 )
 
 const (
-	fewReads       = 16 // up to so many are compared one by one
+	fewReads       = 16 // up to this many are compared one by one
 	mostStatements = 256
-	mostVersions   = 4096 // the transaction's number and those of its subtransactions
+	mostVersions   = 4096 // the transaction's own number and those of its subtransactions
 )
 
-// borrowed is why a read is left out.
+// borrowed is the reason why a read is left out.
 const borrowed = "read in another transaction's snapshot"
 
-// transaction is what is known of the transaction that runs.
+// transaction is what is known of the transaction that is running.
 type transaction struct {
 	record.Transaction
 	seen    map[record.Read]struct{}
-	wrote   bool // by a statement that didn't tell the number
+	wrote   bool // by a statement that didn't report the number
 	failed  bool
 	leaving bool // COMMIT or PREPARE TRANSACTION was sent
-	asked   bool // the ask came back, and nothing has run since
-	// borrows says that it reads by a snapshot that another transaction exported, which may be older than what was
-	// answered before this one began. No read of it is told: its session's order would be owed for it, and isn't kept.
+	asked   bool // the answer to the ask arrived, and nothing has run since
+	// borrows means that it reads from a snapshot that another transaction exported, which may be older than what was
+	// answered before this one began. None of its reads are reported: they would be held to its session's order, which
+	// isn't kept.
 	borrows bool
+	paused  *portal // of the last statement in Statements, if some of its rows are still to come
 }
 
 // asked is what a SELECT by one whole key asked for.
@@ -36,7 +38,7 @@ type asked struct {
 	known bool
 }
 
-// empty says that nothing of the transaction concerns an audit.
+// empty reports whether nothing in the transaction concerns an audit.
 func (t *transaction) empty() bool {
 	return len(t.Reads) == 0 && t.Number == 0 && !t.MayHaveWritten && !t.wrote && len(t.Absent) == 0 && !t.Fence &&
 		!t.Incomplete
@@ -92,33 +94,48 @@ func (t *transaction) version(xmin uint32) {
 	}
 }
 
-// note keeps a statement's text for people who read an explanation.
-func (s *Session) note(e *expectation) {
-	policy := s.options.Policy
-	if !policy.Statements || e.on == nil || e.on.text == "" || len(s.tx.Statements) >= mostStatements {
-		return
+// note keeps a statement's text for readers of an explanation, with the reads that it made: those added since its first
+// row. It returns what is kept, or nil.
+func (s *Session) note(e *expectation) *record.Statement {
+	policy, t := s.options.Policy, &s.tx
+	from, to, last := len(t.Reads), len(t.Reads), len(t.Statements)-1
+	if e.rows > 0 {
+		from = e.from
 	}
-	st := record.Statement{Text: e.on.text, At: s.now}
+	paused := t.paused
+	t.paused = nil
+	if paused != nil && paused == e.at && t.Statements[last].To == from {
+		t.Statements[last].To = to // more of its rows, with no others between
+		return &t.Statements[last]
+	}
+	if !policy.Statements || e.on == nil || e.on.text == "" || len(t.Statements) >= mostStatements {
+		return nil
+	}
+	st := record.Statement{Text: e.on.text, At: s.now, From: from, To: to}
+	if e.part < len(e.pieces) {
+		st.Text = e.pieces[e.part].text
+	}
 	if len(st.Text) > mostText {
 		st.Text = st.Text[:mostText]
 	}
-	if e.on.plan != nil {
-		st.Unseen = e.on.plan.Unseen
+	if p := e.current(); p != nil {
+		st.Unseen = p.Unseen
 	}
 	if e.at != nil && policy.Parameters {
 		st.Parameters = e.at.parameters
 	}
-	s.tx.Statements = append(s.tx.Statements, st)
+	t.Statements = append(t.Statements, st)
+	return &t.Statements[len(t.Statements)-1]
 }
 
-// begin marks when the transaction began, by the first message that was sent for it.
+// begin records when the transaction began, by the first message that was sent for it.
 func (s *Session) begin() {
 	if s.tx.Began.IsZero() {
 		s.tx.Began = s.sent
 	}
 }
 
-// finish tells the transaction that has ended, and begins another.
+// finish reports the transaction that has ended, and begins another.
 func (s *Session) finish(outcome record.Outcome) {
 	t := &s.tx
 	if !t.empty() {
@@ -142,7 +159,7 @@ func (s *Session) finish(outcome record.Outcome) {
 		delete(seen, r)
 	}
 	s.tx = transaction{seen: seen}
-	s.tx.Began = s.queue.next() // what was sent before this one's end may begin by itself
+	s.tx.Began = s.queue.next() // what was sent before this one's end may have begun by itself
 }
 
 // ended is called when a ReadyForQuery says that no transaction is open.
@@ -155,13 +172,13 @@ func (s *Session) ended() {
 	s.names.ended()
 }
 
-// ran takes a statement that has ended well, with its tag.
+// ran handles a statement that has ended successfully, with its tag.
 func (s *Session) ran(e *expectation, tag []byte) {
 	p := e.current()
 	switch {
 	case p == nil:
 		s.tx.MayHaveWritten = true
-	case p.Kind == plan.Several: // more statements were answered than were found
+	case p.Kind == plan.Several: // more statements were answered than were found in the text
 	default:
 		s.did(p, e, tag)
 	}
@@ -191,7 +208,7 @@ func (s *Session) did(p *plan.Plan, e *expectation, tag []byte) {
 		if string(tag) == "ROLLBACK" {
 			s.finish(record.Aborted)
 		} else {
-			s.finish(record.Unclear) // COMMIT PREPARED may come from anywhere: the slot tells
+			s.finish(record.Unclear) // COMMIT PREPARED may come from anywhere: the slot reports it
 		}
 		s.names.ended()
 		return
@@ -219,17 +236,16 @@ func (s *Session) did(p *plan.Plan, e *expectation, tag []byte) {
 		return
 	}
 	t.MayHaveWritten = t.MayHaveWritten || p.MayWriteUnseen
-	s.note(e)
-	s.leftOut(p, e)
+	s.leftOut(p, e, s.note(e))
 }
 
-// executed takes SQL's EXECUTE.
+// executed handles SQL's EXECUTE.
 func (s *Session) executed(p *plan.Plan, e *expectation) {
 	of := s.names.prepared[p.Name]
 	if st := s.names.statements[p.Name]; st != nil {
 		of = st
 	}
-	s.note(e)
+	noted := s.note(e)
 	if of == nil || of.plan == nil {
 		s.tx.MayHaveWritten = true
 		s.options.Sink.Unseen(p.Shape, "what EXECUTE runs", true)
@@ -241,11 +257,11 @@ func (s *Session) executed(p *plan.Plan, e *expectation) {
 	if !e.changed {
 		e.use = of.use
 	}
-	s.leftOut(of.plan, e)
+	s.leftOut(of.plan, e, noted)
 }
 
 // leftOut counts what couldn't be seen of a statement.
-func (s *Session) leftOut(p *plan.Plan, e *expectation) {
+func (s *Session) leftOut(p *plan.Plan, e *expectation, noted *record.Statement) {
 	for _, u := range rows(p).Unseen {
 		s.options.Sink.Unseen(u.Shape, u.Reason, true)
 	}
@@ -258,15 +274,15 @@ func (s *Session) leftOut(p *plan.Plan, e *expectation) {
 	}
 	if e.hidden > 0 && p.Asked && e.rows == 0 {
 		if e.at != nil && e.at.asked.known || e.at == nil && e.on.asked.known {
-			s.absent(p, e)
+			s.absent(p, e, noted)
 		} else {
 			s.options.Sink.Unseen(p.Shape, "a row that wasn't there, at read committed or for an unknown key", true)
 		}
 	}
 }
 
-// absent takes a whole key that was asked for and not found.
-func (s *Session) absent(p *plan.Plan, e *expectation) {
+// absent records a whole key that was asked for and not found.
+func (s *Session) absent(p *plan.Plan, e *expectation, noted *record.Statement) {
 	if s.status != 'T' {
 		s.options.Sink.Unseen(p.Shape, "a row that wasn't there, asked for by a transaction of one statement", true)
 		return
@@ -284,15 +300,18 @@ func (s *Session) absent(p *plan.Plan, e *expectation) {
 		return
 	}
 	s.tx.Absent = append(s.tx.Absent, record.Absence{Relation: p.Sources[0].Relation, Key: key})
+	if noted != nil {
+		noted.Absent = len(s.tx.Absent)
+	}
 }
 
-// number reads pg_current_xact_id_if_assigned() as text.
+// number parses the text of pg_current_xact_id_if_assigned().
 func number(v []byte) uint64 {
 	n, _ := strconv.ParseUint(string(v), 10, 64)
 	return n
 }
 
-// takeAsk takes the row that was asked for in front of COMMIT.
+// takeAsk handles the row that was asked for before COMMIT.
 func (s *Session) takeAsk(values [][]byte) {
 	if len(values) != 3 {
 		return

@@ -15,41 +15,41 @@ const (
 	waiting       // for the next idle moment
 	trying        // its trial was sent
 	tried         // it may be used
-	failed        // it isn't used here before something changes
+	failed        // it isn't used here until something changes
 )
 
-// use is what a connection knows of a plan.
+// use is what a connection knows about a plan.
 type use struct {
 	plan       *plan.Plan
 	state      state
-	generation uint64 // of trust, in which state was reached
-	hidden     int    // columns that the plan adds
+	generation uint64 // of trust, when state was reached
+	hidden     int    // number of columns that the plan adds
 	sample     *statement
 	columns    bool // the trial's description had the columns that the plan adds
-	own        int  // columns that the statement returns without these
-	allowed    bool // the trial's query of privileges said yes
-	delays     int  // trials that ended for want of a lock
+	own        int  // number of columns that the statement returns without these
+	allowed    bool // the trial's query of privileges answered yes
+	delays     int  // number of trials that ended for want of a lock
 	reason     string
 }
 
-// trust is which plans may be used on a connection: those that were tried there since anything happened that may change
+// trust records which plans may be used on a connection: those tried there since the last event that may have changed
 // what a name means or what its user may do.
 type trust struct {
 	generation uint64 // what was tried in an older one is forgotten
 	catalog    uint64 // the catalog's generation, as last looked at
-	path       string // the search path that names are resolved by, "" for the catalog's own
-	plans      uint64 // counts the changes of these two: plans from before aren't made any more
+	path       string // the search path for resolving names, "" for the catalog's own
+	plans      uint64 // counts changes of these two: plans from before aren't used any more
 	uses       map[*plan.Plan]*use
-	queue      []*use // that wait for a trial
-	// doubt says that something happened which may have changed names or rights. Nothing is used until the signature was
-	// compared; doubts counts, so that an answer isn't taken for a later doubt's.
+	queue      []*use // those that wait for a trial
+	// doubt means that something happened which may have changed names or rights. Nothing is used until the signature has
+	// been compared; doubts counts them, so that an answer to one isn't taken for an answer to a later one.
 	doubt     bool
 	doubts    uint64
 	signature []byte
 	asks      bool     // the ask was prepared and has run in this generation
 	wanted    bool     // the ask is worth preparing
 	broken    bool     // not even the proxy's own questions work here
-	pooled    bool     // a pooler is behind the proxy: statements may reach one backend after another
+	pooled    bool     // there is a pooler between proxy and server: statements may reach one backend after another
 	orphans   []string // twins whose statements are gone
 	shared    *Shared
 }
@@ -71,7 +71,7 @@ const (
 	mostOrphans  = 16
 )
 
-// forget has everything be tried anew.
+// forget makes everything be tried again.
 func (t *trust) forget() {
 	t.generation++
 	t.queue = t.queue[:0]
@@ -83,7 +83,7 @@ func (t *trust) forget() {
 	}
 }
 
-// planAnew has all statements be planned anew, and tried.
+// planAnew makes all statements be planned and tried again.
 func (t *trust) planAnew() {
 	t.plans++
 	t.forget()
@@ -96,7 +96,7 @@ func (t *trust) doubtful() {
 	t.doubts++
 }
 
-// of gives what is known of a plan; nil if the plan adds nothing.
+// of returns what is known about a plan, or nil if the plan adds nothing.
 func (t *trust) of(p *plan.Plan) *use {
 	u := t.uses[p]
 	if u == nil {
@@ -114,7 +114,7 @@ func (t *trust) of(p *plan.Plan) *use {
 	return u
 }
 
-// usable says whether a plan may be used now. If it wasn't tried it is put in the queue, with a text to try.
+// usable reports whether a plan may be used now. If it wasn't tried, it is queued for a trial, with a text to try.
 func (t *trust) usable(u *use, sample *statement) bool {
 	if u == nil {
 		return false
@@ -140,7 +140,7 @@ func (t *trust) usable(u *use, sample *statement) bool {
 	return sure
 }
 
-// why says why a plan isn't used.
+// why returns why a plan isn't used.
 func (t *trust) why(u *use) string {
 	switch {
 	case t.pooled:
@@ -155,15 +155,15 @@ func (t *trust) why(u *use) string {
 	return "not tried on its connection yet"
 }
 
-// work says whether there is something to try at an idle moment.
+// work reports whether there is something to try at an idle moment.
 func (t *trust) work() bool {
 	return !t.broken && (len(t.queue) > 0 || t.wanted && (t.doubt || !t.asks) || len(t.orphans) > mostOrphans)
 }
 
-// hiddenColumns is how many columns a plan adds to what its statement returns, or the rows of its cursor.
+// hiddenColumns returns how many columns a plan adds to what its statement returns, or to the rows of its cursor.
 func hiddenColumns(p *plan.Plan) int { return rows(p).Hidden() }
 
-// rows is the plan of the query whose rows have the hidden columns.
+// rows returns the plan of the query whose rows have the hidden columns.
 func rows(p *plan.Plan) *plan.Plan {
 	if (p.Kind == plan.Declare || p.Kind == plan.Prepare) && p.Inner != nil {
 		return p.Inner
@@ -171,7 +171,7 @@ func rows(p *plan.Plan) *plan.Plan {
 	return p
 }
 
-// try appends the messages of a trial and what is expected for them.
+// try appends a trial's messages, and records what is expected for them.
 func (s *Session) try(out []byte) []byte {
 	t := &s.trust
 	w := &trial{generation: t.generation, doubts: t.doubts}
@@ -188,7 +188,7 @@ func (s *Session) try(out []byte) []byte {
 	out = append(out, signature...)
 	s.queue.once(expectation{kind: signatureRow})
 	if !t.asks {
-		// An ask that fails in a transaction would abort it: so it has to run here first.
+		// An ask that fails in a transaction would abort it, so it has to run here first.
 		out = append(append(out, closeAsk...), askPrepare...)
 		s.queue.step('C', nil)
 		s.queue.step('P', nil)
@@ -210,8 +210,8 @@ func (s *Session) try(out []byte) []byte {
 	return append(out, syncMessage...)
 }
 
-// tryOne appends the trial of one plan: its privileges first, so that a missing one is seldom an error in the server's
-// log, then a Parse and Describe of a rewritten text.
+// tryOne appends the trial of one plan: first a query of its privileges, so that a missing one rarely causes an error
+// in the server's log, then a Parse and Describe of a rewritten text.
 func (s *Session) tryOne(out []byte, u *use) []byte {
 	want := u.plan.Trial()
 	if want.Privileges != "" {
@@ -242,7 +242,7 @@ func (s *Session) tryOne(out []byte, u *use) []byte {
 	return out
 }
 
-// described looks at what a trial's statement returns: the last columns have to be those that the plan adds.
+// described checks what a trial's statement returns: the last columns must be those that the plan adds.
 func (u *use) described(m []byte, s *Session) {
 	columns, ends, ok := wire.Columns(m, s.columns[:0], s.ends[:0])
 	s.columns, s.ends = columns, ends
@@ -257,7 +257,7 @@ func (u *use) described(m []byte, s *Session) {
 	}
 }
 
-// tryError says what an error in a trial means. The messages up to its Sync are skipped.
+// tryError interprets an error in a trial. The messages up to its Sync are skipped.
 func (s *Session) tryError(e *expectation, m []byte) {
 	w := s.trial
 	if w == nil {
@@ -278,20 +278,21 @@ func (s *Session) tryError(e *expectation, m []byte) {
 	e.use.reason = "the audit's columns can't be read on its connection: " + string(wire.Field(m, 'C'))
 }
 
-// passing says that an error came from what others do at the moment: a lock, a cancel, a limit of time or memory.
+// passing reports whether an error came from what others are doing at the moment: a lock, a cancel, a limit of time or
+// memory.
 func passing(m []byte) bool {
 	class := wire.Field(m, 'C')
 	return bytes.HasPrefix(class, []byte("55")) || bytes.HasPrefix(class, []byte("57")) ||
 		bytes.HasPrefix(class, []byte("53")) || bytes.HasPrefix(class, []byte("40"))
 }
 
-// tryEnd is called when a trial's messages are all answered.
+// tryEnd is called when all of a trial's messages are answered.
 func (s *Session) tryEnd() {
 	defer s.greeted()
 	t, w := &s.trust, s.trial
 	s.trial = nil
 	if w == nil || w.generation != t.generation {
-		return // something changed meanwhile; all is tried anew when it is used
+		return // something changed meanwhile; everything is tried again when it is used
 	}
 	if w.signature != nil && w.doubts == t.doubts {
 		changed := t.signature != nil && !bytes.Equal(t.signature, w.signature)

@@ -15,15 +15,15 @@ import (
 	"zanteyard/record"
 )
 
-// Control is the audit's own connection for questions. It implements join.Server. A connection that is lost is made anew
-// by the next question.
+// Control is the audit's own connection for questions. It implements join.Server. If the connection is lost, the next
+// question makes another.
 type Control struct {
 	options Options
 	tables  *Tables
 
 	lock     sync.Mutex
 	conn     *pgconn.PgConn
-	prepared bool // placeSQL is, on conn
+	prepared bool // placeSQL is prepared on conn
 	reloaded time.Time
 }
 
@@ -55,7 +55,7 @@ func (c *Control) ask(ctx context.Context, sql string) ([][]string, error) {
 	return query(ctx, c.conn, sql)
 }
 
-// connect has a connection be there. Called with lock held.
+// connect makes a connection if there is none. Called with lock held.
 func (c *Control) connect(ctx context.Context) error {
 	if c.conn != nil && !c.conn.IsClosed() {
 		return nil
@@ -68,7 +68,8 @@ func (c *Control) connect(ctx context.Context) error {
 	return nil
 }
 
-// where asks where the log stands, and for the stamps of these tables. It is asked so often that it is worth preparing.
+// where asks where the log stands, and for the stamps of these tables. It is called so often that the statement is
+// worth preparing.
 func (c *Control) where(ctx context.Context, tables string) ([][]string, error) {
 	c.lock.Lock()
 	defer c.lock.Unlock()
@@ -83,7 +84,7 @@ func (c *Control) where(ctx context.Context, tables string) ([][]string, error) 
 	}
 	its := c.conn.ExecPrepared(ctx, placeName, [][]byte{[]byte(tables)}, nil, nil).Read()
 	if its.Err != nil {
-		// Somebody may have dropped it, as a pooler does: the next question prepares it anew, on a connection of its own.
+		// Somebody, such as a pooler, may have dropped it: the next question prepares it again, on another connection.
 		c.conn.Close(ctx)
 		return nil, its.Err
 	}
@@ -114,7 +115,7 @@ func rowsOf(its *pgconn.Result) [][]string {
 	return rows
 }
 
-// one is the only value of a statement.
+// one returns the only value of a statement.
 func (c *Control) one(ctx context.Context, sql string) (string, error) {
 	rows, err := c.ask(ctx, sql)
 	if err != nil {
@@ -126,8 +127,8 @@ func (c *Control) one(ctx context.Context, sql string) (string, error) {
 	return rows[0][0], nil
 }
 
-// Place implements join.Server. In one statement with it the tables that the slot has told of are looked at; where one
-// isn't what it was, the catalog is read anew, and the place asked for again.
+// Place implements join.Server. The same statement checks the tables that the slot has reported; if one has changed,
+// the catalog is read again, and the place is asked for again.
 func (c *Control) Place(ctx context.Context) (join.Place, error) {
 	rows, err := c.where(ctx, c.tables.usedText())
 	if err != nil {
@@ -154,22 +155,22 @@ func (c *Control) Place(ctx context.Context) (join.Place, error) {
 	return join.Place{At: at, Changed: changed, Names: c.tables.Names()}, nil
 }
 
-// mayReload says that the last time is long enough ago: names that the catalog doesn't have any more stay unknown.
+// mayReload reports whether the last time is long enough ago: names that the catalog no longer has stay unknown.
 func (c *Control) mayReload() bool {
 	c.lock.Lock()
 	defer c.lock.Unlock()
 	return time.Since(c.reloaded) > 250*time.Millisecond
 }
 
-// stampSQL gives a text that is another one where a table's name or key is.
+// stampSQL returns a text that changes with a table's name or key.
 const stampSQL = `SELECT string_agg(concat_ws(' ', c.oid, n.nspname, c.relname, c.relispartition, i.indexrelid, i.indkey), '; '
   ORDER BY c.oid) FROM pg_class c JOIN pg_namespace n ON n.oid = c.relnamespace
   LEFT JOIN pg_index i ON i.indrelid = c.oid AND i.indisprimary `
 
 const placeSQL = "SELECT pg_current_wal_insert_lsn(), (" + stampSQL + "WHERE c.oid = ANY($1::oid[]))"
 
-// Sees says whether the server has an advisory lock with this number in the slot's database: who holds it is connected to
-// the same one.
+// Sees reports whether the server has an advisory lock with this number in the slot's database: whoever holds it is
+// connected to the same one.
 func (c *Control) Sees(ctx context.Context, lock int64) (bool, error) {
 	text, err := c.one(ctx, LockSQL(lock))
 	return text == "1", err
@@ -202,8 +203,8 @@ func (c *Control) Fence(ctx context.Context) (uint64, error) {
 	return strconv.ParseUint(text, 10, 64)
 }
 
-// Inspects says whether subtransactions can be looked up: whether the role may call pg_walinspect's functions. If it may
-// not, it says why.
+// Inspects returns whether subtransactions can be looked up, that is, whether the role may call pg_walinspect's
+// functions. If it may not, reason says why.
 func (c *Control) Inspects(ctx context.Context) (schema string, reason string) {
 	rows, err := c.ask(ctx, "SELECT n.nspname, has_function_privilege(p.oid, 'EXECUTE') FROM pg_proc p "+
 		"JOIN pg_namespace n ON n.oid = p.pronamespace WHERE p.proname = 'pg_get_wal_record_info'")
@@ -218,7 +219,7 @@ func (c *Control) Inspects(ctx context.Context) (schema string, reason string) {
 	return rows[0][0], ""
 }
 
-// Subtransactions implements join.Server, by the commit records at these places.
+// Subtransactions implements join.Server, using the commit records at these places.
 func (c *Control) Subtransactions(ctx context.Context, starts []uint64) ([][]uint32, error) {
 	schema, reason := c.Inspects(ctx)
 	if reason != "" {
@@ -232,7 +233,7 @@ func (c *Control) Subtransactions(ctx context.Context, starts []uint64) ([][]uin
 		}
 		return subs, nil
 	}
-	for i, start := range starts { // a record that is gone fails all; one by one the others are told
+	for i, start := range starts { // a record that is gone makes the whole question fail; one at a time, the others are answered
 		if rows, one := c.commits(ctx, schema, []uint64{start}); one == nil && len(rows) == 1 {
 			subs[i] = subsOf(rows[0][0])
 		} else if ctx.Err() != nil {
@@ -251,7 +252,7 @@ func (c *Control) commits(ctx context.Context, schema string, starts []uint64) (
 		"WITH ORDINALITY l(lsn, n), LATERAL "+quoted(schema)+".pg_get_wal_record_info(l.lsn) i ORDER BY l.n")
 }
 
-// subsOf reads a commit record's description: "..; subxacts: 726 727; ..".
+// subsOf parses a commit record's description: "..; subxacts: 726 727; ..".
 func subsOf(description string) []uint32 {
 	_, after, found := strings.Cut(description, "subxacts:")
 	if !found {
@@ -290,7 +291,7 @@ func (c *Control) Load(ctx context.Context) error {
 	return err
 }
 
-// reload reads the catalog anew, and gives the tables that aren't what they were.
+// reload reads the catalog again, and returns the tables that have changed.
 func (c *Control) reload(ctx context.Context) ([]record.Relation, error) {
 	rows, err := c.ask(ctx, tablesSQL)
 	if err != nil {

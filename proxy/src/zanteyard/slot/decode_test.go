@@ -130,7 +130,7 @@ func decodeAll(t *testing.T, d decoder, texts []string) string {
 	return ""
 }
 
-// Whatever comes, no decoder fails but with an error.
+// Whatever arrives, a decoder never panics, but returns an error.
 func TestTornMessages(t *testing.T) {
 	for _, text := range []string{
 		`{"action":"I","xid":725,"schema":"public","table":"t","columns":[{"name":"id","value":"a\u00e9\n"}],"pk":[{"name":"id"}]}`,

@@ -9,13 +9,13 @@ import (
 	"zanteyard/join"
 )
 
-// Health is how a slot is.
+// Health is the state of a slot.
 type Health struct {
 	Kept uint64 // bytes of the log that the server keeps for it
-	Lost bool   // the server has given the slot up, or is about to (max_slot_wal_keep_size)
+	Lost bool   // the server has dropped what the slot needs, or is about to (max_slot_wal_keep_size)
 }
 
-// Health asks how the slot is.
+// Health asks for the state of a slot.
 func (c *Control) Health(ctx context.Context, name string) (Health, error) {
 	rows, err := c.ask(ctx, "SELECT coalesce(wal_status, ''), "+
 		"coalesce(pg_wal_lsn_diff(pg_current_wal_lsn(), restart_lsn)::bigint, 0) FROM pg_replication_slots "+
@@ -36,7 +36,7 @@ func (c *Control) Health(ctx context.Context, name string) (Health, error) {
 	return Health{Kept: uint64(kept), Lost: rows[0][0] == "lost" || rows[0][0] == "unreserved"}, nil
 }
 
-// Started is what the feed says as an audit begins, as far as the server knows it.
+// Started returns what the feed reports when an audit begins, as far as the server knows it.
 func (c *Control) Started(ctx context.Context) (join.Started, error) {
 	rows, err := c.ask(ctx, "SELECT current_database(), current_setting('server_version'), "+
 		"current_setting('max_slot_wal_keep_size', true)")
@@ -65,7 +65,7 @@ func (c *Control) Started(ctx context.Context) (join.Started, error) {
 	return its, nil
 }
 
-// Open names the transactions that a slot waits for as it begins, as a person has to look for them.
+// Open describes the transactions that a new slot waits for, in words by which a person can find them.
 func (c *Control) Open(ctx context.Context) string {
 	rows, err := c.ask(ctx, "SELECT 'the session with pid ' || pid || ', since ' || xact_start FROM pg_stat_activity "+
 		"WHERE backend_xid IS NOT NULL AND pid <> pg_backend_pid() UNION ALL "+

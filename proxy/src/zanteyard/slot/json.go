@@ -7,8 +7,8 @@ import (
 	"unicode/utf8"
 )
 
-// scanner reads one JSON text, as wal2json writes it, without making anything of what isn't asked for: most of a message
-// are columns that aren't of a key.
+// scanner reads one JSON text, as wal2json writes it, and builds nothing that isn't asked for: most of a message are
+// columns outside the key.
 type scanner struct {
 	text []byte
 	at   int
@@ -22,7 +22,7 @@ func (s *scanner) space() {
 	}
 }
 
-// is takes the character if it comes next.
+// is consumes the character if it comes next.
 func (s *scanner) is(c byte) bool {
 	s.space()
 	if s.at < len(s.text) && s.text[s.at] == c {
@@ -32,7 +32,7 @@ func (s *scanner) is(c byte) bool {
 	return false
 }
 
-// raw is a string's inside as it stands, and whether it has escapes.
+// raw returns the inside of a string unchanged, and whether it has escapes.
 func (s *scanner) raw() (inside []byte, escapes bool, err error) {
 	if !s.is('"') {
 		return nil, false, errForm
@@ -52,7 +52,7 @@ func (s *scanner) raw() (inside []byte, escapes bool, err error) {
 	return nil, false, errForm
 }
 
-// name is a string without escapes, or with them taken away.
+// name returns a string, with its escapes decoded.
 func (s *scanner) name() ([]byte, error) {
 	inside, escapes, err := s.raw()
 	if err != nil || !escapes {
@@ -61,7 +61,7 @@ func (s *scanner) name() ([]byte, error) {
 	return unescaped(inside)
 }
 
-// scalar is a value as text; null says that it is null.
+// scalar returns a value as text; null means that it is null.
 func (s *scanner) scalar() (text []byte, null bool, err error) {
 	s.space()
 	if s.at < len(s.text) && s.text[s.at] == '"' {
@@ -82,7 +82,7 @@ func (s *scanner) scalar() (text []byte, null bool, err error) {
 	return nil, false, errForm
 }
 
-// skip goes past a value of any kind.
+// skip skips a value of any kind.
 func (s *scanner) skip() error {
 	for depth := 0; ; {
 		s.space()
@@ -116,7 +116,7 @@ func (s *scanner) skip() error {
 	}
 }
 
-// unescaped takes the escapes of a JSON string away.
+// unescaped decodes the escapes of a JSON string.
 func unescaped(inside []byte) ([]byte, error) {
 	to := make([]byte, 0, len(inside))
 	for i := 0; i < len(inside); i++ {
@@ -153,7 +153,7 @@ func unescaped(inside []byte) ([]byte, error) {
 	return to, nil
 }
 
-// unit reads four digits, and four more where they are the first half of a pair.
+// unit reads four digits, and four more if they are the first half of a surrogate pair.
 func unit(text []byte) (rune, int, error) {
 	first, err := hex4(text)
 	if err != nil {

@@ -1,5 +1,5 @@
-// Package slot reads a replication slot: which transactions were committed, in their order, and which rows each wrote,
-// by primary key. Its second connection (Control) answers what the joiner asks of the server.
+// Package slot reads a replication slot: which transactions were committed, in order, and which rows each of them
+// wrote, by primary key. Its second connection (Control) answers the joiner's questions to the server.
 package slot
 
 import (
@@ -11,42 +11,42 @@ import (
 	"zanteyard/record"
 )
 
-// Plugin is a program of the server's that writes what a slot tells.
+// Plugin is a server's output plugin, which writes what a slot reports.
 type Plugin string
 
-// The two that can be read. Wal2json tells where a commit record begins, by which its subtransactions can be looked up;
-// test_decoding is part of PostgreSQL.
+// The two that can be read. Wal2json reports where a commit record begins, by which its subtransactions can be looked
+// up; test_decoding is part of PostgreSQL.
 const (
 	Wal2json     Plugin = "wal2json"
 	TestDecoding Plugin = "test_decoding"
 )
 
-// Options say how a slot is made and read.
+// Options say how to make and read a slot.
 type Options struct {
-	// Source is a connection string of pgconn's. The role needs REPLICATION.
+	// Source is a connection string for pgconn. The role needs REPLICATION.
 	Source string
 	// Settings are set on both connections, so that Canonical understands the texts of values.
 	Settings map[string]string
-	// Name is the slot's. A slot that isn't permanent ends with the connection, and keeps nothing on the server's disk
-	// after that.
+	// Name is the slot's name. A slot that isn't permanent ends with its connection, and then keeps nothing on the
+	// server's disk.
 	Name      string
 	Permanent bool
-	// Plugin is the one to use; empty, wal2json if it is installed, and otherwise test_decoding.
+	// Plugin is the one to use; if empty, wal2json if it is installed, otherwise test_decoding.
 	Plugin Plugin
 	// Fence is the table of the fences.
 	FenceSchema, FenceTable string
-	// Asked are the tables that are asked for: changes of others are counted, and told by nobody.
+	// Asked selects the tables to audit: changes of others are only counted, not reported.
 	Asked catalog.Filter
-	// Canonical gives a key column's value, as the slot writes it, its one text.
+	// Canonical returns the canonical text of a key column's value, as the slot writes it.
 	Canonical func(typeOID uint32, text string) (string, bool)
-	// Show is a canonical text as a person reads it.
+	// Show converts a canonical text to one for people.
 	Show func(typeOID uint32, canonical string) string
 }
 
-// Receiver takes what the slot tells, in its order. An error ends the reading.
+// Receiver takes what the slot reports, in order. An error ends the reading.
 type Receiver interface {
 	Commit(record.Commit) error
-	// Advance says that every commit that stands in the log before this place was told.
+	// Advance says that every commit before this place in the log has been reported.
 	Advance(place uint64) error
 }
 
@@ -58,7 +58,7 @@ var (
 	ErrBehind   = errors.New("slot: it fell so far behind that the server was about to drop its WAL")
 )
 
-// parsePlace reads a place in the log, as PostgreSQL writes it.
+// parsePlace parses a place in the log, as PostgreSQL writes it.
 func parsePlace(text string) (uint64, bool) {
 	high, low, found := strings.Cut(text, "/")
 	if !found {

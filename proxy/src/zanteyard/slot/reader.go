@@ -18,7 +18,7 @@ import (
 	"zanteyard/record"
 )
 
-// Reader reads a slot over a replication connection of its own.
+// Reader reads a slot over its own replication connection.
 type Reader struct {
 	options Options
 	plugin  Plugin
@@ -28,21 +28,21 @@ type Reader struct {
 
 	raw      io.ReadWriteCloser
 	writing  sync.Mutex
-	received uint64 // atomic: the place up to which all is received
+	received uint64 // atomic: everything up to this place is received
 	pings    chan struct{}
 }
 
-// pause is between two looks at what the server has sent. Nothing is made of it sooner: the joiner takes steps, and asks
-// for the log's place first.
+// pause is the time between two looks at what the server has sent. Nothing uses it sooner: the joiner works in steps,
+// and asks for the log's place first.
 const pause = 5 * time.Millisecond
 
-// decoder makes commits of a plugin's messages.
+// decoder makes commits from a plugin's messages.
 type decoder interface {
 	decode(text []byte, end uint64) (record.Commit, bool, error)
 }
 
-// Open connects and makes the slot. It waits for transactions that are open, as the server does; when ctx ends before,
-// the error is ErrBlocked. What Tables say is read anew by Control.Load.
+// Open connects and makes the slot. Like the server, it waits for open transactions; if ctx ends first, the error is
+// ErrBlocked. The contents of Tables are read again by Control.Load.
 func Open(ctx context.Context, options Options, tables *Tables) (*Reader, error) {
 	conn, err := connect(ctx, options, true)
 	if err != nil {
@@ -78,8 +78,8 @@ func connect(ctx context.Context, options Options, replication bool) (*pgconn.Pg
 	return pgconn.ConnectConfig(ctx, config)
 }
 
-// create makes the slot with the first plugin that is there and that the server lets us use: since 15.19 it has a list
-// of those (output_plugin_libraries), in which wal2json isn't by itself.
+// create makes the slot with the first plugin that is installed and that the server lets us use: since 15.19 the server
+// has a list of those (output_plugin_libraries), which doesn't contain wal2json by default.
 func (r *Reader) create(ctx context.Context) error {
 	kind := "TEMPORARY "
 	if r.options.Permanent {
@@ -101,10 +101,10 @@ func (r *Reader) create(ctx context.Context) error {
 			return errForm
 		case ctx.Err() != nil:
 			return fmt.Errorf("%w (%v)", ErrBlocked, err)
-		case r.options.Permanent && hasCode(err, "42710"): // it is there from an earlier run: what it tells first is old
+		case r.options.Permanent && hasCode(err, "42710"): // it is there from an earlier run, so what it reports first is old
 			r.plugin, r.from = plugin, "0/0"
 			return r.known(ctx)
-		case hasCode(err, "42501"): // or the role may make no slot at all: then the next one is refused, too
+		case hasCode(err, "42501"): // or the role may not make slots at all: then the next one is refused too
 			refused = fmt.Errorf("make the replication slot: %w", err)
 		case !isMissing(err):
 			return fmt.Errorf("make the replication slot: %w", err)
@@ -113,7 +113,7 @@ func (r *Reader) create(ctx context.Context) error {
 	return refused
 }
 
-// known finds the plugin of a slot that is there, and whether it can be read.
+// known finds the plugin of an existing slot, and whether it can be read.
 func (r *Reader) known(ctx context.Context) error {
 	rows, err := query(ctx, r.conn, "SELECT plugin, database = current_database(), active FROM pg_replication_slots "+
 		"WHERE slot_name = '"+strings.ReplaceAll(r.options.Name, "'", "''")+"'")
@@ -132,7 +132,7 @@ func (r *Reader) known(ctx context.Context) error {
 	return nil
 }
 
-// isMissing says that a plugin's file isn't there.
+// isMissing reports whether an error means that a plugin's file is missing.
 func isMissing(err error) bool { return hasCode(err, "58P01") || hasCode(err, "42704") }
 
 func hasCode(err error, code string) bool {
@@ -142,11 +142,11 @@ func hasCode(err error, code string) bool {
 
 func quoted(name string) string { return `"` + strings.ReplaceAll(name, `"`, `""`) + `"` }
 
-// Plugin is the one that the slot has.
+// Plugin returns the slot's plugin.
 func (r *Reader) Plugin() Plugin { return r.plugin }
 
-// Read gives the receiver what the slot tells, until ctx ends, the receiver or the server ends it, or the connection is
-// lost.
+// Read gives the receiver what the slot reports, until ctx ends, the receiver or the server ends it, or the connection
+// is lost.
 func (r *Reader) Read(ctx context.Context, to Receiver) error {
 	var its decoder
 	options := wal2jsonOptions
@@ -165,7 +165,7 @@ func (r *Reader) Read(ctx context.Context, to Receiver) error {
 	}
 	ctx, cancel := context.WithCancel(ctx)
 	defer cancel()
-	go func() { // has a read that waits return
+	go func() { // ends a read that waits
 		<-ctx.Done()
 		r.raw.Close()
 	}()
@@ -183,7 +183,7 @@ func (r *Reader) Read(ctx context.Context, to Receiver) error {
 	return err
 }
 
-// receive takes message after message.
+// receive handles one message after another.
 func (r *Reader) receive(its decoder, to Receiver) error {
 	frames := bufio.NewReaderSize(r.raw, 1<<16)
 	var header [5]byte
@@ -210,16 +210,16 @@ func (r *Reader) receive(its decoder, to Receiver) error {
 			}
 		case 'E':
 			return fmt.Errorf("%w: %s", ErrEnded, errorText(body))
-		case 'c', 'C', 'Z': // the server shuts down
+		case 'c', 'C', 'Z': // the server is shutting down
 			return ErrEnded
 		}
 	}
 }
 
-// large is how much room for one message is kept.
+// large is the size of the largest buffer that is kept for later messages.
 const large = 1 << 20
 
-// data takes a CopyData's inside: what the plugin wrote, or how far the server is.
+// data handles the inside of a CopyData: what the plugin wrote, or how far the server is.
 func (r *Reader) data(body []byte, its decoder, to Receiver) error {
 	switch {
 	case len(body) >= 25 && body[0] == 'w':
@@ -248,7 +248,7 @@ func (r *Reader) note(place uint64) {
 	}
 }
 
-// report tells the server what is received, so that it keeps no log for it: each second, and when asked.
+// report reports to the server what is received, so that it keeps no log for it: once a second, and when asked.
 func (r *Reader) report(ctx context.Context) {
 	ticker := time.NewTicker(time.Second)
 	defer ticker.Stop()
@@ -266,17 +266,17 @@ func (r *Reader) report(ctx context.Context) {
 			message = binary.BigEndian.AppendUint64(message, place)
 		}
 		message = binary.BigEndian.AppendUint64(message, uint64(time.Since(epoch).Microseconds()))
-		message = append(message, 1) // and the server says how far it is
+		message = append(message, 1) // and the server answers with how far it is
 		r.writing.Lock()
 		_, err := r.raw.Write(message)
 		r.writing.Unlock()
 		if err != nil {
-			return // the reading side says so
+			return // the reading side reports that
 		}
 	}
 }
 
-// Ping has the server say how far it is.
+// Ping makes the server say how far it is.
 func (r *Reader) Ping() {
 	select {
 	case r.pings <- struct{}{}:
@@ -284,14 +284,14 @@ func (r *Reader) Ping() {
 	}
 }
 
-// epoch is PostgreSQL's.
+// epoch is where PostgreSQL's timestamps begin.
 var epoch = time.Date(2000, 1, 1, 0, 0, 0, 0, time.UTC)
 
 func timeOf(microseconds uint64) time.Time {
 	return epoch.Add(time.Duration(microseconds) * time.Microsecond)
 }
 
-// errorText is an ErrorResponse's message.
+// errorText returns an ErrorResponse's message.
 func errorText(body []byte) string {
 	for len(body) > 1 {
 		field, rest, _ := strings.Cut(string(body[1:]), "\x00")

@@ -14,16 +14,16 @@ import (
 // Table is a table, or a partition, with its primary key.
 type Table struct {
 	Relation     record.Relation
-	Root         record.Relation // the topmost partitioned table, if that has a primary key; else the table itself
+	Root         record.Relation // the topmost partitioned table, if that has a primary key; otherwise the table itself
 	Schema, Name string
-	Key          []Column // in the key's order; none where there is no primary key
+	Key          []Column // in the key's order; none without a primary key
 	fence        bool
-	unasked      bool   // it isn't one of those that are asked for
-	stamp        string // is another one where its name or key is
-	used         uint32 // atomic: the slot has told of it
+	unasked      bool   // it isn't among those to audit
+	stamp        string // changes with the table's name or key
+	used         uint32 // atomic: the slot has reported it
 }
 
-// Column is a column of a key. Type is what Canonical knows: a domain's base type.
+// Column is a column of a key. Type is a type that Canonical knows: for a domain, its base type.
 type Column struct {
 	Name string
 	Type uint32
@@ -38,7 +38,7 @@ func (t *Table) hasKey(name []byte) bool {
 	return false
 }
 
-// sameKey says whether the key has just these columns: if it hasn't, the table was altered since.
+// sameKey reports whether the key has exactly these columns: if not, the table was altered since.
 func (t *Table) sameKey(names [][]byte) bool {
 	if len(names) != len(t.Key) {
 		return false
@@ -51,31 +51,43 @@ func (t *Table) sameKey(names [][]byte) bool {
 	return true
 }
 
-// left are changes of a table that are left out, by its name and the reason.
+// left are changes of a table that are left out, by the table's name and the reason.
 type left struct{ table, reason string }
 
 const noKey = "the table has no primary key"
 
-// Tables are what is known of a database's tables, by name and by identifier. Safe for use by many goroutines.
+// Tables is what is known about a database's tables, by name and by identifier. Safe for use by many goroutines.
 type Tables struct {
 	show func(uint32, string) string
 
 	lock     sync.RWMutex
 	by       map[record.Relation]*Table
 	byName   map[string]map[string]*Table // by schema and name
-	names    uint64                       // how often they were read
+	names    uint64                       // how often names were read
 	oids     string                       // of the tables that are used, as an array's text
-	stamp    string                       // theirs
-	missing  bool                         // a name came that isn't known: they are to be read anew
+	stamp    string                       // their stamps
+	missing  bool                         // an unknown name arrived: the tables have to be read again
 	left     map[left]uint64              // changes that are left out
 	unlisted uint64
+}
+
+// HasFence says whether the fences' table is among them.
+func (t *Tables) HasFence() bool {
+	t.lock.RLock()
+	defer t.lock.RUnlock()
+	for _, one := range t.by {
+		if one.fence {
+			return true
+		}
+	}
+	return false
 }
 
 func newTables(show func(uint32, string) string) *Tables {
 	return &Tables{show: show, left: map[left]uint64{}}
 }
 
-// set takes in all tables, and gives those that aren't what they were.
+// set replaces all tables, and returns those that have changed.
 func (t *Tables) set(all []*Table) (changed []record.Relation) {
 	by, names := make(map[record.Relation]*Table, len(all)), map[string]map[string]*Table{}
 	for _, one := range all {
@@ -107,7 +119,7 @@ func (t *Tables) set(all []*Table) (changed []record.Relation) {
 	return changed
 }
 
-// stampOf puts together what is expected of the tables that are used. Called with lock held.
+// stampOf joins the stamps that are expected of the tables in use. Called with lock held.
 func (t *Tables) stampOf() {
 	var its []*Table
 	for _, one := range t.by {
@@ -123,7 +135,7 @@ func (t *Tables) stampOf() {
 	t.oids, t.stamp = "{"+strings.Join(oids, ",")+"}", strings.Join(stamps, "; ")
 }
 
-// usedText are the used tables as an array's text, and usedStamp what is expected of them.
+// usedText returns the used tables as an array's text, usedStamp what is expected of them.
 func (t *Tables) usedText() string {
 	t.lock.Lock()
 	defer t.lock.Unlock()
@@ -137,14 +149,14 @@ func (t *Tables) usedStamp() string {
 	return t.stamp
 }
 
-// Names counts how often names were read: what is decoded has the meaning of that time.
+// Names returns how often names were read: names in a decoded commit have the meaning of that time.
 func (t *Tables) Names() uint64 {
 	t.lock.RLock()
 	defer t.lock.RUnlock()
 	return t.names
 }
 
-// named is the table of that name, nil if none is known. From then on it counts as used.
+// named returns the table of that name, or nil if none is known. From then on it counts as used.
 func (t *Tables) named(schema, table []byte) *Table {
 	t.lock.RLock()
 	its := t.byName[string(schema)][string(table)]
@@ -155,7 +167,7 @@ func (t *Tables) named(schema, table []byte) *Table {
 	return its
 }
 
-// list is all of them, by their names.
+// list returns all tables, by name.
 func (t *Tables) list() []*Table {
 	t.lock.RLock()
 	defer t.lock.RUnlock()
@@ -169,7 +181,7 @@ func (t *Tables) list() []*Table {
 	return its
 }
 
-// unknown notes that a name isn't known, or means something else than it did.
+// unknown records that a name isn't known, or has another meaning than before.
 func (t *Tables) unknown(schema, table []byte) {
 	t.lock.Lock()
 	t.missing = true
@@ -177,10 +189,10 @@ func (t *Tables) unknown(schema, table []byte) {
 	t.lock.Unlock()
 }
 
-// mostNames bounds the tables that are counted one by one.
+// mostNames limits the tables that are counted separately.
 const mostNames = 100
 
-// leaves says that changes of the table are left out, and counts one.
+// leaves reports whether changes of the table are left out, and if so counts one.
 func (t *Tables) leaves(table *Table) bool {
 	reason := noKey
 	switch {
@@ -199,7 +211,7 @@ func (t *Tables) leaves(table *Table) bool {
 	return true
 }
 
-// LeftOut calls take with the changes of each table that are left out, and why.
+// LeftOut calls take for each table and reason with the number of changes that are left out.
 func (t *Tables) LeftOut(take func(table, reason string, changes uint64)) {
 	t.lock.RLock()
 	defer t.lock.RUnlock()
@@ -208,7 +220,7 @@ func (t *Tables) LeftOut(take func(table, reason string, changes uint64)) {
 	}
 }
 
-// Missing says that names came which aren't known: Control.Load reads the catalog anew.
+// Missing reports whether unknown names have arrived: Control.Load reads the catalog again.
 func (t *Tables) Missing() bool {
 	t.lock.RLock()
 	defer t.lock.RUnlock()

@@ -7,7 +7,7 @@ import (
 	"zanteyard/record"
 )
 
-// testDecoding reads the lines of test_decoding, for servers that don't have wal2json: "BEGIN 734", "table s.t: INSERT:
+// testDecoding reads the lines of test_decoding, for servers without wal2json: "BEGIN 734", "table s.t: INSERT:
 // id[integer]:1 v[text]:'it”s'", "COMMIT 734".
 type testDecoding struct {
 	tables    *Tables
@@ -31,7 +31,7 @@ func (d *testDecoding) decode(text []byte, end uint64) (record.Commit, bool, err
 		d.open.touched = true
 		return record.Commit{}, false, d.change(text[len("table "):])
 	}
-	return record.Commit{}, false, nil // a message that an application left in the log
+	return record.Commit{}, false, nil // a message that an application wrote to the log
 }
 
 func (d *testDecoding) change(text []byte) error {
@@ -77,7 +77,7 @@ func (d *testDecoding) change(text []byte) error {
 	return nil
 }
 
-// truncate reads "s.t, s.u: TRUNCATE: (no-flags)" from behind the first name on.
+// truncate reads "s.t, s.u: TRUNCATE: (no-flags)", from after the first name.
 func (d *testDecoding) truncate(schema, table, rest []byte) error {
 	for {
 		if t := d.tables.named(schema, table); t != nil && !(t.unasked && d.tables.leaves(t)) {
@@ -96,8 +96,8 @@ func (d *testDecoding) truncate(schema, table, rest []byte) error {
 	}
 }
 
-// name reads an identifier, with quotes where it has some, up to the separator; in the place of a colon there may be a
-// comma, which is left.
+// name reads an identifier, with quotes if it has any, up to the separator; instead of a colon there may be a comma,
+// which isn't consumed.
 func name(text []byte, end byte) (its, rest []byte, ok bool) {
 	if len(text) > 0 && text[0] == '"' {
 		for i := 1; i < len(text); i++ {
@@ -127,7 +127,7 @@ func after(its, rest []byte, end byte) ([]byte, []byte, bool) {
 	return its, rest, end == ':' && len(rest) > 0 && rest[0] == ','
 }
 
-// rows reads the columns of the row as it was, where they are told, and as it is.
+// rows reads the columns of the old row, if they are given, and of the new one.
 func (d *testDecoding) rows(rest []byte, t *Table, action string) (was, now []column, err error) {
 	switch {
 	case action == "DELETE":
@@ -174,7 +174,7 @@ func columnOf(text []byte) (column, []byte, error) {
 	if end < 0 {
 		return one, nil, errForm
 	}
-	for bytes.HasPrefix(text[open+end+1:], []byte("]:")) { // a type of arrays ends with []
+	for bytes.HasPrefix(text[open+end+1:], []byte("]:")) { // the name of an array type ends with []
 		end++
 	}
 	rest := text[open+end+2:]
@@ -183,7 +183,7 @@ func columnOf(text []byte) (column, []byte, error) {
 	return one, rest, err
 }
 
-// nameEnd is where the type's bracket opens.
+// nameEnd returns where the type's bracket opens.
 func nameEnd(text []byte) int {
 	if len(text) == 0 || text[0] != '"' {
 		return bytes.IndexByte(text, '[')
@@ -211,7 +211,7 @@ func plainName(text []byte) []byte {
 	return bytes.ReplaceAll(text[1:len(text)-1], []byte(`""`), []byte(`"`))
 }
 
-// valueOf reads a value: a quoted one, in which a quote is doubled, or a word.
+// valueOf reads a value: a quoted one, in which quotes are doubled, or a word.
 func valueOf(text []byte) (value []byte, null bool, rest []byte, err error) {
 	bits := bytes.HasPrefix(text, []byte("B'"))
 	if bits {

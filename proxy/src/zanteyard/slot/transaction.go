@@ -2,20 +2,19 @@ package slot
 
 import "zanteyard/record"
 
-// mostWrites bounds what is kept of one transaction. What is beyond is left out, as nobody's: who reads it isn't
-// resolved.
+// mostWrites limits what is kept of one transaction. The rest is left out, as nobody's: reads of it aren't resolved.
 const mostWrites = 1 << 16
 
-// transaction gathers what one transaction wrote: each row once, with its last change.
+// transaction collects what one transaction wrote: each row once, with its last change.
 type transaction struct {
 	number  uint32
 	start   uint64
 	names   uint64
 	writes  []record.Write
-	at      map[place]int // of a row in writes, where there are many
+	at      map[place]int // index of a row in writes, if there are many
 	fence   bool
 	emptied []record.Relation
-	touched bool // the slot told of a change of some table
+	touched bool // the slot reported a change of some table
 	dropped uint64
 }
 
@@ -24,7 +23,7 @@ type place struct {
 	key      record.Key
 }
 
-// few is how many rows are looked through one by one.
+// few is up to how many rows are searched one by one.
 const few = 8
 
 func (t *transaction) begin(number uint32, start, names uint64) {
@@ -65,7 +64,8 @@ func (t *transaction) find(relation record.Relation, key record.Key) (int, bool)
 	return i, found
 }
 
-// empty says that a table's rows went, without naming them: also those that this transaction wrote before.
+// empty records that all rows of a table were removed without being named, including those that this transaction wrote
+// before.
 func (t *transaction) empty(relation record.Relation) {
 	for i := range t.writes {
 		if t.writes[i].Relation == relation {

@@ -7,8 +7,8 @@ import (
 	"zanteyard/record"
 )
 
-// wal2json reads messages of wal2json's second format: one JSON object for a transaction's begin, each of its changes,
-// and its commit.
+// wal2json reads the messages of wal2json's format 2: one JSON object for a transaction's begin, for each of its
+// changes, and for its commit.
 type wal2json struct {
 	tables    *Tables
 	canonical func(uint32, string) (string, bool)
@@ -17,18 +17,18 @@ type wal2json struct {
 	message   message
 }
 
-// wal2jsonOptions are what START_REPLICATION is given. Values come without types: the catalog has those.
+// wal2jsonOptions are the options of START_REPLICATION. Values come without types, since the catalog has those.
 const wal2jsonOptions = `"format-version" '2', "include-xids" '1', "include-lsn" '1', "include-pk" '1', ` +
 	`"include-types" '0', "include-timestamp" '0', "include-transaction" '1'`
 
-// message is what is needed of one.
+// message has the parts of a message that are needed.
 type message struct {
 	action        byte
 	number        uint64
 	lsn, next     []byte
 	schema, table []byte
-	columns       []column // those of the key, of the row as it is
-	identity      []column // of the row as it was
+	columns       []column // columns of the key, from the new row
+	identity      []column // from the old row
 	pk            [][]byte
 	named         *Table
 }
@@ -38,7 +38,7 @@ type column struct {
 	null        bool
 }
 
-// decode takes one message. It returns a commit where the message is one.
+// decode handles one message. It returns a commit if the message is one.
 func (w *wal2json) decode(text []byte, _ uint64) (record.Commit, bool, error) {
 	m := &w.message
 	*m = message{columns: m.columns[:0], identity: m.identity[:0], pk: m.pk[:0]}
@@ -62,7 +62,7 @@ func (w *wal2json) decode(text []byte, _ uint64) (record.Commit, bool, error) {
 	case 'I', 'U', 'D', 'T':
 		w.open.touched = true
 		w.change(m)
-	case 'M': // a message that an application left in the log
+	case 'M': // a message that an application wrote to the log
 	default:
 		return record.Commit{}, false, fmt.Errorf("%w: action %q", errForm, m.action)
 	}
@@ -202,8 +202,8 @@ func (w *wal2json) names(to [][]byte) ([][]byte, error) {
 	return to, nil
 }
 
-// change takes what a message says of a row. Where its key can't be told, as of a table without one or with a replica
-// identity that leaves it out, the change is left out.
+// change handles a message's change of a row. If the key can't be determined, as for a table without one or with a
+// replica identity that omits it, the change is left out.
 func (w *wal2json) change(m *message) {
 	t := m.named
 	switch {
@@ -233,7 +233,7 @@ func (w *wal2json) change(m *message) {
 	}
 }
 
-// key is the row's key in one text.
+// key returns the row's key as one text.
 func (w *wal2json) key(t *Table, its []column) (record.Key, bool) {
 	var room [64]byte
 	to := room[:0]

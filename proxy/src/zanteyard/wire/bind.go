@@ -1,10 +1,10 @@
 package wire
 
-// Bind is a Bind message taken apart. Its slices are parts of the message.
+// Bind is a parsed Bind message. Its slices are parts of the message.
 type Bind struct {
 	Portal, Statement []byte
-	// Middle is the message from behind the statement's name up to the formats of the results: the formats and values of
-	// the parameters.
+	// Middle is the part of the message between the statement's name and the formats of the results: the formats and
+	// values of the parameters.
 	Middle     []byte
 	Formats    []byte // of the parameters, two bytes each: none, one for all, or one each
 	Parameters [][]byte
@@ -12,7 +12,7 @@ type Bind struct {
 	Results []byte
 }
 
-// Names takes the names of portal and statement from a Bind message of which at least these were read.
+// Names returns the names of portal and statement from a Bind message, of which at least these must have been read.
 func Names(m []byte) (portal, statement, rest []byte, ok bool) {
 	portal, rest, ok = Text(m[Header:])
 	if !ok {
@@ -22,7 +22,7 @@ func Names(m []byte) (portal, statement, rest []byte, ok bool) {
 	return
 }
 
-// Parse takes a Bind message apart. It appends the values of the parameters to those slices that b has from before.
+// Parse parses a Bind message. It reuses the slices of b for the parameters' values.
 func (b *Bind) Parse(m []byte) bool {
 	var rest []byte
 	var ok bool
@@ -64,13 +64,13 @@ func (b *Bind) Parse(m []byte) bool {
 	return true
 }
 
-// Binary says whether hidden columns come as binary, if their formats are those that Append gives them.
+// Binary reports whether hidden columns come as binary, if their formats are those that Append adds.
 func (b *Bind) Binary() bool {
 	return len(b.Results) == 2 && b.Results[1] == 1
 }
 
-// Append appends a Bind of another statement, whose result has as many more columns behind the client's own. Those come
-// as text, but where one format holds for all columns.
+// Append appends a Bind of another statement, whose result has `more` columns after the client's own. Those come as
+// text, unless one format holds for all columns.
 func (b *Bind) Append(to []byte, statement string, more int) []byte {
 	start := len(to)
 	to = Begin(to, 'B')

@@ -6,7 +6,7 @@ import (
 	"strconv"
 )
 
-// Text takes a text that ends in NUL from the beginning of b. ok is false if no NUL is there.
+// Text splits off a text that ends in NUL from the beginning of b. ok is false if there is no NUL.
 func Text(b []byte) (text, rest []byte, ok bool) {
 	i := bytes.IndexByte(b, 0)
 	if i < 0 {
@@ -15,7 +15,7 @@ func Text(b []byte) (text, rest []byte, ok bool) {
 	return b[:i], b[i+1:], true
 }
 
-// Int16 reads an integer of 16 bits at the beginning of b; -1 if b is too short.
+// Int16 reads a 16-bit integer at the beginning of b; -1 if b is too short.
 func Int16(b []byte) int {
 	if len(b) < 2 {
 		return -1
@@ -23,7 +23,7 @@ func Int16(b []byte) int {
 	return int(binary.BigEndian.Uint16(b))
 }
 
-// Int32 reads a signed integer of 32 bits at the beginning of b; -2 if b is too short (-1 is the length of NULL).
+// Int32 reads a signed 32-bit integer at the beginning of b; -2 if b is too short (-1 is the length of NULL).
 func Int32(b []byte) int {
 	if len(b) < 4 {
 		return -2
@@ -40,15 +40,15 @@ func End(to []byte, start int) []byte {
 	return to
 }
 
-// AppendInt16 appends an integer of 16 bits.
+// AppendInt16 appends a 16-bit integer.
 func AppendInt16(to []byte, n int) []byte { return append(to, byte(n>>8), byte(n)) }
 
-// AppendText appends a text and the NUL that ends it.
+// AppendText appends a text and its terminating NUL.
 func AppendText(to []byte, s string) []byte { return append(append(to, s...), 0) }
 
-// Row takes a DataRow apart. values has the last hidden columns; visible is the part of the message's body in front of
-// them, without the number of columns; columns is how many those are. ok is false if the row has too few columns or
-// isn't well-formed.
+// Row parses a DataRow. values receives the last `hidden` columns; visible is the part of the message's body before
+// them, without the number of columns; columns is the number of visible columns. ok is false if the row has too few
+// columns or is malformed.
 func Row(m []byte, hidden int, values [][]byte) (visible []byte, columns int, hid [][]byte, ok bool) {
 	all := Int16(m[Header:])
 	columns = all - hidden
@@ -93,8 +93,7 @@ func min(a, b int) int {
 	return b
 }
 
-// CutRow makes a DataRow one of its first columns alone, in the memory that it is in, and returns its length. visible
-// is what Row gave.
+// CutRow reduces a DataRow to its first columns, in place, and returns its length. visible is what Row returned.
 func CutRow(m []byte, columns int, visible []byte) int {
 	n := Header + 2 + len(visible)
 	binary.BigEndian.PutUint32(m[1:], uint32(n-1))
@@ -108,7 +107,7 @@ type Column struct {
 	Format int // 0 text, 1 binary
 }
 
-// Columns takes a RowDescription apart: each column's type and format, and where in the message it ends.
+// Columns parses a RowDescription: each column's type and format, and where in the message it ends.
 func Columns(m []byte, columns []Column, ends []int) ([]Column, []int, bool) {
 	at, n := Header+2, Int16(m[Header:])
 	if n < 0 {
@@ -133,7 +132,7 @@ func AppendDescription(to, m []byte, columns, end int) []byte {
 	return End(append(to, m[Header+2:end]...), start)
 }
 
-// Field gives a field of an ErrorResponse or NoticeResponse, nil if it has none.
+// Field returns a field of an ErrorResponse or NoticeResponse, or nil if it has none.
 func Field(m []byte, kind byte) []byte {
 	rest := m[Header:]
 	for len(rest) > 0 && rest[0] != 0 {
@@ -149,7 +148,7 @@ func Field(m []byte, kind byte) []byte {
 	return nil
 }
 
-// Fatal says that an ErrorResponse ends the connection.
+// Fatal reports whether an ErrorResponse ends the connection.
 func Fatal(m []byte) bool {
 	severity := Field(m, 'V')
 	if severity == nil {
@@ -158,7 +157,7 @@ func Fatal(m []byte) bool {
 	return string(severity) == "FATAL" || string(severity) == "PANIC"
 }
 
-// AppendMoved appends an ErrorResponse or NoticeResponse with its position, if it has one, moved.
+// AppendMoved appends an ErrorResponse or NoticeResponse, with its position, if it has one, moved.
 func AppendMoved(to, m []byte, moved func(position int) int) []byte {
 	position, err := strconv.Atoi(string(Field(m, 'P')))
 	if err != nil {

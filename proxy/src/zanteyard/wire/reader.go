@@ -1,8 +1,7 @@
-// Package wire frames PostgreSQL's protocol, version 3, for a program that passes nearly all of it on as it is.
-// Messages are slices of the buffer that they were read into: nothing is copied and nothing is allocated for a
-// message. The library pgproto3 makes a value of each message and a new text of each value, which is what a client
-// wants; it is used for the messages that the proxy itself makes, for startup, and in the tests (BenchmarkFrames
-// compares the two).
+// Package wire frames PostgreSQL's protocol, version 3, for a program that passes nearly all of it on unchanged.
+// Messages are slices of the buffer that they were read into: nothing is copied or allocated for a message. The library
+// pgproto3 makes a value of each message and another text of each value, which is what a client wants; it is used for
+// the messages that the proxy itself makes, for startup, and in the tests (BenchmarkFrames compares the two).
 package wire
 
 import (
@@ -10,25 +9,25 @@ import (
 	"io"
 )
 
-// Header is the length of a message's header: its type and its length, which doesn't count the type.
+// Header is the size of a message's header: its type and its length, which doesn't include the type.
 const Header = 5
 
 const (
 	firstBuffer = 8 << 10
 	keptBuffer  = 64 << 10
-	// Limit is the size of messages that are handed over whole. Longer ones are streamed.
+	// Limit is the largest size of messages that are returned whole. Longer ones are streamed.
 	Limit = 1 << 20
 )
 
-// ErrFrame says that what was read can't be a message.
+// ErrFrame means that what was read can't be a message.
 var ErrFrame = errors.New("wire: a message's length is out of range")
 
-// Reader gives the messages of one direction of a connection. Not safe for use by several goroutines.
+// Reader returns the messages of one direction of a connection. Not safe for use by several goroutines.
 type Reader struct {
 	from       io.Reader
 	buf        []byte
-	start, end int // what was read and not given yet
-	rest       int // bytes of a long message that weren't given yet
+	start, end int // what was read and not returned yet
+	rest       int // bytes of a long message that weren't returned yet
 }
 
 // NewReader reads from a connection after its startup.
@@ -36,9 +35,9 @@ func NewReader(from io.Reader) *Reader {
 	return &Reader{from: from, buf: make([]byte, firstBuffer)}
 }
 
-// Whole gives the messages that were read whole, one after another, at least one. If more isn't 0 then it is one
-// message of which only the beginning was read, and more bytes of it remain: Chunk gives them, or Rest. The slice is
-// valid until the next call.
+// Whole returns at least one message, all that were read whole. If more isn't 0, it is a single message of which only
+// the beginning was read, and `more` bytes of it remain: Chunk or Rest returns them. The slice is valid until the next
+// call.
 func (r *Reader) Whole() (messages []byte, more int, err error) {
 	if r.rest > 0 {
 		return nil, 0, errors.New("wire: a long message wasn't read completely")
@@ -69,8 +68,8 @@ func (r *Reader) Whole() (messages []byte, more int, err error) {
 	}
 }
 
-// whole is the length of all whole messages at the beginning of what was read. If there is none, need is the length of
-// the first one as far as that is known.
+// whole returns the length of all whole messages at the beginning of b. If there is none, need is the length of the
+// first one, as far as known.
 func whole(b []byte) (n, need int, err error) {
 	for len(b)-n >= Header {
 		l := Length(b[n:])
@@ -85,12 +84,12 @@ func whole(b []byte) (n, need int, err error) {
 	return n, Header, nil
 }
 
-// Length is the length of the message that begins here, with its type.
+// Length returns the length of the message that begins here, including its type.
 func Length(b []byte) int {
 	return 1 + int(int32(uint32(b[1])<<24|uint32(b[2])<<16|uint32(b[3])<<8|uint32(b[4])))
 }
 
-// shrink lets go of a large buffer that nothing is left in.
+// shrink releases a large buffer that is empty.
 func (r *Reader) shrink() {
 	if r.start != r.end {
 		return
@@ -101,7 +100,7 @@ func (r *Reader) shrink() {
 	}
 }
 
-// fill reads some more, with room for need bytes in all.
+// fill reads more, with room for `need` bytes in all.
 func (r *Reader) fill(need int) error {
 	if r.start > 0 {
 		copy(r.buf, r.buf[r.start:r.end])
@@ -109,7 +108,7 @@ func (r *Reader) fill(need int) error {
 	}
 	size := len(r.buf)
 	if r.end == size && size < keptBuffer {
-		size = keptBuffer // a buffer that was filled is made larger once
+		size = keptBuffer // a buffer that was filled is enlarged once
 	}
 	if need > size {
 		size = need + keptBuffer
@@ -130,7 +129,7 @@ func (r *Reader) fill(need int) error {
 	return err
 }
 
-// Chunk gives some more bytes of a long message, and how many remain after these.
+// Chunk returns more bytes of a long message, and how many remain after these.
 func (r *Reader) Chunk() ([]byte, int, error) {
 	size := len(r.buf)
 	if size > r.rest {
@@ -147,7 +146,7 @@ func (r *Reader) Chunk() ([]byte, int, error) {
 	return r.buf[:n], r.rest, nil
 }
 
-// Rest gives a long message whole, in memory of its own, with what was given of it already.
+// Rest returns a long message whole, in separate memory, including the part of it that was returned before.
 func (r *Reader) Rest(begin []byte) ([]byte, error) {
 	all := make([]byte, len(begin)+r.rest)
 	n := copy(all, begin)
@@ -158,7 +157,8 @@ func (r *Reader) Rest(begin []byte) ([]byte, error) {
 	return all, nil
 }
 
-// Buffered are the bytes that were read and not given: for a connection that is passed on without looking from here on.
+// Buffered returns the bytes that were read and not returned, for a connection that is passed on without looking from
+// here on.
 func (r *Reader) Buffered() []byte {
 	b := r.buf[r.start:r.end]
 	r.start, r.end = 0, 0

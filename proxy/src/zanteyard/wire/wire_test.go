@@ -16,7 +16,7 @@ func message(kind byte, n int) []byte {
 	return End(to, 0)
 }
 
-// TestReader gives all messages whole, however the bytes come, and long ones in parts.
+// TestReader returns all messages whole, however the bytes arrive, and long ones in parts.
 func TestReader(t *testing.T) {
 	var all []byte
 	sizes := []int{0, 1, 4, 100, firstBuffer - 5, firstBuffer, keptBuffer, 3 * keptBuffer, Limit - 5, Limit, Limit + 1,
@@ -96,7 +96,7 @@ func TestReaderRefuses(t *testing.T) {
 	}
 }
 
-// TestRow takes hidden columns off.
+// TestRow cuts off hidden columns.
 func TestRow(t *testing.T) {
 	row := func(values ...[]byte) []byte { return (&pgproto3.DataRow{Values: values}).Encode(nil) }
 	a, b, empty := []byte("alpha"), []byte("b"), []byte{}

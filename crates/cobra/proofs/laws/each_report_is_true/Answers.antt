@@ -2,4 +2,9 @@ use Rattle.cobra.proofs.TrueReports.{each_report}
 use Rattle.cobra.proofs.laws.each_report_is_true.Goals as goal
 
 pub returns : goal.returns
-returns c = each_report
+returns c = each_report (record {
+  steps = c.split_steps_are_legal.ensures;
+  fresh = c.fresh_engines_are_split.ensures;
+  verdict = c.split_keeps_verdict.ensures;
+  doubles = c.split_doubles_counts.ensures;
+})

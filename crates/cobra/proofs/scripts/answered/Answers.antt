@@ -3,3 +3,6 @@ use Rattle.cobra.proofs.scripts.answered.Goals as goal
 
 pub returns-in_ok-reply-in-Open : goal.returns-in_ok-reply-in-Open
 returns-in_ok-reply-in-Open g c = rw c.in-Open.is (c.answer_open.new.audit, c.in_ok-reply-in-Open.ensures, refl)
+
+pub returns-in_ok-reply-in-Isolated : goal.returns-in_ok-reply-in-Isolated
+returns-in_ok-reply-in-Isolated g c = rw c.in-Isolated.is (c.answer_isolated.new.audit, c.in_ok-reply-in-Isolated.ensures, refl)

@@ -4,4 +4,4 @@ use Rattle.log_text.specs.Told.{arc_data}
 use Rattle.log_text.proofs.trees.push_cycle.Given as goal
 
 abbrev pub invariant-loop-arc : goal.invariant-loop-arc
-invariant-loop-arc l = map view l.list.items ≡ map arc_data (take l.arc-index l.arcs)
+invariant-loop-arc l = map view l.list.items ≡ map (arc_data l.names) (take l.arc-index l.arcs)

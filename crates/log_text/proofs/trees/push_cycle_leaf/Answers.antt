@@ -7,4 +7,4 @@ use Rattle.log_text.proofs.trees.push_cycle_leaf.Goals as goal
 
 pub returns : goal.returns
 returns c =
-    gains_filled _ _ _ _ (string (codes "cycle") ∷ cycle_data c.args.arcs.now ∷ []) c.new-list.ensures.items (gains_then _ _ _ _ _ c.in_ok-push_word.ensures c.in_ok-push_cycle.ensures) c.in_ok-push.ensures.items
+    gains_filled _ _ _ _ (string (codes "cycle") ∷ cycle_data c.args.names c.args.arcs.now ∷ []) c.new-list.ensures.items (gains_then _ _ _ _ _ c.in_ok-push_word.ensures c.in_ok-push_cycle.ensures) c.in_ok-push.ensures.items

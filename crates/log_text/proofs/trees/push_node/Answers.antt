@@ -8,13 +8,13 @@ use Rattle.log_text.proofs.trees.push_node.Goals as goal
 
 pub returns-in_ok-push_leaf-in-Close-clause-written : goal.returns-in_ok-push_leaf-in-Close-clause-written
 returns-in_ok-push_leaf-in-Close-clause-written c = λ all come.
-    comes_closed _ _ c.args.waiting.now.items c.args.tree c.in-Close.leaf all (ap nodes_data c.in-Close.is) c.in_ok-push_leaf-in-Close.ensures come
+    comes_closed c.args.names _ _ c.args.waiting.now.items c.args.tree c.in-Close.leaf all (ap (nodes_data c.args.names) c.in-Close.is) c.in_ok-push_leaf-in-Close.ensures come
 
 pub returns-in_ok-push-in-Force-clause-written : goal.returns-in_ok-push-in-Force-clause-written
 returns-in_ok-push-in-Force-clause-written c = λ all come.
     let rest = c.in-Force.rest.value in
-    comes_forced _ _ c.args.waiting.now.items _ c.args.tree c.deref.result c.as_slice.result.now rest all
-    (ap nodes_data c.in-Force.is ∙ ap (λ (steps : List ForceStep). map step_data steps ++ nodes_data rest) (sym c.as_slice.ensures)) c.deref.ensures c.in_ok-push-in-Force.ensures.items c.in_ok-push_steps-in-Force.ensures come
+    comes_forced c.args.names _ _ c.args.waiting.now.items _ c.args.tree c.deref.result c.as_slice.result.now rest all
+    (ap (nodes_data c.args.names) c.in-Force.is ∙ ap (λ (steps : List ForceStep). map (step_data c.args.names) steps ++ nodes_data c.args.names rest) (sym c.as_slice.ensures)) c.deref.ensures c.in_ok-push-in-Force.ensures.items c.in_ok-push_steps-in-Force.ensures come
 
 pub returns-in_ok-push-in-Force-clause-lighter : goal.returns-in_ok-push-in-Force-clause-lighter
 returns-in_ok-push-in-Force-clause-lighter c =
@@ -23,7 +23,7 @@ returns-in_ok-push-in-Force-clause-lighter c =
 pub returns-in_ok-push-in-Split-2-clause-written : goal.returns-in_ok-push-in-Split-2-clause-written
 returns-in_ok-push-in-Split-2-clause-written c = λ all come.
     let waits = c.in_ok-push-in-Split-2.ensures.items ∙ ap (λ (ts : List (Bor Tree)). ts ++ c.deref-in-Split-2.result ∷ []) c.in_ok-push-in-Split.ensures.items in
-    comes_split _ _ c.args.waiting.now.items _ c.args.tree c.deref-in-Split-2.result c.deref-in-Split.result c.in-Split.choice c.in-Split.first.value c.in-Split.second.value all (ap nodes_data c.in-Split.is) c.deref-in-Split-2.ensures c.deref-in-Split.ensures waits c.in_ok-push_split-in-Split.ensures come
+    comes_split c.args.names _ _ c.args.waiting.now.items _ c.args.tree c.deref-in-Split-2.result c.deref-in-Split.result c.in-Split.choice c.in-Split.first.value c.in-Split.second.value all (ap (nodes_data c.args.names) c.in-Split.is) c.deref-in-Split-2.ensures c.deref-in-Split.ensures waits c.in_ok-push_split-in-Split.ensures come
 
 pub returns-in_ok-push-in-Split-2-clause-lighter : goal.returns-in_ok-push-in-Split-2-clause-lighter
 returns-in_ok-push-in-Split-2-clause-lighter c =

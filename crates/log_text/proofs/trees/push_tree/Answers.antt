@@ -15,11 +15,11 @@ loop-next-smaller c =
 
 pub loop-next-preserved : goal.loop-next-preserved
 loop-next-preserved c =
-    c.in_ok-push_node.ensures.written (nodes_data c.args.tree.now)
-    (subst (λ (ts : List (Bor Tree)). ComeTo c.loop-next.list.items ts (nodes_data c.args.tree.now)) c.in-Some.ensures.items c.loop-next.invariant)
+    c.in_ok-push_node.ensures.written (nodes_data c.args.names c.args.tree.now)
+    (subst (λ (ts : List (Bor Tree)). ComeTo c.args.names c.loop-next.list.items ts (nodes_data c.args.names c.args.tree.now)) c.in-Some.ensures.items c.loop-next.invariant)
 
 pub returns : goal.returns
 returns c =
     let waits : length c.loop-next.waiting.items ≡ 0 = omega (arith, c.loop-next.waiting.ok.0, c.in_default.ensures.cases.0) in
-    let come = subst (λ (ts : List (Bor Tree)). ComeTo c.loop-next.list.items ts (nodes_data c.args.tree.now)) (nil_from_length _ waits) c.loop-next.invariant in
-    gains_list _ _ c.loop-next.list (nodes_data c.args.tree.now) (comes_last c.loop-next.list.items (nodes_data c.args.tree.now) come) c.in_ok-push-2.ensures.items
+    let come = subst (λ (ts : List (Bor Tree)). ComeTo c.args.names c.loop-next.list.items ts (nodes_data c.args.names c.args.tree.now)) (nil_from_length _ waits) c.loop-next.invariant in
+    gains_list _ _ c.loop-next.list (nodes_data c.args.names c.args.tree.now) (comes_last c.args.names c.loop-next.list.items (nodes_data c.args.names c.args.tree.now) come) c.in_ok-push-2.ensures.items

@@ -57,6 +57,9 @@ returns-in-Skip-clause-owed c = rw c.in-Skip.is (tt, out_of_place c.args.engine.
 pub returns-in-Start-clause-owed : goal.returns-in-Start-clause-owed
 returns-in-Start-clause-owed c = rw c.in-Start.is (tt, out_of_place c.args.engine.now)
 
+pub returns-in-StartIsolated-clause-owed : goal.returns-in-StartIsolated-clause-owed
+returns-in-StartIsolated-clause-owed c = rw c.in-StartIsolated.is (tt, out_of_place c.args.engine.now)
+
 pub returns-in-Resume-clause-owed : goal.returns-in-Resume-clause-owed
 returns-in-Resume-clause-owed c = rw c.in-Resume.is (tt, out_of_place c.args.engine.now)
 
@@ -115,6 +118,9 @@ returns-in-Skip-clause-right c = rw c.in-Skip.is (λ report new earned shows. ab
 
 pub returns-in-Start-clause-right : goal.returns-in-Start-clause-right
 returns-in-Start-clause-right c = rw c.in-Start.is (λ report new earned shows. absurd earned)
+
+pub returns-in-StartIsolated-clause-right : goal.returns-in-StartIsolated-clause-right
+returns-in-StartIsolated-clause-right c = rw c.in-StartIsolated.is (λ report new earned shows. absurd earned)
 
 pub returns-in-Resume-clause-right : goal.returns-in-Resume-clause-right
 returns-in-Resume-clause-right c = rw c.in-Resume.is (λ report new earned shows. absurd earned)
@@ -178,6 +184,9 @@ returns-in-Skip-clause-alone c = rw c.in-Skip.is (λ answer told. inr (inr (sym 
 
 pub returns-in-Start-clause-alone : goal.returns-in-Start-clause-alone
 returns-in-Start-clause-alone c = rw c.in-Start.is (λ answer told. inr (inr (sym told)))
+
+pub returns-in-StartIsolated-clause-alone : goal.returns-in-StartIsolated-clause-alone
+returns-in-StartIsolated-clause-alone c = rw c.in-StartIsolated.is (λ answer told. inr (inr (sym told)))
 
 pub returns-in-Resume-clause-alone : goal.returns-in-Resume-clause-alone
 returns-in-Resume-clause-alone c = rw c.in-Resume.is (λ answer told. inr (inr (sym told)))

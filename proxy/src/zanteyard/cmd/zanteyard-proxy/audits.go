@@ -15,7 +15,7 @@ import (
 	"zanteyard/remote"
 )
 
-// audits runs one audit after another: when one has ended, its parent may ask for the next one by `restart`.
+// audits runs one audit after another: when one has ended, the parent may request the next one by `restart`.
 type audits struct {
 	config  audit.Config // without In
 	sink    *switched
@@ -23,7 +23,7 @@ type audits struct {
 	log     func(string)
 }
 
-// run audits until ctx ends.
+// run runs audits until ctx ends.
 func (a *audits) run(ctx context.Context, in io.Reader) {
 	lines := make(chan []byte)
 	go readLines(ctx, in, lines)
@@ -47,7 +47,7 @@ func (a *audits) run(ctx context.Context, in io.Reader) {
 	}
 }
 
-// command takes a command while there is no audit. It says whether another audit is to begin.
+// command handles a command while there is no audit. It reports whether another audit should begin.
 func (a *audits) command(line []byte) (again bool) {
 	var it struct{ Command string }
 	if json.Unmarshal(line, &it) != nil {
@@ -77,7 +77,8 @@ func readLines(ctx context.Context, in io.Reader, to chan<- []byte) {
 	}
 }
 
-// one runs an audit to its end, and passes the parent's commands on to it. It returns the one that came too late for it.
+// one runs an audit to its end, and passes the parent's commands on to it. It returns the command that came too late
+// for it.
 func (a *audits) one(ctx context.Context, lines <-chan []byte) (left []byte, err error) {
 	commands, to := io.Pipe()
 	config := a.config
@@ -89,7 +90,7 @@ func (a *audits) one(ctx context.Context, lines <-chan []byte) (left []byte, err
 	ended := make(chan error, 1)
 	go func() {
 		err := it.Run(ctx)
-		commands.Close() // whoever writes a command doesn't wait any more
+		commands.Close() // writers of commands don't wait any more
 		ended <- err
 	}()
 	for {
@@ -108,8 +109,8 @@ func (a *audits) one(ctx context.Context, lines <-chan []byte) (left []byte, err
 	}
 }
 
-// switched is a sink that passes on to another one, which may be exchanged: the new one is told of the connections that
-// are there.
+// switched is a sink that passes on to another one, which can be exchanged: existing connections are reported to the
+// new one.
 type switched struct {
 	to atomic.Pointer[record.Sink]
 

@@ -1,5 +1,5 @@
-// Zanteyard-proxy stands between an application and its PostgreSQL server, and has what its transactions read and wrote
-// be audited. The application is given the proxy's address in place of the server's; nothing else of it changes.
+// Zanteyard-proxy stands between an application and its PostgreSQL server, and audits what its transactions read and
+// write. The application uses the proxy's address instead of the server's; nothing else of it changes.
 package main
 
 import (
@@ -62,7 +62,7 @@ type flags struct {
 func parse(args []string, errors io.Writer) (flags, error) {
 	var f flags
 	set := flag.NewFlagSet("zanteyard-proxy", flag.ContinueOnError)
-	var told strings.Builder // its mistakes are in the error as well
+	var told strings.Builder // its errors are in the returned error as well
 	set.SetOutput(&told)
 	set.StringVar(&f.listen, "listen", "127.0.0.1:6432", "`address` for clients to connect to; with a / it is a Unix socket's path")
 	set.StringVar(&f.server, "server", "", "the server and database, as libpq's `URL` or keywords; "+
@@ -126,7 +126,7 @@ func parse(args []string, errors io.Writer) (flags, error) {
 	return f, nil
 }
 
-// redisURL is the environment's name for --redis: a list of processes doesn't show it.
+// redisURL is the environment variable for --redis: a list of processes doesn't show it.
 const redisURL = "ZANTEYARD_REDIS"
 
 func main() {
@@ -152,7 +152,8 @@ func main() {
 	}
 }
 
-// hosts is how many servers a connection string names. The ways to one server, with TLS and without, count once.
+// hosts returns how many servers a connection string names. The ways to reach one server, with TLS and without, count
+// once.
 func hosts(config *pgconn.Config) int {
 	type place struct {
 		host string
@@ -195,9 +196,9 @@ func run(ctx context.Context, f flags, in io.Reader, out io.Writer) error {
 		Shared:    session.NewShared(),
 		Log:       func(text string) { log.Print(text) },
 	}
-	// Go collects garbage when there is as much of it as of what is in use. That is more than needs be where 250,000 rows
-	// are known, and too little where few are: half as much is enough, with some that counts as in use but takes no memory,
-	// since nothing is ever written to it. It has 32 MiB of garbage be there before any is collected.
+	// Go collects garbage when there is as much of it as memory in use. That is more than necessary if 250,000 rows are
+	// known, and too little if few are: half as much is enough, plus some that counts as in use but takes no memory, since
+	// nothing is ever written to it. It allows 32 MiB of garbage before any is collected.
 	ballast := make([]byte, 64<<20)
 	defer runtime.KeepAlive(ballast)
 	if os.Getenv("GOGC") == "" {
@@ -227,8 +228,8 @@ func run(ctx context.Context, f flags, in io.Reader, out io.Writer) error {
 	return s.Serve(ctx, listener)
 }
 
-// look fills in how sessions look at statements, and to whom they tell what they saw. What fails in it ends the audit,
-// not the proxy.
+// look fills in how sessions look at statements, and to whom they report what they saw. If something in it fails, that
+// ends the audit, not the proxy.
 func look(ctx context.Context, f flags, config *pgconn.Config, options *session.Options, room *meeting.Room,
 	in io.Reader, out io.Writer) (end func(), err error) {
 	var loaded atomic.Bool
@@ -280,7 +281,7 @@ func beside(all *sync.WaitGroup, f func()) {
 	}()
 }
 
-// sharing is what several proxies of one audit need to know.
+// sharing returns what several proxies of one audit need to know.
 func sharing(f flags, config *pgconn.Config, log func(string)) (remote.Options, error) {
 	if err := remote.CheckURL(f.redis); err != nil {
 		return remote.Options{}, err
@@ -290,7 +291,7 @@ func sharing(f flags, config *pgconn.Config, log func(string)) (remote.Options, 
 		Redacts: f.redact}, err
 }
 
-// post has what sessions saw be sent to an audit elsewhere.
+// post makes sessions send what they saw to an audit elsewhere.
 func post(ctx context.Context, f flags, shared remote.Options, options *session.Options, room *meeting.Room,
 	loaded *atomic.Bool) (end func(), err error) {
 	name := f.name

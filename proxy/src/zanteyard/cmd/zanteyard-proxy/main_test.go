@@ -32,7 +32,7 @@ func TestFlags(t *testing.T) {
 	}
 }
 
-// Of several servers one might be read, and another one be connected to.
+// With several servers, one might be read and another one connected to.
 func TestSeveralServers(t *testing.T) {
 	for _, x := range []struct {
 		server           string
@@ -102,7 +102,7 @@ func begin(t *testing.T, c *cluster.Cluster, more ...string) *program {
 	return p
 }
 
-// until gives the line that begins with a text, or the event of that name.
+// until returns the line that begins with a text, or the event of that name.
 func (p *program) until(what string) string {
 	p.t.Helper()
 	for end := time.After(2 * time.Minute); ; {
@@ -172,7 +172,7 @@ func start(t *testing.T, settings ...string) *cluster.Cluster {
 const schema = `CREATE TABLE zanteyard_fence (id int PRIMARY KEY, n bigint); INSERT INTO zanteyard_fence VALUES (0, 0);
 	CREATE TABLE account (id int PRIMARY KEY, balance int); INSERT INTO account VALUES (1, 100), (2, 100)`
 
-// TestAudit has two transactions each read what the other one writes: both reads are offered to the auditor.
+// TestAudit: two transactions each read what the other one writes, and both reads are offered to the auditor.
 func TestAudit(t *testing.T) {
 	p := begin(t, start(t))
 	p.until(`["open"`)
@@ -202,7 +202,7 @@ func TestAudit(t *testing.T) {
 	}
 }
 
-// TestNoAudit: a server that no slot can be made on ends the audit, not the traffic.
+// TestNoAudit: if no slot can be made on a server, that ends the audit, not the traffic.
 func TestNoAudit(t *testing.T) {
 	p := begin(t, start(t, "wal_level=replica"))
 	conn := p.connect()
@@ -219,6 +219,28 @@ func TestNoAudit(t *testing.T) {
 			t.Errorf("got %s", v)
 		}
 	}
+}
+
+// TestRestart: the server restarts as after a crash. The audit ends, the proxy accepts connections again, and the
+// parent may begin another audit.
+func TestNoFenceTable(t *testing.T) {
+	c := start(t)
+	conn, err := pgconn.Connect(context.Background(),
+		fmt.Sprintf("host=127.0.0.1 port=%d user=postgres dbname=postgres sslmode=disable", c.Port))
+	if err != nil {
+		t.Fatal(err)
+	}
+	defer conn.Close(context.Background())
+	sql(t, conn, "ALTER TABLE zanteyard_fence RENAME TO other")
+	p := begin(t, c)
+	if line := p.until("ended"); !strings.Contains(line, "the table public.zanteyard_fence doesn't exist") {
+		t.Errorf("the reason is %s", line)
+	}
+	sql(t, conn, "ALTER TABLE other RENAME TO zanteyard_fence")
+	fmt.Fprintln(p.say, `{"command":"restart"}`)
+	p.until("started")
+	fmt.Fprintln(p.say, `{"command":"stop"}`)
+	p.until("stopped")
 }
 
 // TestRestart: the server is restarted as after a crash. The audit ends, the proxy takes connections again, and the

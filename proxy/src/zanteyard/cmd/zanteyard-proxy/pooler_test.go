@@ -13,8 +13,8 @@ import (
 	"zanteyard/cluster"
 )
 
-// TestPoolerInFront: clients of a pooler that shares two connections among them, transaction by transaction, are audited
-// as two connections.
+// TestPoolerInFront: the clients of a pooler that shares two connections among them, transaction by transaction, are
+// audited as two connections.
 func TestPoolerInFront(t *testing.T) {
 	c := start(t)
 	p := begin(t, c)

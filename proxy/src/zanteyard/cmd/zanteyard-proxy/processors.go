@@ -12,23 +12,24 @@ import (
 
 const (
 	lookAtUse = 100 * time.Millisecond
-	// Above this part of its processors the program gets one more. Below the other part of one processor less it gives
-	// one up: with fewer processors the same traffic takes less time, so what was given up isn't wanted back at once.
+	// If it uses more than busyPart of its processors, the program gets one more. If it uses less than calmPart of one
+	// processor fewer, it gives one up: with fewer processors the same traffic takes less time, so a processor that was
+	// given up isn't wanted back at once.
 	busyPart, calmPart = 0.75, 0.45
 	calmLooks          = 20 // in a row
 )
 
-// fewProcessors has the program use as few processors at once as its traffic needs: one for the loop that passes
-// messages on, one for all else, and more of each when these are busy. While a processor is idle, Go wakes a thread for
-// each message that arrives for a goroutine, which takes longer than to deal with it; and a second loop takes some of
-// the messages that the first one would have dealt with together. GOMAXPROCS in the environment has the goroutines use
-// so many, whatever the traffic. It returns when ctx ends.
+// fewProcessors makes the program use no more processors at once than its traffic needs: one for the loop that passes
+// messages on, one for everything else, and more of each when these are busy. While a processor is idle, Go wakes a
+// thread for each message that arrives for a goroutine, which takes longer than handling it; and a second loop takes
+// some of the messages that the first one would have handled together. GOMAXPROCS in the environment fixes the number
+// of processors for goroutines, whatever the traffic. It returns when ctx ends.
 func fewProcessors(ctx context.Context, loops *loop.Loops) {
 	most := runtime.NumCPU()
 	fixed := os.Getenv("GOMAXPROCS") != ""
 	passing, others := processors{now: 1, most: most}, processors{now: 1, most: most}
 	set := func() {
-		loops.Share(passing.now) // without a descriptor for one more those that are there go on
+		loops.Share(passing.now) // without a descriptor for one more, the existing ones go on
 		if !fixed {
 			runtime.GOMAXPROCS(passing.now + others.now)
 		}
@@ -62,10 +63,10 @@ func fewProcessors(ctx context.Context, loops *loop.Loops) {
 // processors is how many the program uses at once.
 type processors struct {
 	now, most int
-	calm      int // looks in a row at which one fewer would have done
+	calm      int // consecutive looks at which one fewer would have been enough
 }
 
-// look takes how many processors' time the program used since the last look.
+// look takes the number of processors' worth of time that the program used since the last look.
 func (p *processors) look(used float64) {
 	switch {
 	case used > busyPart*float64(p.now) && p.now < p.most:
@@ -81,7 +82,7 @@ func (p *processors) look(used float64) {
 	}
 }
 
-// processorTime is the processor time that the program has taken, of all its threads.
+// processorTime returns the processor time that all of the program's threads have taken.
 func processorTime() time.Duration {
 	var u syscall.Rusage
 	if syscall.Getrusage(syscall.RUSAGE_SELF, &u) != nil {

@@ -10,7 +10,7 @@ import (
 	"zanteyard/record"
 )
 
-// records writes what sessions tell to a file, for people who look for a fault. It isn't made to be fast.
+// records writes what sessions report to a file, for people who look for a bug. It isn't meant to be fast.
 type records struct {
 	lock sync.Mutex
 	file *os.File
@@ -18,7 +18,7 @@ type records struct {
 	stop chan struct{}
 }
 
-// newRecords makes a sink that writes to a file, or one that forgets all if path is "".
+// newRecords makes a sink that writes to a file, or one that discards everything if path is "".
 func newRecords(path string) (sink record.Sink, end func(), err error) {
 	if path == "" {
 		return nowhere{}, func() {}, nil
@@ -62,7 +62,7 @@ func (r *records) write(kind string, it any) {
 	}
 	r.lock.Lock()
 	defer r.lock.Unlock()
-	r.to.Write(append(b, '\n')) // an error shows in what is missing
+	r.to.Write(append(b, '\n')) // an error shows by what is missing
 }
 
 func (r *records) Connection(it record.Connection)   { r.write("connection", it) }
@@ -71,7 +71,7 @@ func (r *records) Unseen(shape, reason string, reads bool) {
 	r.write("unseen", record.Unseen{Shape: shape, Reason: reason})
 }
 
-// nowhere forgets all.
+// nowhere discards everything.
 type nowhere struct{}
 
 func (nowhere) Connection(record.Connection)   {}

@@ -20,7 +20,7 @@ import (
 	"zanteyard/cluster"
 )
 
-// redisServer is one of the test's own.
+// redisServer is a Redis server of the test.
 type redisServer struct {
 	t       *testing.T
 	port    int
@@ -84,7 +84,7 @@ func keyFile(t *testing.T, text string) string {
 
 const someKey = "a key of more than sixteen bytes"
 
-// elsewhere runs a proxy that feeds the audit of another one. It is a program of its own but for its memory.
+// elsewhere runs a proxy that feeds another one's audit, like a separate program except for its memory.
 func elsewhere(t *testing.T, source string, more ...string) (p *program, end func()) {
 	t.Helper()
 	p = &program{t: t, port: freePort(t), ended: make(chan error, 1)}
@@ -112,7 +112,7 @@ func sourceOf(c *cluster.Cluster, database string) string {
 	return fmt.Sprintf("host=127.0.0.1 port=%d user=postgres dbname=%s sslmode=disable", c.Port, database)
 }
 
-// coverageEvent is what these tests look at.
+// coverageEvent has the parts that these tests look at.
 type coverageEvent struct {
 	Folded map[string]uint64
 	Reads  struct{ Offered uint64 }
@@ -128,7 +128,7 @@ type coverageEvent struct {
 	}
 }
 
-// covered waits for a coverage of which something holds.
+// covered waits for a coverage event for which holds returns true.
 func (p *program) covered(what string, holds func(coverageEvent) bool) coverageEvent {
 	p.t.Helper()
 	for end := time.Now().Add(time.Minute); time.Now().Before(end); {
@@ -156,7 +156,8 @@ func feeds(n int) func(coverageEvent) bool {
 	}
 }
 
-// offered waits until a transaction of one connection reads what one of the other wrote, and back: both are audited.
+// offered waits until a transaction of one connection reads what one of the other wrote, and vice versa: both are
+// audited.
 func offered(t *testing.T, p *program, a, b *pgconn.PgConn) {
 	t.Helper()
 	read, write := "SELECT balance FROM account WHERE id = 1", "UPDATE account SET balance = balance + 1 WHERE id = 1"
@@ -176,7 +177,7 @@ func offered(t *testing.T, p *program, a, b *pgconn.PgConn) {
 	t.Fatal("the reads of both aren't offered")
 }
 
-// TestRemote has proxies on other machines, as it were, feed one audit.
+// TestRemote makes proxies, as if on other machines, feed one audit.
 func TestRemote(t *testing.T) {
 	c, r := start(t), startRedis(t)
 	shared := []string{"--redis", r.url(), "--audit", "shop"}
@@ -192,8 +193,8 @@ func TestRemote(t *testing.T) {
 	t.Run("one audit", func(t *testing.T) { oneAudit(t, p, c, r, append(shared, key...)) })
 }
 
-// oneAudit: two proxies feed one audit, while Redis loses all, while one of them ends and another one comes, and while
-// somebody writes messages of his own.
+// oneAudit: two proxies feed one audit while Redis loses everything, while one of them ends and another one comes, and
+// while somebody writes forged messages.
 func oneAudit(t *testing.T, p *program, c *cluster.Cluster, r *redisServer, shared []string) {
 	other, end := elsewhere(t, sourceOf(c, "postgres"), shared...)
 	here, there := p.connect(), other.connect()
@@ -218,7 +219,7 @@ func oneAudit(t *testing.T, p *program, c *cluster.Cluster, r *redisServer, shar
 	for i := 0; i < 3; i++ { // traffic goes on
 		sql(t, there, "UPDATE account SET balance = 0 WHERE id = 2")
 	}
-	r.start() // with nothing of what it had
+	r.start() // with nothing of what it had before
 	p.covered("the other proxy feeds it again", feeds(1))
 	offered(t, p, here, there)
 
@@ -229,14 +230,14 @@ func oneAudit(t *testing.T, p *program, c *cluster.Cluster, r *redisServer, shar
 	p.covered("another one has come", feeds(1))
 	fmt.Fprintln(p.say, `{"command":"restart"}`)
 	p.until("restarted")
-	offered(t, p, here, there) // its connections are in the next audit, too
+	offered(t, p, here, there) // its connections are in the next audit too
 	fmt.Fprintln(p.say, `{"command":"stop"}`)
 	p.until("stopped")
 }
 
 func whatever(coverageEvent) bool { return true }
 
-// refused: a proxy that isn't of the audit takes no part in it, and its clients notice nothing.
+// refused: a proxy that doesn't belong to the audit takes no part in it, and its clients notice nothing.
 func refused(t *testing.T, p *program, source string, more ...string) {
 	other, end := elsewhere(t, source, more...)
 	defer end()

@@ -14,17 +14,17 @@ import (
 	"github.com/jackc/pgconn"
 )
 
-// version is a row's version as the row itself says it: the tag of who wrote it, "-" at first.
+// version is a row's version as the row itself shows it: the tag of its writer, "-" at first.
 type version struct{ row, tag string }
 
-// deed is what the answers to a committed transaction say: which versions it read, and which each of its writes
-// replaced.
+// deed is what the answers to a committed transaction show: which versions it read, and which version each of its
+// writes replaced.
 type deed struct {
-	read     map[version]bool
+	read     map[version][]int // by which of the transaction's statements, counted from 0
 	replaced map[string]string // by row
 }
 
-// tagger runs random transactions over a connection of its own. Each of its writes leaves its tag in the row, and gives
+// tagger runs random transactions over its own connection. Each of its writes leaves its tag in the row, and returns
 // the tag that it replaces.
 type tagger struct {
 	conn  *pgconn.PgConn
@@ -49,14 +49,14 @@ func (c *tagger) rows(text string) ([][]string, error) {
 	return rows, nil
 }
 
-// transaction tries one; what aborts isn't kept.
+// transaction tries one; if it aborts, it isn't kept.
 func (c *tagger) transaction(number int) error {
 	tag := fmt.Sprintf("%d.%d", c.name, number)
 	level := []string{"READ COMMITTED", "REPEATABLE READ", "SERIALIZABLE"}[c.r.Intn(3)]
-	it := deed{map[version]bool{}, map[string]string{}}
+	it, ran := deed{map[version][]int{}, map[string]string{}}, 1
 	_, err := c.rows(fmt.Sprintf("BEGIN ISOLATION LEVEL %s /*tag='%s'*/", level, tag))
 	for n := c.r.Intn(4); n >= 0 && err == nil; n-- {
-		err = c.statement(tag, it)
+		err = c.statement(tag, it, &ran)
 	}
 	if err == nil {
 		_, err = c.rows("COMMIT")
@@ -72,7 +72,8 @@ func (c *tagger) transaction(number int) error {
 	return err
 }
 
-func (c *tagger) statement(tag string, it deed) error {
+// statement runs one, or three; ran counts those of the transaction.
+func (c *tagger) statement(tag string, it deed, ran *int) error {
 	id := c.r.Intn(8)
 	read := []string{
 		fmt.Sprintf("SELECT id, tag FROM tagged WHERE id = %d", id),
@@ -84,20 +85,24 @@ func (c *tagger) statement(tag string, it deed) error {
 	case 0, 1, 2:
 		rows, err := c.rows(read[n])
 		for _, row := range rows {
-			it.read[version{row[0], row[1]}] = true
+			one := version{row[0], row[1]}
+			it.read[one] = append(it.read[one], *ran)
 		}
+		*ran++
 		return err
-	case 3: // what is undone wasn't written
+	case 3: // what is undone doesn't count as written
 		for _, text := range []string{"SAVEPOINT a", write, "ROLLBACK TO a"} {
 			if _, err := c.rows(text); err != nil {
 				return err
 			}
+			*ran++
 		}
 		return nil
 	}
 	rows, err := c.rows(write)
+	*ran++
 	for _, row := range rows {
-		if row[1] != tag { // else it has written the row before
+		if row[1] != tag { // otherwise it has written the row before
 			it.replaced[row[0]] = row[1]
 		}
 	}
@@ -110,6 +115,7 @@ type described struct {
 	Known, Fence    bool
 	Statements      []struct{ Comment map[string]string }
 	Reads           [][]any
+	By              []*int `json:"read_by"`
 	Writes          []int
 	Keys            []struct {
 		Key int
@@ -117,13 +123,13 @@ type described struct {
 	}
 }
 
-// watched notes what the feed says is offered.
+// watched records what the feed reports as offered.
 type watched struct {
 	*program
 	ids [][2]int // of the transactions in lines
 }
 
-// event is what is looked at of one.
+// event has the parts of an event that are used.
 type event struct {
 	Event                    string
 	Pending, Offered, Fences int
@@ -131,7 +137,7 @@ type event struct {
 	Transactions             []described
 }
 
-// next is the next line, and the event that it is. Transactions in it are noted, and nothing is ever cut.
+// next returns the next line, and its event. Transactions in it are recorded, and nothing is ever cut.
 func (w *watched) next(end <-chan time.Time) (line string, it event) {
 	w.t.Helper()
 	open := true
@@ -167,7 +173,7 @@ func (w *watched) next(end <-chan time.Time) (line string, it event) {
 	return line, it
 }
 
-// much waits until so many transactions, and so many reads, are offered.
+// much waits until enough transactions and reads are offered.
 func (w *watched) much(least int) {
 	w.t.Helper()
 	for end := time.After(2 * time.Minute); ; {
@@ -178,7 +184,7 @@ func (w *watched) much(least int) {
 	}
 }
 
-// offered waits until all that was told is offered, and has it described.
+// offered waits until everything reported is offered, and has it described.
 func (w *watched) offered() (its []described) {
 	w.t.Helper()
 	asked := 0
@@ -190,7 +196,7 @@ func (w *watched) offered() (its []described) {
 				return its
 			}
 			some := w.ids[asked:]
-			if len(some) > 10 { // a line of the feed isn't to be long here
+			if len(some) > 10 { // lines of the feed should not be long here
 				some = some[:10]
 			}
 			asked += len(some)
@@ -202,8 +208,8 @@ func (w *watched) offered() (its []described) {
 	}
 }
 
-// TestReadsAreWhatClientsSaw has clients run at the same time, at all levels, until enough is offered. It compares each
-// read that is offered with what the rows themselves said: which version was read, and who is offered as its writer.
+// TestReadsAreWhatClientsSaw makes clients run at the same time, at all levels, until enough is offered. It compares
+// each offered read with what the rows themselves showed: which version was read, and who is offered as its writer.
 func TestReadsAreWhatClientsSaw(t *testing.T) {
 	c := start(t)
 	p := begin(t, c)
@@ -242,6 +248,8 @@ func TestReadsAreWhatClientsSaw(t *testing.T) {
 	fmt.Fprintln(p.say, `{"command":"round"}`)
 	if seen := j.compare(w.offered()); len(j.names) < least || seen < least {
 		t.Error("too little was offered") // much more was counted
+	} else if j.made < least {
+		t.Errorf("of %d reads %d have a statement", seen, j.made)
 	}
 	fmt.Fprintln(p.say, `{"command":"stop"}`)
 	p.until("stopped")
@@ -250,11 +258,12 @@ func TestReadsAreWhatClientsSaw(t *testing.T) {
 type judge struct {
 	t     *testing.T
 	deeds map[string]deed
-	names map[string]string // by tag, of the transactions that are offered
+	names map[string]string // by tag, of the offered transactions
 	wrote map[version]bool  // writes that are offered
+	made  int               // reads that have a statement
 }
 
-// source is the transaction that a read of the version has to name: the last one offered at or before it.
+// source returns the transaction that a read of the version has to name: the last offered one at or before it.
 func (j *judge) source(row, tag string) string {
 	for tag != "-" {
 		if j.wrote[version{row, tag}] {
@@ -265,7 +274,7 @@ func (j *judge) source(row, tag string) string {
 	return "init"
 }
 
-// compare looks at what is offered, and gives how many reads were right.
+// compare checks what is offered, and returns how many reads were right.
 func (j *judge) compare(its []described) (seen int) {
 	tags := make([]string, len(its))
 	for i, it := range its {
@@ -280,21 +289,28 @@ func (j *judge) compare(its []described) (seen int) {
 	}
 	owed := 0
 	for i, it := range its {
-		if tags[i] == "" { // a fence, or a transaction of the test's own
+		if tags[i] == "" { // a fence, or the test's own transaction
 			continue
 		}
 		want, must := j.owed(tags[i])
 		owed += len(want)
 		got := it.got()
-		for read := range got {
-			if !want[read] {
+		for read, by := range got {
+			made, is := want[read]
+			if !is {
 				j.t.Errorf("%s is offered with a read of %s, and has read %v", tags[i], read, j.deeds[tags[i]])
-			} else {
-				seen++
+				continue
+			}
+			seen++
+			if by != nil {
+				j.made++
+				if !made[*by] {
+					j.t.Errorf("%s: %s is told to have been read by statement %d, not by one of %v", tags[i], read, *by, made)
+				}
 			}
 		}
 		for read := range must {
-			if len(it.Writes) > 0 && !got[read] {
+			if _, is := got[read]; len(it.Writes) > 0 && !is {
 				j.t.Errorf("%s is offered without what its write replaced: %s", tags[i], read)
 			}
 		}
@@ -303,21 +319,31 @@ func (j *judge) compare(its []described) (seen int) {
 	return seen
 }
 
-// owed is what a transaction may be offered with, and what it has to be where its writes are.
-func (j *judge) owed(tag string) (all, must map[string]bool) {
-	all, must = map[string]bool{}, map[string]bool{}
+// owed returns the reads that a transaction may be offered with, each with the statements that made it, and those that
+// it must be offered with if its writes are.
+func (j *judge) owed(tag string) (all map[string]map[int]bool, must map[string]bool) {
+	all, must = map[string]map[int]bool{}, map[string]bool{}
+	made := func(text string, by ...int) {
+		if all[text] == nil {
+			all[text] = map[int]bool{}
+		}
+		for _, one := range by {
+			all[text][one] = true
+		}
+	}
 	it, committed := j.deeds[tag]
 	if !committed {
 		j.t.Errorf("%s wasn't committed, and is offered", tag)
 	}
-	for its := range it.read {
+	for its, by := range it.read {
 		if its.tag != tag {
-			all[its.row+" from "+j.source(its.row, its.tag)] = true
+			made(its.row+" from "+j.source(its.row, its.tag), by...)
 		}
 	}
 	for row, before := range it.replaced {
 		text := row + " from " + j.source(row, before)
-		all[text], must[text] = true, true
+		made(text)
+		must[text] = true
 	}
 	return all, must
 }
@@ -331,14 +357,16 @@ func (it described) row(key int) string {
 	return ""
 }
 
-func (it described) got() map[string]bool {
-	got := map[string]bool{}
-	for _, read := range it.Reads {
+// got returns the reads that it is offered with, each with the statement that is reported to have made it, or nil if
+// none is.
+func (it described) got() map[string]*int {
+	got := map[string]*int{}
+	for i, read := range it.Reads {
 		from := "init"
 		if len(read) == 3 {
 			from = fmt.Sprint(read[1], ".", read[2])
 		}
-		got[it.row(int(read[0].(float64)))+" from "+from] = true
+		got[it.row(int(read[0].(float64)))+" from "+from] = it.By[i]
 	}
 	return got
 }

@@ -36,7 +36,7 @@ func dialRaw(port int) (raw, error) {
 		Parameters: map[string]string{"user": "postgres", "database": "postgres"}})
 }
 
-// say sends messages in one piece, and waits until the server was ready so many times.
+// say sends messages in one piece, and waits until the server was ready this many times.
 func (r raw) say(ready int, messages ...pgproto3.FrontendMessage) error {
 	var b []byte
 	for _, m := range messages {
@@ -60,7 +60,7 @@ func (r raw) say(ready int, messages ...pgproto3.FrontendMessage) error {
 	return nil
 }
 
-// life is one connection with a transaction, that ends in one of many ways.
+// life is one connection with a transaction, which ends in one of many ways.
 func life(port, n int) error {
 	r, err := dialRaw(port)
 	if err != nil {
@@ -72,7 +72,7 @@ func life(port, n int) error {
 	work := []pgproto3.FrontendMessage{q("BEGIN"), q(fmt.Sprintf("SELECT balance FROM account WHERE id = %d", id)),
 		q(fmt.Sprintf("UPDATE account SET balance = balance + 1 WHERE id = %d", id)), q("COMMIT")}
 	switch n % 5 {
-	case 0: // as it should be
+	case 0: // properly
 		for _, m := range work {
 			if err := r.say(1, m); err != nil {
 				return err
@@ -87,7 +87,7 @@ func life(port, n int) error {
 		return err
 	case 2: // the socket is closed
 		return r.say(4, work...)
-	case 3: // in the midst of the next transaction
+	case 3: // in the middle of the next transaction
 		if err := r.say(5, append(work, q("BEGIN"))...); err != nil {
 			return err
 		}
@@ -156,7 +156,7 @@ func TestShortConnections(t *testing.T) {
 	}
 }
 
-// stopped gives the last coverage before the audit has stopped.
+// stopped returns the last coverage before the audit stopped.
 func (p *program) stopped() (last coverage) {
 	p.t.Helper()
 	for end := time.After(2 * time.Minute); ; {

@@ -7,14 +7,14 @@ import (
 	"unicode"
 )
 
-// shown is a text on one line in which each character can be seen: what servers, clients and names of files can have in
-// it, such as line breaks, codes of terminals and marks of direction, are escapes.
+// shown returns a text on one line in which each character is visible: line breaks, terminal codes, marks of direction
+// and the like, which texts from servers, clients and file names can contain, become escapes.
 func shown(text string) string {
 	var out strings.Builder
 	for i, r := range text {
 		switch {
 		case r == unicode.ReplacementChar && !strings.HasPrefix(text[i:], string(unicode.ReplacementChar)):
-			fmt.Fprintf(&out, `\x%02x`, text[i]) // a byte that is no UTF-8
+			fmt.Fprintf(&out, `\x%02x`, text[i]) // a byte that isn't UTF-8
 		case unicode.IsPrint(r):
 			out.WriteRune(r)
 		case unicode.Is(unicode.Zs, r):
@@ -30,7 +30,7 @@ func shown(text string) string {
 	return out.String()
 }
 
-// shownLog writes what it is given as one line, shown. A log writes each of its records by one call.
+// shownLog writes each text as one line, shown. A log writes each record in one call.
 type shownLog struct{ to io.Writer }
 
 func (l shownLog) Write(record []byte) (int, error) {

@@ -29,7 +29,7 @@ func TestShown(t *testing.T) {
 	}
 }
 
-// seen fails unless text is lines in which everything can be seen, none of them a forged one.
+// seen fails unless text consists of lines in which everything is visible, none of them forged.
 func seen(t *testing.T, text string) {
 	t.Helper()
 	for _, line := range strings.Split(text, "\n") {
@@ -53,7 +53,7 @@ func TestLogIsShown(t *testing.T) {
 	}
 }
 
-// With these words in its environment the test is the program itself.
+// With these words in its environment, the test is the program itself.
 func TestProgramShowsItsWords(t *testing.T) {
 	if words := os.Getenv("ZANTEYARD_WORDS"); words != "" {
 		os.Args = append([]string{"zanteyard-proxy"}, strings.Split(words, "|")...)

@@ -1,0 +1,248 @@
+"""What makes the import of Jepsen's EDN fast changes nothing: lines that one expression takes apart
+say what the reader of any EDN makes of them."""
+import contextlib
+import gzip
+import io
+import os
+import sys
+import tempfile
+import unittest
+from unittest import mock
+
+from zanteyard.cli._main import main
+from zanteyard.core.errors import ImportRefusedError
+from zanteyard.imports import _edn_lines
+from zanteyard.imports._command import import_text
+from zanteyard.imports._edn import EdnReader
+from zanteyard.imports._edn_lines import EdnLines, PlainMicros
+from zanteyard.imports._guess import history_form
+from zanteyard.imports._jepsen import read_jepsen
+
+from . import recordings, test_import
+from .recordings import judged_script, seeded
+from .test_import import SAMPLES, mutated, wanted
+
+LINE = "{:type :%s, :f :txn, :value %s, :process %s, :time %d, :index %d}\n"
+
+
+def told(text, form, **more):
+    """What is made of it, or why nothing is."""
+    try:
+        return read_jepsen(text, form, form == "jepsen-lists", **more)
+    except ImportRefusedError as error:
+        return str(error)
+
+
+def slowly(text, form, **more):
+    """The same by `EdnReader` alone."""
+    with mock.patch.object(_edn_lines, "MOST_SHAPES", 0):
+        return told(text, form, **more)
+
+
+def as_jepsen(text):
+    """Each map on a line of its own, with the keys in the order in which Jepsen writes them."""
+    lines = []
+    for _, form in EdnReader(text).forms():
+        for part in form if isinstance(form, tuple) else (form,):
+            written = dict((key.name, value) for key, value in part.items)
+            if isinstance(written.get("process"), int):
+                lines.append(LINE % (
+                    written["type"].name,
+                    edn(written.get("value")),
+                    written["process"],
+                    len(lines) * 1000,
+                    len(lines),
+                ))
+    return "".join(lines)
+
+
+def edn(value):
+    if value is None:
+        return "nil"
+    if isinstance(value, tuple):
+        return "[" + " ".join(map(edn, value)) + "]"
+    if isinstance(value, str):
+        return f'"{value}"'
+    return f":{value.name}" if hasattr(value, "name") else str(value)
+
+
+class Fast(unittest.TestCase):
+    FORMS = ("jepsen-registers", "jepsen-lists")
+
+    def texts(self, count, first=0):
+        for form in self.FORMS:
+            for seed in range(first, first + count):
+                attempts, random_ = wanted(form, seed)
+                yield form, as_jepsen(recordings.as_edn(attempts, random_)), random_
+
+    def test_two_hundred_histories(self):
+        plain = 0
+        for form, text, _ in self.texts(100):
+            with self.subTest(form=form, text=text):
+                self.assertEqual(told(text, form), slowly(text, form))
+            plain += sum(not hasattr(found, "items") for _, found in EdnLines(text).maps())
+        self.assertGreater(plain, 500)  # lines that were taken apart at once
+
+    def test_two_thousand_that_are_changed(self):
+        refused = 0
+        for form, text, random_ in self.texts(200, 500):
+            for _ in range(5):
+                changed = mutated(text, random_)
+                with self.subTest(form=form, text=changed):
+                    outcome = told(changed, form)
+                    self.assertEqual(outcome, slowly(changed, form))
+                    refused += isinstance(outcome, str)
+        self.assertGreater(refused, 200)
+
+    def test_what_only_looks_plain(self):
+        """Each row is a value that the quick reading must not take for another one."""
+        rows = (
+            "[[:r 1 007]]", "[[:r 1 +7]]", "[[:r 1 -0]]", "[[:r 1 7N]]", "[[:r 1 1.0]]",
+            "[[:r 1 nil]  [:w 1 2]]", "[[:r 1 nil],[:w 1 2]]", "[[:r 1 nil][:w 1 2]]",
+            "[[:r 1 nil] 3 [:w 1 2]]", "[[:r 1 nil]] [[:w 1 2]]", "[[:r 1 nil] [:w 1 2] ]",
+            "[[:r :r nil] [:w :w :w]]", "[[:r nil nil]]", "[[:w 1 nil]]", "[[:r true 1]]",
+            "[[:r 1 [2 3]]]", "[[:r 1 []]]", "[[:r 1 #{2}]]", "[[:r 1 {2 3}]]", "[[:r :a/b 1]]",
+            "[[:r 1 [2 3]] [:append 1 4]]", "[[:r 1 [2  3]]]", "[[:r 1 [2,3]]]", "[[:r 1 [02]]]",
+            "[[:r 1 [:a :b]]]", "[[:r 1 [nil]]]", "[[:r 1 [2 [3]]]]", "[[:r 1 [2 3 ]]]",
+            "[[:r 1 ]]", "[[:r 1 2 3]]", "[[:cas 1 2]]", "[]", "[[]]", "[[:]]",
+        )
+        for row in rows:
+            text = LINE % ("invoke", row, 0, 1, 0) + LINE % ("ok", row, 0, 2, 1)
+            for form in self.FORMS:
+                with self.subTest(row=row, form=form):
+                    self.assertEqual(told(text, form), slowly(text, form))
+
+    def test_lists_that_go_on_from_one_another(self):
+        micros = PlainMicros(True)
+        for elements in ("1 2 3", "1 2", "1", "1 2 3 14", "1 2 3 1", "1 3", "", "1 2 3 14 5"):
+            (read,) = micros.of(f"[[:r 7 [{elements}]]]")
+            self.assertEqual(read.value, tuple(elements.split()), elements)
+
+    def test_tags_vectors_comments_and_blank_lines(self):
+        lines = LINE % ("invoke", "[[:w 1 2]]", 0, 1, 0), LINE % ("ok", "[[:w 1 2]]", 0, 2, 1)
+        plain = told("".join(lines), "jepsen-registers").attempts
+        tag = "#jepsen.history.Op"
+        for text in (
+            tag + tag.join(lines),
+            "[" + "".join(lines) + "]",
+            "[" + "\n".join(lines) + "\n]\n",
+            "(" + ", ".join(lines) + ")",
+            "".join(lines)[:-1],
+            "".join(lines).replace("\n", "\r\n"),
+        ):
+            with self.subTest(text=text):
+                found = told(text, "jepsen-registers")
+                self.assertEqual(found, slowly(text, "jepsen-registers"))
+                self.assertEqual([one.accesses for one in found.attempts],
+                                 [one.accesses for one in plain])
+        for text in ("[" + lines[0], lines[0] + "]", "[" + lines[0] + ")", "[[" + lines[0] + "]]"):
+            with self.subTest(text=text):
+                self.assertIsInstance(told(text, "jepsen-registers"), str)
+
+    def test_lists_that_share_a_front(self):
+        """What is kept of a key's longest list is right for its other readers, too."""
+        for seed in range(300):
+            random_ = seeded(seed)
+            text, index, state = "", 0, {}
+            for process in range(8):
+                micros = []
+                for _ in range(random_.randint(1, 3)):
+                    key = random_.randrange(2)
+                    its = state.setdefault(key, [])
+                    if random_.random() < 0.5:
+                        its.append(index * 10 + len(micros))
+                        micros.append(f"[:append {key} {its[-1]}]")
+                    else:
+                        shown = its[: random_.choice((len(its), len(its), 1, 2))]
+                        shown = shown[::-1] if random_.random() < 0.1 else shown
+                        micros.append(f"[:r {key} [{' '.join(map(str, shown))}]]")
+                for type in ("invoke", "ok"):
+                    text += LINE % (type, f"[{' '.join(micros)}]", process, index, index)
+                    index += 1
+            fast = import_text("jepsen-lists", text)
+            with mock.patch("zanteyard.imports._sources.Chain.common", lambda self, front: 0):
+                self.assertEqual(import_text("jepsen-lists", text), fast, text)
+
+
+class Options(unittest.TestCase):
+    def test_parts_that_are_independent(self):
+        """Two keys' histories: each has an explanation, whatever the order of processes between
+        them; as one history of one store they have none."""
+        def text(*rows):
+            return "".join(
+                LINE % (type, value, process, at, at)
+                for at, (process, value) in enumerate(rows) for type in ("invoke", "ok")
+            )
+
+        whole = text(
+            (0, "[:x [[:w 1 1]]]"), (0, "[:y [[:r 1 nil]]]"),
+            (1, "[:y [[:w 1 1]]]"), (1, "[:x [[:r 1 nil]]]"),
+        )
+        found = import_text("jepsen-registers", whole, is_independent=True)
+        self.assertEqual(judged_script(found.lines), "serial")
+        names = found.names
+        self.assertEqual({*names.keys.values()}, {"1 in :x", "1 in :y"})
+        self.assertEqual(len(names.transactions), 4)  # a process has a session in each part
+        joined = whole.replace("[:x [[:w 1", "[[:w :x").replace("[:y [[:w 1", "[[:w :y")
+        joined = joined.replace("[:x [[:r 1", "[[:r :x").replace("[:y [[:r 1", "[[:r :y")
+        joined = joined.replace("]]],", "]],")
+        self.assertEqual(judged_script(import_text("jepsen-registers", joined).lines), "violated")
+        stale = text((0, "[:x [[:w 1 1]]]"), (0, "[:x [[:r 1 nil]]]"))
+        found = import_text("jepsen-registers", stale, is_independent=True)
+        self.assertEqual(judged_script(found.lines), "violated")
+        self.assertEqual(told(whole, "jepsen-registers", is_independent=True),
+                         slowly(whole, "jepsen-registers", is_independent=True))
+        with self.assertRaisesRegex(ImportRefusedError, "a part and a txn"):
+            import_text("jepsen-registers", text((0, "[[:w 1 1]]")), is_independent=True)
+        with self.assertRaisesRegex(ImportRefusedError, "Jepsen's"):
+            import_text("csv", "", is_independent=True)
+
+    def test_functions_to_leave_out(self):
+        txn = LINE % ("invoke", "[[:w 1 1]]", 0, 1, 0) + LINE % ("ok", "[[:w 1 1]]", 0, 2, 1)
+        read = "{:type :invoke, :f :read, :value nil, :process 1}\n"
+        read += "{:type :ok, :f :read, :value {1 1}, :process 1}\n"
+        with self.assertRaisesRegex(ImportRefusedError, "line 3: .*--leave-out"):
+            import_text("jepsen-registers", txn + read)
+        found = import_text("jepsen-registers", txn + read, left_out=["read", "dump"])
+        self.assertIn("1 operation of read left out", "\n".join(found.about))
+        self.assertIn("0 operations of dump left out", "\n".join(found.about))
+        self.assertEqual(found.lines, import_text("jepsen-registers", txn).lines)
+
+    def test_gzip(self):
+        text = LINE % ("invoke", "[[:w 1 1]]", 0, 1, 0) + LINE % ("ok", "[[:w 1 1]]", 0, 2, 1)
+        with tempfile.TemporaryDirectory() as folder:
+            path, script = os.path.join(folder, "a.edn.gz"), os.path.join(folder, "a.jsonl")
+            with open(path, "wb") as file:
+                file.write(gzip.compress(text.encode()))
+            self.assertEqual(self.run_import(path, script)[0], 0)
+            with open(script, encoding="utf-8") as file:
+                lines = tuple(file.read().splitlines())
+            self.assertEqual(lines, import_text("jepsen-registers", text).lines)
+            with open(path, "wb") as file:
+                file.write(gzip.compress(text.encode())[:-9])
+            status, err = self.run_import(path, os.path.join(folder, "b.jsonl"))
+            self.assertEqual(status, 2)
+            self.assertRegex(err, "^refused: a.edn.gz can't be decompressed: ")
+            self.assertNotIn("b.jsonl", os.listdir(folder))
+
+    def test_a_history_in_place_of_a_script(self):
+        for form, name, _ in test_import.Samples().shown():
+            with self.subTest(name=name):
+                path, err = os.path.join(SAMPLES, name), io.StringIO()
+                with contextlib.redirect_stderr(err), mock.patch.dict(
+                    os.environ, {"COBRA_AUDIT": sys.executable}
+                ):
+                    self.assertEqual(main(("check", path)), 2)
+                self.assertIn(f"`zanteyard import {form} {path} -o SCRIPT`", err.getvalue())
+        self.assertIsNone(history_form(b'["open",2,8]\n'))
+        self.assertIsNone(history_form(b""))
+
+    def run_import(self, path, script):
+        out, err = io.StringIO(), io.StringIO()
+        with contextlib.redirect_stdout(out), contextlib.redirect_stderr(err):
+            status = main(("import", "jepsen-registers", path, "-o", script))
+        return status, err.getvalue()
+
+
+if __name__ == "__main__":
+    unittest.main()

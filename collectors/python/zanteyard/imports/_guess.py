@@ -1,0 +1,31 @@
+"""Guesses the form of a history file that was given in place of a script."""
+
+from __future__ import annotations
+
+import re
+from typing import Optional
+
+from ._command import GZIP
+from ._sessions import HEADER, POLYSI_LINE
+
+FIRST = 1 << 16  # bytes that are examined
+
+
+def history_form(front: bytes) -> Optional[str]:
+    """The FORM of `zanteyard import` that a file with this beginning seems to have; "FORM" if it
+    has one of them and it is unclear which; None if it may be a script."""
+    if front.startswith(GZIP):
+        return "FORM"
+    text = front.decode("utf-8-sig", "replace").lstrip()
+    line = text.partition("\n")[0].strip()
+    if line == ",".join(HEADER):
+        return "csv"
+    if POLYSI_LINE.fullmatch(line):
+        return "polysi"
+    if re.match(r"(?:;[^\n]*\n|[\[(\s])*(?:#jepsen\.history\.Op)?\{\s*:", text):
+        return "jepsen-lists" if ":append " in text else "jepsen-registers"
+    if re.match(r"[\[\s]*\{", text):
+        if '"append"' in text:
+            return "jepsen-lists"
+        return "dbcop" if '"variable"' in text else "jepsen-registers"
+    return None

@@ -1,0 +1,43 @@
+ghost use Rattle.std.specs.Prelude.{◌≡◌, IfOk, MatchResult};
+ghost use Rattle.log_text.specs.Commands.{HasLimits};
+ghost use Rattle.snapshot_histories.specs.Logged.{split_logged};
+ghost use Rattle.snapshot_histories.specs.Offered.{CanBeOffered, OfferedFault};
+ghost use Rattle.snapshot_scripts.specs.Splitting.{CanBeAsked, IsAskedFault, split_command};
+
+use log_text::Command;
+use logged_fragments::LoggedFragment;
+use snapshot_histories::{check_offered, split_logged};
+use std::alloc::Global;
+use txn::{NoMemory, Refusal};
+
+/// The fragment split, or why it can't be offered.
+fn split_offer(
+    alloc: Global,
+    logged: &LoggedFragment,
+) -> Result<Result<LoggedFragment, Refusal>, NoMemory>
+    ensures { IfOk result (λ judged. MatchResult judged (λ split. CanBeOffered logged.now.fragment × (split ≡ split_logged logged.now)) (OfferedFault logged.now.fragment)) }
+{
+    match check_offered(&logged.fragment) {
+        Ok(()) => Ok(Ok(split_logged(alloc, logged)?)),
+        Err(refusal) => Ok(Err(refusal)),
+    }
+}
+
+/// The command that asks the same of an auditor whose transactions are split; or why it is refused before it gets there.
+pub fn split_command(alloc: Global, command: Command) -> Result<Result<Command, Refusal>, NoMemory>
+    ensures split { IfOk result (λ judged. MatchResult judged (λ split. CanBeAsked command × (split ≡ split_command command)) (IsAskedFault command)) }
+    ensures limits { IfOk result (λ judged. IfOk judged (λ split. HasLimits command → HasLimits split)) }
+{
+    match command {
+        Command::Offer(logged) => match split_offer(alloc, &logged)? {
+            Ok(split) => Ok(Ok(Command::Offer(split))),
+            Err(refusal) => Ok(Err(refusal)),
+        },
+        Command::Join(logged) => match split_offer(alloc, &logged)? {
+            Ok(split) => Ok(Ok(Command::Join(split))),
+            Err(refusal) => Ok(Err(refusal)),
+        },
+        Command::Save(_) | Command::Answer(_) => Ok(Err(Refusal::BadLine)),
+        command => Ok(Ok(command)),
+    }
+}

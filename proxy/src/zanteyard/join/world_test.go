@@ -1,0 +1,342 @@
+package join
+
+import (
+	"math/rand"
+	"testing"
+	"time"
+
+	"zanteyard/record"
+)
+
+// world is a store of rows and versions with PostgreSQL's snapshots, at read committed and repeatable read, and what a
+// proxy's connections do to it. It commits a transaction only if some serial order still explains everything that was
+// committed, with each connection's own order kept, but no other: orders in time aren't kept. The fences aren't among
+// the transactions.
+type world struct {
+	*bench
+	r    *rand.Rand
+	next uint32 // number of a transaction
+	ever uint64
+
+	versions map[string][]worldVersion
+	locks    map[string]*worldTxn
+	commits  int
+	after    map[int]map[int]bool // for each begin and commit, those that must come later
+	readers  map[string]map[int][]int
+	live     []*worldConn
+	most     int      // connections at a time
+	untold   []func() // what sessions have seen and not yet reported to the joiner
+	fences   []*worldFence
+	points   bool // the fault: a session is handed on by the clock alone
+	snapshot bool // the store keeps snapshot isolation, and no more
+	aborted  int
+	// elsewhere: connections with an even number are those of another machine's proxy (elsewhere_test.go). trusted: the
+	// fault that its clock is trusted.
+	elsewhere, trusted bool
+	far                uint64 // transactions from there that were offered
+}
+
+type worldVersion struct{ by, at int } // the writer's place in the order of commits
+
+type worldConn struct {
+	number, place uint64
+	last          int // its last committed transaction, 0 for none
+	open          *worldTxn
+	fencing       bool
+	held          bool
+}
+
+type worldTxn struct {
+	conn     *worldConn
+	began    time.Time
+	level    record.Level
+	snapshot int // commits that it sees; -1 before the first statement
+	number   uint32
+	reads    map[string]map[int]bool // versions
+	writes   map[string]bool
+}
+
+// worldFence is a fence under way. If it has a number, the server has committed it already.
+type worldFence struct {
+	conn   *worldConn
+	began  time.Time
+	number uint32
+}
+
+func newWorld(t testing.TB, seed int64, points bool) *world {
+	w := &world{
+		bench: newBench(t, Options{Sessions: 6, Limit: 900, Reserve: 1, Late: time.Second, Stale: time.Hour, Idle: 40 * time.Millisecond}),
+		r:     rand.New(rand.NewSource(seed)), next: base, points: points,
+		versions: map[string][]worldVersion{}, locks: map[string]*worldTxn{}, after: map[int]map[int]bool{},
+		readers: map[string]map[int][]int{},
+	}
+	for i := 0; i < 5; i++ {
+		w.versions[string(rune('a'+i))] = []worldVersion{{0, 0}}
+	}
+	return w
+}
+
+func (w *world) tick() { w.later(time.Millisecond) }
+
+func (w *world) key() string { return string(rune('a' + w.r.Intn(len(w.versions)))) }
+
+// step does one thing of a client's.
+func (w *world) step() {
+	w.tick()
+	if w.r.Intn(4) > 0 {
+		w.tellAll()
+	}
+	if len(w.live) < 2 || len(w.live) < w.most && w.r.Intn(6) == 0 {
+		w.ever++
+		w.live = append(w.live, &worldConn{number: w.ever})
+		w.later2(func(number uint64) func() { return func() { w.bench.connect(number) } }(w.ever))
+		return
+	}
+	c := w.live[w.r.Intn(len(w.live))]
+	switch {
+	case c.held || c.fencing:
+	case c.open == nil && (w.r.Intn(8) == 0 || len(w.live) > w.most):
+		w.leave(c)
+	case c.open == nil:
+		c.open = &worldTxn{conn: c, began: w.now, level: record.RepeatableRead, snapshot: -1, reads: map[string]map[int]bool{},
+			writes: map[string]bool{}}
+		if w.r.Intn(3) == 0 {
+			c.open.level = record.ReadCommitted
+		}
+	case w.r.Intn(5) == 0:
+		w.end(c)
+	default:
+		w.statement(c.open)
+	}
+	if w.points {
+		w.core.quiet()
+	}
+	if w.r.Intn(5) == 0 {
+		w.pass()
+	}
+}
+
+// later2 queues a report to the joiner, in the order of the reports.
+func (w *world) later2(f func()) { w.untold = append(w.untold, f) }
+
+func (w *world) tellAll() {
+	its := w.untold
+	w.untold = nil
+	for _, f := range its {
+		f()
+	}
+}
+
+func (w *world) leave(c *worldConn) {
+	for i, one := range w.live {
+		if one == c {
+			w.live = append(w.live[:i], w.live[i+1:]...)
+		}
+	}
+	w.later2(func() { w.core.enter(record.Connection{Number: c.number, Ended: true}) })
+}
+
+func (w *world) statement(t *worldTxn) {
+	if t.snapshot < 0 || t.level == record.ReadCommitted {
+		t.snapshot = w.commits
+	}
+	key := w.key()
+	its := w.versions[key]
+	if w.r.Intn(2) == 0 {
+		if t.writes[key] {
+			return
+		}
+		i := len(its) - 1
+		for its[i].at > t.snapshot {
+			i--
+		}
+		if t.reads[key] == nil {
+			t.reads[key] = map[int]bool{}
+		}
+		t.reads[key][i] = true
+		return
+	}
+	switch by := w.locks[key]; {
+	case by != nil && by != t:
+	case t.level == record.RepeatableRead && its[len(its)-1].at > t.snapshot:
+	default:
+		t.writes[key], w.locks[key] = true, t
+	}
+}
+
+// reaches reports whether one committed transaction has to precede another.
+func (w *world) reaches(from int, to map[int]bool, seen map[int]bool) bool {
+	if to[from] {
+		return true
+	}
+	if seen[from] {
+		return false
+	}
+	seen[from] = true
+	for next := range w.after[from] {
+		if w.reaches(next, to, seen) {
+			return true
+		}
+	}
+	return false
+}
+
+// begin and commit2 return what stands for a transaction in after: the same, unless the store keeps only snapshots.
+func (w *world) begin(id int) int { return 2 * id }
+func (w *world) commit2(id int) int {
+	if w.snapshot {
+		return 2*id + 1
+	}
+	return 2 * id
+}
+
+// around returns the events that have to come before this transaction begins, and those that have to come after that.
+func (w *world) around(t *worldTxn) (before, behind map[int]bool) {
+	before, behind = map[int]bool{}, map[int]bool{}
+	committed := func(id int) {
+		if id > 0 {
+			before[w.commit2(id)] = true
+		}
+	}
+	committed(t.conn.last)
+	for key, versions := range t.reads {
+		for i := range versions {
+			committed(w.versions[key][i].by)
+			if i+1 < len(w.versions[key]) {
+				behind[w.commit2(w.versions[key][i+1].by)] = true
+			}
+		}
+	}
+	for key := range t.writes {
+		committed(w.versions[key][len(w.versions[key])-1].by)
+	}
+	if !w.snapshot {
+		for one := range w.overwritten(t) {
+			before[one] = true
+		}
+	}
+	return before, behind
+}
+
+// overwritten returns the begins of those that have read what the transaction overwrites: its commit comes after them.
+func (w *world) overwritten(t *worldTxn) map[int]bool {
+	its := map[int]bool{}
+	for key := range t.writes {
+		for _, reader := range w.readers[key][len(w.versions[key])-1] {
+			its[w.begin(reader)] = true
+		}
+	}
+	return its
+}
+
+// end commits the transaction, if an order still explains everything.
+func (w *world) end(c *worldConn) {
+	t := c.open
+	c.open = nil
+	for key := range t.writes {
+		delete(w.locks, key)
+	}
+	before, behind := w.around(t)
+	seen := map[int]bool{}
+	for next := range behind {
+		if w.reaches(next, before, seen) {
+			w.aborted++
+			return
+		}
+	}
+	it := record.Transaction{Began: t.began, Level: t.level}
+	for key, versions := range t.reads {
+		for i := range versions {
+			one := read(key, 7)
+			if i > 0 {
+				one.Version = uint32(base + w.versions[key][i].by)
+			}
+			it.Reads = append(it.Reads, one)
+		}
+	}
+	w.committed(t, &it, before, behind)
+	if w.r.Intn(30) == 0 {
+		it.Outcome = record.Unclear
+		w.leave(c)
+	}
+	w.told(c, it)
+}
+
+// committed gives the transaction its place. Its number is derived from its place, so fences have other numbers.
+func (w *world) committed(t *worldTxn, it *record.Transaction, before, behind map[int]bool) {
+	w.commits++
+	id := w.commits
+	begin, commit := w.begin(id), w.commit2(id)
+	overwritten := w.overwritten(t)
+	for one := range before {
+		w.after[one][begin] = true
+	}
+	w.after[begin] = behind
+	if w.snapshot {
+		behind[commit] = true
+		w.after[commit] = map[int]bool{}
+		for one := range overwritten {
+			w.after[one][commit] = true
+		}
+	}
+	t.conn.last = id
+	for key, versions := range t.reads {
+		for i := range versions {
+			if w.readers[key] == nil {
+				w.readers[key] = map[int][]int{}
+			}
+			w.readers[key][i] = append(w.readers[key][i], id)
+		}
+	}
+	if len(t.writes) == 0 {
+		return
+	}
+	it.Number = uint64(base + id)
+	var keys []string
+	for key := range t.writes {
+		keys = append(keys, key)
+		w.versions[key] = append(w.versions[key], worldVersion{id, id})
+	}
+	w.bench.commit(uint32(it.Number), keys...)
+}
+
+func (w *world) told(c *worldConn, it record.Transaction) {
+	w.tick()
+	it.Ended = w.now
+	if w.points {
+		it.Began = it.Ended
+	}
+	it.Connection, it.Place = c.number, c.place
+	c.place++
+	if w.elsewhere && c.number%2 == 0 {
+		w.tellFar(it)
+		return
+	}
+	w.later2(func() { w.core.tell(it) })
+}
+
+func (w *world) live1(meetings int) {
+	for ; meetings > 0; meetings-- {
+		w.most = 2 + w.r.Intn(8)
+		for n := 0; n < 150; n++ {
+			w.step()
+			if w.r.Intn(12) == 0 {
+				w.join()
+			}
+			switch w.r.Intn(120) {
+			case 0:
+				w.slow()
+			case 1, 2:
+				w.core.quiet()
+			case 3:
+				w.core.reseat()
+			}
+		}
+		w.meet()
+	}
+	w.slow()
+	w.tellAll()
+	w.bench.settle()
+	w.bench.settle()
+	w.core.flush()
+}
