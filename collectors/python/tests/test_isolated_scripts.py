@@ -2,6 +2,7 @@
 definition, tried over all orders, and with those of the rewriting in this package."""
 import json
 import os
+import random
 import subprocess
 import unittest
 from collections import Counter
@@ -33,6 +34,64 @@ def rewritten_replies(lines):
     for line, one in zip(lines, asked):
         told = rewriting.told(line, [next(replies) for _ in one])
         yield told[:4] if told[0] == "cut" else told  # only the rewriting has a fifth part
+
+
+class Asked:
+    """A run of the program, asked line by line."""
+
+    def __init__(self):
+        pipes = {"stdin": subprocess.PIPE, "stdout": subprocess.PIPE}
+        self.program = subprocess.Popen([PROGRAM], text=True, bufsize=1, **pipes)
+
+    def __enter__(self):
+        return self
+
+    def __exit__(self, *exception):
+        self.program.stdin.close()
+        self.program.stdout.close()
+        self.program.wait()
+
+    def ask(self, line):
+        self.program.stdin.write(json.dumps(line) + "\n")
+        return json.loads(self.program.stdout.readline())
+
+    def ask_all(self, lines):
+        return [self.ask(line) for line in lines]
+
+    def saved(self):
+        """All that is given out."""
+        given, key = [self.ask(["save", "marks"])], 0
+        while (page := self.ask(["save", "last", key]))[1]:
+            given.append(page)
+            key = page[1][-1][0] + 1
+        for session in range(len(given[0][1])):
+            number = 0
+            while (page := self.ask(["save", "remain", session, number]))[3]:
+                given.append(page)
+                number = page[2] + len(page[3])
+        return given
+
+
+def straddling(rng):
+    """Lines after which a cut leaves transactions whose begin is gone and whose commit isn't, and
+    lines that go on from there. Keys 1 to 3 are overwritten before the fence; who reads them as
+    they were begins before it, and commits after what reads the key that it writes as it was."""
+    count = rng.randrange(1, 4)
+    wrote = [[10 * at + more for more in range(rng.randrange(1, 4))] for at in range(1, count + 1)]
+    front = [["offer", 0, 0, [[[], [1, 2, 3]], [[[0, "init"]], [0]]]]]
+    missed = sorted(key for keys in wrote for key in keys if key % 10 == 0)
+    front.append(["offer", 1, 0, [[[[0, 0, 1]], [0]], [[[key, "init"] for key in missed], []]]])
+    for at, keys in enumerate(wrote):
+        read = [[rng.choice((1, 2, 3)), "init"]]
+        front.append(["offer", 2 + at, 0, [[read, keys]]])
+    rest = [["round", 4096, 0, 1]]
+    for _ in range(rng.randrange(1, 4)):
+        session, key = rng.randrange(2 + count), rng.choice([1, 2, *missed])
+        source = rng.choice((["init"], [0, 0], [2 + key // 10 - 1, 0]))
+        number = 1 + (session < 2) + sum(line[:2] == ["offer", session] for line in rest)
+        rest.append(["offer", session, number, [[[[key, *source]], rng.choice(([], [key]))]]])
+    ends = [["close", session] for session in range(2, 2 + count)]
+    return 2 + count, front, [*rest, ["round", 4096, 0, 1], *ends, ["show"], ["round", 4096, 0, 1]]
 
 
 def is_snapshot_order(history, events):
@@ -103,6 +162,31 @@ class ByTheProgram(unittest.TestCase):
             if is_kept:
                 self.assertTrue(is_snapshot_order(history, [*map(tuple, report[4])]))
         return report[2], cut[0] == "cut"
+
+    def test_saved_and_resumed(self):
+        """What goes on with all that was given out is answered as what goes on without."""
+        told = Counter()
+        for seed in range(HISTORIES // 10):
+            sessions, front, rest = straddling(random.Random(seed))
+            opening = [sessions, 64, 2, "snapshot"]
+            with Asked() as whole, Asked() as resumed, self.subTest(seed=seed):
+                whole.ask_all([["open", *opening], *front, ROUND])
+                self.assertEqual(whole.ask(["truncate"])[:2], ["cut", [0, 1]])
+                given = whole.saved()
+                self.assertIn(True, given[0][3])
+                answers = resumed.ask_all([["resume", *opening], *given, ["resumed"]])
+                self.assertEqual(answers, [["ok"]] * (len(given) + 2))
+                self.assertEqual(resumed.saved(), given)
+                replies = [unnumbered(reply) for reply in whole.ask_all(rest)]
+                self.assertEqual([*map(unnumbered, resumed.ask_all(rest))], replies)
+                self.assertEqual(resumed.saved(), whole.saved())
+                told.update(reply[1] for reply in replies if reply[0] == "report")
+        self.assertTrue(told["serial"] and told["violated"], told)
+
+
+def unnumbered(reply):
+    """Rounds count from 1 in a script that resumes another."""
+    return [reply[0], *reply[2:]] if reply[0] == "report" else reply
 
 
 if __name__ == "__main__":

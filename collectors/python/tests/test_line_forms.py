@@ -64,7 +64,8 @@ class Forms(unittest.TestCase):
             ' [ "open" , 2 , 8 , 2 ]\r', '["\\u0073how"]', '["join",2,[]]', '["join",2,0,[[[],[]]]]',
             '["save","remain",0,18446744073709551615]', '["answer","refuted",[["nowrite",1,0,5]]]',
             '["open",2,8,2,"snapshot"]', '["collect","wait"]', '["last",[[0,0,1]]]',
-            '["marks",[2,0],[false,true]]', '["rebuild"]',
+            '["marks",[2,0],[false,true]]', '["rebuild"]', '["resume",2,8,2,"snapshot"]',
+            '["marks",[2,0],[false,true],[true,false]]',
         ):
             with self.subTest(line=line):
                 self.assertEqual(mistake_of(line.encode()), "")

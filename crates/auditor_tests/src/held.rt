@@ -1,5 +1,5 @@
 // What is held of the transactions of a line, and what a script answers to more than an offer may have.
-use cobra::{Failure, MemorySink, MemorySource, Pace, Solvers, serve};
+use cobra::{Failure, Means, MemorySink, MemorySource, Pace, Solvers, serve};
 use log_text::{Command, read_line_within};
 use logged_fragments::LoggedFragment;
 use polygraph::Single;
@@ -88,7 +88,13 @@ fn replies<R: Threads + Wait>(rt: &R, alloc: Global, script: &[u8]) -> Result<Ve
         guided: Single,
     };
     thread::scope(thread::scope_env(), rt, |scope| {
-        serve(scope, rt, alloc, &mut source, &mut sink, &solvers)
+        let means = Means {
+            scope,
+            rt,
+            alloc,
+            solvers: &solvers,
+        };
+        serve(&means, &mut source, &mut sink)
     })?;
     Ok(sink.bytes)
 }

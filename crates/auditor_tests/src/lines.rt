@@ -1,5 +1,5 @@
 // Lines of scripts.
-use log_text::{Command, Search, Shown, Version, Wanted, read_line};
+use log_text::{Command, Opening, Search, Shown, Version, Wanted, read_line};
 use logged_fragments::LoggedFragment;
 use std::alloc::Global;
 use std::process::Abort;
@@ -63,15 +63,30 @@ fn numbers_of(command: &Command) -> (&'static str, [u64; 3]) {
         Command::Resume {
             sessions,
             limit,
-            version,
-        } => ("resume", [*sessions, *limit, version_number(*version)]),
+            opening,
+        } => ("resume", [*sessions, *limit, opening_number(*opening)]),
         Command::Marks { marks, closed } => {
             ("marks", [marks.len() as u64, closed.len() as u64, 0])
+        }
+        Command::MarksBegun {
+            marks,
+            closed,
+            begun,
+        } => {
+            let numbers = [marks.len() as u64, closed.len() as u64, begun.len() as u64];
+            ("marks begun", numbers)
         }
         Command::Last(writers) => ("last", [writers.len() as u64, 0, 0]),
         Command::Resumed => ("resumed", [0, 0, 0]),
         Command::Save(wanted) => saved_numbers(*wanted),
         Command::Answer(shown) => shown_numbers(shown),
+    }
+}
+
+fn opening_number(opening: Opening) -> u64 {
+    match opening {
+        Opening::Ordered(version) => version_number(version),
+        Opening::Isolated => 3,
     }
 }
 
@@ -112,7 +127,7 @@ struct Row {
     numbers: [u64; 3],
 }
 
-static COMMANDS: [Row; 33] = [
+static COMMANDS: [Row; 35] = [
     Row {
         line: "[\"search\",4294967296,6,16]",
         name: "search",
@@ -162,6 +177,11 @@ static COMMANDS: [Row; 33] = [
         line: "[\"resume\",2,16,2]",
         name: "resume",
         numbers: [2, 16, 2],
+    },
+    Row {
+        line: "[\"resume\",2,16,2,\"snapshot\"]",
+        name: "resume",
+        numbers: [2, 16, 3],
     },
     Row {
         line: "[\"join\",1,[[[],[],\"\\u0061borted\"]]]",
@@ -237,6 +257,11 @@ static COMMANDS: [Row; 33] = [
         line: "[\"marks\",[3,0,0],[true,false]]",
         name: "marks",
         numbers: [3, 2, 0],
+    },
+    Row {
+        line: "[\"marks\",[3,0,0],[true,false],[ true ]]",
+        name: "marks begun",
+        numbers: [3, 2, 1],
     },
     Row {
         line: "[\"last\",[[5,0,2]]]",
@@ -335,7 +360,7 @@ fn aborted_transactions(rt: HostRuntime) -> Result<(), Fail> {
 }
 
 // Texts that are no JSON, or no array of a known word and its parts; other parts; offers and joins with other parts.
-static BAD_LINES: [&str; 91] = [
+static BAD_LINES: [&str; 93] = [
     "",
     " ",
     "null",
@@ -379,7 +404,7 @@ static BAD_LINES: [&str; 91] = [
     "[\"open\",2,16,2,\"Snapshot\"]",
     "[\"open\",2,16,2,\"snapshot\",2]",
     "[\"open\",2,16,\"snapshot\",2]",
-    "[\"resume\",2,16,2,\"snapshot\"]",
+    "[\"resume\",2,16,\"snapshot\"]",
     "[\"resume\",2,16,1]",
     "[\"open\",-0,16]",
     "[\"open\",1.0,16]",
@@ -420,6 +445,8 @@ static BAD_LINES: [&str; 91] = [
     "[\"join\",0,[[]]]",
     "[\"join\",0,0,[[[],[\"5\"]]]]",
     "[\"marks\",[0]]",
+    "[\"marks\",[0],[false],[1]]",
+    "[\"marks\",[0],[false],[true],[true]]",
     "[\"last\",[[5,0]]]",
     "[\"save\"]",
     "[\"save\",\"show\"]",

@@ -1,7 +1,7 @@
 ghost use Rattle.std.specs.Prelude.{◌<◌, ◌≤◌, IfOk};
 
 use cobra::{
-    Asked, ByteSink, ByteSource, DeviceFault, Failure, LONGEST_LINE, LineReader, MemorySink,
+    Asked, ByteSink, ByteSource, DeviceFault, Failure, LONGEST_LINE, LineReader, Means, MemorySink,
     MemorySource, Next, Pace, ReaderSource, Solvers, WriterSink, asked_of, exit_of, serve,
     write_all,
 };
@@ -275,7 +275,13 @@ fn served<R: Threads + Wait>(
         guided: Single,
     };
     let end = thread::scope(thread::scope_env(), rt, |scope| {
-        serve(scope, rt, alloc, &mut source, &mut sink, &solvers)
+        let means = Means {
+            scope,
+            rt,
+            alloc,
+            solvers: &solvers,
+        };
+        serve(&means, &mut source, &mut sink)
     });
     (end, sink.bytes)
 }

@@ -3,6 +3,7 @@
 
 mod block;
 mod devices;
+mod exits;
 mod failures;
 mod faults;
 mod lines;
@@ -10,6 +11,7 @@ mod memory;
 mod standard;
 
 pub use devices::{ByteSink, ByteSource, DeviceFault, write_all};
+pub use exits::Exit;
 pub use failures::Failure;
 pub use lines::{LONGEST_LINE, LineReader, Next};
 pub use memory::{MemorySink, MemorySource, Pace};

@@ -1,5 +1,5 @@
 -- What is told to be next asks for the command that its bytes are.
-use Rattle.std.proofs.Common.{◌≡◌, ℕ, List, Option, Some, None, IfSome, refl, sym, ◌∙◌, ◌⊎◌, ⊎_elim, subst, arith, inl, inr}
+use Rattle.std.proofs.Common.{◌≡◌, ℕ, List, Option, Some, None, IfSome, refl, sym, ◌∙◌, ◌⊎◌, ⊎_elim, subst, inl, inr}
 use Rattle.std.specs.Global.{Vec}
 use Rattle.std.specs.Str.{IsUtf8}
 use Rattle.txn.specs.declared.refusals.Refusal.{Refusal}
@@ -11,7 +11,7 @@ use Rattle.log_text.specs.Commands.{IsCommand}
 use Rattle.log_text.specs.Held.{held}
 use Rattle.log_text.specs.Replies.{line_of}
 use Rattle.byte_lines.specs.declared.lines.Next.{Next}
-use Rattle.byte_lines.specs.declared.lines.Next.TheVariants.{Line, TooLong}
+use Rattle.byte_lines.specs.declared.lines.Next.TheVariants.{Line}
 use Rattle.cobra.specs.Held.{IsEnough, AsksWithin}
 use Rattle.cobra.specs.Outputs.{Asks, IsTold, AnswersNext, RepliesTo}
 use Rattle.cobra.specs.Scripts.{Answers}
@@ -29,9 +29,6 @@ asks_whole next (Some command) asks = λ line said. subst (λ given. Asks line g
 pub asks_none : (bytes : Vec ℕ) (given : List ℕ) (refusal : Refusal) → given ≡ bytes.items → (refusal ≡ NoMemory → ⊥) → ((refusal ≡ NoMemory) × IsUtf8 given) ⊎ ((refusal ≡ BadLine) × ((command : Command) → ¬ IsCommand given command)) → (line : List ℕ) → IsTold line (Line bytes) → (command : Command) → ¬ Asks line command
 asks_none bytes given refusal same found why line said command asks =
     ⊎_elim (λ memory. found memory.0) (λ none. none.1 command (subst (λ bs. IsCommand bs command) (sym said.0 ∙ sym same) asks.is)) why
-
-pub long_asks_none : (line : List ℕ) → IsTold line TooLong → (command : Command) → ¬ Asks line command
-long_asks_none line said command asks = omega (arith, said, asks.short)
 
 -- the reply to what is held of the command is the reply to the line, where that is enough
 pub answers_asked : (old new : Stage) (next : Next) (most : Option ℕ) (command : Command) (answer : Reply) → IsEnough old most → ((line : List ℕ) → IsTold line next → AsksWithin most line command) → Answers old command answer new → AnswersNext old next answer new

@@ -14,6 +14,8 @@ use Rattle.logged_fragments.specs.declared.logged.LoggedFragment.{LoggedFragment
 use Rattle.log_text.specs.declared.commands.Command.{Command}
 use Rattle.log_text.specs.declared.commands.Command.TheVariants.{Offer, Join}
 use Rattle.log_text.specs.declared.replies.Reply.{Reply}
+use Rattle.log_text.specs.declared.versions.Opening.{Opening}
+use Rattle.log_text.specs.declared.versions.Opening.TheVariants.{Ordered, Isolated}
 use Rattle.log_text.specs.declared.versions.Version.{Version}
 use Rattle.log_text.specs.declared.versions.Version.TheVariants.{One, Two}
 use Rattle.log_text.specs.Held.{held}
@@ -183,13 +185,15 @@ anew_answers : (most : ℕ) (old : Stage) (command : Command) (answer : Reply) (
 anew_answers most old (Offer logged) answer new is = is
 anew_answers most old command answer new is = is
 
-resuming_answers : (most sessions limit : ℕ) (version : Version) (command : Command) (answer : Reply) (new : Stage) → AnswersResuming sessions limit version (held (Some most) command) answer new → AnswersResuming sessions limit version command answer new
-resuming_answers most sessions limit version (Offer logged) answer new is = is
-resuming_answers most sessions limit version command answer new is = is
+resuming_answers : (most sessions limit : ℕ) (opening : Opening) (command : Command) (answer : Reply) (new : Stage) → AnswersResuming sessions limit opening (held (Some most) command) answer new → AnswersResuming sessions limit opening command answer new
+resuming_answers most sessions limit (Ordered version) (Offer logged) answer new is = is
+resuming_answers most sessions limit (Ordered version) command answer new is = is
+resuming_answers most sessions limit Isolated (Offer logged) answer new is = is
+resuming_answers most sessions limit Isolated command answer new is = is
 
-pub enough_held : (most : ℕ) (old : Stage) → 256 < most → ((handed : Handing) (version : Version) → old ≢ stage.Handing handed version) → IsEnough old (Some most)
+pub enough_held : (most : ℕ) (old : Stage) → 256 < most → ((handed : Handing) (opening : Opening) → old ≢ stage.Handing handed opening) → IsEnough old (Some most)
 enough_held most stage.Nothing above none command answer new is = anew_answers most stage.Nothing command answer new is
-enough_held most (stage.Resuming sessions limit version) above none command answer new is = resuming_answers most sessions limit version command answer new is
-enough_held most (stage.Handing handed version) above none command answer new is = absurd (none handed version refl)
+enough_held most (stage.Resuming sessions limit opening) above none command answer new is = resuming_answers most sessions limit opening command answer new is
+enough_held most (stage.Handing handed opening) above none command answer new is = absurd (none handed opening refl)
 enough_held most (stage.Open old version) above none command answer new is = (is.0, beside_answers most version old is.0 command answer above is.1, is.2)
 enough_held most (stage.Isolated old) above none command answer new is = (is.0, isolated_answers most old is.0 command answer above is.1, is.2)

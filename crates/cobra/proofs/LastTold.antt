@@ -1,8 +1,7 @@
 -- What is kept of the order that was told last stays true of the engine.
-use Rattle.std.proofs.Common.{◌≡◌, ℕ, true, false, List, Option, Some, None, refl, sym, subst}
+use Rattle.std.proofs.Common.{◌≡◌, ℕ, true, false, List, Option, Some, None, sym, subst}
 use Rattle.std.specs.Prelude.{IfSome, IsSomeAnd}
 use Rattle.txn.specs.declared.transactions.TxnId.{TxnId}
-use Rattle.txn.specs.declared.refusals.Refusal.{Refusal}
 use Rattle.order_check.specs.declared.remainder.Parts.{Parts}
 use Rattle.log_text.specs.declared.searches.Search.{Search}
 use Rattle.polygraph.specs.declared.solving.Answer.TheVariants as answers
@@ -20,12 +19,6 @@ use Rattle.script_searches.specs.Searches.{MayAnswer}
 use Rattle.cobra.specs.Searches.{MayAnswerOf}
 use Rattle.cobra.specs.declared.last_told.LastTold.{LastTold}
 use Rattle.cobra.specs.declared.last_told.Told.{Told}
-
-pub nothing_fits : (engine : EngineState) → Fits engine (record { still = false; told = None })
-nothing_fits engine = record { still = λ (h : false ≡ true). absurd (cc); told = tt }
-
-pub begun_fits : (old new : EngineState) (last : LastTold) → Fits old last → StepsTo old step.Begin reply.Done new → Fits new (record { still = true; told = last.told })
-begun_fits old new last fits right = subst (λ (e : EngineState). Fits e (record { still = true; told = last.told })) (sym right.1) (record { still = λ _. refl; told = fits.told })
 
 of_asked : (asked : Option Parts) (parts : Parts) (May : Parts → Type 0) → IfSome asked (λ p. p ≡ parts) → May parts → IfSome asked May
 of_asked None parts May same may = tt

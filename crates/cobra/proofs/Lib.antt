@@ -5,6 +5,7 @@ pub mod GivenOut
 pub mod HandedWriters
 pub mod HeldCommands
 pub mod IsolatedAnswers
+pub mod IsolatedCheckpoints
 pub mod LightCommands
 pub mod LastTold
 pub mod LineCounts
@@ -14,6 +15,6 @@ pub mod ReplyKinds
 pub mod Resumed
 pub mod ScriptRounds
 pub mod ServedLines
-pub mod ToldWriters
 pub mod SearchedAnswers
+pub mod SplitStages
 pub mod TrueReports

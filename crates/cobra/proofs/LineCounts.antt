@@ -2,13 +2,10 @@
 use Rattle.std.proofs.Common.{◌≡◌, ◌≢◌, ℕ, ◌+◌, ◌≤◌, List, [], ◌∷◌, ◌++◌, length, Bool, true, false, cond, nat_eq, Option, refl, ap, sym, ◌∙◌, arith}
 use Rattle.std.proofs.lemmas.List.Elements.{All-head, All-tail}
 use Rattle.std.proofs.lemmas.List.Sums.{sum_by-append}
-use Rattle.std.proofs.lemmas.Bool.Decides.{nat_tests}
+use Rattle.std.proofs.lemmas.Bool.{ne_eqb}
 use Rattle.byte_lines.specs.declared.lines.Next.{Next}
 use Rattle.byte_lines.specs.LineReaders.{LineState, EndsAtLf, EndsAtEnd, StopsInLine}
 use Rattle.byte_lines.specs.Lines.{lines, onto_first, lf_count, HasNoLf}
-
-not_lf : (byte : ℕ) → byte ≢ 10 → nat_eq byte 10 ≡ false
-not_lf byte h = grind (arith, nat_tests)
 
 pub lf_count-append : (xs ys : List ℕ) → lf_count (xs ++ ys) ≡ lf_count xs + lf_count ys
 lf_count-append xs ys = sum_by-append (λ byte. cond (nat_eq byte 10) 1 0) xs ys
@@ -21,7 +18,7 @@ lf_count-cons byte bytes =
 pub lf_count-none : (bytes : List ℕ) → HasNoLf bytes → lf_count bytes ≡ 0
 lf_count-none [] h = refl
 lf_count-none (byte ∷ bytes) h =
-    let head : nat_eq byte 10 ≡ false = not_lf byte (All-head (λ b. b ≢ 10) byte bytes h) in
+    let head : nat_eq byte 10 ≡ false = ne_eqb byte 10 (All-head (λ b. b ≢ 10) byte bytes h) in
     let rest = lf_count-none bytes (All-tail (λ b. b ≢ 10) byte bytes h) in
     omega (arith, lf_count-cons byte bytes, ap {B = ℕ} (λ b. cond b 1 0) head, rest)
 

@@ -5,7 +5,7 @@ use Rattle.order_check.specs.declared.remainder.Kind.{Kind}
 use Rattle.order_check.specs.declared.remainder.Kind.TheVariants as kinds
 use Rattle.order_check.specs.declared.remainder.Parts.{Parts}
 use Rattle.log_text.specs.declared.commands.Command.{Command}
-use Rattle.log_text.specs.declared.commands.Command.TheVariants.{Start, StartIsolated, Offer, Join, Close, Begin, Finish, Round, BeginSearch, Collect, Skip, Truncate, Rebuild, Show, Resume, Marks, Last, Resumed, Save, Answer}
+use Rattle.log_text.specs.declared.commands.Command.TheVariants.{Start, StartIsolated, Offer, Join, Close, Begin, Finish, Round, BeginSearch, Collect, Skip, Truncate, Rebuild, Show, Resume, Marks, MarksBegun, Last, Resumed, Save, Answer}
 use Rattle.log_text.specs.declared.replies.Reply.{Reply}
 use Rattle.log_text.specs.declared.replies.Reply.TheVariants as told
 use Rattle.log_text.specs.Replies.{HasKindOfOrder}
@@ -30,17 +30,20 @@ use Rattle.txn.specs.declared.transactions.Fragment.{Fragment}
 use Rattle.cobra.specs.Saving.{saved_told, fragment_told}
 use Rattle.log_text.specs.declared.saved.Saved.TheVariants as saved
 use Rattle.log_text.specs.declared.searches.Search.{Search}
+use Rattle.log_text.specs.declared.versions.Opening.{Opening}
+use Rattle.log_text.specs.declared.versions.Opening.TheVariants.{Ordered, Isolated}
 use Rattle.log_text.specs.declared.versions.Version.{Version}
 use Rattle.log_text.specs.declared.versions.Version.TheVariants.{One, Two}
 use Rattle.logged_fragments.specs.declared.logged.LoggedFragment.{LoggedFragment}
-use Rattle.script_searches.specs.declared.searches.Effort.{Effort}
+use Rattle.log_text.specs.declared.commands.Effort.{Effort}
+use Rattle.snapshot_scripts.specs.Handed.{half_command, half_marks}
 use Rattle.snapshot_scripts.specs.Isolated.{isolated_of}
 use Rattle.snapshot_scripts.specs.Splitting.{split_command}
 use Rattle.cobra.specs.Audits.{AuditState}
 use Rattle.cobra.specs.declared.handing.Handing.{Handing}
 use Rattle.cobra.specs.declared.stages.Stage.{Stage}
 use Rattle.cobra.specs.declared.stages.Stage.TheVariants as stage
-use Rattle.cobra.specs.Scripts.{IsBadLine, Goes, EndsRound, IsRound, IsStep, IsTakenIn, AnswersOpen, AnswersBeside, AnswersIsolated, GoesOn, IsCollected, Opens, OpensIsolated, Resumes, AnswersFirst, BeginsAnew, HandsMarks, AnswersResuming, HandsWriters, HandsOffer, EndsHandOver, AnswersHanding, Answers}
+use Rattle.cobra.specs.Scripts.{IsBadLine, Goes, EndsRound, IsRound, IsStep, IsTakenIn, AnswersOpen, AnswersBeside, AnswersIsolated, GoesOn, IsCollected, Opens, OpensIsolated, Resumes, AnswersFirst, BeginsAnew, HandsMarks, AnswersResuming, HandsWriters, HandsOffer, EndsHandOver, AnswersHanding, Answers, TakesHalves, TakesMarks, TakesOver}
 use Rattle.cobra.specs.StepReplies.{certificate_of, certified, report_of, reply_of}
 
 -- what a certificate shows is told by its own kind
@@ -122,6 +125,7 @@ open_kind version old new (Start sessions limit begun) answer is = bad_line_kind
 open_kind version old new (StartIsolated sessions limit) answer is = bad_line_kind old new answer is
 open_kind version old new (Resume sessions limit begun) answer is = bad_line_kind old new answer is
 open_kind version old new (Marks marks closed) answer is = bad_line_kind old new answer is
+open_kind version old new (MarksBegun marks closed begun) answer is = bad_line_kind old new answer is
 open_kind version old new (Last last) answer is = bad_line_kind old new answer is
 open_kind version old new Resumed answer is = bad_line_kind old new answer is
 open_kind version old new (BeginSearch budget depth workers search) answer is = bad_line_kind old new answer is
@@ -183,53 +187,70 @@ opens_kind sessions limit version told.Done begun is = tt
 opens_kind sessions limit version (told.No refusal) begun is = tt
 opens_kind sessions limit version answer begun is = absurd is
 
-resumes_kind : (sessions limit : ℕ) (version : Version) (answer : Reply) (begun : Option Stage) → Resumes sessions limit version answer begun → HasKindOfOrder answer
-resumes_kind sessions limit version told.Done begun is = tt
-resumes_kind sessions limit version (told.No refusal) begun is = tt
-resumes_kind sessions limit version answer begun is = absurd is
+resumes_kind : (sessions limit : ℕ) (opening : Opening) (answer : Reply) (begun : Option Stage) → Resumes sessions limit opening answer begun → HasKindOfOrder answer
+resumes_kind sessions limit (Ordered version) told.Done begun is = tt
+resumes_kind sessions limit (Ordered version) (told.No refusal) begun is = tt
+resumes_kind sessions limit (Ordered version) answer begun is = absurd is
+resumes_kind sessions limit Isolated told.Done begun is = tt
+resumes_kind sessions limit Isolated (told.No refusal) begun is = tt
+resumes_kind sessions limit Isolated answer begun is = absurd is
 
 first_kind : (command : Command) (answer : Reply) (begun : Option Stage) → AnswersFirst command answer begun → HasKindOfOrder answer
 first_kind (Start sessions limit version) answer begun is = opens_kind sessions limit version answer begun is
 first_kind (StartIsolated sessions limit) answer begun is = opens_isolated_kind sessions limit answer begun is
-first_kind (Resume sessions limit version) answer begun is = resumes_kind sessions limit version answer begun is
+first_kind (Resume sessions limit opening) answer begun is = resumes_kind sessions limit opening answer begun is
 first_kind command answer begun is = subst HasKindOfOrder (sym is.0) tt
 
 anew_kind : (old : Stage) (command : Command) (answer : Reply) (new : Stage) → BeginsAnew old command answer new → HasKindOfOrder answer
 anew_kind old command answer new is = first_kind command answer is.0 is.1
 
-marks_kind : (sessions limit : ℕ) (version : Version) (marks : List ℕ) (closed : List Bool) (answer : Reply) (new : Stage) → HandsMarks sessions limit version marks closed answer new → HasKindOfOrder answer
-marks_kind sessions limit version marks closed told.Done new is = tt
-marks_kind sessions limit version marks closed (told.No refusal) new is = tt
-marks_kind sessions limit version marks closed answer new is = absurd is
+marks_kind : (sessions limit : ℕ) (opening : Opening) (marks : List ℕ) (closed : List Bool) (answer : Reply) (new : Stage) → HandsMarks sessions limit opening marks closed answer new → HasKindOfOrder answer
+marks_kind sessions limit opening marks closed told.Done new is = tt
+marks_kind sessions limit opening marks closed (told.No refusal) new is = tt
+marks_kind sessions limit opening marks closed answer new is = absurd is
 
-resuming_kind : (sessions limit : ℕ) (version : Version) (command : Command) (answer : Reply) (new : Stage) → AnswersResuming sessions limit version command answer new → HasKindOfOrder answer
-resuming_kind sessions limit version (Marks marks closed) answer new is = marks_kind sessions limit version marks closed answer new is
-resuming_kind sessions limit version command answer new is = anew_kind (stage.Resuming sessions limit version) command answer new is
+takes_marks_kind : (sessions limit : ℕ) (opening : Opening) (command : Command) (answer : Reply) (new : Stage) → TakesMarks sessions limit opening command answer new → HasKindOfOrder answer
+takes_marks_kind sessions limit opening (Marks marks closed) answer new is = marks_kind sessions limit opening marks closed answer new is
+takes_marks_kind sessions limit opening command answer new is = anew_kind (stage.Resuming sessions limit opening) command answer new is
 
-writers_kind : (handed : Handing) (version : Version) (more : List (ℕ × TxnId)) (answer : Reply) (new : Stage) → HandsWriters handed version more answer new → HasKindOfOrder answer
-writers_kind handed version more told.Done new is = tt
-writers_kind handed version more (told.No refusal) new is = tt
-writers_kind handed version more answer new is = absurd is
+takes_halves_kind : (sessions limit : ℕ) (command : Command) (answer : Reply) (new : Stage) → TakesHalves sessions limit command answer new → HasKindOfOrder answer
+takes_halves_kind sessions limit (MarksBegun marks closed begun) answer new is =
+    ⊎_elim (λ bad. subst HasKindOfOrder (sym bad.1) tt) (λ good. marks_kind sessions limit Isolated (half_marks marks begun) closed answer new good.1) is
+takes_halves_kind sessions limit command answer new is = anew_kind (stage.Resuming sessions limit Isolated) command answer new is
 
-offer_kind : (handed : Handing) (version : Version) (fragment : Fragment) (answer : Reply) (new : Stage) → HandsOffer handed version fragment answer new → HasKindOfOrder answer
-offer_kind handed version fragment told.Done new is = tt
-offer_kind handed version fragment (told.No refusal) new is = tt
-offer_kind handed version fragment answer new is = absurd is
+resuming_kind : (sessions limit : ℕ) (opening : Opening) (command : Command) (answer : Reply) (new : Stage) → AnswersResuming sessions limit opening command answer new → HasKindOfOrder answer
+resuming_kind sessions limit (Ordered version) command answer new is = takes_marks_kind sessions limit (Ordered version) command answer new is
+resuming_kind sessions limit Isolated command answer new is = takes_halves_kind sessions limit command answer new is
 
-end_kind : (handed : Handing) (version : Version) (answer : Reply) (new : Stage) → EndsHandOver handed version answer new → HasKindOfOrder answer
-end_kind handed version told.Done new is = tt
-end_kind handed version (told.No refusal) new is = tt
-end_kind handed version answer new is = absurd is
+writers_kind : (handed : Handing) (opening : Opening) (more : List (ℕ × TxnId)) (answer : Reply) (new : Stage) → HandsWriters handed opening more answer new → HasKindOfOrder answer
+writers_kind handed opening more told.Done new is = tt
+writers_kind handed opening more (told.No refusal) new is = tt
+writers_kind handed opening more answer new is = absurd is
 
-handing_kind : (handed : Handing) (version : Version) (command : Command) (answer : Reply) (new : Stage) → AnswersHanding handed version command answer new → HasKindOfOrder answer
-handing_kind handed version (Last more) answer new is = writers_kind handed version more answer new is
-handing_kind handed version (Offer logged) answer new is = taken_kind One logged (stage.Handing handed version) new answer (HandsOffer handed version logged.fragment answer new) (λ taken. offer_kind handed version logged.fragment answer new taken) is
-handing_kind handed version Resumed answer new is = end_kind handed version answer new is
-handing_kind handed version command answer new is = anew_kind (stage.Handing handed version) command answer new is
+offer_kind : (handed : Handing) (opening : Opening) (fragment : Fragment) (answer : Reply) (new : Stage) → HandsOffer handed opening fragment answer new → HasKindOfOrder answer
+offer_kind handed opening fragment told.Done new is = tt
+offer_kind handed opening fragment (told.No refusal) new is = tt
+offer_kind handed opening fragment answer new is = absurd is
+
+end_kind : (handed : Handing) (opening : Opening) (answer : Reply) (new : Stage) → EndsHandOver handed opening answer new → HasKindOfOrder answer
+end_kind handed opening told.Done new is = tt
+end_kind handed opening (told.No refusal) new is = tt
+end_kind handed opening answer new is = absurd is
+
+takes_over_kind : (handed : Handing) (opening : Opening) (command : Command) (answer : Reply) (new : Stage) → TakesOver handed opening command answer new → HasKindOfOrder answer
+takes_over_kind handed opening (Last more) answer new is = writers_kind handed opening more answer new is
+takes_over_kind handed opening (Offer logged) answer new is = taken_kind One logged (stage.Handing handed opening) new answer (HandsOffer handed opening logged.fragment answer new) (λ taken. offer_kind handed opening logged.fragment answer new taken) is
+takes_over_kind handed opening Resumed answer new is = end_kind handed opening answer new is
+takes_over_kind handed opening command answer new is = anew_kind (stage.Handing handed opening) command answer new is
+
+handing_kind : (handed : Handing) (opening : Opening) (command : Command) (answer : Reply) (new : Stage) → AnswersHanding handed opening command answer new → HasKindOfOrder answer
+handing_kind handed (Ordered version) command answer new is = takes_over_kind handed (Ordered version) command answer new is
+handing_kind handed Isolated command answer new is =
+    ⊎_elim (λ bad. subst HasKindOfOrder (sym bad.1) tt) (λ good. takes_over_kind handed Isolated (half_command handed.parts command) answer new good.1) is
 
 pub answer_kind : (old : Stage) (command : Command) (answer : Reply) (new : Stage) → Answers old command answer new → HasKindOfOrder answer
 answer_kind stage.Nothing command answer new is = anew_kind stage.Nothing command answer new is
-answer_kind (stage.Resuming sessions limit version) command answer new is = resuming_kind sessions limit version command answer new is
-answer_kind (stage.Handing handed version) command answer new is = handing_kind handed version command answer new is
+answer_kind (stage.Resuming sessions limit opening) command answer new is = resuming_kind sessions limit opening command answer new is
+answer_kind (stage.Handing handed opening) command answer new is = handing_kind handed opening command answer new is
 answer_kind (stage.Open old version) command answer new is = beside_kind version old is.0 command answer is.1
 answer_kind (stage.Isolated old) command answer new is = isolates_kind old is.0 command answer is.1

@@ -1,5 +1,5 @@
 -- An engine that has parts and nothing else stands for each whole history that the parts stand for.
-use Rattle.std.proofs.Common.{◌≡◌, Option, refl}
+use Rattle.std.proofs.Common.{◌≡◌, refl}
 use Rattle.std.specs.Prelude as prelude
 use Rattle.order_check.specs.declared.remainder.Parts.{Parts}
 use Rattle.cobra.specs.Scripts.{HoldsAll}

@@ -5,6 +5,7 @@ use Rattle.std.specs.List.{concat}
 use Rattle.std.specs.Io.KnownBytes.{Appends, Consumes}
 use Rattle.std.proofs.KnownBytes.{Appends-trans}
 use Rattle.std.proofs.lemmas.List.{take_at, length_push}
+use Rattle.list_lemmas.proofs.Options.{if_some_from}
 use Rattle.byte_lines.specs.declared.lines.TheConstants.{LONGEST_LINE}
 use Rattle.byte_lines.specs.declared.failures.Failure.{Failure}
 use Rattle.byte_lines.specs.declared.failures.Failure.TheVariants.{Device, NoMemory}
@@ -17,14 +18,9 @@ use Rattle.cobra.specs.declared.stages.Stage.{Stage}
 use Rattle.cobra.specs.declared.stages.Stage.TheVariants.{Nothing}
 use Rattle.cobra.proofs.LineCounts.{lf_count-append, lf_count-le-lines, no_lines, lf_count-line, lf_count-last, lf_count-stopped}
 
--- what is said of bytes where they are told
-pub if_told : (told : Option (List ℕ)) (P : List ℕ → Type 0) → ((bytes : List ℕ) → told ≡ Some bytes → P bytes) → IfSome told P
-if_told None P h = tt
-if_told (Some bytes) P h = h bytes refl
-
 -- what is said of the input where that is told
 pub where_told : (Says : List ℕ → Option (List ℕ) → List ℕ → Type 0) (a b old new : Option (List ℕ)) → ((input : List ℕ) → a ≡ Some input → (output : List ℕ) × Says input b output × Appends old new output) → IfSome a (λ input. (output : List ℕ) × Says input b output × Appends old new output)
-where_told Says a b old new h = if_told a (λ input. (output : List ℕ) × Says input b output × Appends old new output) h
+where_told Says a b old new h = if_some_from a (λ input. (output : List ℕ) × Says input b output × Appends old new output) h
 
 -- a failure that isn't want of memory
 pub is_device : (error : Failure) → (error ≡ NoMemory → ⊥) → error ≡ Device

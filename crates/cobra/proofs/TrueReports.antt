@@ -2,8 +2,9 @@
 use Rattle.std.proofs.Common.{◌≡◌, ℕ, ◌+◌, ◌*◌, ◌/◌, arith, Bool, true, false, cond, nat_lt, List, [], ◌∷◌, ◌++◌, length, map, Option, Some, None, refl, sym, ap, ◌∙◌, subst, inl, inr, ⊎_elim}
 use Rattle.std.specs.Prelude.{⊤, IsSomeAnd, MatchOption, ◌⊎◌}
 use Rattle.std.specs.List.{concat}
+use Rattle.std.proofs.lemmas.Option.{none-some}
 use Rattle.txn.specs.declared.refusals.Refusal.{Refusal}
-use Rattle.txn.specs.declared.refusals.Refusal.TheVariants.{BadLine, BadSession, RoundOpen, NoRound, NoMemory}
+use Rattle.txn.specs.declared.refusals.Refusal.TheVariants.{BadLine, BadParts, BadSession, RoundOpen, NoRound, NoMemory}
 use Rattle.txn.specs.declared.transactions.Fragment.{Fragment}
 use Rattle.txn.specs.History.{History}
 use Rattle.logged_fragments.specs.Effects.{effects}
@@ -13,13 +14,15 @@ use Rattle.order_check.specs.declared.remainder.Kind.TheVariants as kinds
 use Rattle.order_check.specs.declared.remainder.Parts.{Parts}
 use Rattle.order_check.specs.StandsFor.{StandsFor, history_after, with_fragment}
 use Rattle.log_text.specs.declared.commands.Command.{Command}
-use Rattle.log_text.specs.declared.commands.Command.TheVariants.{Start, StartIsolated, Offer, Join, Close, Begin, Finish, Round, BeginSearch, Collect, Skip, Truncate, Rebuild, Show, Resume, Marks, Last, Resumed, Save, Answer}
+use Rattle.log_text.specs.declared.commands.Command.TheVariants.{Start, StartIsolated, Offer, Join, Close, Begin, Finish, Round, BeginSearch, Collect, Skip, Truncate, Rebuild, Show, Resume, Marks, MarksBegun, Last, Resumed, Save, Answer}
 use Rattle.log_text.specs.declared.commands.Wanted.{Wanted}
 use Rattle.log_text.specs.declared.commands.Wanted.TheVariants as wanted
 use Rattle.log_text.specs.declared.replies.Reply.{Reply}
 use Rattle.log_text.specs.declared.replies.Reply.TheVariants as told
 use Rattle.log_text.specs.declared.saved.Saved.TheVariants as saved
 use Rattle.log_text.specs.declared.searches.Search.{Search}
+use Rattle.log_text.specs.declared.versions.Opening.{Opening}
+use Rattle.log_text.specs.declared.versions.Opening.TheVariants.{Ordered, Isolated}
 use Rattle.log_text.specs.declared.versions.Version.{Version}
 use Rattle.log_text.specs.declared.versions.Version.TheVariants.{Two}
 use Rattle.log_text.specs.Replies.{line_of}
@@ -38,7 +41,7 @@ use Rattle.round_state.specs.declared.steps.Step.TheVariants as step
 use Rattle.round_state.specs.declared.steps.StepReply.{StepReply}
 use Rattle.round_state.specs.declared.steps.StepReply.TheVariants as reply
 use Rattle.settle.specs.declared.cuts.Cut.{Cut}
-use Rattle.script_searches.specs.declared.searches.Effort.{Effort}
+use Rattle.log_text.specs.declared.commands.Effort.{Effort}
 use Rattle.snapshot_histories.specs.Laws.{SplitDoublesCounts, SplitKeepsVerdict}
 use Rattle.snapshot_histories.specs.Split.{split_history, HistoryCanBeSplit}
 use Rattle.snapshot_scripts.specs.Legal.{IsIsolationOf, HoldsSplit, SplitStepsAreLegal, FreshEnginesAreSplit}
@@ -46,11 +49,12 @@ use Rattle.snapshot_histories.specs.Logged.{split_logged}
 use Rattle.snapshot_histories.specs.Offered.{CanBeOffered}
 use Rattle.snapshot_scripts.specs.Steps.{split_step, CanBeMade}
 use Rattle.snapshot_scripts.specs.Isolated.{halved, isolated_of}
-use Rattle.snapshot_scripts.specs.Splitting.{CanBeAsked, split_command}
+use Rattle.snapshot_scripts.specs.Handed.{CanBeHanded, half_command, half_marks}
+use Rattle.snapshot_scripts.specs.Splitting.{CanBeAsked, split_command, split_wanted}
 use Rattle.cobra.specs.Audits.{AuditState}
 use Rattle.cobra.specs.Outputs.{RepliesAll}
 use Rattle.cobra.specs.Saving.{saved_told, fragment_told}
-use Rattle.cobra.specs.Scripts.{IsBadLine, IsTakenIn, Goes, IsStep, EndsRound, IsRound, AnswersOpen, AnswersBeside, AnswersIsolated, GoesOn, IsCollected, AnswersFirst, BeginsAnew, AnswersResuming, AnswersHanding, HandsOffer, Answers, stage_after}
+use Rattle.cobra.specs.Scripts.{IsBadLine, IsTakenIn, Goes, IsStep, EndsRound, IsRound, AnswersOpen, AnswersBeside, AnswersIsolated, GoesOn, IsCollected, AnswersFirst, BeginsAnew, AnswersResuming, AnswersHanding, HandsMarks, HandsOffer, EndsHandOver, Answers, TakesHalves, TakesMarks, TakesOver, stage_after}
 use Rattle.cobra.specs.StepReplies.{certificate_of, certified, reply_of}
 use Rattle.cobra.specs.TrueReports.{Accepted, accepted_more, accepted_after, reported_on, TellsTrueOf, IsTrueTold, BeginsWith, AreTrueReplies, EachReportIsTrue}
 use Rattle.cobra.specs.declared.handing.Handing.{Handing}
@@ -68,8 +72,8 @@ Fits (stage.Open audit version) None = ⊥
 Fits (stage.Isolated audit) (Some accepted) = HoldsSplit audit.engine (state_of audit.engine accepted)
 Fits (stage.Isolated audit) None = ⊥
 Fits stage.Nothing None = ⊤
-Fits (stage.Resuming sessions limit version) None = ⊤
-Fits (stage.Handing handed version) None = ⊤
+Fits (stage.Resuming sessions limit opening) None = ⊤
+Fits (stage.Handing handed opening) None = ⊤
 Fits other (Some accepted) = ⊥
 
 -- A reply to a script whose transactions aren't split is true: none tells of begins and commits.
@@ -197,15 +201,12 @@ begin_on old new accepted (reply.Cut cut) goes holds = absurd goes.right
 
 -- ---- a round of one line
 
-none_or_some : (parts : Parts) → None ≡ Some parts → ⊥
-none_or_some parts e = cc
-
 -- where no round is open it doesn't matter what was accepted when one began
 whatever_asked : (engine : EngineState) (accepted other : Accepted) → engine.asked ≡ None → accepted.whole ≡ other.whole → Holds engine (state_of engine accepted) → Holds engine (state_of engine other)
 whatever_asked engine accepted other none same holds = record {
   same = refl;
   parts = subst (λ (history : History). StandsFor engine.parts history) same holds.parts;
-  asked = λ parts e. absurd (none_or_some parts (sym none ∙ e));
+  asked = λ parts e. absurd (none-some parts (sym none ∙ e));
 }
 
 ended_on : (begun new : EngineState) (accepted : Accepted) (search : Search) (budget depth workers : ℕ) (said : StepReply) → EndsRound begun search budget depth workers said new → Holds begun (state_of begun (record accepted { asked = accepted.whole })) → IsOn accepted (Round budget depth workers search) (reply_of said) new
@@ -278,6 +279,7 @@ open_on version old new accepted (Start sessions limit other) answer is holds = 
 open_on version old new accepted (StartIsolated sessions limit) answer is holds = bad_on old new accepted (StartIsolated sessions limit) answer is holds
 open_on version old new accepted (Resume sessions limit other) answer is holds = bad_on old new accepted (Resume sessions limit other) answer is holds
 open_on version old new accepted (Marks marks closed) answer is holds = bad_on old new accepted (Marks marks closed) answer is holds
+open_on version old new accepted (MarksBegun marks closed begun) answer is holds = bad_on old new accepted (MarksBegun marks closed begun) answer is holds
 open_on version old new accepted (Last last) answer is holds = bad_on old new accepted (Last last) answer is holds
 open_on version old new accepted Resumed answer is holds = bad_on old new accepted Resumed answer is holds
 open_on version old new accepted (BeginSearch budget depth workers search) answer is holds = bad_on old new accepted (BeginSearch budget depth workers search) answer is holds
@@ -446,7 +448,9 @@ asked_on laws old new accepted (Join logged) inner can is holds =
 asked_on laws old new accepted Begin inner can is holds = begun_on laws old new accepted inner is holds
 asked_on laws old new accepted (Round budget depth workers search) inner can is holds =
     isolated_rest laws old new accepted accepted (Round budget depth workers search) inner accepted.whole is holds refl refl holds.whole refl refl holds.whole holds.asked
-asked_on laws old new accepted (Save wanted) inner can is holds = absurd can
+asked_on laws old new accepted (Save wanted) inner can is holds =
+    let on = isolated_rest laws old new accepted accepted (Save (split_wanted wanted)) inner accepted.asked is holds refl refl holds.asked refl refl holds.whole holds.asked in
+    record { is_true = on.is_true; holds = on.holds }
 asked_on laws old new accepted (Answer shown) inner can is holds = absurd can
 asked_on laws old new accepted command inner can is holds = isolated_rest laws old new accepted accepted command inner accepted.asked is holds refl refl holds.asked refl refl holds.whole holds.asked
 
@@ -483,9 +487,12 @@ first_fits laws whole old (Start sessions limit version) answer begun none first
 first_fits laws whole old (StartIsolated sessions limit) told.Done begun none first = along_begun whole old (StartIsolated sessions limit) told.Done begun _ first.2 (laws.fresh sessions (2 * limit) first.3)
 first_fits laws whole old (StartIsolated sessions limit) (told.No refusal) begun none first = along_begun whole old (StartIsolated sessions limit) (told.No refusal) begun None first.1 none
 first_fits laws whole old (StartIsolated sessions limit) answer begun none first = absurd first
-first_fits laws whole old (Resume sessions limit version) told.Done begun none first = along_begun whole old (Resume sessions limit version) told.Done begun _ first.2 tt
-first_fits laws whole old (Resume sessions limit version) (told.No refusal) begun none first = along_begun whole old (Resume sessions limit version) (told.No refusal) begun None first.1 none
-first_fits laws whole old (Resume sessions limit version) answer begun none first = absurd first
+first_fits laws whole old (Resume sessions limit (Ordered version)) told.Done begun none first = along_begun whole old (Resume sessions limit (Ordered version)) told.Done begun _ first.2 tt
+first_fits laws whole old (Resume sessions limit (Ordered version)) (told.No refusal) begun none first = along_begun whole old (Resume sessions limit (Ordered version)) (told.No refusal) begun None first.1 none
+first_fits laws whole old (Resume sessions limit (Ordered version)) answer begun none first = absurd first
+first_fits laws whole old (Resume sessions limit Isolated) told.Done begun none first = along_begun whole old (Resume sessions limit Isolated) told.Done begun _ first.2 tt
+first_fits laws whole old (Resume sessions limit Isolated) (told.No refusal) begun none first = along_begun whole old (Resume sessions limit Isolated) (told.No refusal) begun None first.1 none
+first_fits laws whole old (Resume sessions limit Isolated) answer begun none first = absurd first
 first_fits laws whole old Resumed answer begun none first = subst (λ (a : Reply). Begun whole old Resumed a begun) (sym first.0) (along_begun whole old Resumed (told.No BadLine) begun None first.1 none)
 first_fits laws whole old command answer begun none first = along_begun whole old command answer begun None first.1 none
 
@@ -497,28 +504,76 @@ anew_fits laws whole old new command answer none anew =
 along_new : (new is : Stage) → new ≡ is → Fits is None → Fits new None
 along_new new is same fits = subst (λ (s : Stage). Fits s None) (sym same) fits
 
-resuming_fits : Laws → (whole : History) (sessions limit : ℕ) (version : Version) (new : Stage) (command : Command) (answer : Reply) → AnswersResuming sessions limit version command answer new → Fits new (accepted_after whole None command answer)
-resuming_fits laws whole sessions limit version new (Marks marks closed) told.Done is = along_new new _ is.1 tt
-resuming_fits laws whole sessions limit version new (Marks marks closed) (told.No refusal) is = along_new new _ is.1 tt
-resuming_fits laws whole sessions limit version new (Marks marks closed) answer is = absurd is
-resuming_fits laws whole sessions limit version new command answer is = anew_fits laws whole (stage.Resuming sessions limit version) new command answer tt is
+marks_fit : (whole : History) (sessions limit : ℕ) (opening : Opening) (marks : List ℕ) (closed : List Bool) (new : Stage) (answer : Reply) → HandsMarks sessions limit opening marks closed answer new → Fits new None
+marks_fit whole sessions limit opening marks closed new told.Done is = along_new new _ is.1 tt
+marks_fit whole sessions limit opening marks closed new (told.No refusal) is = along_new new _ is.1 tt
+marks_fit whole sessions limit opening marks closed new answer is = absurd is
 
-hands_fits : (handed : Handing) (version : Version) (fragment : Fragment) (answer : Reply) (new : Stage) → HandsOffer handed version fragment answer new → Fits new None
-hands_fits handed version fragment told.Done new is = along_new new _ is.1 tt
-hands_fits handed version fragment (told.No refusal) new is = along_new new _ is.1 tt
-hands_fits handed version fragment answer new is = absurd is
+takes_marks_fit : Laws → (whole : History) (sessions limit : ℕ) (opening : Opening) (new : Stage) (command : Command) (answer : Reply) → TakesMarks sessions limit opening command answer new → Fits new (accepted_after whole None command answer)
+takes_marks_fit laws whole sessions limit opening new (Marks marks closed) answer is = marks_fit whole sessions limit opening marks closed new answer is
+takes_marks_fit laws whole sessions limit opening new command answer is = anew_fits laws whole (stage.Resuming sessions limit opening) new command answer tt is
 
-handing_fits : Laws → (whole : History) (handed : Handing) (version : Version) (new : Stage) (command : Command) (answer : Reply) → AnswersHanding handed version command answer new → BeginsWith whole (stage.Handing handed version) command answer → Fits new (accepted_after whole None command answer)
-handing_fits laws whole handed version new (Last more) told.Done is begins = along_new new _ is tt
-handing_fits laws whole handed version new (Last more) (told.No NoMemory) is begins = along_new new _ is tt
-handing_fits laws whole handed version new (Last more) answer is begins = absurd is
-handing_fits laws whole handed version new (Offer logged) answer is begins =
-    ⊎_elim (λ taken. hands_fits handed version logged.fragment answer new taken.1) (λ bad. along_new new (stage.Handing handed version) bad.1.1 tt) is
-handing_fits laws whole handed version new Resumed told.Done is begins =
-    subst (λ (s : Stage). Fits s (accepted_after whole None Resumed told.Done)) (sym is.1) (is.2 whole begins)
-handing_fits laws whole handed version new Resumed (told.No refusal) is begins = along_new new _ is.1 tt
-handing_fits laws whole handed version new Resumed answer is begins = absurd is
-handing_fits laws whole handed version new command answer is begins = anew_fits laws whole (stage.Handing handed version) new command answer tt is
+takes_halves_fit : Laws → (whole : History) (sessions limit : ℕ) (new : Stage) (command : Command) (answer : Reply) → TakesHalves sessions limit command answer new → Fits new (accepted_after whole None command answer)
+takes_halves_fit laws whole sessions limit new (MarksBegun marks closed begun) answer is =
+    ⊎_elim (λ bad. along_new new (stage.Resuming sessions limit Isolated) bad.2 tt) (λ good. marks_fit whole sessions limit Isolated (half_marks marks begun) closed new answer good.1) is
+takes_halves_fit laws whole sessions limit new command answer is = anew_fits laws whole (stage.Resuming sessions limit Isolated) new command answer tt is
+
+resuming_fits : Laws → (whole : History) (sessions limit : ℕ) (opening : Opening) (new : Stage) (command : Command) (answer : Reply) → AnswersResuming sessions limit opening command answer new → Fits new (accepted_after whole None command answer)
+resuming_fits laws whole sessions limit (Ordered version) new command answer is = takes_marks_fit laws whole sessions limit (Ordered version) new command answer is
+resuming_fits laws whole sessions limit Isolated new command answer is = takes_halves_fit laws whole sessions limit new command answer is
+
+hands_fits : (handed : Handing) (opening : Opening) (fragment : Fragment) (answer : Reply) (new : Stage) → HandsOffer handed opening fragment answer new → Fits new None
+hands_fits handed opening fragment told.Done new is = along_new new _ is.1 tt
+hands_fits handed opening fragment (told.No refusal) new is = along_new new _ is.1 tt
+hands_fits handed opening fragment answer new is = absurd is
+
+-- a hand-over that ends leads to an engine that stands for the history with which the script begins
+ended_fits : (whole : History) (handed : Handing) (opening : Opening) (new : Stage) → EndsHandOver handed opening told.Done new → BeginsWith whole (stage.Handing handed opening) Resumed told.Done → Fits new (accepted_after whole None Resumed told.Done)
+ended_fits whole handed (Ordered version) new is begins = subst (λ (s : Stage). Fits s (accepted_after whole None Resumed told.Done)) (sym is.1) (is.2 whole begins)
+ended_fits whole handed Isolated new is begins =
+    subst (λ (s : Stage). Fits s (accepted_after whole None Resumed told.Done)) (sym is.1) (record { holds = is.2 (split_history whole) begins.0; whole = begins.1; asked = begins.1 })
+
+takes_over_fit : Laws → (whole : History) (handed : Handing) (opening : Opening) (new : Stage) (command : Command) (answer : Reply) → TakesOver handed opening command answer new → BeginsWith whole (stage.Handing handed opening) command answer → Fits new (accepted_after whole None command answer)
+takes_over_fit laws whole handed opening new (Last more) told.Done is begins = along_new new _ is tt
+takes_over_fit laws whole handed opening new (Last more) (told.No NoMemory) is begins = along_new new _ is tt
+takes_over_fit laws whole handed opening new (Last more) answer is begins = absurd is
+takes_over_fit laws whole handed opening new (Offer logged) answer is begins =
+    ⊎_elim (λ taken. hands_fits handed opening logged.fragment answer new taken.1) (λ bad. along_new new (stage.Handing handed opening) bad.1.1 tt) is
+takes_over_fit laws whole handed opening new Resumed told.Done is begins = ended_fits whole handed opening new is begins
+takes_over_fit laws whole handed opening new Resumed (told.No refusal) is begins = along_new new _ is.1 tt
+takes_over_fit laws whole handed opening new Resumed answer is begins = absurd is
+takes_over_fit laws whole handed opening new command answer is begins = anew_fits laws whole (stage.Handing handed opening) new command answer tt is
+
+-- the halves of a command begin nothing that it doesn't begin
+halves_fit : (whole : History) (handed : Handing) (command : Command) (answer : Reply) → BeginsWith whole (stage.Handing handed Isolated) command answer → BeginsWith whole (stage.Handing handed Isolated) (half_command handed.parts command) answer
+halves_fit whole handed (Last more) answer begins = tt
+halves_fit whole handed (Offer logged) answer begins = tt
+halves_fit whole handed command answer begins = begins
+
+halves_after : (whole : History) (handed : Handing) (command : Command) (answer : Reply) → accepted_after whole None (half_command handed.parts command) answer ≡ accepted_after whole None command answer
+halves_after whole handed (Last more) answer = refl
+halves_after whole handed (Offer logged) answer = refl
+halves_after whole handed command answer = refl
+
+handing_fits : Laws → (whole : History) (handed : Handing) (opening : Opening) (new : Stage) (command : Command) (answer : Reply) → AnswersHanding handed opening command answer new → BeginsWith whole (stage.Handing handed opening) command answer → Fits new (accepted_after whole None command answer)
+handing_fits laws whole handed (Ordered version) new command answer is begins = takes_over_fit laws whole handed (Ordered version) new command answer is begins
+handing_fits laws whole handed Isolated new command answer is begins = ⊎_elim (bad new answer) good is
+  where
+    none : (c : Command) → accepted_after whole None c (told.No BadParts) ≡ None
+    none (Start sessions limit version) = refl
+    none (StartIsolated sessions limit) = refl
+    none Resumed = refl
+    none c = refl
+
+    bad : (s : Stage) (a : Reply) → (¬ CanBeHanded command) × (a ≡ told.No BadParts) × (s ≡ stage.Handing handed Isolated) → Fits s (accepted_after whole None command a)
+    bad s a refused =
+        subst (λ (r : Reply). Fits s (accepted_after whole None command r)) (sym refused.1)
+        (subst (λ (o : Option Accepted). Fits s o) (sym (none command)) (along_new s (stage.Handing handed Isolated) refused.2 tt))
+
+    good : CanBeHanded command × TakesOver handed Isolated (half_command handed.parts command) answer new → Fits new (accepted_after whole None command answer)
+    good taken =
+        subst (λ (o : Option Accepted). Fits new o) (halves_after whole handed command answer)
+        (takes_over_fit laws whole handed Isolated new (half_command handed.parts command) answer taken.1 (halves_fit whole handed command answer begins))
 
 open_fits : (old : AuditState) (version : Version) (new : Stage) (accepted : Accepted) (command : Command) (answer : Reply) → Answers (stage.Open old version) command answer new → Holds old.engine (state_of old.engine accepted) → TellsTrueOf (reported_on accepted command) answer × Fits new (Some (accepted_more accepted command answer))
 open_fits old version new accepted command answer is holds =
@@ -535,8 +590,8 @@ answers_true laws old new None command answer is fits = tt
 answers_true laws (stage.Open engine version) new (Some accepted) command answer is fits = (open_fits engine version new accepted command answer is fits).0
 answers_true laws (stage.Isolated audit) new (Some accepted) command answer is fits = (isolated_fits laws audit new accepted command answer is fits).0
 answers_true laws stage.Nothing new (Some accepted) command answer is fits = absurd fits
-answers_true laws (stage.Resuming sessions limit version) new (Some accepted) command answer is fits = absurd fits
-answers_true laws (stage.Handing handed version) new (Some accepted) command answer is fits = absurd fits
+answers_true laws (stage.Resuming sessions limit opening) new (Some accepted) command answer is fits = absurd fits
+answers_true laws (stage.Handing handed opening) new (Some accepted) command answer is fits = absurd fits
 
 answers_fit : Laws → (whole : History) (old new : Stage) (accepted : Option Accepted) (command : Command) (answer : Reply) → Answers old command answer new → Fits old accepted → BeginsWith whole old command answer → Fits new (accepted_after whole accepted command answer)
 answers_fit laws whole (stage.Open engine version) new (Some accepted) command answer is fits begins = (open_fits engine version new accepted command answer is fits).1
@@ -544,11 +599,11 @@ answers_fit laws whole (stage.Isolated audit) new (Some accepted) command answer
 answers_fit laws whole (stage.Isolated audit) new None command answer is fits begins = absurd fits
 answers_fit laws whole (stage.Open engine version) new None command answer is fits begins = absurd fits
 answers_fit laws whole stage.Nothing new None command answer is fits begins = anew_fits laws whole stage.Nothing new command answer tt is
-answers_fit laws whole (stage.Resuming sessions limit version) new None command answer is fits begins = resuming_fits laws whole sessions limit version new command answer is
-answers_fit laws whole (stage.Handing handed version) new None command answer is fits begins = handing_fits laws whole handed version new command answer is begins
+answers_fit laws whole (stage.Resuming sessions limit opening) new None command answer is fits begins = resuming_fits laws whole sessions limit opening new command answer is
+answers_fit laws whole (stage.Handing handed opening) new None command answer is fits begins = handing_fits laws whole handed opening new command answer is begins
 answers_fit laws whole stage.Nothing new (Some accepted) command answer is fits begins = absurd fits
-answers_fit laws whole (stage.Resuming sessions limit version) new (Some accepted) command answer is fits begins = absurd fits
-answers_fit laws whole (stage.Handing handed version) new (Some accepted) command answer is fits begins = absurd fits
+answers_fit laws whole (stage.Resuming sessions limit opening) new (Some accepted) command answer is fits begins = absurd fits
+answers_fit laws whole (stage.Handing handed opening) new (Some accepted) command answer is fits begins = absurd fits
 
 -- the replies to lines
 abbrev replies_in : (old new : Stage) (lines texts : List (List ℕ)) → RepliesAll old lines texts new → List Reply

@@ -11,7 +11,7 @@ use Rattle.cobra.specs.declared.stages.Stage.TheVariants as stage
 
 -- parts are handed over
 abbrev pub IsHanding : Stage → Type 0
-IsHanding (stage.Handing handed version) = ⊤
+IsHanding (stage.Handing handed opening) = ⊤
 IsHanding other = ⊥
 
 -- With this bound enough of each command is held: the reply to what is held, and what that leads to, are right for the whole command.
@@ -31,5 +31,5 @@ HasAtMost (Some most) command = ⊤
 
 -- unless parts are handed over, the command has no more transactions than one more than a fragment may have
 abbrev pub IsLight : Stage → Command → Type 0
-IsLight (stage.Handing handed version) command = ⊤
+IsLight (stage.Handing handed opening) command = ⊤
 IsLight old command = HasAtMost (Some 257) command

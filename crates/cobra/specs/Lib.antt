@@ -9,4 +9,5 @@ pub mod Saving
 pub mod Scripts
 pub mod StepReplies
 pub mod Searches
+pub mod SplitStages
 pub mod TrueReports

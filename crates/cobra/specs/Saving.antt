@@ -1,5 +1,5 @@
 -- What is given out of the parts of an engine, in lines that are taken when parts are handed over.
-use Rattle.std.specs.Prelude.{◌≡◌, ℕ, ◌-◌, List, take, drop, filter, length, min, max, nat_lt, nat_le, if◌then◌else◌}
+use Rattle.std.specs.Prelude.{ℕ, ◌-◌, List, take, drop, filter, length, min, max, nat_lt, nat_le, if◌then◌else◌}
 use Rattle.std.specs.FinMap as map
 use Rattle.txn.specs.declared.transactions.TxnId.{TxnId}
 use Rattle.txn.specs.declared.transactions.Fragment.{Fragment}
@@ -11,6 +11,8 @@ use Rattle.log_text.specs.declared.commands.Wanted.TheVariants as wanted
 use Rattle.log_text.specs.declared.replies.Reply.{Reply}
 use Rattle.log_text.specs.declared.replies.Reply.TheVariants as told
 use Rattle.log_text.specs.declared.saved.Saved.TheVariants as saved
+use Rattle.snapshot_scripts.specs.Isolated.{isolated_of}
+use Rattle.snapshot_scripts.specs.Splitting.{split_wanted}
 use Rattle.cobra.specs.declared.handing.Handing.{Handing}
 
 -- the last gone writers of the keys from this one on, keys rising
@@ -34,6 +36,10 @@ abbrev pub saved_told : Parts → Wanted → Reply
 saved_told parts wanted.Marks = told.Saved (saved.Marks parts.base.marks parts.closed)
 saved_told parts (wanted.Last key) = told.Saved (saved.Last (take 16384 (writers_from parts key)))
 saved_told parts (wanted.Remain s n) = if nat_lt s (length parts.remain) then told.Saved (saved.Offer (fragment_told parts s n)) else told.No BadSession
+
+-- The same of parts whose transactions are split, by transactions as they were offered.
+abbrev pub isolated_told : Parts → Wanted → Reply
+isolated_told parts wanted = isolated_of (saved_told parts (split_wanted wanted))
 
 -- these parts, handed over as they are
 abbrev pub handing_of : Parts → Handing

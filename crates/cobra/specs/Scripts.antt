@@ -4,16 +4,18 @@ use Rattle.std.specs.FinMap as map
 use Rattle.txn.specs.declared.transactions.TxnId.{TxnId}
 use Rattle.txn.specs.declared.transactions.Fragment.{Fragment}
 use Rattle.txn.specs.declared.refusals.Refusal.{Refusal}
-use Rattle.txn.specs.declared.refusals.Refusal.TheVariants.{BadLine, BadSession, TooLong, RoundOpen, NoRound, NoMemory}
+use Rattle.txn.specs.declared.refusals.Refusal.TheVariants.{BadLine, BadSession, BadParts, TooLong, RoundOpen, NoRound, NoMemory}
 use Rattle.txn.specs.History.{History}
 use Rattle.order_check.specs.declared.remainder.Parts.{Parts}
 use Rattle.order_check.specs.Based.{received_counts}
 use Rattle.order_check.specs.StandsFor.{StandsFor}
 use Rattle.log_text.specs.declared.commands.Command.{Command}
-use Rattle.log_text.specs.declared.commands.Command.TheVariants.{Start, StartIsolated, Offer, Join, Close, Begin, Finish, Round, BeginSearch, Collect, Skip, Truncate, Rebuild, Show, Resume, Marks, Last, Resumed, Save, Answer}
+use Rattle.log_text.specs.declared.commands.Command.TheVariants.{Start, StartIsolated, Offer, Join, Close, Begin, Finish, Round, BeginSearch, Collect, Skip, Truncate, Rebuild, Show, Resume, Marks, MarksBegun, Last, Resumed, Save, Answer}
 use Rattle.log_text.specs.declared.replies.Reply.{Reply}
 use Rattle.log_text.specs.declared.replies.Reply.TheVariants as told
 use Rattle.log_text.specs.declared.searches.Search.{Search}
+use Rattle.log_text.specs.declared.versions.Opening.{Opening}
+use Rattle.log_text.specs.declared.versions.Opening.TheVariants.{Ordered, Isolated}
 use Rattle.log_text.specs.declared.versions.Version.{Version}
 use Rattle.log_text.specs.declared.versions.Version.TheVariants.{One, Two}
 use Rattle.log_text.specs.Versions.{has_form}
@@ -27,7 +29,8 @@ use Rattle.round_state.specs.declared.steps.Step.{Step}
 use Rattle.round_state.specs.declared.steps.Step.TheVariants as step
 use Rattle.round_state.specs.declared.steps.StepReply.{StepReply}
 use Rattle.round_state.specs.declared.steps.StepReply.TheVariants as reply
-use Rattle.script_searches.specs.declared.searches.Effort.{Effort}
+use Rattle.log_text.specs.declared.commands.Effort.{Effort}
+use Rattle.snapshot_scripts.specs.Handed.{HaveHalves, CanBeHanded, half_command, half_marks}
 use Rattle.snapshot_scripts.specs.Isolated.{isolated_of}
 use Rattle.snapshot_scripts.specs.Splitting.{CanBeAsked, IsAskedFault, split_command}
 use Rattle.cobra.specs.Audits.{AuditState, unsearched}
@@ -163,17 +166,19 @@ OpensIsolated sessions limit told.Done begun = IsSessions sessions × IsIsolated
 OpensIsolated sessions limit (told.No refusal) begun = IsIsolatedRefusal sessions limit refusal × (begun ≡ None)
 OpensIsolated sessions limit answer begun = ⊥
 
--- A hand-over begins, where an engine may be opened.
-abbrev pub Resumes : ℕ → ℕ → Version → Reply → Option Stage → Type 0
-Resumes sessions limit version told.Done begun = IsSessions sessions × IsLimit limit × (begun ≡ Some (stage.Resuming sessions limit version))
-Resumes sessions limit version (told.No refusal) begun = IsOpenRefusal sessions limit refusal × (begun ≡ None)
-Resumes sessions limit version answer begun = ⊥
+-- A hand-over begins, where an engine may be opened: of parts with room for two of each, where transactions are split.
+abbrev pub Resumes : ℕ → ℕ → Opening → Reply → Option Stage → Type 0
+Resumes sessions limit (Ordered version) told.Done begun = IsSessions sessions × IsLimit limit × (begun ≡ Some (stage.Resuming sessions limit (Ordered version)))
+Resumes sessions limit (Ordered version) (told.No refusal) begun = IsOpenRefusal sessions limit refusal × (begun ≡ None)
+Resumes sessions limit Isolated told.Done begun = IsSessions sessions × IsIsolatedLimit limit × (begun ≡ Some (stage.Resuming sessions (2 * limit) Isolated))
+Resumes sessions limit Isolated (told.No refusal) begun = IsIsolatedRefusal sessions limit refusal × (begun ≡ None)
+Resumes sessions limit opening answer begun = ⊥
 
 -- the reply to a command with which a script begins, and the stage that begins, where one does
 abbrev pub AnswersFirst : Command → Reply → Option Stage → Type 0
 AnswersFirst (Start sessions limit version) answer begun = Opens sessions limit version answer begun
 AnswersFirst (StartIsolated sessions limit) answer begun = OpensIsolated sessions limit answer begun
-AnswersFirst (Resume sessions limit version) answer begun = Resumes sessions limit version answer begun
+AnswersFirst (Resume sessions limit opening) answer begun = Resumes sessions limit opening answer begun
 AnswersFirst command answer begun = (answer ≡ told.No BadLine) × (begun ≡ None)
 
 -- the stage that has begun, and where none has, the old one
@@ -187,27 +192,38 @@ abbrev pub BeginsAnew : Stage → Command → Reply → Stage → Type 0
 BeginsAnew old command answer new = (begun : Option Stage) × AnswersFirst command answer begun × (new ≡ stage_after old begun)
 
 -- marks and flags are handed over
-abbrev pub HandsMarks : ℕ → ℕ → Version → List ℕ → List Bool → Reply → Stage → Type 0
-HandsMarks sessions limit version marks closed told.Done new = AreOfSessions sessions marks closed × (new ≡ stage.Handing (handed_first limit marks closed) version)
-HandsMarks sessions limit version marks closed (told.No refusal) new = IsMarksRefusal sessions marks closed refusal × (new ≡ stage.Resuming sessions limit version)
-HandsMarks sessions limit version marks closed answer new = ⊥
+abbrev pub HandsMarks : ℕ → ℕ → Opening → List ℕ → List Bool → Reply → Stage → Type 0
+HandsMarks sessions limit opening marks closed told.Done new = AreOfSessions sessions marks closed × (new ≡ stage.Handing (handed_first limit marks closed) opening)
+HandsMarks sessions limit opening marks closed (told.No refusal) new = IsMarksRefusal sessions marks closed refusal × (new ≡ stage.Resuming sessions limit opening)
+HandsMarks sessions limit opening marks closed answer new = ⊥
 
 -- the reply to a command, where a hand-over has begun: marks come first
-abbrev pub AnswersResuming : ℕ → ℕ → Version → Command → Reply → Stage → Type 0
-AnswersResuming sessions limit version (Marks marks closed) answer new = HandsMarks sessions limit version marks closed answer new
-AnswersResuming sessions limit version command answer new = BeginsAnew (stage.Resuming sessions limit version) command answer new
+abbrev pub TakesMarks : ℕ → ℕ → Opening → Command → Reply → Stage → Type 0
+TakesMarks sessions limit opening (Marks marks closed) answer new = HandsMarks sessions limit opening marks closed answer new
+TakesMarks sessions limit opening command answer new = BeginsAnew (stage.Resuming sessions limit opening) command answer new
+
+-- The same where transactions are split: the marks are those of halves.
+abbrev pub TakesHalves : ℕ → ℕ → Command → Reply → Stage → Type 0
+TakesHalves sessions limit (MarksBegun marks closed begun) answer new =
+    ((¬ HaveHalves marks begun) × (answer ≡ told.No BadParts) × (new ≡ stage.Resuming sessions limit Isolated))
+    ⊎ (HaveHalves marks begun × HandsMarks sessions limit Isolated (half_marks marks begun) closed answer new)
+TakesHalves sessions limit command answer new = BeginsAnew (stage.Resuming sessions limit Isolated) command answer new
+
+abbrev pub AnswersResuming : ℕ → ℕ → Opening → Command → Reply → Stage → Type 0
+AnswersResuming sessions limit (Ordered version) command answer new = TakesMarks sessions limit (Ordered version) command answer new
+AnswersResuming sessions limit Isolated command answer new = TakesHalves sessions limit command answer new
 
 -- last writers are handed over; memory may be wanting
-abbrev pub HandsWriters : Handing → Version → List (ℕ × TxnId) → Reply → Stage → Type 0
-HandsWriters handed version more told.Done new = new ≡ stage.Handing (handed_writers handed more) version
-HandsWriters handed version more (told.No NoMemory) new = new ≡ stage.Handing handed version
-HandsWriters handed version more answer new = ⊥
+abbrev pub HandsWriters : Handing → Opening → List (ℕ × TxnId) → Reply → Stage → Type 0
+HandsWriters handed opening more told.Done new = new ≡ stage.Handing (handed_writers handed more) opening
+HandsWriters handed opening more (told.No NoMemory) new = new ≡ stage.Handing handed opening
+HandsWriters handed opening more answer new = ⊥
 
 -- something of what remains is handed over
-abbrev pub HandsOffer : Handing → Version → Fragment → Reply → Stage → Type 0
-HandsOffer handed version fragment told.Done new = IsNextOffer handed fragment × (new ≡ stage.Handing (handed_offer handed fragment) version)
-HandsOffer handed version fragment (told.No refusal) new = IsHandRefusal handed fragment refusal × (new ≡ stage.Handing handed version)
-HandsOffer handed version fragment answer new = ⊥
+abbrev pub HandsOffer : Handing → Opening → Fragment → Reply → Stage → Type 0
+HandsOffer handed opening fragment told.Done new = IsNextOffer handed fragment × (new ≡ stage.Handing (handed_offer handed fragment) opening)
+HandsOffer handed opening fragment (told.No refusal) new = IsHandRefusal handed fragment refusal × (new ≡ stage.Handing handed opening)
+HandsOffer handed opening fragment answer new = ⊥
 
 -- the state of an engine that has these parts and nothing else, where this is the whole history
 abbrev pub state_over : Parts → History → State
@@ -217,23 +233,35 @@ state_over parts whole = record { engine = engine_over parts; whole = whole; ask
 abbrev pub HoldsAll : Parts → Type 0
 HoldsAll parts = (whole : History) → StandsFor parts whole → Holds (engine_over parts) (state_over parts whole)
 
+-- what is open for this then
+abbrev pub opened : Opening → AuditState → Stage
+opened (Ordered version) audit = stage.Open audit version
+opened Isolated audit = stage.Isolated audit
+
 -- The hand-over ends: the parts that were handed over are good, and the engine has these and nothing else.
-abbrev pub EndsHandOver : Handing → Version → Reply → Stage → Type 0
-EndsHandOver handed version told.Done new = AreGoodParts handed × (new ≡ stage.Open (unsearched (engine_over (handed_parts handed))) version) × HoldsAll (handed_parts handed)
-EndsHandOver handed version (told.No refusal) new = IsResumedRefusal handed refusal × (new ≡ stage.Handing handed version)
-EndsHandOver handed version answer new = ⊥
+abbrev pub EndsHandOver : Handing → Opening → Reply → Stage → Type 0
+EndsHandOver handed opening told.Done new = AreGoodParts handed × (new ≡ opened opening (unsearched (engine_over (handed_parts handed)))) × HoldsAll (handed_parts handed)
+EndsHandOver handed opening (told.No refusal) new = IsResumedRefusal handed refusal × (new ≡ stage.Handing handed opening)
+EndsHandOver handed opening answer new = ⊥
 
 -- The reply to a command, while parts are handed over. What remains is what transactions did: in either version none is told to have aborted.
-abbrev pub AnswersHanding : Handing → Version → Command → Reply → Stage → Type 0
-AnswersHanding handed version (Last more) answer new = HandsWriters handed version more answer new
-AnswersHanding handed version (Offer logged) answer new = IsTakenIn One logged (stage.Handing handed version) answer new (HandsOffer handed version logged.fragment answer new)
-AnswersHanding handed version Resumed answer new = EndsHandOver handed version answer new
-AnswersHanding handed version command answer new = BeginsAnew (stage.Handing handed version) command answer new
+abbrev pub TakesOver : Handing → Opening → Command → Reply → Stage → Type 0
+TakesOver handed opening (Last more) answer new = HandsWriters handed opening more answer new
+TakesOver handed opening (Offer logged) answer new = IsTakenIn One logged (stage.Handing handed opening) answer new (HandsOffer handed opening logged.fragment answer new)
+TakesOver handed opening Resumed answer new = EndsHandOver handed opening answer new
+TakesOver handed opening command answer new = BeginsAnew (stage.Handing handed opening) command answer new
+
+-- The same, where transactions are split: halves of what is handed over are, and what leaves no room for these is refused.
+abbrev pub AnswersHanding : Handing → Opening → Command → Reply → Stage → Type 0
+AnswersHanding handed (Ordered version) command answer new = TakesOver handed (Ordered version) command answer new
+AnswersHanding handed Isolated command answer new =
+    ((¬ CanBeHanded command) × (answer ≡ told.No BadParts) × (new ≡ stage.Handing handed Isolated))
+    ⊎ (CanBeHanded command × TakesOver handed Isolated (half_command handed.parts command) answer new)
 
 -- The reply to a command, and what it leads to. Once an engine is open, one stays open, for lines of the same version or of the same promise.
 abbrev pub Answers : Stage → Command → Reply → Stage → Type 0
 Answers stage.Nothing command answer new = BeginsAnew stage.Nothing command answer new
-Answers (stage.Resuming sessions limit version) command answer new = AnswersResuming sessions limit version command answer new
-Answers (stage.Handing handed version) command answer new = AnswersHanding handed version command answer new
+Answers (stage.Resuming sessions limit opening) command answer new = AnswersResuming sessions limit opening command answer new
+Answers (stage.Handing handed opening) command answer new = AnswersHanding handed opening command answer new
 Answers (stage.Open old version) command answer new = (audit : AuditState) × AnswersBeside version old command answer audit × (new ≡ stage.Open audit version)
 Answers (stage.Isolated old) command answer new = (audit : AuditState) × AnswersIsolated old command answer audit × (new ≡ stage.Isolated audit)

@@ -11,9 +11,11 @@ use Rattle.log_text.specs.declared.commands.Command.TheVariants.{Start, StartIso
 use Rattle.log_text.specs.declared.replies.Reply.{Reply}
 use Rattle.log_text.specs.declared.replies.Reply.TheVariants as told
 use Rattle.log_text.specs.Replies.{line_of}
+use Rattle.log_text.specs.declared.versions.Opening.TheVariants.{Ordered, Isolated}
 use Rattle.round_state.specs.Legal.{IsTrueOf}
 use Rattle.round_state.specs.Opening.{no_history}
 use Rattle.round_state.specs.Steps.{arrival_of}
+use Rattle.snapshot_histories.specs.Split.{split_history, HistoryCanBeSplit}
 use Rattle.snapshot_scripts.specs.Legal.{IsIsolationOf}
 use Rattle.cobra.specs.HandOver.{handed_parts}
 use Rattle.cobra.specs.Outputs.{Asks, IsOutputOf}
@@ -62,9 +64,11 @@ abbrev pub IsTrueTold : Option Accepted → Command → Reply → Type 0
 IsTrueTold None command answer = ⊤
 IsTrueTold (Some accepted) command answer = TellsTrueOf (reported_on accepted command) answer
 
--- Where a hand-over ends, the parts that were handed over stand for the whole history with which the script begins.
+-- Where a hand-over ends, the parts that were handed over stand for the whole history with which the script begins; or, where transactions are
+-- split, for the split one.
 abbrev pub BeginsWith : History → Stage → Command → Reply → Type 0
-BeginsWith whole (stage.Handing handed version) Resumed told.Done = StandsFor (handed_parts handed) whole
+BeginsWith whole (stage.Handing handed (Ordered version)) Resumed told.Done = StandsFor (handed_parts handed) whole
+BeginsWith whole (stage.Handing handed Isolated) Resumed told.Done = StandsFor (handed_parts handed) (split_history whole) × HistoryCanBeSplit whole
 BeginsWith whole old command answer = ⊤
 
 -- Line after line, from where the script stands and what was accepted by then: each line is answered as it may be, and each report is true of

@@ -92,7 +92,7 @@ impl Audit {
         self.engine.engine()
     }
 
-    /// A search is there only while a round is open. It does nothing: a caller learns it by it.
+    /// A search is there only while a round is open. It does nothing when it runs: a caller calls it for this contract.
     pub(crate) fn lasts(&self)
         ensures { self.now.search ≡ search_after self.now.search self.now.engine.asked }
     {

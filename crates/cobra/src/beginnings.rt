@@ -1,18 +1,21 @@
 //! How a script begins, or one that was saved is handed over.
-ghost use Rattle.std.specs.Prelude.{◌≡◌};
-ghost use Rattle.cobra.specs.Scripts.{IsTakenIn, Opens, OpensIsolated, Resumes, AnswersFirst, BeginsAnew, AnswersResuming, AnswersHanding, HandsMarks, HandsWriters, HandsOffer, EndsHandOver};
+ghost use Rattle.std.specs.Prelude.{◌≡◌, IfOk};
+ghost use Rattle.cobra.specs.Scripts.{IsTakenIn, Opens, OpensIsolated, Resumes, AnswersFirst, BeginsAnew, AnswersResuming, AnswersHanding, HandsMarks, HandsWriters, HandsOffer, EndsHandOver, TakesHalves, TakesMarks, TakesOver, opened};
 ghost use Rattle.cobra.specs.declared.stages.Stage.{Stage};
+ghost use Rattle.log_text.specs.declared.commands.Command.{Command};
+ghost use Rattle.log_text.specs.declared.versions.Opening.{Opening};
 ghost use Rattle.log_text.specs.declared.versions.Version.{Version};
 
 use crate::audits::Audit;
 use crate::handing::Handing;
 use crate::open_engine::OpenEngine;
 use crate::stages::Stage;
-use log_text::{Command, Reply, Version};
+use log_text::{Command, Opening, Reply, Version};
 use logged_fragments::LoggedFragment;
 use round_state::{is_limit, is_sessions};
+use snapshot_scripts::{half_command, half_marks, have_halves};
 use std::alloc::Global;
-use txn::{Fragment, Refusal, Sequence, TxnId};
+use txn::{Fragment, NoMemory, Refusal, Sequence, TxnId};
 
 /// How many transactions may be let remain where each is split.
 const ISOLATED_LIMIT: u64 = 2048;
@@ -48,8 +51,8 @@ fn open_isolated(alloc: Global, sessions: u64, limit: u64) -> (Reply, Option<Sta
     }
 }
 
-fn begin_hand_over(sessions: u64, limit: u64, version: Version) -> (Reply, Option<Stage>)
-    ensures { Resumes sessions limit version result.0 result.1 }
+fn begin_ordered(sessions: u64, limit: u64, version: Version) -> (Reply, Option<Stage>)
+    ensures { Resumes sessions limit (Opening.Ordered version) result.0 result.1 }
 {
     if !is_sessions(sessions) {
         return (Reply::No(Refusal::BadSession), None);
@@ -60,9 +63,36 @@ fn begin_hand_over(sessions: u64, limit: u64, version: Version) -> (Reply, Optio
     let begun = Stage::Resuming {
         sessions,
         limit,
-        version,
+        opening: Opening::Ordered(version),
     };
     (Reply::Done, Some(begun))
+}
+
+/// Of parts with room for two of each transaction.
+fn begin_isolated(sessions: u64, limit: u64) -> (Reply, Option<Stage>)
+    ensures { Resumes sessions limit Opening.Isolated result.0 result.1 }
+{
+    if !is_sessions(sessions) {
+        return (Reply::No(Refusal::BadSession), None);
+    }
+    if limit < 1 || limit > ISOLATED_LIMIT {
+        return (Reply::No(Refusal::TooLong), None);
+    }
+    let begun = Stage::Resuming {
+        sessions,
+        limit: 2 * limit,
+        opening: Opening::Isolated,
+    };
+    (Reply::Done, Some(begun))
+}
+
+fn begin_hand_over(sessions: u64, limit: u64, opening: Opening) -> (Reply, Option<Stage>)
+    ensures { Resumes sessions limit opening result.0 result.1 }
+{
+    match opening {
+        Opening::Ordered(version) => begin_ordered(sessions, limit, version),
+        Opening::Isolated => begin_isolated(sessions, limit),
+    }
 }
 
 /// The reply where no engine is open, and the stage that begins, where one does.
@@ -79,8 +109,8 @@ fn answer_first(alloc: Global, command: Command) -> (Reply, Option<Stage>)
         Command::Resume {
             sessions,
             limit,
-            version,
-        } => begin_hand_over(sessions, limit, version),
+            opening,
+        } => begin_hand_over(sessions, limit, opening),
         _ => (Reply::No(Refusal::BadLine), None),
     }
 }
@@ -101,10 +131,10 @@ fn leave_resuming(
     alloc: Global,
     sessions: u64,
     limit: u64,
-    version: Version,
+    opening: Opening,
     command: Command,
 ) -> (Reply, Stage)
-    ensures { BeginsAnew (Stage.Resuming sessions limit version) command result.0 result.1 }
+    ensures { BeginsAnew (Stage.Resuming sessions limit opening) command result.0 result.1 }
 {
     let (reply, begun) = answer_first(alloc, command);
     match begun {
@@ -113,7 +143,7 @@ fn leave_resuming(
             let stage = Stage::Resuming {
                 sessions,
                 limit,
-                version,
+                opening,
             };
             (reply, stage)
         }
@@ -123,15 +153,15 @@ fn leave_resuming(
 fn leave_handing(
     alloc: Global,
     handed: Handing,
-    version: Version,
+    opening: Opening,
     command: Command,
 ) -> (Reply, Stage)
-    ensures { BeginsAnew (Stage.Handing handed version) command result.0 result.1 }
+    ensures { BeginsAnew (Stage.Handing handed opening) command result.0 result.1 }
 {
     let (reply, begun) = answer_first(alloc, command);
     match begun {
         Some(stage) => (reply, stage),
-        None => (reply, Stage::Handing { handed, version }),
+        None => (reply, Stage::Handing { handed, opening }),
     }
 }
 
@@ -139,22 +169,87 @@ fn hand_marks(
     alloc: Global,
     sessions: u64,
     limit: u64,
-    version: Version,
+    opening: Opening,
     marks: Sequence<u64>,
     closed: Sequence<bool>,
 ) -> (Reply, Stage)
-    ensures { HandsMarks sessions limit version marks closed result.0 result.1 }
+    ensures { HandsMarks sessions limit opening marks closed result.0 result.1 }
 {
     match Handing::new(alloc, sessions, limit, marks, closed) {
-        Ok(handed) => (Reply::Done, Stage::Handing { handed, version }),
+        Ok(handed) => (Reply::Done, Stage::Handing { handed, opening }),
         Err(refusal) => {
             let stage = Stage::Resuming {
                 sessions,
                 limit,
-                version,
+                opening,
             };
             (Reply::No(refusal), stage)
         }
+    }
+}
+
+fn take_marks(
+    alloc: Global,
+    sessions: u64,
+    limit: u64,
+    opening: Opening,
+    command: Command,
+) -> (Reply, Stage)
+    ensures { TakesMarks sessions limit opening command result.0 result.1 }
+{
+    match command {
+        Command::Marks { marks, closed } => {
+            hand_marks(alloc, sessions, limit, opening, marks, closed)
+        }
+        _ => leave_resuming(alloc, sessions, limit, opening, command),
+    }
+}
+
+/// Takes marks of transactions that are split.
+fn hand_halves(
+    alloc: Global,
+    sessions: u64,
+    limit: u64,
+    marks: &[u64],
+    closed: Sequence<bool>,
+    begun: &[bool],
+) -> Result<(Reply, Stage), NoMemory>
+    ensures { IfOk result (λ answered. TakesHalves sessions limit (Command.MarksBegun marks.now closed begun.now) answered.0 answered.1) }
+{
+    if !have_halves(marks, begun) {
+        let stage = Stage::Resuming {
+            sessions,
+            limit,
+            opening: Opening::Isolated,
+        };
+        return Ok((Reply::No(Refusal::BadParts), stage));
+    }
+    let halves = half_marks(alloc, marks, begun)?;
+    Ok(hand_marks(alloc, sessions, limit, Opening::Isolated, halves, closed))
+}
+
+fn take_halves(
+    alloc: Global,
+    sessions: u64,
+    limit: u64,
+    command: Command,
+) -> Result<(Reply, Stage), NoMemory>
+    ensures { IfOk result (λ answered. TakesHalves sessions limit command answered.0 answered.1) }
+{
+    match command {
+        Command::MarksBegun {
+            marks,
+            closed,
+            begun,
+        } => hand_halves(
+            alloc,
+            sessions,
+            limit,
+            marks.as_slice(),
+            closed,
+            begun.as_slice(),
+        ),
+        _ => Ok(leave_resuming(alloc, sessions, limit, Opening::Isolated, command)),
     }
 }
 
@@ -162,81 +257,107 @@ pub(crate) fn answer_resuming(
     alloc: Global,
     sessions: u64,
     limit: u64,
-    version: Version,
+    opening: Opening,
     command: Command,
-) -> (Reply, Stage)
-    ensures { AnswersResuming sessions limit version command result.0 result.1 }
+) -> Result<(Reply, Stage), NoMemory>
+    ensures { IfOk result (λ answered. AnswersResuming sessions limit opening command answered.0 answered.1) }
 {
-    match command {
-        Command::Marks { marks, closed } => {
-            hand_marks(alloc, sessions, limit, version, marks, closed)
-        }
-        _ => leave_resuming(alloc, sessions, limit, version, command),
+    match opening {
+        Opening::Ordered(_) => Ok(take_marks(alloc, sessions, limit, opening, command)),
+        Opening::Isolated => take_halves(alloc, sessions, limit, command),
     }
 }
 
-fn hand_writers(handed: Handing, version: Version, more: Sequence<(u64, TxnId)>) -> (Reply, Stage)
-    ensures { HandsWriters handed version more result.0 result.1 }
+fn hand_writers(handed: Handing, opening: Opening, more: Sequence<(u64, TxnId)>) -> (Reply, Stage)
+    ensures { HandsWriters handed opening more result.0 result.1 }
 {
     let mut handed = handed;
     match handed.take_writers(more) {
-        Ok(()) => (Reply::Done, Stage::Handing { handed, version }),
+        Ok(()) => (Reply::Done, Stage::Handing { handed, opening }),
         Err(_) => {
             let refused = Reply::No(Refusal::NoMemory);
-            (refused, Stage::Handing { handed, version })
+            (refused, Stage::Handing { handed, opening })
         }
     }
 }
 
-fn hand_fragment(handed: Handing, version: Version, fragment: Fragment) -> (Reply, Stage)
-    ensures { HandsOffer handed version fragment result.0 result.1 }
+fn hand_fragment(handed: Handing, opening: Opening, fragment: Fragment) -> (Reply, Stage)
+    ensures { HandsOffer handed opening fragment result.0 result.1 }
 {
     let mut handed = handed;
     match handed.take_offer(fragment) {
-        Ok(()) => (Reply::Done, Stage::Handing { handed, version }),
-        Err(refusal) => (Reply::No(refusal), Stage::Handing { handed, version }),
+        Ok(()) => (Reply::Done, Stage::Handing { handed, opening }),
+        Err(refusal) => (Reply::No(refusal), Stage::Handing { handed, opening }),
     }
 }
 
 /// What is handed over is what transactions did, in either version: none is told to have aborted.
-fn hand_offer(handed: Handing, version: Version, logged: LoggedFragment) -> (Reply, Stage)
-    ensures { IsTakenIn Version.One logged (Stage.Handing handed version) result.0 result.1 (HandsOffer handed version logged.fragment result.0 result.1) }
+fn hand_offer(handed: Handing, opening: Opening, logged: LoggedFragment) -> (Reply, Stage)
+    ensures { IsTakenIn Version.One logged (Stage.Handing handed opening) result.0 result.1 (HandsOffer handed opening logged.fragment result.0 result.1) }
 {
     if !Version::One.has_form(&logged) {
         let refused = Reply::No(Refusal::BadLine);
-        return (refused, Stage::Handing { handed, version });
+        return (refused, Stage::Handing { handed, opening });
     }
     let LoggedFragment {
         fragment,
         aborted: _,
     } = logged;
-    hand_fragment(handed, version, fragment)
+    hand_fragment(handed, opening, fragment)
 }
 
-fn end_hand_over(alloc: Global, handed: Handing, version: Version) -> (Reply, Stage)
-    ensures { EndsHandOver handed version result.0 result.1 }
+fn opened(opening: Opening, audit: Audit) -> Stage
+    ensures { result ≡ opened opening audit }
+{
+    match opening {
+        Opening::Ordered(version) => Stage::Open { audit, version },
+        Opening::Isolated => Stage::Isolated { audit },
+    }
+}
+
+fn end_hand_over(alloc: Global, handed: Handing, opening: Opening) -> (Reply, Stage)
+    ensures { EndsHandOver handed opening result.0 result.1 }
 {
     match handed.resume(alloc) {
         Ok(engine) => {
             let audit = Audit::new(engine);
-            (Reply::Done, Stage::Open { audit, version })
+            (Reply::Done, opened(opening, audit))
         }
-        Err((handed, refusal)) => (Reply::No(refusal), Stage::Handing { handed, version }),
+        Err((handed, refusal)) => (Reply::No(refusal), Stage::Handing { handed, opening }),
     }
 }
 
+fn take_over(alloc: Global, handed: Handing, opening: Opening, command: Command) -> (Reply, Stage)
+    ensures { TakesOver handed opening command result.0 result.1 }
+{
+    match command {
+        Command::Last(more) => hand_writers(handed, opening, more),
+        Command::Offer(logged) => hand_offer(handed, opening, logged),
+        Command::Resumed => end_hand_over(alloc, handed, opening),
+        _ => leave_handing(alloc, handed, opening, command),
+    }
+}
+
+/// The reply to a command while parts are handed over, of split transactions by halves.
 pub(crate) fn answer_handing(
     alloc: Global,
     handed: Handing,
-    version: Version,
+    opening: Opening,
     command: Command,
-) -> (Reply, Stage)
-    ensures { AnswersHanding handed version command result.0 result.1 }
+) -> Result<(Reply, Stage), NoMemory>
+    ensures { IfOk result (λ answered. AnswersHanding handed opening command answered.0 answered.1) }
 {
-    match command {
-        Command::Last(more) => hand_writers(handed, version, more),
-        Command::Offer(logged) => hand_offer(handed, version, logged),
-        Command::Resumed => end_hand_over(alloc, handed, version),
-        _ => leave_handing(alloc, handed, version, command),
+    match opening {
+        Opening::Ordered(_) => Ok(take_over(alloc, handed, opening, command)),
+        Opening::Isolated => match half_command(alloc, &handed.parts, command)? {
+            Ok(half) => Ok(take_over(alloc, handed, Opening::Isolated, half)),
+            Err(refusal) => {
+                let stage = Stage::Handing {
+                    handed,
+                    opening: Opening::Isolated,
+                };
+                Ok((Reply::No(refusal), stage))
+            }
+        },
     }
 }

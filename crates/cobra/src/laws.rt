@@ -1,8 +1,9 @@
-//! A law of scripts. The function does nothing.
+//! Laws of scripts. The functions do nothing.
+ghost use Rattle.cobra.specs.SplitStages.{IsolatedStays};
 ghost use Rattle.cobra.specs.TrueReports.{EachReportIsTrue};
 
 use snapshot_histories::{split_doubles_counts, split_keeps_verdict};
-use snapshot_scripts::{fresh_engines_are_split, split_steps_are_legal};
+use snapshot_scripts::{fresh_engines_are_split, split_engines_stay, split_steps_are_legal};
 
 /// Whatever `serve` may leave, each report in it is true of everything that the script's lines had offered and that was answered ok before
 /// the report's round began.
@@ -10,7 +11,15 @@ pub fn each_report_is_true()
     ensures { EachReportIsTrue }
 {
     split_steps_are_legal();
+    // Laws that the proof cites. They do nothing when they run.
     fresh_engines_are_split();
     split_keeps_verdict();
     split_doubles_counts();
+}
+
+/// A script that asks for snapshot isolation keeps parts of split transactions.
+pub fn isolated_stays()
+    ensures { IsolatedStays }
+{
+    split_engines_stay();
 }

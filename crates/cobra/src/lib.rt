@@ -6,6 +6,7 @@ mod beginnings;
 mod handing;
 mod last_told;
 mod laws;
+mod means;
 mod open_engine;
 mod programs;
 mod replies;
@@ -18,14 +19,15 @@ mod showing;
 mod stages;
 
 pub use byte_lines::{
-    ByteSink, ByteSource, DeviceFault, Failure, LONGEST_LINE, LineReader, MemorySink, MemorySource,
-    Next, Pace, ReaderSource, StandardInput, StandardOutput, WriterSink, write_all,
+    ByteSink, ByteSource, DeviceFault, Exit, Failure, LONGEST_LINE, LineReader, MemorySink,
+    MemorySource, Next, Pace, ReaderSource, StandardInput, StandardOutput, WriterSink, write_all,
 };
 pub use handing::Handing;
-pub use laws::each_report_is_true;
-pub use programs::{Asked, Exit, asked_of, exit_of};
+pub use laws::{each_report_is_true, isolated_stays};
+pub use means::Means;
+pub use programs::{Asked, asked_in, asked_of, exit_of, tell};
 pub use replies::{certificate_of, cut_of, reply_of, report_of};
-pub use saving::{given_out_is_taken, saved_told};
+pub use saving::{given_out_is_taken, isolated_out_is_taken, saved_told};
 pub use script_searches::Solvers;
 pub use scripts::command_in;
 pub use serving::serve;

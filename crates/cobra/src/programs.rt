@@ -1,7 +1,14 @@
-ghost use Rattle.std.specs.Prelude.{◌≡◌, Some, None, codes, map, option_map, string_bytes, OnOk, OnErr, IsErrOf};
+ghost use Rattle.std.specs.Prelude.{◌≡◌, ◌≢◌, ◌+◌, Ok, Err, Some, None, codes, map, option_map, string_bytes, IfOk, IfErr, OnOk, OnErr, IsErrOf};
+ghost use Rattle.std.specs.Io.KnownBytes.{Appends};
+ghost use Rattle.std.specs.IoError.{error_kind};
+ghost use Rattle.std.specs.Vec.Iter.{into_iter_items};
 ghost use Rattle.cobra.specs.Programs.{asked_by, asked_by_word};
 
-use byte_lines::Failure;
+use byte_lines::{ByteSink, Exit, Failure, write_all};
+use std::alloc::Global;
+use std::env::Args;
+use std::io;
+use std::io::ErrorKind;
 
 /// What the arguments of a program ask for.
 #[derive(Clone, Copy, Debug, PartialEq, Eq)]
@@ -37,11 +44,30 @@ pub fn asked_of(args: &[String]) -> Asked
     }
 }
 
-/// How a program ends: its exit status, and what it says on standard error, if anything.
-#[derive(Clone, Copy, Debug, PartialEq, Eq)]
-pub struct Exit {
-    pub status: u8,
-    pub words: Option<&'static str>,
+/// What the arguments ask for, as they were read. One that isn't UTF-8 is unknown.
+pub fn asked_in(alloc: Global, given: io::Result<Args>) -> Result<Asked, Failure>
+    ensures words { IfOk given (λ args. IfOk result (λ asked. asked ≡ asked_by (map string_bytes (into_iter_items args)))) }
+    ensures unknown { IfErr given (λ error. error_kind error ≡ ErrorKind.InvalidData → result ≡ Ok Asked.Unknown) }
+    ensures failed { IfErr given (λ error. error_kind error ≢ ErrorKind.InvalidData → result ≡ Err Failure.NoMemory) }
+    ensures memory { IfErr result (λ failure. failure ≡ Failure.NoMemory) }
+{
+    match given {
+        Ok(args) => {
+            let args: Vec<String> = args.collect(alloc)?;
+            Ok(asked_of(&args))
+        }
+        Err(error) if error.kind() == ErrorKind::InvalidData => Ok(Asked::Unknown),
+        Err(_) => Err(Failure::NoMemory),
+    }
+}
+
+/// Writes the whole text.
+pub fn tell<W: ByteSink>(sink: &mut W, text: &str) -> Result<(), Failure>
+    ensures written { OnOk result (Appends (W.contents sink.old) (W.contents sink.new) text.now) }
+    ensures failed { IfErr result (λ failure. (failure ≡ Failure.Device) × (W.faults sink.new ≡ W.faults sink.old + 1)) }
+{
+    write_all(sink, text.as_bytes())?;
+    Ok(())
 }
 
 pub fn exit_of(end: Result<(), Failure>) -> Exit

@@ -1,13 +1,14 @@
 //! What is given out of the parts of an engine.
-ghost use Rattle.std.specs.Prelude.{◌≡◌, ◌-◌, ◌≤◌, length, take, drop, nat_lt, IfOk};
+ghost use Rattle.std.specs.Prelude.{◌≡◌, ◌-◌, take, IfOk};
 ghost use Rattle.order_check.specs.Based.{mark_of, remaining_of, received_count};
 ghost use Rattle.order_check.specs.Good.{IsGood};
-ghost use Rattle.cobra.specs.Checkpoints.{GivenOutIsTaken};
+ghost use Rattle.cobra.specs.Checkpoints.{GivenOutIsTaken, IsolatedOutIsTaken};
 ghost use Rattle.cobra.specs.Saving.{writers_from, first_told, fragment_told, saved_told};
 
 use log_text::{Reply, Saved, Wanted};
 use order_check::Parts;
 use round_state::Engine;
+use snapshot_scripts::given_is_taken;
 use std::alloc::Global;
 use txn::{Fragment, NoMemory, Refusal, Sequence, Txn, TxnId};
 
@@ -17,30 +18,10 @@ const MOST_WRITERS: usize = 16_384;
 /// How many transactions are told at a time.
 const MOST_TXNS: usize = 256;
 
-/// Whether the entry's key is below this one.
-fn is_before(entry: (u64, TxnId), key: u64) -> bool
-    ensures { result ≡ nat_lt entry.0 key }
-{
-    entry.0 < key
-}
-
 fn writers_told(alloc: Global, parts: &Parts, key: u64) -> Result<Sequence<(u64, TxnId)>, NoMemory>
     ensures { IfOk result (λ writers. writers ≡ take 16384 (writers_from parts.now key)) }
 {
-    let entries = parts.base.last.entries(alloc)?;
-    let all = entries.as_slice();
-    let mut writers = Vec::new(alloc);
-    for place in 0..all.len() {
-        let entry = all[place];
-        if is_before(entry, key) {
-            continue;
-        }
-        if writers.len() >= MOST_WRITERS {
-            continue;
-        }
-        writers.push(entry)?;
-    }
-    Ok(Sequence::new(writers))
+    parts.base.last.entries_from(alloc, key, MOST_WRITERS)
 }
 
 fn first_told(parts: &Parts, session: u8, number: u64) -> u64
@@ -124,3 +105,10 @@ pub fn saved_told(alloc: Global, engine: &Engine, wanted: Wanted) -> Result<Repl
 pub fn given_out_is_taken()
     ensures { GivenOutIsTaken }
 {}
+
+/// The same of parts whose transactions are split, by transactions as they were offered.
+pub fn isolated_out_is_taken()
+    ensures { IsolatedOutIsTaken }
+{
+    given_is_taken();
+}

@@ -5,17 +5,18 @@ ghost use Rattle.order_check.specs.Effort.{IsEffort};
 ghost use Rattle.round_state.specs.Runs as runs;
 ghost use Rattle.cobra.specs.Held.{AsksWithin, HasAtMost, IsLight};
 ghost use Rattle.cobra.specs.Outputs.{Asks, IsTold, AnswersNext, RepliesTo};
-ghost use Rattle.cobra.specs.Scripts.{IsStep, IsTakenIn, AnswersOpen, AnswersBeside, AnswersIsolated, FinishesAlone, IsRound, Answers, search_after};
+ghost use Rattle.cobra.specs.Scripts.{IsStep, AnswersOpen, AnswersBeside, AnswersIsolated, FinishesAlone, Answers, search_after};
 ghost use Rattle.cobra.specs.declared.stages.Stage.{Stage};
 
 use crate::audits::Audit;
 use crate::beginnings::{answer_handing, answer_resuming, begin};
+use crate::means::Means;
 use crate::replies::{certificate_of, reply_of};
 use crate::saving::saved_told;
 use crate::showing::state_told;
 use crate::stages::Stage;
 use byte_lines::Next;
-use log_text::{Command, Reply, Version, read_line_within, write_reply};
+use log_text::{Command, Reply, Search, Version, read_line_within, write_reply};
 use logged_fragments::LoggedFragment;
 use polygraph::{PlainSolver, Solver};
 use round_state::Step;
@@ -23,7 +24,7 @@ use script_searches::{Effort, Solvers};
 use snapshot_scripts::{isolated_of, split_command};
 use std::alloc::{AllocError, Global};
 use std::mem;
-use std::thread::{Scope, Threads};
+use std::thread::Threads;
 use txn::{NoMemory, Refusal};
 
 /// A script under way.
@@ -42,6 +43,7 @@ fn answer_offer<R: Threads>(
 ) -> Result<Reply, NoMemory>
     ensures { IfOk result (λ answer. AnswersBeside version audit.old (Command.Offer logged) answer audit.new) }
 {
+    // For the proof alone: a search that was begun is of the open round.
     audit.lasts();
     if version.has_form(&logged) {
         let said = audit.step(rt, alloc, Step::Offer(logged));
@@ -61,6 +63,7 @@ fn answer_join<R: Threads>(
 ) -> Result<Reply, NoMemory>
     ensures { IfOk result (λ answer. AnswersBeside version audit.old (Command.Join logged) answer audit.new) }
 {
+    // For the proof alone: a search that was begun is of the open round.
     audit.lasts();
     if version.has_form(&logged) {
         let said = audit.step(rt, alloc, Step::Join(logged));
@@ -84,6 +87,17 @@ fn answer_step<R: Threads>(
     reply_of(alloc, said)
 }
 
+fn effort_of(budget: u64, depth: u64, workers: u64, search: Search) -> Effort
+    ensures { result ≡ record { budget = budget; depth = depth; workers = workers; search = search } }
+{
+    Effort {
+        budget,
+        depth,
+        workers,
+        search,
+    }
+}
+
 /// Finishes the open round by a search in place, unless one was begun beside it.
 fn answer_finish<P: PlainSolver, S: Solver>(
     audit: &mut Audit,
@@ -105,38 +119,36 @@ fn answer_finish<P: PlainSolver, S: Solver>(
 }
 
 /// Makes a round.
-fn answer_round<R: Threads, P: PlainSolver, S: Solver>(
+fn answer_round<E, R: Threads, P: PlainSolver, S: Solver>(
     audit: &mut Audit,
-    rt: &R,
-    alloc: Global,
+    means: &Means<'_, '_, E, R, P, S>,
     version: Version,
     effort: Effort,
-    solvers: &Solvers<P, S>,
 ) -> Result<Reply, NoMemory>
     requires plain { P.ready }
     requires guided { S.ready }
     requires effort { IsEffort effort.budget effort.depth effort.workers }
     ensures { IfOk result (λ answer. AnswersOpen version audit.old.engine (Command.Round effort.budget effort.depth effort.workers effort.search) answer audit.new.engine × (audit.new.search ≡ search_after audit.old.search audit.new.engine.asked)) }
 {
-    let said = audit.round(rt, alloc, effort, solvers);
-    reply_of(alloc, said)
+    let said = audit.round(means.rt, means.alloc, effort, means.solvers);
+    reply_of(means.alloc, said)
 }
 
 fn answer_open<'s, E, R: Threads, P: PlainSolver + Sync, S: Solver + Sync>(
     audit: &mut Audit,
-    scope: &Scope<'s, E>,
-    rt: &R,
-    alloc: Global,
+    means: &Means<'_, 's, E, R, P, S>,
     version: Version,
     command: Command,
-    solvers: &'s Solvers<P, S>,
 ) -> Result<Reply, NoMemory>
     requires plain { P.ready }
     requires guided { S.ready }
     requires limits { HasLimits command }
     ensures { IfOk result (λ answer. AnswersBeside version audit.old command answer audit.new) }
 {
+    // For the proof alone: a search that was begun is of the open round.
     audit.lasts();
+    let rt = means.rt;
+    let alloc = means.alloc;
     match command {
         Command::Offer(logged) => answer_offer(audit, rt, alloc, version, logged),
         Command::Join(logged) => answer_join(audit, rt, alloc, version, logged),
@@ -148,13 +160,8 @@ fn answer_open<'s, E, R: Threads, P: PlainSolver + Sync, S: Solver + Sync>(
             workers,
             search,
         } => {
-            let effort = Effort {
-                budget,
-                depth,
-                workers,
-                search,
-            };
-            answer_finish(audit, alloc, version, effort, solvers)
+            let effort = effort_of(budget, depth, workers, search);
+            answer_finish(audit, alloc, version, effort, means.solvers)
         }
         Command::Round {
             budget,
@@ -162,13 +169,8 @@ fn answer_open<'s, E, R: Threads, P: PlainSolver + Sync, S: Solver + Sync>(
             workers,
             search,
         } => {
-            let effort = Effort {
-                budget,
-                depth,
-                workers,
-                search,
-            };
-            answer_round(audit, rt, alloc, version, effort, solvers)
+            let effort = effort_of(budget, depth, workers, search);
+            answer_round(audit, means, version, effort)
         }
         Command::BeginSearch {
             budget,
@@ -176,13 +178,8 @@ fn answer_open<'s, E, R: Threads, P: PlainSolver + Sync, S: Solver + Sync>(
             workers,
             search,
         } => {
-            let effort = Effort {
-                budget,
-                depth,
-                workers,
-                search,
-            };
-            Ok(audit.begin_search(scope, alloc, effort, solvers))
+            let effort = effort_of(budget, depth, workers, search);
+            Ok(audit.begin_search(means.scope, alloc, effort, means.solvers))
         }
         Command::Collect { waits } => audit.collect(rt, alloc, waits),
         Command::Skip => audit.skip(rt, alloc),
@@ -197,6 +194,7 @@ fn answer_open<'s, E, R: Threads, P: PlainSolver + Sync, S: Solver + Sync>(
         | Command::StartIsolated { .. }
         | Command::Resume { .. }
         | Command::Marks { .. }
+        | Command::MarksBegun { .. }
         | Command::Last(_)
         | Command::Resumed => Ok(Reply::No(Refusal::BadLine)),
     }
@@ -205,21 +203,18 @@ fn answer_open<'s, E, R: Threads, P: PlainSolver + Sync, S: Solver + Sync>(
 /// The reply to a command of a script that asks for snapshot isolation.
 fn answer_isolated<'s, E, R: Threads, P: PlainSolver + Sync, S: Solver + Sync>(
     audit: &mut Audit,
-    scope: &Scope<'s, E>,
-    rt: &R,
-    alloc: Global,
+    means: &Means<'_, 's, E, R, P, S>,
     command: Command,
-    solvers: &'s Solvers<P, S>,
 ) -> Result<Reply, NoMemory>
     requires plain { P.ready }
     requires guided { S.ready }
     requires limits { HasLimits command }
     ensures { IfOk result (λ answer. AnswersIsolated audit.old command answer audit.new) }
 {
-    match split_command(alloc, command)? {
+    match split_command(means.alloc, command)? {
         Ok(split) => {
-            let reply = answer_open(audit, scope, rt, alloc, Version::Two, split, solvers)?;
-            isolated_of(alloc, reply)
+            let reply = answer_open(audit, means, Version::Two, split)?;
+            isolated_of(means.alloc, reply)
         }
         Err(refusal) => Ok(Reply::No(refusal)),
     }
@@ -227,36 +222,32 @@ fn answer_isolated<'s, E, R: Threads, P: PlainSolver + Sync, S: Solver + Sync>(
 
 /// The reply to a command, and how far the script is then.
 fn answered<'s, E, R: Threads, P: PlainSolver + Sync, S: Solver + Sync>(
-    scope: &Scope<'s, E>,
-    rt: &R,
-    alloc: Global,
+    means: &Means<'_, 's, E, R, P, S>,
     stage: Stage,
     command: Command,
-    solvers: &'s Solvers<P, S>,
 ) -> Result<(Reply, Stage), NoMemory>
     requires plain { P.ready }
     requires guided { S.ready }
     requires limits { HasLimits command }
     ensures { IfOk result (λ answered. Answers stage command answered.0 answered.1) }
 {
+    let alloc = means.alloc;
     match stage {
         Stage::Nothing => Ok(begin(alloc, command)),
         Stage::Resuming {
             sessions,
             limit,
-            version,
-        } => Ok(answer_resuming(alloc, sessions, limit, version, command)),
-        Stage::Handing { handed, version } => {
-            Ok(answer_handing(alloc, handed, version, command))
-        }
+            opening,
+        } => answer_resuming(alloc, sessions, limit, opening, command),
+        Stage::Handing { handed, opening } => answer_handing(alloc, handed, opening, command),
         Stage::Open { audit, version } => {
             let mut audit = audit;
-            let reply = answer_open(&mut audit, scope, rt, alloc, version, command, solvers)?;
+            let reply = answer_open(&mut audit, means, version, command)?;
             Ok((reply, Stage::Open { audit, version }))
         }
         Stage::Isolated { audit } => {
             let mut audit = audit;
-            let reply = answer_isolated(&mut audit, scope, rt, alloc, command, solvers)?;
+            let reply = answer_isolated(&mut audit, means, command)?;
             Ok((reply, Stage::Isolated { audit }))
         }
     }
@@ -306,11 +297,8 @@ impl Script {
 
     fn answer<'s, E, R: Threads, P: PlainSolver + Sync, S: Solver + Sync>(
         &mut self,
-        scope: &Scope<'s, E>,
-        rt: &R,
-        alloc: Global,
+        means: &Means<'_, 's, E, R, P, S>,
         command: Command,
-        solvers: &'s Solvers<P, S>,
     ) -> Result<Reply, NoMemory>
         requires plain { P.ready }
         requires guided { S.ready }
@@ -319,18 +307,15 @@ impl Script {
         ensures { IfOk result (λ answer. Answers self.old.stage command answer self.new.stage) }
     {
         let stage = mem::replace(&mut self.stage, Stage::Nothing);
-        let (reply, stage) = answered(scope, rt, alloc, stage, command, solvers)?;
+        let (reply, stage) = answered(means, stage, command)?;
         self.stage = stage;
         Ok(reply)
     }
 
     fn answer_next<'s, E, R: Threads, P: PlainSolver + Sync, S: Solver + Sync>(
         &mut self,
-        scope: &Scope<'s, E>,
-        rt: &R,
-        alloc: Global,
+        means: &Means<'_, 's, E, R, P, S>,
         next: &Next,
-        solvers: &'s Solvers<P, S>,
     ) -> Result<Reply, NoMemory>
         requires plain { P.ready }
         requires guided { S.ready }
@@ -338,8 +323,8 @@ impl Script {
         ensures kind { IfOk result HasKindOfOrder }
     {
         let most = self.stage.most_held();
-        match command_within(alloc, next, most)? {
-            Some(command) => self.answer(scope, rt, alloc, command, solvers),
+        match command_within(means.alloc, next, most)? {
+            Some(command) => self.answer(means, command),
             None => Ok(Reply::No(Refusal::BadLine)),
         }
     }
@@ -347,17 +332,14 @@ impl Script {
     /// The line of the reply to what was read.
     pub(crate) fn answer_line<'s, E, R: Threads, P: PlainSolver + Sync, S: Solver + Sync>(
         &mut self,
-        scope: &Scope<'s, E>,
-        rt: &R,
-        alloc: Global,
+        means: &Means<'_, 's, E, R, P, S>,
         next: &Next,
-        solvers: &'s Solvers<P, S>,
     ) -> Result<Vec<u8>, NoMemory>
         requires plain { P.ready }
         requires guided { S.ready }
         ensures { IfOk result (λ text. RepliesTo self.old.stage next.now text.items self.new.stage) }
     {
-        let answer = self.answer_next(scope, rt, alloc, next, solvers)?;
-        write_reply(alloc, &answer)
+        let answer = self.answer_next(means, next)?;
+        write_reply(means.alloc, &answer)
     }
 }

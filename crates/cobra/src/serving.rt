@@ -3,22 +3,18 @@ ghost use Rattle.std.specs.Io.KnownBytes.{Appends, Keeps};
 ghost use Rattle.cobra.specs.Outputs.{IsOutput, StopsForMemory, StopsReading, StopsWriting, RepliesTo};
 ghost use Rattle.cobra.specs.declared.stages.Stage.{Stage};
 
+use crate::means::Means;
 use crate::scripts::Script;
 use byte_lines::{ByteSink, ByteSource, Failure, LONGEST_LINE, LineReader, Next, write_all};
 use polygraph::{PlainSolver, Solver};
-use script_searches::Solvers;
-use std::alloc::Global;
-use std::thread::{Scope, Threads};
+use std::thread::Threads;
 
 /// Writes the reply to what was read.
 fn reply_to<'s, E, T: Threads, W: ByteSink, P: PlainSolver + Sync, S: Solver + Sync>(
-    scope: &Scope<'s, E>,
-    rt: &T,
-    alloc: Global,
+    means: &Means<'_, 's, E, T, P, S>,
     script: &mut Script,
     next: &Next,
     sink: &mut W,
-    solvers: &'s Solvers<P, S>,
 ) -> Result<(), Failure>
     requires plain { P.ready }
     requires guided { S.ready }
@@ -32,7 +28,7 @@ fn reply_to<'s, E, T: Threads, W: ByteSink, P: PlainSolver + Sync, S: Solver + S
     ensures unwritten { IsErrOf result Failure.NoMemory → Keeps (W.contents sink.old) (W.contents sink.new) }
     ensures unfailed { IsErrOf result Failure.NoMemory → W.faults sink.new ≡ W.faults sink.old }
 {
-    let text = script.answer_line(scope, rt, alloc, next, solvers)?;
+    let text = script.answer_line(means, next)?;
     write_all(sink, &text)?;
     Ok(())
 }
@@ -48,14 +44,11 @@ fn serve_lines<
     P: PlainSolver + Sync,
     S: Solver + Sync,
 >(
-    scope: &Scope<'s, E>,
-    rt: &T,
-    alloc: Global,
+    means: &Means<'_, 's, E, T, P, S>,
     reader: &mut LineReader,
     script: &mut Script,
     source: &mut R,
     sink: &mut W,
-    solvers: &'s Solvers<P, S>,
 ) -> Result<(), Failure>
     requires plain { P.ready }
     requires guided { S.ready }
@@ -82,7 +75,7 @@ fn serve_lines<
         if let Next::End = next {
             return Ok(());
         }
-        reply_to(scope, rt, alloc, script, &next, sink, solvers)?;
+        reply_to(means, script, &next, sink)?;
     }
 }
 
@@ -97,14 +90,7 @@ pub fn serve<
     W: ByteSink,
     P: PlainSolver + Sync,
     S: Solver + Sync,
->(
-    scope: &Scope<'s, E>,
-    rt: &T,
-    alloc: Global,
-    source: &mut R,
-    sink: &mut W,
-    solvers: &'s Solvers<P, S>,
-) -> Result<(), Failure>
+>(means: &Means<'_, 's, E, T, P, S>, source: &mut R, sink: &mut W) -> Result<(), Failure>
     requires plain { P.ready }
     requires guided { S.ready }
 
@@ -121,16 +107,7 @@ pub fn serve<
     ensures device { IsErrOf result Failure.Device → ((R.faults source.new ≡ R.faults source.old + 1) × (W.faults sink.new ≡ W.faults sink.old)) ⊎ ((R.faults source.new ≡ R.faults source.old) × (W.faults sink.new ≡ W.faults sink.old + 1)) }
     ensures none_failed { ¬ IsErrOf result Failure.Device → (R.faults source.new ≡ R.faults source.old) × (W.faults sink.new ≡ W.faults sink.old) }
 {
-    let mut reader = LineReader::new(alloc, LONGEST_LINE)?;
+    let mut reader = LineReader::new(means.alloc, LONGEST_LINE)?;
     let mut script = Script::new();
-    serve_lines(
-        scope,
-        rt,
-        alloc,
-        &mut reader,
-        &mut script,
-        source,
-        sink,
-        solvers,
-    )
+    serve_lines(means, &mut reader, &mut script, source, sink)
 }

@@ -3,7 +3,7 @@ ghost use Rattle.cobra.specs.Held.{IsHanding, IsEnough};
 
 use crate::audits::Audit;
 use crate::handing::Handing;
-use log_text::Version;
+use log_text::{Opening, Version};
 
 /// One more than a fragment may have.
 const TOO_MANY: usize = 257;
@@ -13,16 +13,17 @@ const TOO_MANY: usize = 257;
 pub(crate) enum Stage {
     /// Nothing has begun.
     Nothing,
-    /// Parts are to be handed over, of so many sessions, under this limit: marks come next.
+    /// Parts are to be handed over, of so many sessions, under this limit, to go on as in a script that is opened for this: marks come
+    /// next.
     Resuming {
         sessions: u64,
         limit: u64,
-        version: Version,
+        opening: Opening,
     },
-    /// Parts are handed over, to go on by lines of this version.
+    /// Parts are handed over, to go on so.
     Handing {
         handed: Handing,
-        version: Version,
+        opening: Opening,
     },
     /// An engine is open, for lines of this version; a search may go on beside them.
     Open {

@@ -1,26 +1,19 @@
 //! The auditor: reads a script on standard input, and writes the reply to each of its lines on standard output.
 #![tactic(auto)]
 
-ghost use Rattle.std.specs.Prelude.{◌≡◌, ◌≢◌, ℕ, ◌+◌, ◌<◌, ◌⊎◌, List, map, codes, string_bytes, Ok, Err, Some, IfSome, IfOk, IfErr, OnOk, OnErr, option_map};
+ghost use Rattle.std.specs.Prelude.{◌≡◌, ℕ, ◌<◌, ◌⊎◌, List, codes, Ok, Err, Some, IfSome, OnErr, option_map};
 ghost use Rattle.std.specs.Io.KnownBytes.{Appends, Keeps};
-ghost use Rattle.std.specs.IoError.{error_kind};
-ghost use Rattle.std.specs.Vec.Iter.{into_iter_items};
 ghost use Rattle.cobra.specs.Outputs.{IsOutput, StopsForMemory};
-ghost use Rattle.cobra.specs.Programs.{asked_by};
 
 use cobra::{
-    Asked, ByteSink, ByteSource, Exit, Failure, ReaderSource, Solvers, WriterSink, asked_of,
-    exit_of, serve, write_all,
+    Asked, ByteSink, ByteSource, Exit, Failure, Means, ReaderSource, Solvers, WriterSink, asked_in,
+    exit_of, serve, tell,
 };
 use guided_search::{Conflicts, Guided};
 use polygraph::{PlainSolver, Solver};
 use shared_search::{OpenGate, Shared};
-use std::alloc::Global;
-use std::env::Args;
-use std::io::ErrorKind;
-use std::process::ExitCode;
-use std::thread::{Scope, Threads};
-use std::{env, io, thread};
+use std::thread::Threads;
+use std::{env, thread};
 
 const VERSION: &str = "cobra_audit 0.1.0\n";
 
@@ -63,40 +56,12 @@ memory was wanting, which standard error then tells; 2 for other arguments.
 docs/FORMATS.md describes each line, reply and refusal; docs/COLLECTORS.md, what has to be logged.
 "#;
 
-/// What the arguments ask for, as they were read. One that isn't UTF-8 is unknown.
-fn asked(alloc: Global, given: io::Result<Args>) -> Result<Asked, Failure>
-    ensures words { IfOk given (λ args. IfOk result (λ asked. asked ≡ asked_by (map string_bytes (into_iter_items args)))) }
-    ensures unknown { IfErr given (λ error. error_kind error ≡ ErrorKind.InvalidData → result ≡ Ok Asked.Unknown) }
-    ensures failed { IfErr given (λ error. error_kind error ≢ ErrorKind.InvalidData → result ≡ Err Failure.NoMemory) }
-    ensures memory { IfErr result (λ failure. failure ≡ Failure.NoMemory) }
-{
-    match given {
-        Ok(args) => {
-            let args: Vec<String> = args.collect(alloc)?;
-            Ok(asked_of(&args))
-        }
-        Err(error) if error.kind() == ErrorKind::InvalidData => Ok(Asked::Unknown),
-        Err(_) => Err(Failure::NoMemory),
-    }
-}
-
-fn told<W: ByteSink>(sink: &mut W, text: &str) -> Result<(), Failure>
-    ensures written { OnOk result (Appends (W.contents sink.old) (W.contents sink.new) text.now) }
-    ensures failed { IfErr result (λ failure. (failure ≡ Failure.Device) × (W.faults sink.new ≡ W.faults sink.old + 1)) }
-{
-    write_all(sink, text.as_bytes())?;
-    Ok(())
-}
-
 /// Does what the arguments ask for, and says how the program ends.
 fn run<'s, E, T: Threads, R: ByteSource, W: ByteSink, P: PlainSolver + Sync, S: Solver + Sync>(
-    scope: &Scope<'s, E>,
-    rt: &T,
-    alloc: Global,
+    means: &Means<'_, 's, E, T, P, S>,
     asked: Result<Asked, Failure>,
     input: &mut R,
     output: &mut W,
-    solvers: &'s Solvers<P, S>,
 ) -> Exit
     requires plain { P.ready }
     requires guided { S.ready }
@@ -119,9 +84,9 @@ fn run<'s, E, T: Threads, R: ByteSource, W: ByteSink, P: PlainSolver + Sync, S: 
     ensures failed { OnErr asked ((result.status ≡ 1) × Keeps (W.contents output.old) (W.contents output.new)) }
 {
     match asked {
-        Ok(Asked::Work) => exit_of(serve(scope, rt, alloc, input, output, solvers)),
-        Ok(Asked::Help) => exit_of(told(output, HELP)),
-        Ok(Asked::Version) => exit_of(told(output, VERSION)),
+        Ok(Asked::Work) => exit_of(serve(means, input, output)),
+        Ok(Asked::Help) => exit_of(tell(output, HELP)),
+        Ok(Asked::Version) => exit_of(tell(output, VERSION)),
         Ok(Asked::Unknown) => Exit {
             status: 2,
             words: Some(USAGE),
@@ -130,7 +95,7 @@ fn run<'s, E, T: Threads, R: ByteSource, W: ByteSink, P: PlainSolver + Sync, S: 
     }
 }
 
-fn main(rt: HostRuntime) -> ExitCode {
+fn main(rt: HostRuntime) -> Exit {
     let mut input = ReaderSource::new(rt.stdin());
     let mut output = WriterSink::new(rt.stdout());
     let solvers = Solvers {
@@ -138,12 +103,14 @@ fn main(rt: HostRuntime) -> ExitCode {
         guided: Guided::new(Conflicts, Shared::new(&rt, OpenGate)),
     };
     let alloc = rt.alloc();
-    let asked = asked(alloc, env::args(&rt));
-    let exit = thread::scope(thread::scope_env(), &rt, |scope| {
-        run(scope, &rt, alloc, asked, &mut input, &mut output, &solvers)
-    });
-    if let Some(words) = exit.words {
-        let _ = eprintln!(rt; "{words}");
-    }
-    ExitCode::from(exit.status)
+    let asked = asked_in(alloc, env::args(&rt));
+    thread::scope(thread::scope_env(), &rt, |scope| {
+        let means = Means {
+            scope,
+            rt: &rt,
+            alloc,
+            solvers: &solvers,
+        };
+        run(&means, asked, &mut input, &mut output)
+    })
 }

@@ -2,25 +2,18 @@
 //! output what it finds of each report.
 #![tactic(auto)]
 
-ghost use Rattle.std.specs.Prelude.{◌≡◌, ◌≢◌, ℕ, ◌+◌, ◌<◌, ◌⊎◌, ◌++◌, List, map, codes, string_bytes, true, false, Ok, Err, Some, IfSome, IfOk, IfErr, OnOk, OnErr, option_map};
+ghost use Rattle.std.specs.Prelude.{◌≡◌, ℕ, ◌<◌, ◌⊎◌, ◌++◌, List, codes, true, false, Ok, Err, Some, IfSome, OnErr, option_map};
 ghost use Rattle.std.specs.Io.KnownBytes.{Appends, Keeps};
-ghost use Rattle.std.specs.IoError.{error_kind};
-ghost use Rattle.std.specs.Vec.Iter.{into_iter_items};
-ghost use Rattle.cobra.specs.Programs.{asked_by};
 ghost use Rattle.report_checking.specs.Checking.{IsAllRight};
 ghost use Rattle.report_checking.specs.RightReports.{StopsAtWrong};
 ghost use Rattle.report_checking.specs.Telling.{Tells, last_line};
 
 use cobra::{
-    Asked, ByteSink, ByteSource, Exit, Failure, ReaderSource, WriterSink, asked_of, exit_of,
-    write_all,
+    Asked, ByteSink, ByteSource, Exit, Failure, ReaderSource, WriterSink, asked_in, exit_of, tell,
 };
 use report_checking::{check_replies, exit_of_check};
 use std::alloc::Global;
-use std::env::Args;
-use std::io::ErrorKind;
-use std::process::ExitCode;
-use std::{env, io};
+use std::env;
 
 const VERSION: &str = "cobra_check 0.1.0\n";
 
@@ -43,31 +36,6 @@ wanting, which standard error then tells; 2 for other arguments.
 
 docs/FORMATS.md describes what it reads and writes.
 "#;
-
-/// What the arguments ask for, as they were read. One that isn't UTF-8 is unknown.
-fn asked(alloc: Global, given: io::Result<Args>) -> Result<Asked, Failure>
-    ensures words { IfOk given (λ args. IfOk result (λ asked. asked ≡ asked_by (map string_bytes (into_iter_items args)))) }
-    ensures unknown { IfErr given (λ error. error_kind error ≡ ErrorKind.InvalidData → result ≡ Ok Asked.Unknown) }
-    ensures failed { IfErr given (λ error. error_kind error ≢ ErrorKind.InvalidData → result ≡ Err Failure.NoMemory) }
-    ensures memory { IfErr result (λ failure. failure ≡ Failure.NoMemory) }
-{
-    match given {
-        Ok(args) => {
-            let args: Vec<String> = args.collect(alloc)?;
-            Ok(asked_of(&args))
-        }
-        Err(error) if error.kind() == ErrorKind::InvalidData => Ok(Asked::Unknown),
-        Err(_) => Err(Failure::NoMemory),
-    }
-}
-
-fn told<W: ByteSink>(sink: &mut W, text: &str) -> Result<(), Failure>
-    ensures written { OnOk result (Appends (W.contents sink.old) (W.contents sink.new) text.now) }
-    ensures failed { IfErr result (λ failure. (failure ≡ Failure.Device) × (W.faults sink.new ≡ W.faults sink.old + 1)) }
-{
-    write_all(sink, text.as_bytes())?;
-    Ok(())
-}
 
 /// Does what the arguments ask for, and says how the program ends.
 fn run<R: ByteSource, W: ByteSink>(
@@ -101,8 +69,8 @@ fn run<R: ByteSource, W: ByteSink>(
 {
     match asked {
         Ok(Asked::Work) => exit_of_check(check_replies(alloc, input, output)),
-        Ok(Asked::Help) => exit_of(told(output, HELP)),
-        Ok(Asked::Version) => exit_of(told(output, VERSION)),
+        Ok(Asked::Help) => exit_of(tell(output, HELP)),
+        Ok(Asked::Version) => exit_of(tell(output, VERSION)),
         Ok(Asked::Unknown) => Exit {
             status: 2,
             words: Some(USAGE),
@@ -111,17 +79,13 @@ fn run<R: ByteSource, W: ByteSink>(
     }
 }
 
-fn main(rt: HostRuntime) -> ExitCode {
+fn main(rt: HostRuntime) -> Exit {
     let mut input = ReaderSource::new(rt.stdin());
     let mut output = WriterSink::new(rt.stdout());
-    let exit = run(
+    run(
         rt.alloc(),
-        asked(rt.alloc(), env::args(&rt)),
+        asked_in(rt.alloc(), env::args(&rt)),
         &mut input,
         &mut output,
-    );
-    if let Some(words) = exit.words {
-        let _ = eprintln!(rt; "{words}");
-    }
-    ExitCode::from(exit.status)
+    )
 }

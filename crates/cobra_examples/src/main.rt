@@ -7,7 +7,7 @@ mod crews;
 ghost use Rattle.std.specs.Prelude.{◌<◌};
 
 use crate::crews::{Crew, Workers};
-use cobra::{MemorySink, MemorySource, Pace, Solvers, serve};
+use cobra::{Means, MemorySink, MemorySource, Pace, Solvers, serve};
 use guided_search::{Conflicts, Guided};
 use polygraph::{PlainSolver, Single, Solver};
 use shared_search::{OpenGate, Shared};
@@ -42,7 +42,15 @@ fn is_answered<R: Threads + Wait, P: PlainSolver + Sync, S: Solver + Sync>(
         rt,
         |scope|
             requires { P.ready × S.ready }
-        { serve(scope, rt, alloc, &mut source, &mut sink, solvers) },
+        {
+            let means = Means {
+                scope,
+                rt,
+                alloc,
+                solvers,
+            };
+            serve(&means, &mut source, &mut sink)
+        },
     );
     end.is_ok() && sink.bytes.as_slice() == replies
 }

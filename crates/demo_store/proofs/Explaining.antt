@@ -70,9 +70,6 @@ found history log is before (e ∷ es) split (next, rest) =
 
 -- reads
 
-Found : History → Executed → Type 0
-Found history e = txn_at history e.id ≡ Some e.txn
-
 none_writes : (history : History) (es : List Executed) (key : ℕ) → All (λ e. txn_at history e.id ≡ Some e.txn) es → NoneWrote es key → NoneWrites (txn_at history) key (order_of es)
 none_writes history [] key at none = All-nil (λ id. writes_key (txn_at history id) key ≡ false)
 none_writes history (e ∷ es) key at none =

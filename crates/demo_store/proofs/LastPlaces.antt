@@ -1,12 +1,10 @@
 -- Last writers of longer and longer fronts, and how many transactions of a session they have.
-use Rattle.std.proofs.Common.{◌≡◌, ℕ, ◌+◌, ◌<◌, ◌∙◌, true, false, cond, refl, sym, ap, List, [], ◌∷◌, ◌++◌, length, length-append, get_or, filter, map, Some, None, Option, arith}
+use Rattle.std.proofs.Common.{◌≡◌, ℕ, ◌+◌, ◌<◌, ◌∙◌, true, false, cond, refl, ap, List, [], ◌∷◌, ◌++◌, length, length-append, filter, map, Some, None, Option, arith}
 use Rattle.std.proofs.lemmas.List.{append_assoc, map-append}
 use Rattle.std.proofs.lemmas.List.Elements.{All-nil, All-push, filter-append}
-use Rattle.std.proofs.Math.Seq.{get_or-append_seam}
-use Rattle.txn.specs.declared.transactions.Source.TheVariants.{By}
 use Rattle.txn.specs.History.{in_session, writes_key}
 use Rattle.demo_store.specs.declared.requests.Executed.{Executed}
-use Rattle.demo_store.specs.Logs.{of_session, IsLastPlace, IsSourceIn}
+use Rattle.demo_store.specs.Logs.{of_session, IsLastPlace}
 
 -- one more, which doesn't write the key
 pub last_more : (log : List Executed) (key place : ℕ) (last : Option ℕ) (e : Executed) → writes_key (Some e.txn) key ≡ false → IsLastPlace log key last → IsLastPlace (log ++ e ∷ []) key last
@@ -22,12 +20,6 @@ pub place_within : (log : List Executed) (key place : ℕ) → IsLastPlace log k
 place_within log key place (older, newer, w, is, at, wrote, none) =
     let long : length log ≡ length older + length (w ∷ newer) = ap length is ∙ length-append older (w ∷ newer) in
     omega (arith, long, at)
-
--- the source that is at the place
-pub source_at : (log : List Executed) (key place : ℕ) (e : Executed) → e ≡ get_or log place e → IsLastPlace log key (Some place) → IsSourceIn log key (By e.id)
-source_at log key place e read (older, newer, w, is, at, wrote, none) =
-    let there : get_or log place e ≡ w = ap (λ l. get_or l place e) is ∙ ap (λ n. get_or (older ++ w ∷ newer) n e) (sym at) ∙ get_or-append_seam older w newer e in
-    (older, newer, w, is, ap (λ (x : Executed). x.id) (sym there ∙ sym read), wrote, none)
 
 -- what a session has in two lists
 pub of_session-append : (s : ℕ) (xs ys : List Executed) → of_session s (xs ++ ys) ≡ of_session s xs ++ of_session s ys

@@ -5,7 +5,7 @@ ghost use Rattle.live_audit.specs.Running.{reports_in};
 ghost use Rattle.demonstration.specs.Runs.{HasAudited, IsFreshSide, IsSameSide};
 
 use crate::halls::Hall;
-use live_audit::{AuditorSide, Effort, audit_live};
+use live_audit::{AuditorSide, Effort, Means, audit_live};
 use polygraph::Solver;
 use round_state::Engine;
 use std::alloc::Global;
@@ -37,15 +37,14 @@ pub fn audit<'s, E, R: Threads + Wait, S: Solver + Sync>(
     ensures audited { OnOk result (HasAudited side.new.pass.1 side.new.sender.sent) }
     ensures published { side.new.seat.published ≡ reports_in side.new.sender.sent }
 {
-    audit_live(
+    let means = Means {
         scope,
         rt,
         alloc,
-        engine,
+        desk: &hall.desk,
+        latest: &hall.latest,
         solver,
-        EFFORT,
-        &hall.desk,
-        &hall.latest,
-        side,
-    )
+        effort: EFFORT,
+    };
+    audit_live(&means, engine, side)
 }

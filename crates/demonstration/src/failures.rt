@@ -2,7 +2,7 @@ ghost use Rattle.std.specs.Prelude.{◌≡◌, Some, None, codes, option_map, On
 ghost use Rattle.demonstration.specs.Failures.{failure_of};
 ghost use Rattle.demonstration.specs.declared.failures.DemoFailure.TheVariants.{NoMemory};
 
-use byte_lines::Failure;
+use byte_lines::{Exit, Failure};
 use std::alloc::AllocError;
 use thiserror::Error;
 
@@ -34,13 +34,6 @@ impl From<AllocError> for DemoFailure {
     fn from(_error: AllocError) -> DemoFailure {
         DemoFailure::NoMemory
     }
-}
-
-/// How the program ends: its exit status, and what it says on standard error, if anything.
-#[derive(Clone, Copy, Debug, PartialEq, Eq)]
-pub struct Exit {
-    pub status: u8,
-    pub words: Option<&'static str>,
 }
 
 pub fn exit_of(end: Result<(), DemoFailure>) -> Exit

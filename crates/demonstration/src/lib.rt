@@ -17,6 +17,6 @@ mod work;
 
 pub use commands::Command;
 pub use demos::{demo, demo_run};
-pub use failures::{DemoFailure, Exit, exit_of};
+pub use failures::{DemoFailure, exit_of};
 pub use runs::{Outcome, run};
 pub use texts::Shown;

@@ -6,7 +6,7 @@ ghost use Rattle.fragment_intake.specs.Collectors.{AreCollectorsOf};
 ghost use Rattle.demonstration_tests.specs.Stage.{AreFresh, IsFreshSide};
 
 use fragment_intake::{CollectorPass, CollectorPasses, Desk, Item, Tally};
-use live_audit::{AuditorSide, Effort, audit_live};
+use live_audit::{AuditorSide, Effort, Means, audit_live};
 use polygraph::Solver;
 use report_queue::{Entry, Latest, ReportReader, ring};
 use round_state::Engine;
@@ -178,18 +178,16 @@ fn audit<'s, E, R: Threads + Wait, S: Solver + Sync>(
     requires side { IsFreshSide hall.now.desk hall.now.latest side.old }
     ensures { side.new.pass.0 ≡ side.old.pass.0 }
 {
-    audit_live(
+    let means = Means {
         scope,
         rt,
         alloc,
-        engine,
+        desk: &hall.desk,
+        latest: &hall.latest,
         solver,
         effort,
-        &hall.desk,
-        &hall.latest,
-        side,
-    )
-    .is_ok()
+    };
+    audit_live(&means, engine, side).is_ok()
 }
 
 /// Each collector and the reader work in a thread of their own, and the auditor in this one. Where one of the threads can't be made none works.

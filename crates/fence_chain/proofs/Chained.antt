@@ -8,6 +8,7 @@ use Rattle.std.proofs.lemmas.List.Elements.{All-contains, Contains-push, Contain
 use Rattle.txn.specs.declared.transactions.TxnId.{TxnId}
 use Rattle.txn.specs.declared.transactions.Txn.{Txn}
 use Rattle.txn.specs.Transactions.{id_below, IsFence}
+use Rattle.txn.proofs.Ids.{same_or_not}
 use Rattle.order_check.specs.declared.remainder.Parts.{Parts}
 use Rattle.order_check.specs.Based.{Remains, remaining_at}
 use Rattle.order_check.specs.Known.{Known, through}
@@ -15,7 +16,7 @@ use Rattle.order_check.specs.Settled.{IsBefore, InFront}
 use Rattle.forced_choices.specs.OrderedAmong.{AreOrdered, IsOrderedAmong}
 use Rattle.fence_chain.specs.Chains.{IsRemainingFence, IsChained, IsChain}
 use Rattle.fence_chain.specs.Picked.{AreInOrder, IsBetween, IsPicked, IsPutIn, IsSorting}
-use Rattle.fence_chain.proofs.Picking.{front_below, not_below_itself, same_or_not}
+use Rattle.fence_chain.proofs.Picking.{front_below, not_below_itself}
 use Rattle.fence_chain.proofs.Placed.{insert_keeps, insert_has, has_insert}
 
 fence_remains : (parts : Parts) (id : TxnId) → IsRemainingFence parts id → Remains parts id

@@ -1,16 +1,14 @@
 -- Ids picked out of a list that is in order.
-use Rattle.std.proofs.Common.{◌≡◌, ℕ, ◌+◌, ◌<◌, ◌≤◌, ◌⊎◌, true, false, List, [], ◌∷◌, ◌++◌, length, get_or, take, sym, ap, ◌∙◌, inl, inr, subst, arith}
+use Rattle.std.proofs.Common.{◌≡◌, ℕ, ◌+◌, ◌<◌, ◌≤◌, ◌⊎◌, true, List, [], ◌∷◌, ◌++◌, length, get_or, take, sym, ◌∙◌, inl, inr, subst, arith}
 use Rattle.std.specs.Prelude.{Contains, nat_lt, nat_eq, ◌||◌, ◌&&◌}
-use Rattle.std.proofs.lemmas.Bool.Decides.{eqb_tells, nat_tests}
+use Rattle.std.proofs.lemmas.Bool.Decides.{nat_tests}
 use Rattle.std.proofs.lemmas.List.{take_more, take_all, get_or-take, get_or_default, length-take}
 use Rattle.std.proofs.lemmas.List.Elements.{Contains-push, Contains-push_cases, Contains-append_left, Contains-get_or}
 use Rattle.std.proofs.lemmas.List.Quantifiers.{all_pairs_push}
+use Rattle.list_lemmas.proofs.Members.{none_in_none}
 use Rattle.txn.specs.declared.transactions.TxnId.{TxnId}
-use Rattle.txn.specs.Transactions.{Rises, id_below}
+use Rattle.txn.specs.Transactions.{id_below}
 use Rattle.fence_chain.specs.Picked.{AreInOrder, IsPicked, PicksOne}
-
-pub none_in_none : {X : Type 0} (x : X) → Contains [] x → ⊥
-none_in_none x (k, within, is) = absurd (omega arith)
 
 -- what is in the front of a list in order is below the next
 pub front_below : (ids : List TxnId) (k : ℕ) (d y : TxnId) → k < length ids → AreInOrder ids → Contains (take k ids) y → id_below y (get_or ids k d) ≡ true
@@ -70,16 +68,3 @@ not_below_itself id h = itself id.session id.number h
   where
     itself : (s n : ℕ) → (nat_lt s s || (nat_eq s s && nat_lt n n)) ≡ true → ⊥
     itself s n h = grind (arith, nat_tests)
-
--- ids are one, or they are not
-pub same_or_not : (a b : TxnId) → (a ≡ b) ⊎ (a ≡ b → ⊥)
-same_or_not a b = by_fields (eqb_tells a.session b.session) (eqb_tells a.number b.number)
-  where
-    by_fields : ((nat_eq a.session b.session ≡ true) × (a.session ≡ b.session)) ⊎ ((nat_eq a.session b.session ≡ false) × (a.session ≡ b.session → ⊥)) → ((nat_eq a.number b.number ≡ true) × (a.number ≡ b.number)) ⊎ ((nat_eq a.number b.number ≡ false) × (a.number ≡ b.number → ⊥)) → (a ≡ b) ⊎ (a ≡ b → ⊥)
-    by_fields (inl (t, session)) (inl (u, number)) = inl (ap (λ s. let id : TxnId = record { session = s; number = a.number } in id) session ∙ ap (λ n. let id : TxnId = record { session = b.session; number = n } in id) number)
-    by_fields (inl (t, session)) (inr (u, apart)) = inr (λ e. apart (ap (λ (id : TxnId). id.number) e))
-    by_fields (inr (t, apart)) other = inr (λ e. apart (ap (λ (id : TxnId). id.session) e))
-
--- what is in order rises
-pub rises_in_order : (ids : List TxnId) → AreInOrder ids → Rises id_below ids
-rises_in_order ids rise k d within = rise k (k + 1) d (omega arith) within

@@ -5,6 +5,7 @@ use Rattle.std.specs.List.{list_any}
 use Rattle.std.specs.declared.alloc.Global.{Global}
 use Rattle.std.specs.BTreeMap.{BTreeMap}
 use Rattle.std.proofs.lemmas.Bool.{eqb-true, false≢true}
+use Rattle.list_lemmas.proofs.Members.{in_place}
 use Rattle.txn.specs.declared.transactions.TxnId.{TxnId}
 use Rattle.order_check.specs.declared.remainder.Parts.{Parts}
 use Rattle.known_graph.specs.declared.sparse.Word.{Word}
@@ -14,7 +15,7 @@ use Rattle.forced_choices.specs.ByKeys.{AreIndexed, AreRows, IsRead}
 use Rattle.forced_choices.specs.Masks.{AreColumns}
 use Rattle.forced_choices.specs.WriterPlaces.{AreWriterPlaces, HasPlace, places_at}
 use Rattle.forced_choices.proofs.KeysLooked.{index_in}
-use Rattle.forced_choices.proofs.Members.{In, filter_in, in_filter, in_place}
+use Rattle.forced_choices.proofs.Members.{In, filter_in, in_filter}
 use Rattle.forced_choices.proofs.TableReads.{no_read}
 
 -- what holds of more keys

@@ -5,6 +5,7 @@ use Rattle.std.proofs.lemmas.Bool.{cases_lt, eqb-true, eq-eqb}
 use Rattle.std.proofs.lemmas.List.{get_or_append_left}
 use Rattle.std.proofs.lemmas.List.Elements.{All-push}
 use Rattle.std.proofs.Math.Seq.{get_or-append_seam}
+use Rattle.list_lemmas.proofs.Members.{in_left, in_right, in_either}
 use Rattle.txn.specs.declared.transactions.TxnId.{TxnId}
 use Rattle.order_check.specs.declared.remainder.Parts.{Parts}
 use Rattle.known_graph.specs.Bits.{HasBit}
@@ -15,7 +16,7 @@ use Rattle.forced_choices.specs.ByKeys.{AreIndexed, AreRows}
 use Rattle.forced_choices.specs.Masks.{mask_of}
 use Rattle.forced_choices.specs.WriterPlaces.{places_at}
 use Rattle.forced_choices.proofs.FreshArcs.{of_all}
-use Rattle.forced_choices.proofs.Members.{In, in_left, in_right, in_either}
+use Rattle.forced_choices.proofs.Members.{In}
 
 -- rows with more bits
 pub rows_kept : (Asked : ℕ → Type 0) (parts : Parts) (nodes : List (Option TxnId)) (ids : List TxnId) (old new : ByKey) → ((key j : ℕ) → HasBit (mask_of old.rows key) j → HasBit (mask_of new.rows key) j) → AreRows Asked parts nodes ids old → AreRows Asked parts nodes ids new

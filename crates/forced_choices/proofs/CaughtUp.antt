@@ -2,6 +2,7 @@
 use Rattle.std.proofs.Common.{◌≡◌, ◌⊎◌, ◌++◌, List, Option, refl, sym, ap, ◌∙◌, subst, inl, inr}
 use Rattle.std.specs.Prelude.{◌↔◌, Vec}
 use Rattle.std.specs.declared.alloc.Global.{Global}
+use Rattle.list_lemmas.proofs.Members.{in_left, in_right, in_either}
 use Rattle.txn.specs.declared.transactions.TxnId.{TxnId}
 use Rattle.txn.specs.declared.transactions.Fragment.{Fragment}
 use Rattle.txn.specs.declared.choices.Arc.{Arc}
@@ -24,7 +25,7 @@ use Rattle.forced_choices.proofs.FreshArcs.{fresh_of}
 use Rattle.forced_choices.proofs.Growing.{remains_more}
 use Rattle.forced_choices.proofs.Grown.{kept_more_nodes, key_stays, reached_remain}
 use Rattle.forced_choices.proofs.KeptTables.{PutsReads, kept_grown_table, reads_grow, writers_grow}
-use Rattle.forced_choices.proofs.Members.{In, in_either, in_left, in_right}
+use Rattle.forced_choices.proofs.Members.{In}
 
 -- the fragment's transactions are put to the table, and the arcs that they bring are listed
 pub record Catches (parts more : Parts) (fragment : Fragment) (old_nodes nodes : List (Option TxnId)) (old : KeptTable) (table : Table) (others fresh : List Arc) : Type 0 where

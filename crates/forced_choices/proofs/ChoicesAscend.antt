@@ -2,7 +2,7 @@
 use Rattle.std.proofs.Common.{◌≡◌, ℕ, ◌-◌, ◌<◌, ◌≤◌, ◌⊎◌, Bool, true, false, cond, List, [], refl, sym, ap, ◌∙◌, inl, inr, subst, arith, Option, Some, None, nat_lt, nat_eq, ◌||◌, ◌&&◌, not}
 use Rattle.std.specs.Prelude.{filter}
 use Rattle.std.specs.List.{flat_map, slice_get}
-use Rattle.std.proofs.lemmas.Bool.{false≢true, eq-eqb, ltb-true, ltb-false, lt-ltb, eqb-true}
+use Rattle.std.proofs.lemmas.Bool.{false≢true, eq-eqb, ltb-true, ltb-false, lt-ltb, eqb-true, and_parts, and_from, or_right, or_cases}
 use Rattle.txn.specs.declared.transactions.TxnId.{TxnId}
 use Rattle.txn.specs.declared.transactions.Txn.{Txn}
 use Rattle.txn.specs.declared.transactions.Source.{Source}
@@ -10,32 +10,22 @@ use Rattle.txn.specs.declared.transactions.Source.TheVariants.{Init, By}
 use Rattle.txn.specs.declared.choices.Choice.{Choice}
 use Rattle.txn.specs.Transactions.{id_below, same_id, read_below, source_below}
 use Rattle.txn.specs.Choices.{choice_below}
+use Rattle.txn.proofs.Ids.{below_is}
+use Rattle.txn.specs.History.{reads_in}
 use Rattle.order_check.specs.declared.remainder.Parts.{Parts}
 use Rattle.order_check.specs.Based.{mark_of, remaining_of, remaining_at}
 use Rattle.order_check.specs.Good.{IsGood}
-use Rattle.forced_choices.specs.Listing.{all_ids, reads_in, reads_of, writes_here, is_other, choices_with, choices_from, choices_of_read, choices_of}
+use Rattle.forced_choices.specs.Listing.{all_ids, reads_of, writes_here, is_other, choices_with, choices_from, choices_of_read, choices_of}
 use Rattle.forced_choices.proofs.Members.{In, Ascends, in_flat_map, ascends_flat_map, ascends_map, ascends_filter, ascends_of}
 use Rattle.forced_choices.proofs.ListedIds.{listed_ascend}
-use Rattle.forced_choices.proofs.ListedChoices.{and_parts, and_both, either_true, below_by_reader, below_by_key, below_by_writer, below_by_other, in_choices_with}
-
-or_cases : (a b : Bool) → (a || b) ≡ true → (a ≡ true) ⊎ (b ≡ true)
-or_cases true b h = inl refl
-or_cases false b h = inr h
-
--- ids in order: by session, or in one session by number
-pub id_cases : (a b : TxnId) → id_below a b ≡ true → (a.session < b.session) ⊎ ((a.session ≡ b.session) × (a.number < b.number))
-id_cases a b h = by_part (or_cases (nat_lt a.session b.session) (nat_eq a.session b.session && nat_lt a.number b.number) h)
-  where
-    by_part : (nat_lt a.session b.session ≡ true) ⊎ ((nat_eq a.session b.session && nat_lt a.number b.number) ≡ true) → (a.session < b.session) ⊎ ((a.session ≡ b.session) × (a.number < b.number))
-    by_part (inl l) = inl (ltb-true a.session b.session l)
-    by_part (inr r) = let parts = and_parts (nat_eq a.session b.session) (nat_lt a.number b.number) r in inr (eqb-true a.session b.session parts.0, ltb-true a.number b.number parts.1)
+use Rattle.forced_choices.proofs.ListedChoices.{below_by_reader, below_by_key, below_by_writer, below_by_other, in_choices_with}
 
 id_below_from : (a b : TxnId) → (a.session < b.session) ⊎ ((a.session ≡ b.session) × (a.number < b.number)) → id_below a b ≡ true
 id_below_from a b (inl l) = ap (λ t. t || (nat_eq a.session b.session && nat_lt a.number b.number)) (lt-ltb a.session b.session l)
-id_below_from a b (inr (e, l)) = either_true (nat_lt a.session b.session) _ (and_both (nat_eq a.session b.session) _ (eq-eqb a.session b.session e) (lt-ltb a.number b.number l))
+id_below_from a b (inr (e, l)) = or_right (nat_lt a.session b.session) _ (and_from (nat_eq a.session b.session) _ (eq-eqb a.session b.session e) (lt-ltb a.number b.number l))
 
 pub id_below_through : (a b c : TxnId) → id_below a b ≡ true → id_below b c ≡ true → id_below a c ≡ true
-id_below_through a b c h k = id_below_from a c (by_parts (id_cases a b h) (id_cases b c k))
+id_below_through a b c h k = id_below_from a c (by_parts (below_is a b h) (below_is b c k))
   where
     by_parts : (a.session < b.session) ⊎ ((a.session ≡ b.session) × (a.number < b.number)) → (b.session < c.session) ⊎ ((b.session ≡ c.session) × (b.number < c.number)) → (a.session < c.session) ⊎ ((a.session ≡ c.session) × (a.number < c.number))
     by_parts (inl l) (inl m) = inl (omega arith)
@@ -69,7 +59,7 @@ read_below_through a b c h k = by_parts (read_cases a b h) (read_cases b c k)
     by_parts (inl l) (inl m) = by_key (omega arith)
     by_parts (inl l) (inr (e, m)) = by_key (omega arith)
     by_parts (inr (e, l)) (inl m) = by_key (omega arith)
-    by_parts (inr (e, l)) (inr (f, m)) = either_true (nat_lt a.0 c.0) _ (and_both (nat_eq a.0 c.0) _ (eq-eqb a.0 c.0 (e ∙ f)) (source_below_through a.1 b.1 c.1 l m))
+    by_parts (inr (e, l)) (inr (f, m)) = or_right (nat_lt a.0 c.0) _ (and_from (nat_eq a.0 c.0) _ (eq-eqb a.0 c.0 (e ∙ f)) (source_below_through a.1 b.1 c.1 l m))
 
 -- what is looked up stands in its session
 pub looked_up : (parts : Parts) (id : TxnId) (txn : Txn) → remaining_at parts id ≡ Some txn → (mark_of parts id.session ≤ id.number) × (slice_get (remaining_of parts id.session) (id.number - mark_of parts id.session) ≡ Some txn)

@@ -3,10 +3,12 @@ use Rattle.std.proofs.Common.{◌≡◌, ◌≢◌, ◌↔◌, ◌⊎◌, ◌∙
 use Rattle.std.specs.Prelude.{map, filter, All, AllPairs, Contains}
 use Rattle.std.proofs.lemmas.Bool.{false≢true}
 use Rattle.std.proofs.lemmas.List.{take-append-le, get_or-map, length-map}
+use Rattle.list_lemmas.proofs.Members.{contains_from_in, in_place}
 use Rattle.txn.specs.declared.transactions.TxnId.{TxnId}
 use Rattle.txn.specs.declared.choices.Arc.{Arc}
 use Rattle.txn.specs.declared.choices.Choice.{Choice}
 use Rattle.txn.specs.Transactions.{same_id, id_below}
+use Rattle.txn.proofs.Ids.{same_id_is}
 use Rattle.order_check.specs.declared.remainder.Parts.{Parts}
 use Rattle.known_graph.specs.Bits.{HasBit}
 use Rattle.known_graph.specs.Graphs.{IsAt}
@@ -22,10 +24,9 @@ use Rattle.forced_choices.specs.Ranks.{Counts, none, one_more, not_this}
 use Rattle.forced_choices.specs.Tables.{IsTable}
 use Rattle.forced_choices.specs.Undecided.{IsUndecided, AreFound, no_more, undecided, decided, TellsOpen, IsFrontOf, AreCounted}
 use Rattle.forced_choices.specs.WriterPlaces.{places_at, those_at}
-use Rattle.forced_choices.proofs.Members.{In, Ascends, ascends_filter, contains_from_in, filter_in, in_filter, in_map, in_place, map_in}
+use Rattle.forced_choices.proofs.Members.{In, Ascends, ascends_filter, filter_in, in_filter, in_map, map_in}
 use Rattle.forced_choices.proofs.Counting.{counts_same_here, counts_sized}
 use Rattle.forced_choices.proofs.Distinct.{distinct_from_ascends, take_whole}
-use Rattle.forced_choices.proofs.ListedChoices.{same_from_test}
 use Rattle.forced_choices.proofs.ListedIds.{listed_ascend}
 use Rattle.forced_choices.proofs.OpenReads.{found_append}
 use Rattle.forced_choices.proofs.PlacesOfWriters.{no_id}
@@ -67,8 +68,8 @@ not_third : (parts : Parts) (read : Read) (other : TxnId) → writes_here parts 
 not_third parts read other writes isnt = by_tests (same_id other read.writer) (same_id other read.reader) (writes_here parts read.key other) refl refl writes isnt
   where
     by_tests : (s t w : Bool) → same_id other read.writer ≡ s → same_id other read.reader ≡ t → w ≡ true → (not s && (not t && w)) ≡ false → (other ≡ read.writer) ⊎ (other ≡ read.reader)
-    by_tests true t w e f h isnt = inl (same_from_test other read.writer e)
-    by_tests false true w e f h isnt = inr (same_from_test other read.reader f)
+    by_tests true t w e f h isnt = inl (same_id_is other read.writer e)
+    by_tests false true w e f h isnt = inr (same_id_is other read.reader f)
     by_tests false false true e f h isnt = absurd (false≢true (sym isnt))
     by_tests false false false e f h isnt = absurd (false≢true h)
 

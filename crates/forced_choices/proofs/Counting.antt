@@ -1,16 +1,16 @@
 -- How many of a list have a property.
-use Rattle.std.proofs.Common.{◌≡◌, ◌≢◌, ◌⊎◌, ◌∙◌, ℕ, ◌+◌, ◌<◌, List, [], ◌∷◌, ◌++◌, length, get_or, take, inl, inr, refl, sym, ap, subst, suc, arith}
-use Rattle.std.specs.Bool.{⊤}
+use Rattle.std.proofs.Common.{◌≡◌, ◌≢◌, ◌⊎◌, ◌∙◌, ℕ, ◌+◌, ◌<◌, List, [], ◌∷◌, ◌++◌, length, get_or, take, inl, inr, refl, sym, ap, subst, suc}
 use Rattle.std.specs.Prelude.{◌↔◌, All, AllPairs, Contains}
 use Rattle.std.proofs.lemmas.List.{take_more, map-append}
 use Rattle.std.proofs.lemmas.List.Elements.{All-push}
+use Rattle.list_lemmas.proofs.Members.{in_from_contains, contains_from_in, AreOnce, once_from_pairs}
 use Rattle.txn.specs.declared.transactions.TxnId.{TxnId}
 use Rattle.txn.specs.declared.choices.Arc.{Arc}
 use Rattle.known_graph.specs.Reach.{Reaches}
 use Rattle.known_graph.specs.Sizes.{HasSize}
 use Rattle.forced_choices.specs.declared.ranks.Rank.{Rank}
 use Rattle.forced_choices.specs.Ranks.{Counts, none, one_more, not_this, ids_of}
-use Rattle.forced_choices.proofs.Members.{In, in_from_contains, contains_from_in}
+use Rattle.forced_choices.proofs.Members.{In}
 
 -- the same of a property that holds of the same of them
 pub counts_same_here : {X : Type 0} (P Q : X → Type 0) (xs : List X) (n : ℕ) → ((x : X) → In xs x → P x ↔ Q x) → Counts P xs n → Counts Q xs n
@@ -21,18 +21,6 @@ counts_same_here P Q (x ∷ xs) n same (not_this h rest) = not_this (λ q. h ((s
 -- the same of a property that holds of the same elements
 pub counts_same : {X : Type 0} (P Q : X → Type 0) (xs : List X) (n : ℕ) → ((x : X) → P x ↔ Q x) → Counts P xs n → Counts Q xs n
 counts_same P Q xs n same counts = counts_same_here P Q xs n (λ x there. same x) counts
-
--- no element stands twice, by cases on the list
-abbrev AreOnce : {X : Type 0} → List X → Type 0
-AreOnce [] = ⊤
-AreOnce (x ∷ xs) = (¬ In xs x) × AreOnce xs
-
-once_from_pairs : {X : Type 0} (xs : List X) → AllPairs (λ x y. x ≢ y) xs → AreOnce xs
-once_from_pairs [] apart = tt
-once_from_pairs {X} (x ∷ xs) apart = (λ there. by_place (contains_from_in xs x there), once_from_pairs xs (λ i j d below within. apart (suc i) (suc j) d (omega arith) (omega arith)))
-  where
-    by_place : Contains xs x → ⊥
-    by_place (k, within, is) = apart 0 (suc k) x (omega arith) (omega arith) (sym is)
 
 -- a property of one more element, which the list has once
 counts_more : {X : Type 0} (P : X → Type 0) (xs : List X) (n : ℕ) (y : X) → AreOnce xs → In xs y → (¬ P y) → Counts P xs n → Counts (λ x. (y ≡ x) ⊎ P x) xs (suc n)

@@ -1,15 +1,16 @@
 -- Ids that are distinct, and fronts of lists.
 use Rattle.std.proofs.Common.{◌≡◌, ℕ, ◌+◌, ◌<◌, ◌≤◌, ◌⊎◌, true, List, [], ◌∷◌, length, get_or, take, refl, sym, ap, inl, inr, subst, suc, zero, arith}
 use Rattle.std.proofs.lemmas.List.{take_more}
+use Rattle.list_lemmas.proofs.Members.{in_left, in_right, in_either, in_place}
 use Rattle.txn.specs.declared.transactions.TxnId.{TxnId}
 use Rattle.txn.specs.Transactions.{id_below}
+use Rattle.txn.proofs.Ids.{below_is}
 use Rattle.forced_choices.specs.Between.{AreDistinct}
-use Rattle.forced_choices.proofs.Members.{In, Ascends, in_place, in_left, in_right, in_either}
-use Rattle.forced_choices.proofs.ChoicesAscend.{id_cases}
+use Rattle.forced_choices.proofs.Members.{In, Ascends}
 
 -- nothing is below itself
 below_itself : (a b : TxnId) → a ≡ b → id_below a b ≡ true → ⊥
-below_itself a b same below = by_part (id_cases a b below)
+below_itself a b same below = by_part (below_is a b below)
   where
     by_part : (a.session < b.session) ⊎ ((a.session ≡ b.session) × (a.number < b.number)) → ⊥
     by_part (inl l) = let e = ap (λ (x : TxnId). x.session) same in omega arith

@@ -1,9 +1,10 @@
 -- Arcs of which some are left out: one of those that are there leads ahead of each, and a session's own arcs lead on.
 use Rattle.std.proofs.Common.{◌≡◌, ◌≢◌, ◌⊎◌, ℕ, ◌+◌, ◌<◌, ◌≤◌, Bool, true, false, not, cond, nat_eq, nat_lt, List, [], ◌∷◌, ◌++◌, Option, Some, None, length, get_or, set, take, replicate, refl, sym, ap, ◌∙◌, inl, inr, subst, suc, zero, arith, append_assoc, append-nil}
 use Rattle.std.specs.Prelude.{filter, IfSome}
+use Rattle.list_lemmas.proofs.Members.{in_left, in_right, in_either, in_place}
 use Rattle.known_graph.specs.Reach.{Reaches}
 use Rattle.std.specs.List.{flat_map}
-use Rattle.std.proofs.lemmas.Bool.{cases_eq, cases_lt, false≢true, ltb-true, ltb-false, eqb-true}
+use Rattle.std.proofs.lemmas.Bool.{cases_eq, cases_lt, false≢true, ltb-true, ltb-false, eqb-true, and_parts, and_from, not-true, not-false}
 use Rattle.std.proofs.lemmas.List.{take_more, map_more, flat_map_more, get_or-set_same, get_or-set_other, get_or-replicate, get_or_past, length-replicate, replicate_more}
 use Rattle.txn.specs.declared.transactions.TxnId.{TxnId}
 use Rattle.txn.specs.declared.transactions.Source.{Source}
@@ -15,8 +16,7 @@ use Rattle.order_check.specs.declared.remainder.Parts.{Parts}
 use Rattle.forced_choices.specs.FewArcs.{LeadsAhead, LeadsBefore, AddsFew, AddsUnled, arc_to, arcs_to, base_arcs_of, is_ahead, is_behind, arc_noted, IsNoted, AreEarliest}
 use Rattle.forced_choices.specs.Listing.{reads_of, writes_here, is_other, base_arcs, is_base_source, arcs_from_writer, arcs_of_read}
 use Rattle.forced_choices.specs.WriterPlaces.{those_at}
-use Rattle.forced_choices.proofs.ListedChoices.{and_parts, and_both}
-use Rattle.forced_choices.proofs.Members.{In, in_place, in_left, in_right, in_either, in_flat_map, flat_map_in, in_map, map_in, in_filter, filter_in}
+use Rattle.forced_choices.proofs.Members.{In, in_flat_map, flat_map_in, in_map, map_in, in_filter, filter_in}
 
 -- an arc that is there leads ahead of itself
 pub itself : (arcs : List Arc) (arc : Arc) → In arcs arc → LeadsAhead arcs arc
@@ -75,21 +75,12 @@ in_noted [] x h = absurd h
 in_noted (y ∷ xs) x (inl e) = (zero, e)
 in_noted (y ∷ xs) x (inr h) = let found = in_noted xs x h in (suc found.0, found.1)
 
--- what is ahead isn't behind, and what isn't is
-from_not : (t : Bool) → not t ≡ true → t ≡ false
-from_not true e = sym e
-from_not false e = refl
-
-from_not_false : (t : Bool) → not t ≡ false → t ≡ true
-from_not_false true e = refl
-from_not_false false e = sym e
-
 first_ahead : (noted : Option (ℕ × TxnId)) (other : TxnId) → is_ahead noted other ≡ true → (first : ℕ × TxnId) × (noted ≡ Some first) × (first.1.number ≤ other.number)
 first_ahead None other e = absurd (false≢true e)
-first_ahead (Some first) other e = let up = ltb-false other.number first.1.number (from_not (nat_lt other.number first.1.number) e) in (first, refl, omega arith)
+first_ahead (Some first) other e = let up = ltb-false other.number first.1.number (not-true (nat_lt other.number first.1.number) e) in (first, refl, omega arith)
 
 first_behind : (first : ℕ × TxnId) (other : TxnId) → is_ahead (Some first) other ≡ false → other.number < first.1.number
-first_behind first other e = ltb-true other.number first.1.number (from_not_false (nat_lt other.number first.1.number) e)
+first_behind first other e = ltb-true other.number first.1.number (not-false (nat_lt other.number first.1.number) e)
 
 -- one more writer, where one of its session is noted that isn't behind it
 pub earliest_passed : (reader : TxnId) (full : List Arc) (noted : List (Option (ℕ × TxnId))) (key : ℕ) (other : TxnId) → is_ahead (get_or noted other.session None) other ≡ true → AreEarliest reader full noted → AreEarliest reader (full ++ Base key reader other ∷ []) noted
@@ -180,7 +171,7 @@ base_from parts ids reader key arc h =
     by_test other among writes true e h = absurd h
     by_test other among writes false e (inr h) = absurd h
     by_test other among writes false e (inl is) =
-        let test = and_both (not (same_id other reader)) (writes_here parts key other) (ap not e) writes in
+        let test = and_from (not (same_id other reader)) (writes_here parts key other) (ap not e) writes in
         subst (λ (a : Arc). In (base_arcs parts ids reader key) a) is (map_in (Base key reader) (filter (is_other parts reader key) ids) other (filter_in (is_other parts reader key) ids other among test))
 
 base_to : (parts : Parts) (ids : List TxnId) (reader : TxnId) (key : ℕ) (arc : Arc) → In (base_arcs parts ids reader key) arc → In (arcs_to reader key (filter (writes_here parts key) ids)) arc
@@ -189,7 +180,7 @@ base_to parts ids reader key arc h =
     let other = made.0 in
     let kept = in_filter (is_other parts reader key) ids other made.1 in
     let tests = and_parts (not (same_id other reader)) (writes_here parts key other) kept.1 in
-    let here : In (arc_to reader key other) (Base key reader other) = subst (λ t. In (cond t [] (Base key reader other ∷ [])) (Base key reader other)) (sym (from_not (same_id other reader) tests.0)) (inl refl) in
+    let here : In (arc_to reader key other) (Base key reader other) = subst (λ t. In (cond t [] (Base key reader other ∷ [])) (Base key reader other)) (sym (not-true (same_id other reader) tests.0)) (inl refl) in
     flat_map_in (arc_to reader key) (filter (writes_here parts key) ids) other arc (filter_in (writes_here parts key) ids other kept.0 tests.1) (subst (λ (a : Arc). In (arc_to reader key other) a) made.2 here)
 
 -- the arcs from the writers, and of each session the earliest writer's, are few of those of the reads

@@ -1,6 +1,7 @@
 -- The first choice that a relation leaves undecided is the first open one.
 use Rattle.std.proofs.Common.{◌≡◌, ◌≢◌, ◌⊎◌, true, List, ◌++◌, Option, Some, None, sym, inl, inr, subst}
 use Rattle.std.specs.Option.{MatchOption}
+use Rattle.list_lemmas.proofs.Members.{in_left, in_either}
 use Rattle.txn.specs.declared.choices.Choice.{Choice}
 use Rattle.txn.specs.declared.choices.ForceStep.{ForceStep}
 use Rattle.txn.specs.Choices.{choice_below}
@@ -13,7 +14,7 @@ use Rattle.forced_choices.specs.BranchState.{Level, assumed}
 use Rattle.forced_choices.specs.Listing.{all_ids, choices_of}
 use Rattle.forced_choices.specs.Stacks.{IsRelationAt}
 use Rattle.forced_choices.specs.Undecided.{IsUndecided, AreAllDecided, IsFirstFound}
-use Rattle.forced_choices.proofs.Members.{In, Ascends, in_left, in_either, ascends_front}
+use Rattle.forced_choices.proofs.Members.{In, Ascends, ascends_front}
 use Rattle.forced_choices.proofs.ListedChoices.{listed_is_choice, choice_listed}
 use Rattle.forced_choices.proofs.ChoicesAscend.{choices_ascend}
 use Rattle.forced_choices.proofs.OpenReads.{ascends_between}

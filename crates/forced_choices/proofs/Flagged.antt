@@ -3,6 +3,7 @@ use Rattle.std.proofs.Common.{◌≡◌, ℕ, ◌++◌, true, Bool, cond, List, 
 use Rattle.std.specs.Prelude.{slice_set}
 use Rattle.std.specs.List.{flat_map}
 use Rattle.std.proofs.lemmas.List.Elements.{All-weaker}
+use Rattle.list_lemmas.specs.Members.{In}
 use Rattle.txn.specs.declared.transactions.TxnId.{TxnId}
 use Rattle.txn.specs.declared.transactions.Source.{Source}
 use Rattle.txn.specs.declared.transactions.Source.TheVariants.{Init, By}
@@ -17,7 +18,6 @@ use Rattle.order_check.specs.Good.{IsGood}
 use Rattle.order_check.specs.Known.{Known, ReadsBase, IsBaseSource, IsChoice, by_session, by_read, by_base, by_taken, through, forces_after, forces_before}
 use Rattle.order_check.specs.StandsFor.{parts_closed}
 use Rattle.known_graph.specs.Graphs.{GraphState}
-use Rattle.forced_choices.specs.Ascending.{In}
 use Rattle.forced_choices.specs.Kept.{IsKept}
 use Rattle.forced_choices.specs.Listing.{all_ids, reads_of, writer_arcs, is_base_source, base_arcs, arcs_of_read, session_arcs, plain_arcs}
 use Rattle.forced_choices.specs.SoFar.{IsRelation, IsSoFar}

@@ -5,6 +5,7 @@ use Rattle.std.specs.List.{flat_map}
 use Rattle.std.specs.Int.{bit_at}
 use Rattle.std.proofs.lemmas.Bool.{cases_eq}
 use Rattle.std.proofs.lemmas.List.{append_assoc}
+use Rattle.list_lemmas.proofs.Members.{in_right, in_either}
 use Rattle.txn.specs.declared.transactions.TxnId.{TxnId}
 use Rattle.txn.specs.declared.choices.Arc.{Arc}
 use Rattle.txn.specs.declared.choices.Choice.{Choice}
@@ -25,7 +26,7 @@ use Rattle.order_check.specs.Based.{Remains}
 use Rattle.forced_choices.specs.declared.saturation.touched.Touched.{Touched}
 use Rattle.forced_choices.specs.Touching.{AreNoted, IsTouchedIn, MayBeJoined}
 use Rattle.forced_choices.proofs.Touches.{noted_none, noted_both, touched_same, touched_more}
-use Rattle.forced_choices.proofs.Members.{In, in_either, in_right, flat_map_in, map_in}
+use Rattle.forced_choices.proofs.Members.{In, flat_map_in, map_in}
 use Rattle.forced_choices.proofs.ListedIds.{remaining_listed}
 use Rattle.forced_choices.proofs.ListedChoices.{writer_remains, reader_remains}
 use Rattle.forced_choices.proofs.Linked.{reaches_more, reaches_by}

@@ -2,7 +2,8 @@
 use Rattle.std.proofs.Common.{◌≡◌, ◌≢◌, ℕ, ◌<◌, ◌≤◌, ◌⊎◌, ◌++◌, Bool, true, false, cond, List, [], ◌∷◌, refl, sym, ap, ◌∙◌, inl, inr, subst, arith, Option, Some, is_some, nat_lt, not, ◌&&◌}
 use Rattle.std.specs.Prelude.{All, Contains, filter, ◌↔◌}
 use Rattle.std.specs.List.{flat_map}
-use Rattle.std.proofs.lemmas.Bool.{false≢true, lt-ltb, ltb-true}
+use Rattle.std.proofs.lemmas.Bool.{false≢true, lt-ltb, ltb-true, and_parts, and_from}
+use Rattle.list_lemmas.proofs.Members.{contains_from_in, in_left, in_right, in_either}
 use Rattle.txn.specs.declared.transactions.TxnId.{TxnId}
 use Rattle.txn.specs.declared.transactions.Source.{Source}
 use Rattle.txn.specs.declared.transactions.Source.TheVariants.{By}
@@ -10,6 +11,7 @@ use Rattle.txn.specs.declared.choices.Arc.{Arc}
 use Rattle.txn.specs.declared.choices.Arc.TheVariants.{Session, Read, Base, Taken}
 use Rattle.txn.specs.Transactions.{same_id}
 use Rattle.txn.specs.Arcs.{start_of, end_of}
+use Rattle.txn.proofs.Ids.{apart_test}
 use Rattle.order_check.specs.declared.remainder.Parts.{Parts}
 use Rattle.order_check.specs.Based.{Remains, remaining_at, mark_of, last_gone}
 use Rattle.order_check.specs.Good.{IsGood}
@@ -31,9 +33,9 @@ use Rattle.forced_choices.proofs.Grown.{reaches_on}
 use Rattle.forced_choices.proofs.Linked.{reaches_by, reached_ahead, sessions_reached}
 use Rattle.forced_choices.proofs.LookingBack.{LeadsToNext, plain_next, plain_before, ends_remain}
 use Rattle.forced_choices.proofs.ListedArcs.{plain_arcs, plain_right, arc_remains, of_read_listed, base_source_test}
-use Rattle.forced_choices.proofs.ListedChoices.{and_both, and_parts, apart_test, in_reads, reads_has, writer_remains, reader_remains}
+use Rattle.forced_choices.proofs.ListedChoices.{in_reads, reads_has, writer_remains, reader_remains}
 use Rattle.forced_choices.proofs.ListedIds.{bounds_of, listed_remains, remaining_listed}
-use Rattle.forced_choices.proofs.Members.{In, contains_from_in, in_left, in_right, in_either, in_flat_map, flat_map_in, in_map, map_in, in_filter, filter_in}
+use Rattle.forced_choices.proofs.Members.{In, in_flat_map, flat_map_in, in_map, map_in, in_filter, filter_in}
 
 -- the arcs of a read, with more ids to look for other writers among
 base_among : (parts : Parts) (ids more : List TxnId) (reader : TxnId) (key : ℕ) (arc : Arc) → ((id : TxnId) → In ids id → In more id) → In (base_arcs parts ids reader key) arc → In (base_arcs parts more reader key) arc
@@ -68,7 +70,7 @@ from_writer parts ids reader writer key writes =
 to_other : (parts : Parts) (ids : List TxnId) (reader other : TxnId) (key : ℕ) (source : Source) → IsBaseSource parts key source → WritesKey parts other key → other ≢ reader → In ids other → In (arcs_of_read parts ids reader (key, source)) (Base key reader other)
 to_other parts ids reader other key source base writes apart among =
     let arc = Base key reader other in
-    let test = and_both (not (same_id other reader)) (writes_here parts key other) (apart_test other reader apart) writes in
+    let test = and_from (not (same_id other reader)) (writes_here parts key other) (apart_test other reader apart) writes in
     let made : In (base_arcs parts ids reader key) arc = map_in (Base key reader) (filter (is_other parts reader key) ids) other (filter_in (is_other parts reader key) ids other among test) in
     let here : In (cond (is_base_source parts key source) (base_arcs parts ids reader key) []) arc = subst (λ t. In (cond t (base_arcs parts ids reader key) []) arc) (sym (base_source_test parts key source base)) made in
     in_right (arcs_from_writer parts reader (key, source)) (cond (is_base_source parts key source) (base_arcs parts ids reader key) []) arc here
@@ -88,7 +90,7 @@ last_remains_not parts key writer good last remains =
 
 -- an arc whose ends both remain isn't fresh
 not_fresh : (parts : Parts) (arc : Arc) → is_fresh parts arc ≡ true → Remains parts (start_of arc) → ¬ Remains parts (end_of arc)
-not_fresh parts arc fresh start end = false≢true (sym (ap not (and_both (is_some (remaining_at parts (start_of arc))) (is_some (remaining_at parts (end_of arc))) start end)) ∙ fresh)
+not_fresh parts arc fresh start end = false≢true (sym (ap not (and_from (is_some (remaining_at parts (start_of arc))) (is_some (remaining_at parts (end_of arc))) start end)) ∙ fresh)
 
 -- what holds of all of a list holds of what is in it
 pub of_all : {X : Type 0} (P : X → Type 0) (xs : List X) (x : X) → All P xs → In xs x → P x
@@ -111,7 +113,7 @@ is_loose parts more nodes ids reads loose reader key source are listed of_these 
 of_session : (more : Parts) (new : List TxnId) (id : TxnId) → In new id → 0 < id.number → Remains more (one_before id) → In (session_arcs more new) (Session (one_before id) id)
 of_session more new id among some before =
     let arc = Session (one_before id) id in
-    let test = and_both (nat_lt 0 id.number) (is_some (remaining_at more (one_before id))) (lt-ltb 0 id.number some) before in
+    let test = and_from (nat_lt 0 id.number) (is_some (remaining_at more (one_before id))) (lt-ltb 0 id.number some) before in
     flat_map_in (session_arc more) new id arc among (subst (λ t. In (cond t (arc ∷ []) []) arc) (sym test) (inl refl))
 
 -- one of the arcs of a loose read

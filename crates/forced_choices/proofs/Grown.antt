@@ -3,6 +3,7 @@ use Rattle.std.proofs.Common.{◌≡◌, ◌≢◌, ◌⊎◌, ◌∷◌, ◌++�
 use Rattle.std.specs.Prelude.{All, ◌↔◌, slice_index_or}
 use Rattle.std.proofs.lemmas.Bool.{cases_eq}
 use Rattle.std.proofs.lemmas.List.{append_assoc, append-nil}
+use Rattle.list_lemmas.proofs.Members.{in_from_contains, contains_from_in, in_left, in_right, in_either, in_place}
 use Rattle.txn.specs.declared.transactions.TxnId.{TxnId}
 use Rattle.txn.specs.declared.choices.Arc.{Arc}
 use Rattle.txn.specs.declared.choices.Arc.TheVariants.{Session, Read, Base, Taken}
@@ -31,7 +32,7 @@ use Rattle.forced_choices.proofs.Linked.{reaches_by, links_known}
 use Rattle.forced_choices.proofs.ListedArcs.{plain_arcs, plain_right, read_listed, arc_apart, arc_remains}
 use Rattle.forced_choices.proofs.ListedIds.{listed_remains}
 use Rattle.forced_choices.proofs.LookingBack.{ends_remain, plain_before}
-use Rattle.forced_choices.proofs.Members.{In, in_from_contains, contains_from_in, in_place, in_left, in_right, in_either}
+use Rattle.forced_choices.proofs.Members.{In}
 use Rattle.forced_choices.proofs.SaturationLaws.{IsEnd, forces_so_far, forces_new, full_log, exact, so_far_again}
 
 -- reachability over more arcs

@@ -1,6 +1,7 @@
 -- What a saturation of good parts keeps, and what it asks of the graph.
 use Rattle.std.proofs.Common.{List, [], get_or, sym}
 use Rattle.std.specs.Prelude.{Contains, All, ◌↔◌}
+use Rattle.list_lemmas.proofs.Members.{contains_from_in, in_place}
 use Rattle.txn.specs.declared.transactions.TxnId.{TxnId}
 use Rattle.txn.specs.declared.choices.Arc.{Arc}
 use Rattle.txn.specs.declared.choices.Choice.{Choice}
@@ -22,7 +23,7 @@ use Rattle.forced_choices.specs.Listing.{all_ids, choices_of}
 use Rattle.forced_choices.specs.Forcing.{IsOn}
 use Rattle.forced_choices.specs.Saturation.{IsSaturationOf}
 use Rattle.forced_choices.specs.Undecided.{IsUndecided, AreFound}
-use Rattle.forced_choices.proofs.Members.{In, in_place, contains_from_in, rises_of}
+use Rattle.forced_choices.proofs.Members.{In, rises_of}
 use Rattle.forced_choices.proofs.ListedIds.{remaining_listed, listed_ascend}
 use Rattle.forced_choices.proofs.ListedChoices.{listed_is_choice, choice_listed, writer_remains, reader_remains}
 use Rattle.forced_choices.proofs.ChoicesAscend.{choices_ascend}

@@ -2,6 +2,7 @@
 use Rattle.std.proofs.Common.{◌≡◌, ℕ, ◌⊎◌, List, [], ◌∷◌, ◌++◌, Option, refl, sym, ap, ◌∙◌, inl, inr, subst, arith, append_assoc}
 use Rattle.std.specs.Prelude.{All}
 use Rattle.std.proofs.lemmas.List.Elements.{All-push}
+use Rattle.list_lemmas.proofs.Members.{in_left, in_right, in_either}
 use Rattle.txn.specs.declared.transactions.TxnId.{TxnId}
 use Rattle.txn.specs.declared.transactions.Source.{Source}
 use Rattle.txn.specs.declared.transactions.Source.TheVariants.{By}
@@ -15,7 +16,7 @@ use Rattle.forced_choices.specs.KeptTables.{AreReadsAnd, AreReadsOf, IsAmong, Is
 use Rattle.forced_choices.specs.Listing.{reads_of}
 use Rattle.forced_choices.specs.Tables.{IsPlaced, IsAtColumns}
 use Rattle.forced_choices.proofs.ListedChoices.{reads_has}
-use Rattle.forced_choices.proofs.Members.{In, in_left, in_right, in_either}
+use Rattle.forced_choices.proofs.Members.{In}
 
 abbrev pub loose_of : TxnId → ℕ × Source → Loose
 loose_of reader read = record { reader = reader; key = read.0; source = read.1 }

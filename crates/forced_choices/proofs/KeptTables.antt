@@ -2,11 +2,14 @@
 use Rattle.std.proofs.Common.{◌≡◌, ◌⊎◌, ℕ, Bool, cond, List, [], ◌∷◌, ◌++◌, length, get_or, take, Option, refl, sym, ap, ◌∙◌, inl, inr, subst, subst₂, not, arith}
 use Rattle.std.specs.Prelude.{Vec, filter}
 use Rattle.std.specs.declared.alloc.Global.{Global}
+use Rattle.std.proofs.lemmas.Bool.{and_from}
+use Rattle.list_lemmas.proofs.Members.{in_left, in_right, in_either, in_place}
 use Rattle.txn.specs.declared.transactions.TxnId.{TxnId}
 use Rattle.txn.specs.declared.transactions.Source.TheVariants.{By}
 use Rattle.txn.specs.declared.choices.Choice.{Choice}
 use Rattle.txn.specs.History.{writes_key}
 use Rattle.txn.specs.Transactions.{same_id}
+use Rattle.txn.proofs.Ids.{apart_test}
 use Rattle.order_check.specs.declared.remainder.Parts.{Parts}
 use Rattle.order_check.specs.Based.{Remains}
 use Rattle.order_check.specs.Known.{IsChoice}
@@ -29,8 +32,8 @@ use Rattle.forced_choices.proofs.AskedKeys.{columns_asked, places_asked, rows_as
 use Rattle.forced_choices.proofs.ByKeys.{rows_kept}
 use Rattle.forced_choices.proofs.Distinct.{take_whole}
 use Rattle.forced_choices.proofs.Growing.{reads_less, reads_more, remains_more, writes_less, writes_more}
-use Rattle.forced_choices.proofs.ListedChoices.{and_both, apart_test, reader_remains, writer_remains}
-use Rattle.forced_choices.proofs.Members.{In, filter_in, flat_map_in, in_either, in_left, in_place, in_right, map_in}
+use Rattle.forced_choices.proofs.ListedChoices.{reader_remains, writer_remains}
+use Rattle.forced_choices.proofs.Members.{In, filter_in, flat_map_in, map_in}
 
 -- what holds of the ids that remained
 filter_same : {X : Type 0} (p q : X → Bool) (xs : List X) → ((x : X) → In xs x → p x ≡ q x) → filter p xs ≡ filter q xs
@@ -110,8 +113,8 @@ same_read a b reader key writer =
 of_choice : (parts : Parts) (ids : List TxnId) (choice : Choice) → IsChoice parts choice → In ids choice.other → In (choices_in parts ids (record { reader = choice.reader; key = choice.key; writer = choice.writer })) choice
 of_choice parts ids choice is there =
     let read : Read = record { reader = choice.reader; key = choice.key; writer = choice.writer } in
-    let other = and_both (not (same_id choice.other choice.reader)) (writes_here parts choice.key choice.other) (apart_test choice.other choice.reader is.not_reader) is.other in
-    let third = and_both (not (same_id choice.other choice.writer)) (is_other parts choice.reader choice.key choice.other) (apart_test choice.other choice.writer is.not_writer) other in
+    let other = and_from (not (same_id choice.other choice.reader)) (writes_here parts choice.key choice.other) (apart_test choice.other choice.reader is.not_reader) is.other in
+    let third = and_from (not (same_id choice.other choice.writer)) (is_other parts choice.reader choice.key choice.other) (apart_test choice.other choice.writer is.not_writer) other in
     map_in (choice_of read) (filter (is_third parts read) ids) choice.other (filter_in (is_third parts read) ids choice.other there third)
 
 -- the kept table covers all choices

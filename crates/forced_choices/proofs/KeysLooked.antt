@@ -1,16 +1,17 @@
 -- Looking at reads key by key: a key at which nobody is reached by more has nothing to look at, and all keys have all reads.
-use Rattle.std.proofs.Common.{◌≡◌, ◌⊎◌, ℕ, ◌+◌, ◌<◌, Bool, true, false, List, [], ◌∷◌, ◌++◌, length, get_or, take, Option, Some, cond, ◌%◌, refl, sym, ap, ◌∙◌, inl, inr, subst, append-nil, append_assoc, suc, arith, Ordering, Less, Equal, Greater}
+use Rattle.std.proofs.Common.{◌≡◌, ◌⊎◌, ℕ, ◌+◌, ◌<◌, Bool, true, false, List, [], ◌∷◌, ◌++◌, length, get_or, take, Option, Some, cond, ◌%◌, refl, sym, ap, ◌∙◌, inl, inr, subst, append-nil, append_assoc, suc, arith}
 use Rattle.std.specs.Prelude.{All, Vec}
 use Rattle.std.specs.BTreeMap.{is_at}
 use Rattle.std.specs.declared.alloc.Global.{Global}
 use Rattle.std.specs.Int.{bit_at}
 use Rattle.std.specs.Map.{keys_of, lookup}
-use Rattle.std.specs.Ordering.{nat_cmp, is_eq}
+use Rattle.std.specs.Ordering.{nat_cmp}
 use Rattle.std.proofs.lemmas.Map.Lookups.{exact_unsigned}
 use Rattle.std.proofs.lemmas.Nat.Bits.{bit_at-zero}
-use Rattle.std.proofs.lemmas.Bool.{false≢true}
 use Rattle.std.proofs.lemmas.Grind.{flat_map-append}
 use Rattle.std.proofs.lemmas.List.{take_more, map-append}
+use Rattle.list_lemmas.proofs.Members.{in_left, in_right, in_either, in_place}
+use Rattle.list_lemmas.proofs.Keys.{equal_from_is_eq}
 use Rattle.txn.specs.declared.transactions.TxnId.{TxnId}
 use Rattle.txn.specs.declared.choices.Arc.{Arc}
 use Rattle.txn.specs.declared.choices.Choice.{Choice}
@@ -25,7 +26,7 @@ use Rattle.forced_choices.specs.Forcing.{AreAllSettledUnless, HasLooked, IsThere
 use Rattle.forced_choices.specs.Masks.{AreColumns, AreThere, choices_in, mask_of, row_in}
 use Rattle.forced_choices.specs.Tables.{IsLookup, choices_at}
 use Rattle.forced_choices.specs.WriterPlaces.{places_at}
-use Rattle.forced_choices.proofs.Members.{In, in_either, in_left, in_right, in_flat_map, flat_map_in, in_place, map_in}
+use Rattle.forced_choices.proofs.Members.{In, in_flat_map, flat_map_in, map_in}
 use Rattle.forced_choices.proofs.TableReads.{no_read, untouched_by}
 
 -- one more place
@@ -105,17 +106,12 @@ all_done parts nodes start then ids reads done looked each = record {
     by_read : (choice : Choice) → (placed : Placed) × In reads placed × In (choices_in parts ids placed.read) choice → In done choice
     by_read choice (placed, among, here) = at choice placed here (index_in reads placed among)
 
-is_equal : (o : Ordering) → is_eq o ≡ true → o ≡ Equal
-is_equal Less e = absurd (false≢true e)
-is_equal Equal e = refl
-is_equal Greater e = absurd (false≢true e)
-
 no_bit_here : (j : ℕ) → ¬ HasBit [] j
 no_bit_here j has = let none : bit_at 0 (j % 64) ≡ 0 = bit_at-zero (j % 64) in omega (arith, has, none)
 
 -- the keys that an order by numbers finds equal are
 same_key : (key other : ℕ) → is_at (nat_cmp key) other ≡ true → other ≡ key
-same_key key other at = sym (exact_unsigned key other (is_equal (nat_cmp key other) at))
+same_key key other at = sym (exact_unsigned key other (equal_from_is_eq (nat_cmp key other) at))
 
 -- a key with a bit in its row is one of the keys
 pub row_key : (key j : ℕ) (es : List (ℕ × Vec Word Global)) → HasBit (row_in (lookup (is_at (nat_cmp key)) es)) j → In (keys_of es) key

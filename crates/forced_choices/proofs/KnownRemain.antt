@@ -2,6 +2,7 @@
 use Rattle.std.proofs.Common.{◌≢◌, List, [], ◌∷◌, Option, Some, None, refl, sym, inl, inr, subst}
 use Rattle.std.specs.Prelude.{All, Contains}
 use Rattle.std.specs.Option.{MatchOption}
+use Rattle.list_lemmas.proofs.Members.{in_from_contains, contains_from_in}
 use Rattle.txn.specs.declared.transactions.TxnId.{TxnId}
 use Rattle.txn.specs.declared.transactions.Source.TheVariants.{By}
 use Rattle.txn.specs.declared.choices.Arc.{Arc}
@@ -19,7 +20,7 @@ use Rattle.known_graph.specs.Reach.{Reaches, IsPathOf}
 use Rattle.forced_choices.specs.BranchState.{Level, arc_of, assumed, all_taken}
 use Rattle.forced_choices.specs.Listing.{all_ids}
 use Rattle.forced_choices.specs.Stacks.{IsRelationAt, AreStacked}
-use Rattle.forced_choices.proofs.Members.{In, in_from_contains, contains_from_in}
+use Rattle.forced_choices.proofs.Members.{In}
 use Rattle.forced_choices.proofs.ListedIds.{remaining_listed}
 use Rattle.forced_choices.proofs.ListedChoices.{writer_remains, reader_remains}
 use Rattle.forced_choices.proofs.SaturationLaws.{leads_path}

@@ -1,8 +1,9 @@
 -- What a cut leaves of the relation is the relation of what it leaves of the parts.
 use Rattle.std.proofs.Common.{◌≡◌, ◌≢◌, ◌⊎◌, ℕ, ◌<◌, Bool, true, false, cond, List, [], ◌∷◌, length, get_or, Option, Some, None, is_some, ◌&&◌, not, refl, sym, ap, ◌∙◌, inl, inr, subst, suc, zero, arith}
 use Rattle.std.specs.Prelude.{Contains, IsSomeAnd, filter, map, ◌↔◌}
-use Rattle.std.proofs.lemmas.Bool.{false≢true}
+use Rattle.std.proofs.lemmas.Bool.{false≢true, and_parts, and_from}
 use Rattle.std.proofs.lemmas.List.Kept.{AllPairs-filter}
+use Rattle.list_lemmas.proofs.Members.{in_from_contains, contains_from_in}
 use Rattle.txn.specs.declared.transactions.TxnId.{TxnId}
 use Rattle.txn.specs.declared.transactions.Source.{Source}
 use Rattle.txn.specs.declared.transactions.Source.TheVariants.{By}
@@ -15,6 +16,7 @@ use Rattle.txn.specs.declared.choices.ForceStep.{ForceStep}
 use Rattle.txn.specs.Arcs.{start_of, end_of}
 use Rattle.txn.specs.History.{writes_key}
 use Rattle.txn.specs.Transactions.{same_id}
+use Rattle.txn.proofs.Ids.{same_id_from, same_id_is, apart_test}
 use Rattle.order_check.specs.declared.remainder.Parts.{Parts}
 use Rattle.order_check.specs.Based.{remaining_at, Remains}
 use Rattle.order_check.specs.CutLaws.{CutLeavesTheRest, CutMovesBase, CutKeepsKnown, IsFromGone, LeadsNotBack}
@@ -36,8 +38,8 @@ use Rattle.forced_choices.specs.SoFar.{IsSoFar}
 use Rattle.forced_choices.proofs.Grown.{reached_remain, right_known}
 use Rattle.forced_choices.proofs.Linked.{reaches_by}
 use Rattle.forced_choices.proofs.ListedArcs.{base_source_of_test, base_source_test, plain_right}
-use Rattle.forced_choices.proofs.ListedChoices.{and_both, and_parts, apart_from_test, apart_test, in_reads, reads_has, reader_remains, same_from_test, same_id_true, writer_remains}
-use Rattle.forced_choices.proofs.Members.{In, contains_from_in, in_filter, in_from_contains, in_map, map_in}
+use Rattle.forced_choices.proofs.ListedChoices.{apart_from_test, in_reads, reads_has, reader_remains, writer_remains}
+use Rattle.forced_choices.proofs.Members.{In, in_filter, in_map, map_in}
 use Rattle.forced_choices.proofs.SaturationLaws.{IsEnd, full_log, step_after, step_rules_out, step_takes}
 
 -- the laws of a cut, of what leads not back
@@ -60,10 +62,10 @@ has_or_not [] id = inr (λ h. absurd h)
 has_or_not (x ∷ ids) id = by_test (same_id x id) refl (has_or_not ids id)
   where
     by_test : (t : Bool) → same_id x id ≡ t → In ids id ⊎ (¬ In ids id) → In (x ∷ ids) id ⊎ (¬ In (x ∷ ids) id)
-    by_test true e rest = inl (inl (same_from_test x id e))
+    by_test true e rest = inl (inl (same_id_is x id e))
     by_test false e (inl h) = inl (inr h)
     by_test false e (inr out) = inr (λ h. elim h [
-      | inl same ↦ false≢true (sym e ∙ same_id_true x id same)
+      | inl same ↦ false≢true (sym e ∙ same_id_from x id same)
       | inr there ↦ out there
     ])
 
@@ -101,7 +103,7 @@ key_none parts from to (read ∷ reads) key source e h base writes = by_test (is
     by_test true test e h rest apart = absurd cc
     by_test false test e (inr there) rest apart = rest e there apart
     by_test false test e (inl same) rest apart =
-        let here = and_both (is_base_source parts key source) (is_other parts from key to) (base_source_test parts key source base) (and_both (not (same_id to from)) (writes_here parts key to) (apart_test to from apart) writes) in
+        let here = and_from (is_base_source parts key source) (is_other parts from key to) (base_source_test parts key source base) (and_from (not (same_id to from)) (writes_here parts key to) (apart_test to from apart) writes) in
         false≢true (sym test ∙ subst (λ (r : ℕ × Source). (is_base_source parts r.0 r.1 && is_other parts from r.0 to) ≡ true) (sym same) here)
 
 -- an arc under another name leads from and to the same
@@ -203,7 +205,7 @@ all_three parts choice e =
     (both.0, both.1, first.1)
 
 three_remain : (parts : Parts) (choice : Choice) → Remains parts choice.reader → Remains parts choice.writer → Remains parts choice.other → choice_remains parts choice ≡ true
-three_remain parts choice reader writer other = and_both (is_some (remaining_at parts choice.reader) && is_some (remaining_at parts choice.writer)) (is_some (remaining_at parts choice.other)) (and_both (is_some (remaining_at parts choice.reader)) (is_some (remaining_at parts choice.writer)) reader writer) other
+three_remain parts choice reader writer other = and_from (is_some (remaining_at parts choice.reader) && is_some (remaining_at parts choice.writer)) (is_some (remaining_at parts choice.other)) (and_from (is_some (remaining_at parts choice.reader)) (is_some (remaining_at parts choice.writer)) reader writer) other
 
 choice_left : (old new : Parts) (gone : List TxnId) (choice : Choice) → Cuts old new gone → choice_remains new choice ≡ true → IsChoice old choice → IsChoice new choice
 choice_left old new gone choice c remains is =

@@ -1,10 +1,12 @@
 -- What right arcs link, what is known, and what a graph of the plain arcs and the sides taken reaches.
 use Rattle.std.proofs.Common.{◌≡◌, ℕ, ◌+◌, ◌-◌, ◌≤◌, ◌<◌, ◌⊎◌, List, [], ◌∷◌, ◌++◌, refl, sym, inl, inr, subst, suc, zero, arith}
 use Rattle.std.proofs.lemmas.Bool.{cases_lt}
+use Rattle.list_lemmas.proofs.Members.{in_from_contains, contains_from_in, in_left}
 use Rattle.txn.specs.declared.transactions.TxnId.{TxnId}
 use Rattle.txn.specs.declared.choices.Arc.{Arc}
 use Rattle.txn.specs.declared.choices.Arc.TheVariants.{Session, Read, Base, Taken}
 use Rattle.txn.specs.Arcs.{start_of, end_of}
+use Rattle.txn.proofs.Ids.{same_numbers}
 use Rattle.order_check.specs.declared.remainder.Parts.{Parts}
 use Rattle.order_check.specs.Based.{mark_of, Remains}
 use Rattle.order_check.specs.Known.{Known, by_session, by_read, by_base, through}
@@ -13,8 +15,8 @@ use Rattle.known_graph.specs.Reach.{Reaches}
 use Rattle.known_graph.specs.Reach as reach
 use Rattle.forced_choices.specs.FewArcs.{LeadsAhead}
 use Rattle.forced_choices.specs.Listing.{all_ids, one_before, session_arcs, arcs_of_reads}
-use Rattle.forced_choices.proofs.Members.{In, in_from_contains, contains_from_in, in_left}
-use Rattle.forced_choices.proofs.ListedIds.{same_fields, bounds_of, bounds_remain}
+use Rattle.forced_choices.proofs.Members.{In}
+use Rattle.forced_choices.proofs.ListedIds.{bounds_of, bounds_remain}
 use Rattle.forced_choices.proofs.ListedArcs.{plain_arcs, next_in_sessions, read_listed, base_listed}
 
 -- reachability over more arcs
@@ -28,7 +30,7 @@ reaches_by arcs arc h = reach.by_arc arc (contains_from_in arcs arc h)
 -- one session's transactions reach one another in order
 session_reached : (parts : Parts) (arcs : List Arc) (n : ℕ) (a b : TxnId) → ((arc : Arc) → In (session_arcs parts (all_ids parts)) arc → Reaches arcs (start_of arc) (end_of arc)) → Remains parts a → Remains parts b → a.session ≡ b.session → a.number + suc n ≡ b.number → Reaches arcs a b
 session_reached parts arcs zero a b sessions ra rb same e =
-    let before : one_before b ≡ a = same_fields (one_before b) a (sym same) (omega arith) in
+    let before : one_before b ≡ a = same_numbers (one_before b) a (sym same) (omega arith) in
     let remains = subst (λ id. Remains parts id) (sym before) ra in
     subst (λ id. Reaches arcs id b) before (sessions (Session (one_before b) b) (next_in_sessions parts b rb remains (omega arith)))
 session_reached parts arcs (suc n) a b sessions ra rb same e =
@@ -62,7 +64,7 @@ reached_ahead parts arcs some arc sessions reached remains ahead = by_number (ca
     by_number (inl below) = reach.through first (sessions_reached parts arcs (end_of ahead.other) (end_of arc) sessions there.1 remains ahead.session below)
     by_number (inr past) =
         let number = ahead.number in
-        let same : end_of ahead.other ≡ end_of arc = same_fields (end_of ahead.other) (end_of arc) ahead.session (omega arith) in
+        let same : end_of ahead.other ≡ end_of arc = same_numbers (end_of ahead.other) (end_of arc) ahead.session (omega arith) in
         subst (λ id. Reaches arcs (start_of arc) id) same first
 
 -- a right arc is known, where the sides taken are

@@ -2,7 +2,8 @@
 use Rattle.std.proofs.Common.{◌≡◌, ◌≢◌, ℕ, ◌+◌, ◌-◌, ◌<◌, ◌⊎◌, Bool, true, false, cond, [], ◌∷◌, refl, sym, ap, ◌∙◌, inl, inr, subst, arith, Option, Some, None, is_some, nat_lt, ◌&&◌, not}
 use Rattle.std.specs.Prelude.{Contains, IsSomeAnd, filter}
 use Rattle.std.specs.List.{flat_map}
-use Rattle.std.proofs.lemmas.Bool.{false≢true, ltb-true, lt-ltb}
+use Rattle.std.proofs.lemmas.Bool.{false≢true, ltb-true, lt-ltb, and_parts, and_from}
+use Rattle.list_lemmas.proofs.Members.{in_left, in_right, in_either}
 use Rattle.txn.specs.declared.transactions.TxnId.{TxnId}
 use Rattle.txn.specs.declared.transactions.Txn.{Txn}
 use Rattle.txn.specs.declared.transactions.Source.{Source}
@@ -11,6 +12,7 @@ use Rattle.txn.specs.declared.choices.Arc.{Arc}
 use Rattle.txn.specs.declared.choices.Arc.TheVariants.{Session, Read, Base, Taken}
 use Rattle.txn.specs.Transactions.{same_id, IsSourceFor}
 use Rattle.txn.specs.Arcs.{start_of, end_of}
+use Rattle.txn.proofs.Ids.{same_id_from, same_id_is, apart_test}
 use Rattle.order_check.specs.declared.remainder.Parts.{Parts}
 use Rattle.order_check.specs.Based.{mark_of, remaining_at, Remains, last_gone}
 use Rattle.order_check.specs.Good.{IsGood}
@@ -18,9 +20,9 @@ use Rattle.order_check.specs.Known.{ReadsKey, WritesKey, ReadsBase, IsBaseSource
 use Rattle.order_check.specs.Cycles.{IsArc}
 use Rattle.forced_choices.specs.Listing.{all_ids, reads_of, writes_here, is_other, one_before, session_arc, session_arcs, base_arcs, is_last, is_base_source, writer_arcs, arcs_from_writer, arcs_of_read, arcs_of_reads}
 pub use Rattle.forced_choices.specs.Listing.{plain_arcs}
-use Rattle.forced_choices.proofs.Members.{In, in_left, in_right, in_either, in_flat_map, flat_map_in, in_map, map_in, in_filter, filter_in}
+use Rattle.forced_choices.proofs.Members.{In, in_flat_map, flat_map_in, in_map, map_in, in_filter, filter_in}
 use Rattle.forced_choices.proofs.ListedIds.{listed_remains, remaining_listed}
-use Rattle.forced_choices.proofs.ListedChoices.{same_id_true, and_parts, and_both, same_from_test, apart_from_test, apart_test, in_reads, reads_has, writer_remains, reader_remains}
+use Rattle.forced_choices.proofs.ListedChoices.{apart_from_test, in_reads, reads_has, writer_remains, reader_remains}
 use Rattle.forced_choices.proofs.ChoicesAscend.{looked_up}
 
 session_arc_right : (parts : Parts) (id : TxnId) (arc : Arc) → Remains parts id → In (session_arc parts id) arc → IsArc parts [] arc
@@ -40,14 +42,14 @@ base_source_from : (parts : Parts) (key : ℕ) (last : Option TxnId) (source : S
 base_source_from parts key None Init e h = e
 base_source_from parts key None (By writer) e h = absurd (false≢true h)
 base_source_from parts key (Some last) Init e h = absurd (false≢true h)
-base_source_from parts key (Some last) (By writer) e h = e ∙ ap Some (same_from_test last writer h)
+base_source_from parts key (Some last) (By writer) e h = e ∙ ap Some (same_id_is last writer h)
 
 pub base_source_of_test : (parts : Parts) (key : ℕ) (source : Source) → is_base_source parts key source ≡ true → IsBaseSource parts key source
 base_source_of_test parts key source h = base_source_from parts key (last_gone parts key) source refl h
 
 pub base_source_test : (parts : Parts) (key : ℕ) (source : Source) → IsBaseSource parts key source → is_base_source parts key source ≡ true
 base_source_test parts key Init h = ap (λ last. is_last last Init) h
-base_source_test parts key (By writer) h = ap (λ last. is_last last (By writer)) h ∙ same_id_true writer writer refl
+base_source_test parts key (By writer) h = ap (λ last. is_last last (By writer)) h ∙ same_id_from writer writer refl
 
 base_arc_right : (parts : Parts) (reader : TxnId) (key : ℕ) (source : Source) (arc : Arc) → ReadsKey parts reader key source → IsBaseSource parts key source → In (base_arcs parts (all_ids parts) reader key) arc → IsArc parts [] arc
 base_arc_right parts reader key source arc reads base h =
@@ -93,7 +95,7 @@ plain_right parts arc h = by_part (in_either (session_arcs parts (all_ids parts)
 -- the arc to the next of a session
 pub next_in_sessions : (parts : Parts) (id : TxnId) → Remains parts id → Remains parts (one_before id) → 0 < id.number → In (session_arcs parts (all_ids parts)) (Session (one_before id) id)
 next_in_sessions parts id remains before some =
-    let test = and_both (nat_lt 0 id.number) (is_some (remaining_at parts (one_before id))) (lt-ltb 0 id.number some) before in
+    let test = and_from (nat_lt 0 id.number) (is_some (remaining_at parts (one_before id))) (lt-ltb 0 id.number some) before in
     let here : In (session_arc parts id) (Session (one_before id) id) = subst (λ t. In (cond t (Session (one_before id) id ∷ []) []) (Session (one_before id) id)) (sym test) (inl refl) in
     flat_map_in (session_arc parts) (all_ids parts) id (Session (one_before id) id) (remaining_listed parts id remains) here
 
@@ -117,7 +119,7 @@ read_listed parts reader writer key reads writes =
 pub base_listed : (parts : Parts) (reader other : TxnId) (key : ℕ) → ReadsBase parts reader key → WritesKey parts other key → other ≢ reader → In (plain_arcs parts) (Base key reader other)
 base_listed parts reader other key (source, reads, base) writes apart =
     let arc = Base key reader other in
-    let test = and_both (not (same_id other reader)) (writes_here parts key other) (apart_test other reader apart) writes in
+    let test = and_from (not (same_id other reader)) (writes_here parts key other) (apart_test other reader apart) writes in
     let made : In (base_arcs parts (all_ids parts) reader key) arc = map_in (Base key reader) (filter (is_other parts reader key) (all_ids parts)) other (filter_in (is_other parts reader key) (all_ids parts) other (remaining_listed parts other (writer_remains parts other key writes)) test) in
     let here : In (cond (is_base_source parts key source) (base_arcs parts (all_ids parts) reader key) []) arc = subst (λ t. In (cond t (base_arcs parts (all_ids parts) reader key) []) arc) (sym (base_source_test parts key source base)) made in
     of_read_listed parts reader key source arc reads (in_right (arcs_from_writer parts reader (key, source)) (cond (is_base_source parts key source) (base_arcs parts (all_ids parts) reader key) []) arc here)

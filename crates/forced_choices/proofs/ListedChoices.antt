@@ -2,8 +2,8 @@
 use Rattle.std.proofs.Common.{◌≡◌, ◌≢◌, ℕ, ◌<◌, Bool, true, false, cond, List, [], refl, sym, ap, ◌∙◌, subst, Option, Some, None, IsSome, nat_lt, nat_eq, ◌||◌, ◌&&◌, not}
 use Rattle.std.specs.Prelude.{Contains, IsSomeAnd, filter}
 use Rattle.std.specs.List.{flat_map}
-use Rattle.std.proofs.lemmas.Bool.{false≢true, eq-eqb, lt-ltb, eqb-true, not-true}
-use Rattle.std.proofs.Math.Bool.{or-true}
+use Rattle.std.proofs.lemmas.Bool.{false≢true, eq-eqb, lt-ltb, not-true, and_parts, and_from, or_right}
+use Rattle.list_lemmas.proofs.Members.{in_from_contains, contains_from_in}
 use Rattle.txn.specs.declared.transactions.TxnId.{TxnId}
 use Rattle.txn.specs.declared.transactions.Txn.{Txn}
 use Rattle.txn.specs.declared.transactions.Source.{Source}
@@ -11,37 +11,17 @@ use Rattle.txn.specs.declared.transactions.Source.TheVariants.{Init, By}
 use Rattle.txn.specs.declared.choices.Choice.{Choice}
 use Rattle.txn.specs.Transactions.{id_below, same_id}
 use Rattle.txn.specs.Choices.{choice_below}
-use Rattle.txn.specs.History.{writes_key}
+use Rattle.txn.specs.History.{writes_key, reads_in}
+use Rattle.txn.proofs.Ids.{same_id_from, apart_test}
 use Rattle.order_check.specs.declared.remainder.Parts.{Parts}
 use Rattle.order_check.specs.Based.{remaining_at, Remains}
 use Rattle.order_check.specs.Known.{IsChoice, ReadsKey, WritesKey}
-use Rattle.forced_choices.specs.Listing.{all_ids, reads_in, reads_of, writes_here, is_other, choices_with, choices_from, choices_of_read, choices_of}
-use Rattle.forced_choices.proofs.Members.{In, in_from_contains, contains_from_in, in_flat_map, flat_map_in, in_map, map_in, in_filter, filter_in}
-use Rattle.forced_choices.proofs.ListedIds.{same_fields, remaining_listed}
-
--- tests on ids
-pub same_id_true : (a b : TxnId) → a ≡ b → same_id a b ≡ true
-same_id_true a b e = ap (λ t. t && nat_eq a.number b.number) (eq-eqb a.session b.session (ap (λ (x : TxnId). x.session) e)) ∙ eq-eqb a.number b.number (ap (λ (x : TxnId). x.number) e)
-
-pub and_parts : (a b : Bool) → (a && b) ≡ true → (a ≡ true) × (b ≡ true)
-and_parts true b h = (refl, h)
-and_parts false b h = absurd (false≢true h)
-
-pub and_both : (a b : Bool) → a ≡ true → b ≡ true → (a && b) ≡ true
-and_both a b ha hb = ap (λ t. t && b) ha ∙ hb
-
-pub same_from_test : (a b : TxnId) → same_id a b ≡ true → a ≡ b
-same_from_test a b h = let parts = and_parts (nat_eq a.session b.session) (nat_eq a.number b.number) h in same_fields a b (eqb-true a.session b.session parts.0) (eqb-true a.number b.number parts.1)
+use Rattle.forced_choices.specs.Listing.{all_ids, reads_of, writes_here, is_other, choices_with, choices_from, choices_of_read, choices_of}
+use Rattle.forced_choices.proofs.Members.{In, in_flat_map, flat_map_in, in_map, map_in, in_filter, filter_in}
+use Rattle.forced_choices.proofs.ListedIds.{remaining_listed}
 
 pub apart_from_test : (a b : TxnId) → not (same_id a b) ≡ true → a ≢ b
-apart_from_test a b h e = false≢true (sym (not-true (same_id a b) h) ∙ same_id_true a b e)
-
-pub apart_test : (a b : TxnId) → a ≢ b → not (same_id a b) ≡ true
-apart_test a b apart = by_test (same_id a b) refl
-  where
-    by_test : (t : Bool) → same_id a b ≡ t → not t ≡ true
-    by_test true e = absurd (apart (same_from_test a b e))
-    by_test false e = refl
+apart_from_test a b h e = false≢true (sym (not-true (same_id a b) h) ∙ same_id_from a b e)
 
 -- what a transaction reads
 pub in_reads : (found : Option Txn) (key : ℕ) (source : Source) → In (reads_in found) (key, source) → IsSomeAnd found (λ txn. Contains txn.reads (key, source))
@@ -110,7 +90,7 @@ choice_listed parts choice is =
     let ids = all_ids parts in
     let reader = choice.reader in
     let other_there = remaining_listed parts choice.other (writer_remains parts choice.other choice.key is.other) in
-    let test = and_both (not (same_id choice.other choice.writer)) (is_other parts reader choice.key choice.other) (apart_test choice.other choice.writer is.not_writer) (and_both (not (same_id choice.other reader)) (writes_here parts choice.key choice.other) (apart_test choice.other reader is.not_reader) is.other) in
+    let test = and_from (not (same_id choice.other choice.writer)) (is_other parts reader choice.key choice.other) (apart_test choice.other choice.writer is.not_writer) (and_from (not (same_id choice.other reader)) (writes_here parts choice.key choice.other) (apart_test choice.other reader is.not_reader) is.other) in
     let made = map_in (λ other. let c : Choice = record { reader = reader; key = choice.key; writer = choice.writer; other = other } in c) (filter (λ other. not (same_id other choice.writer) && is_other parts reader choice.key other) ids) choice.other (filter_in (λ other. not (same_id other choice.writer) && is_other parts reader choice.key other) ids choice.other other_there test) in
     let of_read : In (choices_of_read parts ids reader (choice.key, By choice.writer)) choice = subst (λ t. In (cond t (choices_with parts ids reader choice.key choice.writer) []) choice) (sym is.written) made in
     flat_map_in (λ reader. flat_map (choices_of_read parts ids reader) (reads_of parts reader)) ids reader choice
@@ -121,22 +101,19 @@ choice_listed parts choice is =
 pub below_by_reader : (a b : Choice) → id_below a.reader b.reader ≡ true → choice_below a b ≡ true
 below_by_reader a b h = ap (λ t. t || (same_id a.reader b.reader && (nat_lt a.key b.key || (nat_eq a.key b.key && (id_below a.writer b.writer || (same_id a.writer b.writer && id_below a.other b.other)))))) h
 
-pub either_true : (a b : Bool) → b ≡ true → (a || b) ≡ true
-either_true a b h = ap (λ t. a || t) h ∙ or-true a
-
 pub below_by_key : (a b : Choice) → a.reader ≡ b.reader → a.key < b.key → choice_below a b ≡ true
 below_by_key a b same below =
-    either_true (id_below a.reader b.reader) _ (and_both (same_id a.reader b.reader) _ (same_id_true a.reader b.reader same)
+    or_right (id_below a.reader b.reader) _ (and_from (same_id a.reader b.reader) _ (same_id_from a.reader b.reader same)
     (ap (λ t. t || (nat_eq a.key b.key && (id_below a.writer b.writer || (same_id a.writer b.writer && id_below a.other b.other)))) (lt-ltb a.key b.key below)))
 
 pub below_by_writer : (a b : Choice) → a.reader ≡ b.reader → a.key ≡ b.key → id_below a.writer b.writer ≡ true → choice_below a b ≡ true
 below_by_writer a b same key below =
-    either_true (id_below a.reader b.reader) _ (and_both (same_id a.reader b.reader) _ (same_id_true a.reader b.reader same)
-    (either_true (nat_lt a.key b.key) _ (and_both (nat_eq a.key b.key) _ (eq-eqb a.key b.key key)
+    or_right (id_below a.reader b.reader) _ (and_from (same_id a.reader b.reader) _ (same_id_from a.reader b.reader same)
+    (or_right (nat_lt a.key b.key) _ (and_from (nat_eq a.key b.key) _ (eq-eqb a.key b.key key)
     (ap (λ t. t || (same_id a.writer b.writer && id_below a.other b.other)) below))))
 
 pub below_by_other : (a b : Choice) → a.reader ≡ b.reader → a.key ≡ b.key → a.writer ≡ b.writer → id_below a.other b.other ≡ true → choice_below a b ≡ true
 below_by_other a b same key writer below =
-    either_true (id_below a.reader b.reader) _ (and_both (same_id a.reader b.reader) _ (same_id_true a.reader b.reader same)
-    (either_true (nat_lt a.key b.key) _ (and_both (nat_eq a.key b.key) _ (eq-eqb a.key b.key key)
-    (either_true (id_below a.writer b.writer) _ (and_both (same_id a.writer b.writer) _ (same_id_true a.writer b.writer writer) below)))))
+    or_right (id_below a.reader b.reader) _ (and_from (same_id a.reader b.reader) _ (same_id_from a.reader b.reader same)
+    (or_right (nat_lt a.key b.key) _ (and_from (nat_eq a.key b.key) _ (eq-eqb a.key b.key key)
+    (or_right (id_below a.writer b.writer) _ (and_from (same_id a.writer b.writer) _ (same_id_from a.writer b.writer writer) below)))))

@@ -10,6 +10,7 @@ use Rattle.txn.specs.declared.transactions.TxnId.{TxnId}
 use Rattle.txn.specs.declared.transactions.Txn.{Txn}
 use Rattle.txn.specs.Transactions.{id_below}
 use Rattle.txn.specs.History.{ids_from}
+use Rattle.txn.proofs.Ids.{same_numbers}
 use Rattle.order_check.specs.declared.remainder.Parts.{Parts}
 use Rattle.order_check.specs.Based.{mark_of, remaining_of, remaining_ids, Remains}
 use Rattle.forced_choices.specs.Listing.{all_ids}
@@ -47,10 +48,6 @@ bounds_remain parts id h =
     let some : is_some (slice_get txns (id.number - mark)) ≡ true = ap is_some there in
     ap (λ t. is_some (cond t None (slice_get txns (id.number - mark)))) after ∙ some
 
--- ids are told apart by their fields
-pub same_fields : (a b : TxnId) → a.session ≡ b.session → a.number ≡ b.number → a ≡ b
-same_fields a b session number = ap (λ s. let id : TxnId = record { session = s; number = a.number } in id) session ∙ ap (λ n. let id : TxnId = record { session = b.session; number = n } in id) number
-
 -- the ids of a session, from a number on
 pub in_ids_from : (s n : ℕ) (txns : List Txn) (id : TxnId) → In (ids_from s n txns) id → (id.session ≡ s) × (n ≤ id.number) × (id.number < n + length txns)
 in_ids_from s n [] id h = absurd h
@@ -62,7 +59,7 @@ ids_from_in s n [] id session low high = absurd (omega arith)
 ids_from_in s n (txn ∷ txns) id session low high = by_place (eqb_tells n id.number) (ids_from_in s (n + 1) txns id session)
   where
     by_place : ((nat_eq n id.number ≡ true) × (n ≡ id.number)) ⊎ ((nat_eq n id.number ≡ false) × (n ≢ id.number)) → (n + 1 ≤ id.number → id.number < n + 1 + length txns → In (ids_from s (n + 1) txns) id) → In (ids_from s n (txn ∷ txns)) id
-    by_place (inl (t, e)) rest = inl (same_fields (record { session = s; number = n }) id (sym session) e)
+    by_place (inl (t, e)) rest = inl (same_numbers (record { session = s; number = n }) id (sym session) e)
     by_place (inr (t, ne)) rest = inr (rest (omega arith) (omega arith))
 
 below_in_session : (a b : TxnId) → a.session ≡ b.session → a.number < b.number → id_below a b ≡ true

@@ -2,7 +2,8 @@
 use Rattle.std.proofs.Common.{◌≡◌, ◌<◌, ◌⊎◌, ◌∷◌, [], ℕ, Bool, true, false, cond, List, is_some, nat_lt, ◌&&◌, not, refl, sym, inl, inr, subst, arith}
 use Rattle.std.specs.Prelude.{⊤, filter}
 use Rattle.std.specs.List.{flat_map}
-use Rattle.std.proofs.lemmas.Bool.{false≢true, ltb-true}
+use Rattle.std.proofs.lemmas.Bool.{false≢true, ltb-true, and_parts}
+use Rattle.list_lemmas.proofs.Members.{in_either}
 use Rattle.txn.specs.declared.transactions.TxnId.{TxnId}
 use Rattle.txn.specs.declared.transactions.Source.{Source}
 use Rattle.txn.specs.declared.transactions.Source.TheVariants.{Init, By}
@@ -15,9 +16,8 @@ use Rattle.order_check.specs.Cycles.{IsArc}
 use Rattle.forced_choices.specs.Growth.{AreMore, is_fresh}
 use Rattle.forced_choices.specs.Listing.{all_ids, reads_of, writes_here, is_other, one_before, session_arc, session_arcs, base_arcs, is_base_source, writer_arcs, arcs_from_writer, arcs_of_read, arcs_of_reads}
 use Rattle.forced_choices.proofs.Growing.{reads_less, writes_less, reads_base_less}
-use Rattle.forced_choices.proofs.Members.{In, in_either, in_flat_map, in_map}
+use Rattle.forced_choices.proofs.Members.{In, in_flat_map, in_map}
 use Rattle.forced_choices.proofs.ListedArcs.{plain_arcs, plain_right, next_listed, read_listed, base_listed}
-use Rattle.forced_choices.proofs.ListedChoices.{and_parts}
 
 -- both ends of an arc that isn't fresh remain
 pub ends_remain : (parts : Parts) (arc : Arc) → is_fresh parts arc ≡ false → Remains parts (start_of arc) × Remains parts (end_of arc)

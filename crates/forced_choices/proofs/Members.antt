@@ -1,41 +1,12 @@
 -- What is in a list, by cases on the list, and lists that ascend.
 use Rattle.std.proofs.Common.{◌≡◌, ℕ, ◌<◌, ◌⊎◌, Bool, true, false, cond, List, [], ◌∷◌, ◌++◌, length, get_or, refl, sym, ap, ◌∙◌, inl, inr, subst, suc, zero, arith, add-one}
-use Rattle.std.specs.Prelude.{Contains, map, filter}
+use Rattle.std.specs.Prelude.{map, filter}
 use Rattle.std.specs.List.{flat_map}
 use Rattle.std.proofs.lemmas.Bool.{false≢true}
+use Rattle.list_lemmas.proofs.Members.{in_left, in_right, in_either, in_place}
 use Rattle.txn.specs.Transactions.{Rises}
-pub use Rattle.forced_choices.specs.Ascending.{In, Ascends}
-
-pub in_from_contains : {X : Type 0} (xs : List X) (y : X) → Contains xs y → In xs y
-in_from_contains [] y (k, within, is) = absurd (omega arith)
-in_from_contains (x ∷ xs) y (zero, within, is) = inl is
-in_from_contains (x ∷ xs) y (suc k, within, is) = inr (in_from_contains xs y (k, omega arith, is))
-
-pub contains_from_in : {X : Type 0} (xs : List X) (y : X) → In xs y → Contains xs y
-contains_from_in [] y h = absurd h
-contains_from_in (x ∷ xs) y (inl e) = (0, omega arith, e)
-contains_from_in {X} (x ∷ xs) y (inr h) = more (contains_from_in xs y h)
-  where
-    more : Contains xs y → Contains (x ∷ xs) y
-    more (k, within, is) = (suc k, omega arith, is)
-
-pub in_left : {X : Type 0} (xs ys : List X) (y : X) → In xs y → In (xs ++ ys) y
-in_left [] ys y h = absurd h
-in_left (x ∷ xs) ys y (inl e) = inl e
-in_left (x ∷ xs) ys y (inr h) = inr (in_left xs ys y h)
-
-pub in_right : {X : Type 0} (xs ys : List X) (y : X) → In ys y → In (xs ++ ys) y
-in_right [] ys y h = h
-in_right (x ∷ xs) ys y h = inr (in_right xs ys y h)
-
-pub in_either : {X : Type 0} (xs ys : List X) (y : X) → In (xs ++ ys) y → In xs y ⊎ In ys y
-in_either [] ys y h = inr h
-in_either (x ∷ xs) ys y (inl e) = inl (inl e)
-in_either {X} (x ∷ xs) ys y (inr h) = more (in_either xs ys y h)
-  where
-    more : In xs y ⊎ In ys y → In (x ∷ xs) y ⊎ In ys y
-    more (inl h) = inl (inr h)
-    more (inr h) = inr h
+pub use Rattle.list_lemmas.specs.Members.{In}
+pub use Rattle.forced_choices.specs.Ascending.{Ascends}
 
 pub in_flat_map : {X Y : Type 0} (f : X → List Y) (xs : List X) (y : Y) → In (flat_map f xs) y → (x : X) × In xs x × In (f x) y
 in_flat_map f [] y h = absurd h
@@ -114,12 +85,6 @@ ascends_map {X} {Y} first below f (x ∷ xs) h keeps = (apart, ascends_map first
   where
     apart : (y : Y) → In (map f xs) y → below (f x) y ≡ true
     apart y hy = let found = in_map f xs y hy in subst (λ w. below (f x) w ≡ true) found.2 (keeps x found.0 (h.0 found.0 found.1))
-
--- the element at a place is in the list
-pub in_place : {X : Type 0} (xs : List X) (k : ℕ) (d : X) → k < length xs → In xs (get_or xs k d)
-in_place [] k d h = absurd (omega arith)
-in_place (x ∷ xs) zero d h = inl refl
-in_place (x ∷ xs) (suc k) d h = inr (in_place xs k d (omega arith))
 
 -- what ascends rises
 pub rises_from_ascends : {X : Type 0} (below : X → X → Bool) (xs : List X) → Ascends below xs → (k : ℕ) (d : X) → suc k < length xs → below (get_or xs k d) (get_or xs (suc k) d) ≡ true

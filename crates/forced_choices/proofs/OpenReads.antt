@@ -1,5 +1,6 @@
 -- The undecided choices of a front of the choices, as more of them are looked at.
 use Rattle.std.proofs.Common.{◌≡◌, ◌↔◌, ℕ, ◌⊎◌, Bool, true, List, [], ◌∷◌, ◌++◌, get_or, Option, append-nil, refl, sym, inl, inr, subst}
+use Rattle.list_lemmas.proofs.Members.{in_right, in_either}
 use Rattle.txn.specs.declared.transactions.TxnId.{TxnId}
 use Rattle.txn.specs.declared.choices.Arc.{Arc}
 use Rattle.txn.specs.declared.choices.Choice.{Choice}
@@ -12,7 +13,7 @@ use Rattle.forced_choices.specs.declared.tables.reads.Read.{Read}
 use Rattle.forced_choices.specs.declared.tables.writers.Writers.{Writers}
 use Rattle.forced_choices.specs.Masks.{AreWriters, AreTold, mask_of, choice_of, choices_in}
 use Rattle.forced_choices.specs.Undecided.{IsUndecided, AreAllDecided, AreFound, no_more, undecided, decided, TellsOpen}
-use Rattle.forced_choices.proofs.Members.{In, Ascends, in_right, in_either}
+use Rattle.forced_choices.proofs.Members.{In, Ascends}
 use Rattle.forced_choices.proofs.SettledReads.{each_choice, third_parts, third_writes, told_of}
 
 -- nothing is undecided before the first

@@ -7,6 +7,7 @@ use Rattle.std.specs.List.{AllPairs}
 use Rattle.std.proofs.lemmas.List.{take_more, take_all, get_or-take, get_or_default, length-take}
 use Rattle.std.proofs.lemmas.List.Elements.{All-contains, Contains-push, Contains-push_cases, Contains-append_left, Contains-get_or}
 use Rattle.std.proofs.lemmas.List.Quantifiers.{all_pairs_push}
+use Rattle.list_lemmas.proofs.Members.{none_in_none}
 use Rattle.txn.specs.declared.transactions.TxnId.{TxnId}
 use Rattle.txn.specs.Transactions.{id_below}
 use Rattle.order_check.specs.declared.remainder.Parts.{Parts}
@@ -18,9 +19,6 @@ use Rattle.known_graph.specs.Reach.{Reaches}
 use Rattle.forced_choices.specs.OrderedAmong.{AreOrdered, IsOrderedAmong}
 use Rattle.forced_choices.specs.Picked.{AreColumnsOf, AreLinked, IsLinkedWith, IsPicked, PicksOne}
 use Rattle.forced_choices.proofs.Touches.{no_bit}
-
-none_in_none : {X : Type 0} (x : X) → Contains [] x → ⊥
-none_in_none x (k, within, is) = absurd (omega arith)
 
 pub no_columns : (nodes : List (Option TxnId)) (ids : List TxnId) → AreColumnsOf nodes (take 0 ids) []
 no_columns nodes ids = record { told = λ j has. absurd (no_bit j has); all = λ id h. absurd (none_in_none id h) }

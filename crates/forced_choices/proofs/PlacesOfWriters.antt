@@ -4,10 +4,11 @@ use Rattle.std.specs.Prelude.{Vec, map, filter, All}
 use Rattle.std.specs.List.{list_any}
 use Rattle.std.specs.declared.alloc.Global.{Global}
 use Rattle.std.specs.BTreeMap.{BTreeMap}
-use Rattle.std.proofs.lemmas.Bool.{eqb-true, eqb-false, ltb-true, lt-ltb, false≢true}
+use Rattle.std.proofs.lemmas.Bool.{eqb-true, eqb-false, ltb-true, lt-ltb, false≢true, and_parts}
 use Rattle.std.proofs.lemmas.List.{take-append-drop, take_more, map-append, map_more}
 use Rattle.std.proofs.lemmas.List.Folds.{list_any-append}
 use Rattle.std.proofs.lemmas.List.Elements.{filter_more, filter-append, All-push}
+use Rattle.list_lemmas.proofs.Members.{in_either}
 use Rattle.txn.specs.declared.transactions.TxnId.{TxnId}
 use Rattle.txn.specs.declared.transactions.Txn.{Txn}
 use Rattle.txn.specs.declared.choices.Arc.TheVariants.{Base}
@@ -20,8 +21,7 @@ use Rattle.forced_choices.specs.FreshArcs.{AreAllWritten}
 use Rattle.forced_choices.specs.Listing.{writes_here, is_other, base_arcs}
 use Rattle.forced_choices.specs.Masks.{IsAnyKey, is_third, choice_of, choices_in}
 use Rattle.forced_choices.specs.WriterPlaces.{places_at, those_at, AreWriterPlaces}
-use Rattle.forced_choices.proofs.Members.{In, Ascends, ascends_of, in_either}
-use Rattle.forced_choices.proofs.ListedChoices.{and_parts}
+use Rattle.forced_choices.proofs.Members.{In, Ascends, ascends_of}
 use Rattle.forced_choices.proofs.ChoicesAscend.{looked_up}
 use Rattle.forced_choices.proofs.SettledReads.{third_writes}
 use Rattle.forced_choices.proofs.OpenReads.{ascends_back}

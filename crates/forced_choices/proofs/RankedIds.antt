@@ -1,6 +1,7 @@
 -- The ids that remain, each with how many of them are known to come before it.
 use Rattle.std.proofs.Common.{◌≡◌, List, sym, subst, get_or, All}
 use Rattle.std.specs.Prelude.{◌↔◌, Contains}
+use Rattle.list_lemmas.proofs.Members.{in_from_contains, contains_from_in, in_place}
 use Rattle.txn.specs.declared.transactions.TxnId.{TxnId}
 use Rattle.txn.specs.Transactions.{Rises, id_below}
 use Rattle.txn.specs.declared.choices.ForceStep.{ForceStep}
@@ -16,7 +17,7 @@ use Rattle.forced_choices.specs.Ranks.{Counts, ids_of, AreRanked}
 use Rattle.forced_choices.specs.Stacks.{IsRelationAt}
 use Rattle.forced_choices.proofs.Counting.{AreCounted, counts_same}
 use Rattle.forced_choices.proofs.ListedIds.{listed_remains, remaining_listed, listed_ascend}
-use Rattle.forced_choices.proofs.Members.{in_place, in_from_contains, contains_from_in, rises_of}
+use Rattle.forced_choices.proofs.Members.{rises_of}
 use Rattle.forced_choices.proofs.Stacked.{at_exact, at_nodes}
 
 -- the graph has all that remain

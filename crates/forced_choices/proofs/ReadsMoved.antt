@@ -2,6 +2,7 @@
 use Rattle.std.proofs.Common.{◌≡◌, ◌⊎◌, ◌++◌, ℕ, Bool, true, false, not, List, Option, refl, sym, ap, ◌∙◌, inl, inr, subst}
 use Rattle.std.specs.Prelude.{All, filter}
 use Rattle.std.proofs.lemmas.Bool.{false≢true}
+use Rattle.list_lemmas.proofs.Members.{in_left}
 use Rattle.txn.specs.declared.transactions.TxnId.{TxnId}
 use Rattle.txn.specs.declared.transactions.Source.{Source}
 use Rattle.txn.specs.declared.transactions.Source.TheVariants.{By}
@@ -11,7 +12,7 @@ use Rattle.forced_choices.specs.declared.tables.kept.Loose.{Loose}
 use Rattle.forced_choices.specs.declared.tables.reads.Placed.{Placed}
 use Rattle.forced_choices.specs.KeptTables.{AreReadsOf, IsAmong, WereReadsOf, has_come, is_writer}
 use Rattle.forced_choices.specs.Tables.{IsPlaced}
-use Rattle.forced_choices.proofs.Members.{In, filter_in, in_filter, in_left}
+use Rattle.forced_choices.proofs.Members.{In, filter_in, in_filter}
 
 -- what is among reads is among more
 pub among_more : (reads more : List Placed) (reader : TxnId) (key : ℕ) (source : Source) → ((placed : Placed) → In reads placed → In more placed) → IsAmong reads reader key source → IsAmong more reader key source

@@ -2,6 +2,7 @@
 use Rattle.std.proofs.Common.{◌≡◌, ◌≢◌, ◌⊎◌, List, [], ◌∷◌, ◌++◌, get_or, arith, refl, sym, ap, ◌∙◌, inl, inr, subst}
 use Rattle.std.specs.Prelude.{◌↔◌}
 use Rattle.std.proofs.lemmas.List.Quantifiers.{all_pairs_push}
+use Rattle.list_lemmas.proofs.Members.{in_from_contains, contains_from_in, in_left, in_right, in_either, in_place}
 use Rattle.txn.specs.declared.transactions.TxnId.{TxnId}
 use Rattle.txn.specs.declared.choices.Choice.{Choice}
 use Rattle.txn.specs.declared.choices.Arc.{Arc}
@@ -22,7 +23,7 @@ use Rattle.forced_choices.specs.FewArcs.{ArePlain}
 use Rattle.forced_choices.specs.Listing.{all_ids, session_arcs, arcs_of_reads}
 use Rattle.forced_choices.specs.SoFar.{IsSoFar}
 use Rattle.forced_choices.specs.Forcing.{IsReady, IsReached, IsLeft, taken_arc, IsStepOf, Forces, unforced, forced}
-use Rattle.forced_choices.proofs.Members.{In, in_place, in_from_contains, contains_from_in, in_left, in_right, in_either}
+use Rattle.forced_choices.proofs.Members.{In}
 use Rattle.forced_choices.proofs.Linked.{reaches_more, reaches_by, ordered_reached, reached_ahead, links_known, reached_links, links_reached}
 use Rattle.forced_choices.proofs.ListedArcs.{plain_arcs, plain_right, arc_remains, read_listed, base_listed}
 

@@ -4,6 +4,7 @@ use Rattle.std.proofs.Common.{◌≡◌, ◌≢◌, ℕ, ◌+◌, ◌-◌, List,
 use Rattle.std.proofs.lemmas.List.{append_assoc, take-append-drop}
 use Rattle.std.specs.List.{slice_get}
 use Rattle.std.specs.Option.{option_to_list, MatchOption}
+use Rattle.list_lemmas.proofs.Members.{in_from_contains, contains_from_in, in_left}
 use Rattle.txn.specs.declared.transactions.TxnId.{TxnId}
 use Rattle.txn.specs.declared.choices.Arc.{Arc}
 use Rattle.txn.specs.declared.choices.Choice.{Choice}
@@ -17,7 +18,6 @@ use Rattle.forced_choices.specs.declared.tables.table.Table.{Table}
 use Rattle.forced_choices.specs.Stacks.{AreAcyclic, HaveSeen, IsSeen, last_seen, levels_onto, seen_onto}
 use Rattle.forced_choices.specs.Tables.{choices_at}
 use Rattle.forced_choices.specs.Undecided.{AreAllDecided}
-use Rattle.forced_choices.proofs.Members.{in_left, in_from_contains, contains_from_in}
 use Rattle.forced_choices.proofs.Stacked.{split_last, last_of_marked, graph_again, back_is, with_marks}
 
 -- one more at the end

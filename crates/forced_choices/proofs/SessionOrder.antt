@@ -6,6 +6,7 @@ use Rattle.std.proofs.lemmas.Bool.{cases_lt}
 use Rattle.std.proofs.lemmas.Bool.Decides.{eqb_tells}
 use Rattle.std.proofs.lemmas.List.{get_or_past}
 use Rattle.std.proofs.lemmas.List.Elements.{filter-append}
+use Rattle.list_lemmas.proofs.Members.{contains_from_in}
 use Rattle.txn.specs.declared.transactions.TxnId.{TxnId}
 use Rattle.txn.specs.declared.transactions.Txn.{Txn}
 use Rattle.txn.specs.History.{ids_from, in_session}
@@ -14,7 +15,6 @@ use Rattle.order_check.specs.Based.{mark_of, remaining_of, remaining_ids, Remain
 use Rattle.order_check.specs.Explains.{KeepsSessions}
 use Rattle.forced_choices.specs.Listing.{all_ids}
 use Rattle.forced_choices.proofs.ListedIds.{remaining_listed}
-use Rattle.forced_choices.proofs.Members.{contains_from_in}
 
 same_session : (s n : ℕ) (txns : List Txn) → nat_eq s s ≡ true → filter (in_session s) (ids_from s n txns) ≡ ids_from s n txns
 same_session s n [] e = refl

@@ -2,12 +2,13 @@
 use Rattle.std.proofs.Common.{◌≡◌, ◌≢◌, ◌↔◌, ℕ, ◌+◌, ◌/◌, ◌%◌, ◌<◌, ◌⊎◌, Bool, true, false, cond, List, [], ◌∷◌, ◌++◌, length, get_or, take, not, Option, refl, sym, ap, ◌∙◌, inl, inr, subst, suc, arith}
 use Rattle.std.specs.List.{flat_map}
 use Rattle.std.specs.Prelude.{map, filter}
-use Rattle.std.proofs.lemmas.Bool.{cases_eq}
+use Rattle.std.proofs.lemmas.Bool.{cases_eq, and_parts}
 use Rattle.std.proofs.lemmas.List.{map-append, take_more, append-nil}
 use Rattle.std.proofs.lemmas.List.Elements.{filter-append}
 use Rattle.std.proofs.lemmas.Grind.{flat_map-append}
 use Rattle.std.proofs.lemmas.Nat.Bits.{bit_at-zero}
 use Rattle.std.specs.Int.{bit_at}
+use Rattle.list_lemmas.proofs.Members.{in_either}
 use Rattle.txn.specs.declared.transactions.TxnId.{TxnId}
 use Rattle.txn.specs.declared.transactions.Source.{Source}
 use Rattle.txn.specs.declared.transactions.Source.TheVariants.{By}
@@ -25,9 +26,9 @@ use Rattle.forced_choices.specs.declared.tables.writers.Writers.{Writers}
 use Rattle.forced_choices.specs.Forcing.{Stage, IsThere, IsSettledUnless, HasLooked}
 use Rattle.forced_choices.specs.Listing.{writes_here, is_other, reads_of, choices_of_read, choices_of}
 use Rattle.forced_choices.specs.Masks.{AreWriters, mask_of, is_third, choice_of, choices_in, IsSettled, AreThere, AreSettledBut}
-use Rattle.forced_choices.proofs.Members.{In, in_either}
+use Rattle.forced_choices.proofs.Members.{In}
 use Rattle.forced_choices.proofs.Forced.{continues_none, all_there_still, choices_more}
-use Rattle.forced_choices.proofs.ListedChoices.{and_parts, apart_from_test}
+use Rattle.forced_choices.proofs.ListedChoices.{apart_from_test}
 
 -- the choices with one other writer, and with one more
 pub choices_yes : (parts : Parts) (read : Read) (other : TxnId) → is_third parts read other ≡ true → choices_in parts (other ∷ []) read ≡ choice_of read other ∷ []

@@ -6,6 +6,7 @@ use Rattle.std.specs.BTreeMap.{BTreeMap}
 use Rattle.std.proofs.lemmas.Grind.{flat_map-append}
 use Rattle.std.proofs.lemmas.List.{take_more, take-append-drop}
 use Rattle.std.proofs.lemmas.List.Elements.{All-push}
+use Rattle.list_lemmas.proofs.Members.{in_right, in_either}
 use Rattle.txn.specs.declared.transactions.TxnId.{TxnId}
 use Rattle.txn.specs.declared.transactions.Source.TheVariants.{By}
 use Rattle.txn.specs.declared.choices.Arc.{Arc}
@@ -26,7 +27,7 @@ use Rattle.forced_choices.specs.Masks.{AreColumns, AreThere, AreWriters, IsSettl
 use Rattle.forced_choices.specs.Tables.{IsPlaced, IsAtColumns, AreReads, choices_at}
 use Rattle.forced_choices.specs.Undecided.{IsUndecided, AreAllDecided, AreFound, IsFirstFound}
 use Rattle.forced_choices.proofs.Forced.{all_there_still, continues_none}
-use Rattle.forced_choices.proofs.Members.{In, Ascends, in_right, in_either}
+use Rattle.forced_choices.proofs.Members.{In, Ascends}
 use Rattle.forced_choices.proofs.SettledReads.{each_choice, there_of, third_apart, third_parts, third_is_choice, third_writes}
 use Rattle.forced_choices.proofs.OpenReads.{ascends_back, found_each, found_all, found_ascends}
 

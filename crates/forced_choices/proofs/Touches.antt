@@ -3,6 +3,7 @@ use Rattle.std.proofs.Common.{◌≡◌, ◌↔◌, ◌⊎◌, ℕ, ◌/◌, ◌
 use Rattle.std.specs.Int.{bit_at}
 use Rattle.std.proofs.lemmas.Bool.{cases_eq}
 use Rattle.std.proofs.lemmas.Nat.Bits.{bit_at-zero}
+use Rattle.list_lemmas.proofs.Members.{in_from_contains, contains_from_in, in_either}
 use Rattle.txn.specs.declared.transactions.TxnId.{TxnId}
 use Rattle.txn.specs.declared.choices.Arc.{Arc}
 use Rattle.txn.specs.declared.choices.Arc.TheVariants.{Taken}
@@ -12,7 +13,7 @@ use Rattle.known_graph.specs.Graphs.{IsAt}
 use Rattle.known_graph.specs.Reach.{Reaches, by_arc, through}
 use Rattle.forced_choices.specs.declared.saturation.touched.Touched.{Touched}
 use Rattle.forced_choices.specs.Touching.{IsTouchedIn, AreNoted}
-use Rattle.forced_choices.proofs.Members.{In, in_from_contains, contains_from_in, in_either}
+use Rattle.forced_choices.proofs.Members.{In}
 
 -- a row of no word has no column
 pub no_bit : (j : ℕ) → ¬ HasBit [] j

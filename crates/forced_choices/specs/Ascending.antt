@@ -1,10 +1,6 @@
 -- For private clauses: what is in a list, and lists that ascend, by cases on the list.
-use Rattle.std.specs.Prelude.{◌≡◌, ◌⊎◌, ⊤, Bool, true, List, [], ◌∷◌}
-
--- the list has it
-abbrev pub In : {X : Type 0} → List X → X → Type 0
-In [] y = ⊥
-In (x ∷ xs) y = (x ≡ y) ⊎ In xs y
+use Rattle.std.specs.Prelude.{◌≡◌, ⊤, Bool, true, List, [], ◌∷◌}
+use Rattle.list_lemmas.specs.Members.{In}
 
 -- each element is below all that follow
 abbrev pub Ascends : {X : Type 0} → (X → X → Bool) → List X → Type 0

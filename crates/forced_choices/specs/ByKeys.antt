@@ -1,9 +1,9 @@
 -- For private clauses: reads by their keys, and for each key the columns of who reads and writes it.
 use Rattle.std.specs.Prelude.{◌≡◌, ◌<◌, ℕ, List, Option, All, map, length, slice_index_or}
+use Rattle.list_lemmas.specs.Members.{In}
 use Rattle.txn.specs.declared.transactions.TxnId.{TxnId}
 use Rattle.order_check.specs.declared.remainder.Parts.{Parts}
 use Rattle.known_graph.specs.Bits.{HasBit}
-use Rattle.forced_choices.specs.Ascending.{In}
 use Rattle.forced_choices.specs.declared.tables.by_key.ByKey.{ByKey}
 use Rattle.forced_choices.specs.declared.tables.reads.Placed.{Placed}
 use Rattle.forced_choices.specs.Masks.{AreColumns, mask_of}

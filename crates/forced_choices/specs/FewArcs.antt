@@ -1,6 +1,7 @@
 -- For private clauses: arcs of which some are left out, since others lead to a transaction that comes before theirs in its session.
 use Rattle.std.specs.Prelude.{◌≡◌, ◌<◌, ◌≤◌, ◌⊎◌, ℕ, Bool, false, nat_eq, nat_lt, not, ◌&&◌, List, Option, Some, None, [], ◌∷◌, filter, slice_index_or, if◌then◌else◌}
 use Rattle.std.specs.List.{flat_map}
+use Rattle.list_lemmas.specs.Members.{In}
 use Rattle.txn.specs.declared.transactions.TxnId.{TxnId}
 use Rattle.txn.specs.declared.transactions.Source.{Source}
 use Rattle.txn.specs.declared.choices.Arc.{Arc}
@@ -9,7 +10,6 @@ use Rattle.txn.specs.Arcs.{start_of, end_of}
 use Rattle.txn.specs.Transactions.{same_id}
 use Rattle.order_check.specs.declared.remainder.Parts.{Parts}
 use Rattle.known_graph.specs.Reach.{Reaches}
-use Rattle.forced_choices.specs.Ascending.{In}
 use Rattle.forced_choices.specs.Listing.{all_ids, is_base_source, session_arcs, arcs_of_reads, writes_here}
 
 -- one of the arcs starts where this one does, and ends where it does or before that in the same session

@@ -1,5 +1,6 @@
 -- For private clauses: sides that are forced, one after another.
 use Rattle.std.specs.Prelude.{◌≡◌, ◌≢◌, ℕ, List, Option, [], ◌∷◌, ◌++◌, length}
+use Rattle.list_lemmas.specs.Members.{In}
 use Rattle.txn.specs.declared.transactions.TxnId.{TxnId}
 use Rattle.txn.specs.declared.choices.Arc.{Arc}
 use Rattle.txn.specs.declared.choices.Arc.TheVariants.{Taken}
@@ -12,7 +13,6 @@ use Rattle.forced_choices.specs.declared.saturation.looking.Trail.{Trail}
 use Rattle.forced_choices.specs.declared.saturation.rules.Rule.{Rule}
 use Rattle.known_graph.specs.Graphs.{GraphState, HasNode, IsAt}
 use Rattle.known_graph.specs.Reach.{Reaches, IsPathOf}
-use Rattle.forced_choices.specs.Ascending.{In}
 use Rattle.forced_choices.specs.Rules.{premise, conclusion}
 use Rattle.forced_choices.specs.declared.saturation.touched.Touched.{Touched}
 use Rattle.forced_choices.specs.Touching.{IsTouchedIn, AreNoted, MayBeJoined}

@@ -1,11 +1,11 @@
 -- For private clauses: the arcs that new transactions bring.
 use Rattle.std.specs.Prelude.{◌≡◌, ℕ, false, nat_eq, List, ◌++◌}
 use Rattle.std.specs.List.{flat_map, list_any}
+use Rattle.list_lemmas.specs.Members.{In}
 use Rattle.txn.specs.declared.transactions.TxnId.{TxnId}
 use Rattle.txn.specs.declared.choices.Arc.{Arc}
 use Rattle.order_check.specs.declared.remainder.Parts.{Parts}
 use Rattle.forced_choices.specs.declared.tables.kept.Loose.{Loose}
-use Rattle.forced_choices.specs.Ascending.{In}
 use Rattle.forced_choices.specs.Listing.{writes_here, session_arcs, arcs_of_read, arcs_of_reads}
 
 -- the arcs between loose reads and the new transactions

@@ -1,6 +1,7 @@
 -- For private clauses: parts with more transactions, and the arcs that these bring.
 use Rattle.std.specs.Prelude.{◌≡◌, ◌<◌, ◌⊎◌, ℕ, Bool, ◌&&◌, not, is_some, List, ◌++◌, Option, true, length, map}
 use Rattle.std.specs.List.{range_with_len}
+use Rattle.list_lemmas.specs.Members.{In}
 use Rattle.txn.specs.declared.transactions.TxnId.{TxnId}
 use Rattle.txn.specs.declared.transactions.Fragment.{Fragment}
 use Rattle.txn.specs.declared.choices.Arc.{Arc}
@@ -12,7 +13,6 @@ use Rattle.order_check.specs.Good.{IsGood}
 use Rattle.order_check.specs.StandsFor.{parts_with}
 use Rattle.known_graph.specs.Graphs.{GraphState, IsAt}
 use Rattle.known_graph.specs.Reach.{Reaches}
-use Rattle.forced_choices.specs.Ascending.{In}
 use Rattle.forced_choices.specs.Kept.{IsKept}
 use Rattle.forced_choices.specs.Listing.{plain_arcs}
 

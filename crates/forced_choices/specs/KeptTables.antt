@@ -1,5 +1,6 @@
 -- For private clauses: a table that is kept as transactions arrive, in the order in which they came.
 use Rattle.std.specs.Prelude.{◌≡◌, ◌⊎◌, ◌↔◌, ℕ, Bool, false, List, [], ◌∷◌, ◌++◌, Option, All}
+use Rattle.list_lemmas.specs.Members.{In}
 use Rattle.txn.specs.declared.transactions.TxnId.{TxnId}
 use Rattle.txn.specs.declared.transactions.Source.{Source}
 use Rattle.txn.specs.declared.transactions.Source.TheVariants.{Init, By}
@@ -10,7 +11,6 @@ use Rattle.forced_choices.specs.declared.tables.kept.Loose.{Loose}
 use Rattle.forced_choices.specs.declared.tables.kept.KeptTable.{KeptTable}
 use Rattle.forced_choices.specs.declared.tables.reads.Placed.{Placed}
 use Rattle.forced_choices.specs.declared.tables.table.Table.{Table}
-use Rattle.forced_choices.specs.Ascending.{In}
 use Rattle.forced_choices.specs.ByKeys.{AreIndexed, AreRows}
 use Rattle.forced_choices.specs.Listing.{writes_here}
 use Rattle.forced_choices.specs.Masks.{AreWriters, IsAnyKey}

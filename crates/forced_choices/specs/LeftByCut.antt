@@ -1,5 +1,6 @@
 -- For private clauses: what a cut leaves of the arcs and of the log.
 use Rattle.std.specs.Prelude.{◌≡◌, ℕ, Bool, ◌&&◌, List, [], ◌∷◌, map, filter, Option, Some, None, if◌then◌else◌, Contains}
+use Rattle.list_lemmas.specs.Members.{In}
 use Rattle.txn.specs.declared.transactions.TxnId.{TxnId}
 use Rattle.txn.specs.declared.transactions.Source.{Source}
 use Rattle.txn.specs.declared.choices.Arc.{Arc}
@@ -9,7 +10,6 @@ use Rattle.txn.specs.Arcs.{start_of, end_of}
 use Rattle.order_check.specs.declared.remainder.Parts.{Parts}
 use Rattle.order_check.specs.Based.{Remains}
 use Rattle.known_graph.specs.Reach.{Reaches}
-use Rattle.forced_choices.specs.Ascending.{In}
 use Rattle.forced_choices.specs.Listing.{is_base_source, is_other, reads_of}
 use Rattle.forced_choices.specs.SaturatedState.{choice_remains}
 use Rattle.forced_choices.specs.declared.relation.cutting.Left.{Left}

@@ -2,25 +2,19 @@
 use Rattle.std.specs.Prelude.{ℕ, ◌-◌, nat_lt, is_some, Bool, true, false, ◌&&◌, not, List, [], ◌∷◌, ◌++◌, length, filter, map, Some, None, Option, if◌then◌else◌}
 use Rattle.std.specs.List.{flat_map, range_with_len}
 use Rattle.txn.specs.declared.transactions.TxnId.{TxnId}
-use Rattle.txn.specs.declared.transactions.Txn.{Txn}
 use Rattle.txn.specs.declared.transactions.Source.{Source}
 use Rattle.txn.specs.declared.transactions.Source.TheVariants.{Init, By}
 use Rattle.txn.specs.declared.choices.Choice.{Choice}
 use Rattle.txn.specs.declared.choices.Arc.{Arc}
 use Rattle.txn.specs.declared.choices.Arc.TheVariants.{Session, Read, Base}
 use Rattle.txn.specs.Transactions.{same_id}
-use Rattle.txn.specs.History.{writes_key}
+use Rattle.txn.specs.History.{writes_key, reads_in}
 use Rattle.order_check.specs.declared.remainder.Parts.{Parts}
 use Rattle.order_check.specs.Based.{remaining_ids, remaining_at, last_gone}
 
 -- all ids that remain, session by session
 abbrev pub all_ids : Parts → List TxnId
 all_ids parts = flat_map (remaining_ids parts) (range_with_len 0 (length parts.remain))
-
--- the reads of a transaction, where there is one
-abbrev pub reads_in : Option Txn → List (ℕ × Source)
-reads_in None = []
-reads_in (Some txn) = txn.reads
 
 -- the reads of a remaining transaction
 abbrev pub reads_of : Parts → TxnId → List (ℕ × Source)

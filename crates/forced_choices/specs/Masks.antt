@@ -3,6 +3,7 @@ use Rattle.std.specs.Prelude.{◌≡◌, ◌<◌, ℕ, ⊤, Bool, true, not, ◌
 use Rattle.std.specs.declared.alloc.Global.{Global}
 use Rattle.std.specs.BTreeMap.{BTreeMap, get}
 use Rattle.std.specs.Ordering.{nat_cmp}
+use Rattle.list_lemmas.specs.Members.{In}
 use Rattle.txn.specs.declared.transactions.TxnId.{TxnId}
 use Rattle.txn.specs.declared.choices.Arc.{Arc}
 use Rattle.txn.specs.declared.choices.Choice.{Choice}
@@ -16,7 +17,6 @@ use Rattle.known_graph.specs.Sparse.{dense}
 use Rattle.known_graph.specs.declared.sparse.Word.{Word}
 use Rattle.forced_choices.specs.declared.tables.reads.Read.{Read}
 use Rattle.forced_choices.specs.declared.tables.writers.Writers.{Writers}
-use Rattle.forced_choices.specs.Ascending.{In}
 use Rattle.forced_choices.specs.Forcing.{IsThere}
 use Rattle.forced_choices.specs.Undecided.{TellsOpen}
 use Rattle.forced_choices.specs.Listing.{writes_here, is_other, choices_with}

@@ -1,5 +1,6 @@
 -- For private clauses: what holds while sides are forced.
 use Rattle.std.specs.Prelude.{List}
+use Rattle.list_lemmas.specs.Members.{In}
 use Rattle.txn.specs.declared.transactions.TxnId.{TxnId}
 use Rattle.txn.specs.declared.choices.Arc.{Arc}
 use Rattle.txn.specs.declared.choices.ForceStep.{ForceStep}
@@ -10,7 +11,6 @@ use Rattle.order_check.specs.Known.{Known}
 use Rattle.order_check.specs.Cycles.{Sides, IsArc, AreForced, TakeEachOnce, sides_after}
 use Rattle.known_graph.specs.Graphs.{GraphState, HasNode}
 use Rattle.known_graph.specs.Reach.{Reaches}
-use Rattle.forced_choices.specs.Ascending.{In}
 use Rattle.forced_choices.specs.Forcing.{IsClosed}
 use Rattle.forced_choices.specs.Listing.{plain_arcs}
 

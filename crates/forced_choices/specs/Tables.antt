@@ -1,6 +1,7 @@
 -- For private clauses: what is looked up once, for parts and the keys of a graph.
 use Rattle.std.specs.Prelude.{◌≡◌, ◌<◌, ℕ, List, Option, All, length, slice_index, slice_index_or, take}
 use Rattle.std.specs.List.{flat_map}
+use Rattle.list_lemmas.specs.Members.{In}
 use Rattle.txn.specs.declared.transactions.TxnId.{TxnId}
 use Rattle.txn.specs.declared.transactions.Source.TheVariants.{By}
 use Rattle.txn.specs.declared.choices.Arc.{Arc}
@@ -9,7 +10,6 @@ use Rattle.order_check.specs.declared.remainder.Parts.{Parts}
 use Rattle.order_check.specs.Known.{ReadsKey, WritesKey, IsChoice}
 use Rattle.known_graph.specs.Graphs.{IsAt}
 use Rattle.forced_choices.specs.declared.tables.reads.Placed.{Placed}
-use Rattle.forced_choices.specs.Ascending.{In}
 use Rattle.forced_choices.specs.declared.tables.table.Table.{Table}
 use Rattle.forced_choices.specs.Listing.{all_ids, choices_of}
 use Rattle.forced_choices.specs.ByKeys.{AreIndexed, AreRows, IsRead}

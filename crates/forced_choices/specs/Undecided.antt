@@ -1,8 +1,9 @@
 -- For private clauses: choices that a graph leaves undecided.
 use Rattle.std.specs.Prelude.{◌≡◌, ◌≢◌, ◌⊎◌, ◌≤◌, ℕ, true, List, [], ◌∷◌, ◌++◌, length}
+use Rattle.list_lemmas.specs.Members.{In}
 use Rattle.txn.specs.declared.choices.Arc.{Arc}
 use Rattle.txn.specs.declared.choices.Choice.{Choice}
-use Rattle.forced_choices.specs.Ascending.{In, Ascends}
+use Rattle.forced_choices.specs.Ascending.{Ascends}
 use Rattle.txn.specs.Choices.{choice_below}
 use Rattle.known_graph.specs.Bits.{HasBit}
 use Rattle.known_graph.specs.Reach.{Reaches}

@@ -1,5 +1,5 @@
 -- Counts of what was taken of each collector, as more is taken.
-use Rattle.std.proofs.Common.{◌≡◌, ℕ, ◌+◌, ◌<◌, refl, sym, ap, subst, ◌∙◌, List, [], ◌∷◌, ◌++◌, length, length-append, set, get_or, length-set, get_or-set_same, get_or-set_other, arith, append-nil, append_assoc}
+use Rattle.std.proofs.Common.{◌≡◌, ℕ, ◌+◌, ◌<◌, sym, ap, subst, ◌∙◌, List, [], ◌∷◌, ◌++◌, length, length-append, set, get_or, length-set, get_or-set_same, get_or-set_other, arith, append-nil, append_assoc}
 use mathlib.Core.Logic.{dite}
 use native.Mathlib.Decide.{ℕ_discrete}
 use Rattle.fragment_intake.specs.declared.rules.Parcel.{Parcel}
@@ -30,19 +30,6 @@ pub counts_after : (old new : List ℕ) (v w : View) (x : Parcel) (base left : L
 counts_after old new v w x base left known counts got is =
     let more : w.got ≡ v.got ++ x ∷ [] = ap (λ (u : View). u.got) got.0 in
     (more ∙ ap (λ l. l ++ x ∷ []) known ∙ append_assoc base left (x ∷ []), subst (λ c. Counts c (left ++ x ∷ [])) (sym is) (counts_more old left x counts got.1))
-
--- the count that is raised fits
-pub room_left : (old : List ℕ) (v w : View) (x : Parcel) (base left : List Parcel) → v.got ≡ base ++ left → Counts old left → Got v x w → get_or old x.collector 0 < 281474976710656
-room_left old v w x base left known counts got =
-    let p = x.collector in
-    let more : w.got ≡ base ++ (left ++ x ∷ []) = ap (λ (u : View). u.got) got.0 ∙ ap (λ l. l ++ x ∷ []) known ∙ append_assoc base left (x ∷ []) in
-    let split : of p w.got ≡ of p base ++ (of p left ++ x ∷ []) =
-    ap (of p) more ∙ of-append p base (left ++ x ∷ []) ∙ ap (λ l. of p base ++ l) (of-append p left (x ∷ []) ∙ ap (λ l. of p left ++ l) (of-own p x [] refl)) in
-    let long : length (of p w.got) ≡ length (of p base) + (length (of p left) + 1) =
-    ap length split ∙ length-append (of p base) (of p left ++ x ∷ []) ∙ ap (λ n. length (of p base) + n) (length-append (of p left) (x ∷ [])) in
-    let e = counts.1 p got.1 in
-    let few = got.2 in
-    omega (arith, long, e, few)
 
 -- the auditor's pass stays one after a pop
 pub audits_still : (v w : View) (x : Parcel) → v ≡ seen [] 1 v.got → Got v x w → w ≡ seen [] 1 w.got

@@ -1,44 +1,14 @@
 -- Totals over views, views after one was changed, and the parcels of each collector in longer lists.
-use Rattle.std.proofs.Common.{◌≡◌, ◌≢◌, ℕ, zero, suc, ◌+◌, ◌<◌, ◌≤◌, ◌⊎◌, inl, inr, ⊎_elim, Bool, true, false, cond, refl, sym, ap, subst, ◌∙◌, List, [], ◌∷◌, ◌++◌, length, length-append, set, take, drop, Some, arith, append-nil, eqb, eq-eqb, ne_eqb}
+use Rattle.std.proofs.Common.{◌≡◌, ◌≢◌, ℕ, zero, suc, ◌+◌, ◌<◌, ◌≤◌, ◌⊎◌, inl, inr, ⊎_elim, Bool, true, false, cond, refl, sym, ap, subst, ◌∙◌, List, [], ◌∷◌, ◌++◌, length, length-append, take, drop, Some, arith, append-nil, eqb, eq-eqb, ne_eqb}
 use Rattle.std.specs.Prelude.{slice_get, if◌then◌else◌}
 use Rattle.std.proofs.lemmas.List.Elements.{filter-append}
-use mathlib.Core.Option.{some, some-injective, some-ne-none}
 use mathlib.Core.Logic.{dite}
 use native.Mathlib.Decide.{ℕ_discrete}
-use lib.ListN.{get_elem?}
-use Rattle.crossbeam_queue.proofs.Lists.{at_set}
+use Rattle.list_lemmas.specs.Counts.{times}
 use Rattle.fragment_intake.specs.declared.rules.Parcel.{Parcel}
-use Rattle.fragment_intake.specs.declared.rules.View.{View}
-use Rattle.fragment_intake.specs.Counts.{times, total}
 use Rattle.fragment_intake.specs.Delivers.{of, whos, Tells}
 
 -- totals
-
-pub total_set : {V : Type 0} (f : V → ℕ) (views : List V) (port : ℕ) (v w : V) → get_elem? views port ≡ some v → total f (set views port w) + f v ≡ total f views + f w
-total_set f [] port v w at = absurd (some-ne-none v (sym at))
-total_set f (x ∷ xs) zero v w at = let e = ap f (some-injective x v at) in omega arith
-total_set f (x ∷ xs) (suc port) v w at = let e = total_set f xs port v w at in omega arith
-
-pub total_snoc : {V : Type 0} (f : V → ℕ) (views : List V) (v : V) → total f (views ++ v ∷ []) ≡ total f views + f v
-total_snoc f [] v = omega arith
-total_snoc f (x ∷ xs) v = let e = total_snoc f xs v in omega arith
-
-pub total_at : {V : Type 0} (f : V → ℕ) (views : List V) (port : ℕ) (v : V) → get_elem? views port ≡ some v → f v ≤ total f views
-total_at f [] port v at = absurd (some-ne-none v (sym at))
-total_at f (x ∷ xs) zero v at = let e = ap f (some-injective x v at) in omega arith
-total_at f (x ∷ xs) (suc port) v at = let e = total_at f xs port v at in omega arith
-
--- two places add up to at most the total
-pub total_two : {V : Type 0} (f : V → ℕ) (views : List V) (i j : ℕ) (v u : V) → get_elem? views i ≡ some v → get_elem? views j ≡ some u → j ≢ i → f v + f u ≤ total f views
-total_two f [] i j v u at at' other = absurd (some-ne-none v (sym at))
-total_two f (x ∷ xs) zero zero v u at at' other = absurd (other refl)
-total_two f (x ∷ xs) zero (suc j) v u at at' other = let e = ap f (some-injective x v at) in let t = total_at f xs j u at' in omega arith
-total_two f (x ∷ xs) (suc i) zero v u at at' other = let e = ap f (some-injective x u at') in let t = total_at f xs i v at in omega arith
-total_two f (x ∷ xs) (suc i) (suc j) v u at at' other = let t = total_two f xs i j v u at at' (λ e. other (ap suc e)) in omega arith
-
-pub times-append : (p : ℕ) (xs ys : List ℕ) → times p (xs ++ ys) ≡ times p xs + times p ys
-times-append p [] ys = omega arith
-times-append p (x ∷ xs) ys = let e = times-append p xs ys in omega arith
 
 pub apart_time : (x p : ℕ) → x ≢ p → ◌≡◌ {A = ℕ} (if eqb x p then 1 else 0) 0
 apart_time x p other = ap (λ (b : Bool). if b then 1 else 0) (ne_eqb x p other)
@@ -49,10 +19,6 @@ self_time p = ap_one (eqb p p) (eq-eqb p p refl)
     ap_one : (b : Bool) → b ≡ true → 1 ≤ cond b 1 0 + 0
     ap_one true e = omega arith
     ap_one false e = absurd cc
-
--- each view of the list after one was changed
-pub all_set : (F : View → Type 0) (views : List View) (port : ℕ) (w : View) → F w → ((j : ℕ) (u : View) → j ≢ port → get_elem? views j ≡ some u → F u) → (j : ℕ) (u : View) → get_elem? (set views port w) j ≡ some u → F u
-all_set F views port w mine others j u e = ⊎_elim (λ (x : (j ≡ port) × (w ≡ u)). subst F x.1 mine) (λ (x : (j ≢ port) × (get_elem? views j ≡ some u)). others j u x.0 x.1) (at_set views port j w u e)
 
 -- the parcels of one collector
 

@@ -6,11 +6,12 @@ use mathlib.Core.Option.{some, some-injective, some-ne-none}
 use lib.ListN.{get_elem?}
 use Rattle.crossbeam_queue.specs.Fifo.{Pushes, Pops, Forks, Merges, Learns}
 use Rattle.crossbeam_queue.proofs.Lists.{at_set, at_snoc}
+use Rattle.list_lemmas.proofs.Counts.{total_set, total_snoc, total_two, times-append, all_set}
+use Rattle.list_lemmas.specs.Counts.{times, total}
 use Rattle.fragment_intake.specs.declared.rules.Parcel.{Parcel}
 use Rattle.fragment_intake.specs.declared.rules.View.{View}
-use Rattle.fragment_intake.specs.Counts.{times, total}
 use Rattle.fragment_intake.specs.Delivers.{of, whos, Tells, seen, collector, everyone, without_first, only_first, both_of, blank, Delivers, Put, Got, Settled, Waits}
-use Rattle.fragment_intake.proofs.Lists.{total_set, total_snoc, total_two, times-append, apart_time, self_time, all_set, of-append, of-own, more, more-same, whole-more, tells-more, tells-append, tells-rest, tells-swap, whos-append, whos-rest, get_at, numbered_more, few_more}
+use Rattle.fragment_intake.proofs.Lists.{apart_time, self_time, of-append, of-own, more, more-same, whole-more, tells-more, tells-append, tells-rest, tells-swap, whos-append, whos-rest, get_at, numbered_more, few_more}
 
 -- at the start
 

@@ -2,9 +2,9 @@
 use Rattle.std.specs.Prelude.{◌≡◌, ℕ, ◌<◌, ◌≤◌, List, [], ◌∷◌, ◌++◌, length, take, drop, filter, nat_eq, All, slice_get, Some, ⊤}
 use mathlib.Core.Option.{some}
 use lib.ListN.{get_elem?}
+use Rattle.list_lemmas.specs.Counts.{times, total}
 use Rattle.fragment_intake.specs.declared.rules.Parcel.{Parcel}
 use Rattle.fragment_intake.specs.declared.rules.View.{View}
-use Rattle.fragment_intake.specs.Counts.{times, total}
 
 -- the parcels of collector p, in order
 abbrev pub of : ℕ → List Parcel → List Parcel
@@ -43,6 +43,7 @@ only_first v = seen (take 1 v.mine) 0 []
 abbrev pub both_of : View → View → View
 both_of v w = seen (v.mine ++ w.mine) v.audits v.got
 
+-- the pass of nobody
 abbrev pub blank : View
 blank = seen [] 0 []
 
@@ -64,6 +65,7 @@ pub record Delivers (items : List Parcel) (views : List View) : Type 0 where
   pub kinds : All (λ (x : Parcel). x.collector < 4) items
   pub numbered : (p k : ℕ) (x : Parcel) → slice_get (sent p) k ≡ Some x → x.place ≡ k
 
+-- the parcel behind what the first of these has
 abbrev pub with_last : Parcel → List (ℕ × List Parcel) → List (ℕ × List Parcel)
 with_last x [] = []
 with_last x (m ∷ ms) = (m.0, m.1 ++ x ∷ []) ∷ ms

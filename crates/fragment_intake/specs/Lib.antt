@@ -1,3 +1,2 @@
 pub mod Collectors
-pub mod Counts
 pub mod Delivers

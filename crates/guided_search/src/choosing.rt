@@ -1,6 +1,6 @@
 //! Which choice is split next, and which side comes first.
-ghost use Rattle.std.specs.Prelude.{◌↔◌, IsTrue};
-ghost use Rattle.order_check.specs.Known.{IsChoice, ReadsKey, WritesKey};
+ghost use Rattle.std.specs.Prelude.{IsTrue};
+ghost use Rattle.order_check.specs.Known.{IsChoice};
 
 use forced_choices::Branch;
 use order_check::Parts;
@@ -103,31 +103,13 @@ impl Places {
     }
 }
 
-fn writes(parts: &Parts, id: TxnId, key: u64) -> bool
-    ensures { IsTrue result ↔ WritesKey parts.now id key }
-{
-    match parts.remaining_at(id) {
-        Some(txn) => txn.writes.as_slice().contains(&key),
-        None => false,
-    }
-}
-
-fn reads(parts: &Parts, id: TxnId, key: u64, source: Source) -> bool
-    ensures { IsTrue result ↔ ReadsKey parts.now id key source }
-{
-    match parts.remaining_at(id) {
-        Some(txn) => txn.reads.as_slice().contains(&(key, source)),
-        None => false,
-    }
-}
-
 /// Whether it is a choice of the parts: whatever is split is asked, since nothing else says so of the recent ones.
 pub fn is_choice(parts: &Parts, choice: Choice) -> bool
     ensures { IsTrue result → IsChoice parts.now choice }
 {
-    reads(parts, choice.reader, choice.key, Source::By(choice.writer))
-        && writes(parts, choice.writer, choice.key)
-        && writes(parts, choice.other, choice.key)
+    parts.reads(choice.reader, choice.key, Source::By(choice.writer))
+        && parts.writes(choice.writer, choice.key)
+        && parts.writes(choice.other, choice.key)
         && choice.other != choice.writer
         && choice.other != choice.reader
 }

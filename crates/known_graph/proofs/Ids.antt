@@ -4,25 +4,15 @@ use Rattle.std.proofs.lemmas.Bool.{false≢true}
 use Rattle.std.proofs.lemmas.Bool.Decides.{nat_tests}
 use Rattle.txn.specs.declared.transactions.TxnId.{TxnId}
 use Rattle.txn.specs.Transactions.{same_id}
+use Rattle.txn.proofs.Ids.{same_id_is, same_id_from}
 use Rattle.known_graph.specs.Drops.{has_id}
 
 same_numbers : (a b : TxnId) → same_id a b ≡ true → (a.session ≡ b.session) × (a.number ≡ b.number)
 same_numbers a b same = grind (arith, nat_tests)
 
-pub same_id-is : (a b : TxnId) → same_id a b ≡ true → a ≡ b
-same_id-is a b same =
-    let numbers = same_numbers a b same in
-    λ i. record { session = numbers.0 i; number = numbers.1 i }
-
-pub same_id-itself : (a : TxnId) → same_id a a ≡ true
-same_id-itself a = grind (arith, nat_tests)
-
-pub same_id-from : (a b : TxnId) → a ≡ b → same_id a b ≡ true
-same_id-from a b is = ap (same_id a) (sym is) ∙ same_id-itself a
-
 pub has_id-from_Contains : (ids : List TxnId) (id : TxnId) → Contains ids id → has_id ids id ≡ true
 has_id-from_Contains [] id (k, within, is) = absurd (omega arith)
-has_id-from_Contains (other ∷ ids) id (zero, within, is) = ap (λ b. b || has_id ids id) (same_id-from other id is)
+has_id-from_Contains (other ∷ ids) id (zero, within, is) = ap (λ b. b || has_id ids id) (same_id_from other id is)
 has_id-from_Contains (other ∷ ids) id (suc k, within, is) =
     ap (λ b. same_id other id || b) (has_id-from_Contains ids id (k, omega arith, is)) ∙ or_true (same_id other id)
   where
@@ -35,7 +25,7 @@ Contains-from_has_id [] id found = absurd (false≢true found)
 Contains-from_has_id (other ∷ ids) id found = by_test (same_id other id) refl (Contains-from_has_id ids id) found
   where
     by_test : (b : Bool) → same_id other id ≡ b → (has_id ids id ≡ true → Contains ids id) → (b || has_id ids id) ≡ true → Contains (other ∷ ids) id
-    by_test true is later _ = (0, omega arith, same_id-is other id is)
+    by_test true is later _ = (0, omega arith, same_id_is other id is)
     by_test false _ later found = let there = later found in (suc there.0, omega (arith, there.1), there.2)
 
 pub same_id-from_not : (a b : TxnId) → not (same_id a b) ≡ false → same_id a b ≡ true

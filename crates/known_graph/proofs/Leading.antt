@@ -172,7 +172,3 @@ are_blank nodes arcs onto from none kept i j = (
   λ has. let told = kept.forwards.told i j has in reaches_none arcs none told.4,
   λ has. let told = kept.backwards.told i j has in reaches_none arcs none told.4,
 )
-
-pub nothing_in : {X : Type 0} (xs : List X) → length xs ≡ 0 → xs ≡ []
-nothing_in [] none = refl
-nothing_in (x ∷ xs) none = absurd (omega (arith, none))

@@ -1,7 +1,7 @@
 -- The marks of a graph, as it grows and is taken back.
 use Rattle.std.proofs.Common.{◌≡◌, ◌≢◌, ◌⊎◌, ◌↔◌, ℕ, ◌<◌, ◌≤◌, List, [], ◌∷◌, ◌++◌, Vec, Global, Option, Some, length, take, drop, map, refl, sym, ap, subst, subst₂, ◌∙◌, inl, inr, arith, All}
 use Rattle.std.specs.Prelude.{reverse}
-use Rattle.std.proofs.lemmas.List.{append-nil, length-append, take_all, drop_all, take-append-le, drop-append-le, reverse-append}
+use Rattle.std.proofs.lemmas.List.{append-nil, length-append, take_all, drop_all, take-append-le, drop-append-le}
 use Rattle.std.proofs.lemmas.List.Elements.{All-append, All-nil, All-take, All-weaker}
 use Rattle.txn.specs.declared.transactions.TxnId.{TxnId}
 use Rattle.txn.specs.declared.choices.Arc.{Arc}
@@ -185,9 +185,6 @@ IsKept-back nodes arcs onto from new_onto new_from n onto_rows from_rows kept = 
   forwards = onto_rows;
   backwards = from_rows;
 }
-
-pub reverse-push : (marks : List Mark) (mark : Mark) → reverse (marks ++ mark ∷ []) ≡ mark ∷ reverse marks
-reverse-push marks mark = reverse-append marks (mark ∷ [])
 
 -- a graph whose matrices are grown
 pub IsMarkedGraph-grown : (nodes : List (Option TxnId)) (arcs : List Arc) (onto from new_onto new_from : List (Vec ℕ Global)) (trail : Trail) → IsMarkedGraph nodes arcs onto from trail

@@ -1,8 +1,8 @@
 -- How many transactions have a property that is told by the bits of a row.
-use Rattle.std.proofs.Common.{◌≡◌, ◌≢◌, ◌⊎◌, ◌↔◌, ℕ, zero, suc, ◌*◌, ◌<◌, Vec, Global, List, [], ◌∷◌, length, get_or, Option, refl, sym, ap, subst, inl, inr, arith, Contains}
-use Rattle.std.specs.Bool.{⊤}
-use Rattle.std.specs.List.{AllPairs}
+use Rattle.std.proofs.Common.{◌≡◌, ◌↔◌, ℕ, zero, suc, ◌*◌, ◌<◌, Vec, Global, List, [], ◌∷◌, length, Option, refl, ap, subst, inl, inr, arith}
 use Rattle.std.proofs.lemmas.Bool.{cases_lt}
+use Rattle.list_lemmas.proofs.Members.{AreOnce, in_from_contains, contains_from_in, pairs_from_once}
+use Rattle.list_lemmas.specs.Members.{In}
 use Rattle.txn.specs.declared.transactions.TxnId.{TxnId}
 use Rattle.txn.specs.declared.choices.Arc.{Arc}
 use Rattle.known_graph.specs.Bits.{HasBit}
@@ -15,37 +15,6 @@ use Rattle.known_graph.specs.Tallies.{Tally, none, one_more, not_this}
 use Rattle.known_graph.proofs.KeyRows.{HasOneKey, same_id_at}
 use Rattle.known_graph.proofs.Stored.{Reaches-there}
 use Rattle.known_graph.proofs.Words.{bit_within}
-
--- the list has it, and the list has each once, by cases on the list
-abbrev In : {X : Type 0} → List X → X → Type 0
-In [] y = ⊥
-In (x ∷ xs) y = (x ≡ y) ⊎ In xs y
-
-abbrev AreOnce : {X : Type 0} → List X → Type 0
-AreOnce [] = ⊤
-AreOnce (x ∷ xs) = (¬ In xs x) × AreOnce xs
-
-in_contains : {X : Type 0} (xs : List X) (y : X) → Contains xs y → In xs y
-in_contains [] y (k, within, is) = absurd (omega arith)
-in_contains (x ∷ xs) y (zero, within, is) = inl is
-in_contains (x ∷ xs) y (suc k, within, is) = inr (in_contains xs y (k, omega arith, is))
-
-contains_in : {X : Type 0} (xs : List X) (y : X) → In xs y → Contains xs y
-contains_in [] y h = absurd h
-contains_in (x ∷ xs) y (inl e) = (0, omega arith, e)
-contains_in (x ∷ xs) y (inr h) = let found = contains_in xs y h in (suc found.0, omega (arith, found.1), found.2)
-
-in_place : {X : Type 0} (xs : List X) (k : ℕ) (d : X) → k < length xs → In xs (get_or xs k d)
-in_place [] k d h = absurd (omega arith)
-in_place (x ∷ xs) zero d h = inl refl
-in_place (x ∷ xs) (suc k) d h = inr (in_place xs k d (omega arith))
-
-distinct_once : {X : Type 0} (xs : List X) → AreOnce xs → AllPairs (λ x y. x ≢ y) xs
-distinct_once [] once i j d below within = absurd (omega arith)
-distinct_once (x ∷ xs) once zero zero d below within = absurd (omega arith)
-distinct_once (x ∷ xs) once zero (suc j) d below within = λ same. once.0 (subst (λ y. In xs y) (sym same) (in_place xs j d (omega arith)))
-distinct_once (x ∷ xs) once (suc i) zero d below within = absurd (omega arith)
-distinct_once (x ∷ xs) once (suc i) (suc j) d below within = distinct_once xs once.1 i j d (omega arith) (omega arith)
 
 -- the numbers are keys of nodes, and those that have the bit are the keys of those with the property
 module _ (nodes : List (Option TxnId)) (one : HasOneKey nodes) (P : TxnId → Type 0) (has : ℕ → Type 0) (exact : (j : ℕ) → has j ↔ ((a : TxnId) × IsAt nodes j a × P a)) where
@@ -98,10 +67,10 @@ module _ (nodes : List (Option TxnId)) (one : HasOneKey nodes) (P : TxnId → Ty
   HasSize-tally bound count there tally =
       let list = listed bound count tally in (
         list.0,
-        distinct_once list.0 list.1.once,
+        pairs_from_once list.0 list.1.once,
         λ a. (
-          λ h. let found = list.1.each a (in_contains list.0 a h) in found.3,
-          λ is. let at_key = there a is in contains_in list.0 a (list.1.all at_key.0 a at_key.1 at_key.2 is),
+          λ h. let found = list.1.each a (in_from_contains list.0 a h) in found.3,
+          λ is. let at_key = there a is in contains_from_in list.0 a (list.1.all at_key.0 a at_key.1 at_key.2 is),
         ),
         list.2,
       )
@@ -165,10 +134,10 @@ pub HasSize-bits : (row : List ℕ) (count : ℕ) → Tally (HasBit row) (64 * l
 HasSize-bits row count tally =
     let list = tallied (HasBit row) (64 * length row) count tally in (
       list.0,
-      distinct_once list.0 list.1.once,
+      pairs_from_once list.0 list.1.once,
       λ j. (
-        λ there. (list.1.each j (in_contains list.0 j there)).1,
-        λ has. contains_in list.0 j (list.1.all j (bit_within row j has) has),
+        λ there. (list.1.each j (in_from_contains list.0 j there)).1,
+        λ has. contains_from_in list.0 j (list.1.all j (bit_within row j has) has),
       ),
       list.2,
     )

@@ -8,9 +8,9 @@ use Rattle.txn.specs.declared.choices.Arc.{Arc}
 use Rattle.txn.specs.declared.choices.Arc.TheVariants.{Session}
 use Rattle.txn.specs.Transactions.{same_id}
 use Rattle.txn.specs.Arcs.{start_of, end_of}
+use Rattle.txn.proofs.Ids.{same_id_is, same_id_itself, same_id_from}
 use Rattle.known_graph.specs.Reach.{Reaches, by_arc, through, Leads}
 use Rattle.known_graph.specs.Trees.{begins_at, LeadsOn, IsTreeTo, IsWholeTree, IsNextOf}
-use Rattle.known_graph.proofs.Ids.{same_id-is, same_id-itself, same_id-from}
 use Rattle.known_graph.proofs.Members.{Contains-more_cases}
 
 -- the arcs that begin outside the tree
@@ -29,7 +29,7 @@ pub begins_at-grown : (tree : List Arc) (arc : Arc) (id : TxnId) → begins_at t
 begins_at-grown tree arc id was = begins_at-push tree arc id ∙ ap (λ b. b || same_id (start_of arc) id) was
 
 pub begins_at-new : (tree : List Arc) (arc : Arc) → begins_at (tree ++ arc ∷ []) (start_of arc) ≡ true
-begins_at-new tree arc = begins_at-push tree arc (start_of arc) ∙ ap (λ b. begins_at tree (start_of arc) || b) (same_id-itself (start_of arc)) ∙ or_true (begins_at tree (start_of arc))
+begins_at-new tree arc = begins_at-push tree arc (start_of arc) ∙ ap (λ b. begins_at tree (start_of arc) || b) (same_id_itself (start_of arc)) ∙ or_true (begins_at tree (start_of arc))
   where
     or_true : (b : Bool) → (b || true) ≡ true
     or_true true = refl
@@ -40,7 +40,7 @@ begins_at-cases tree arc id is = by_test (begins_at tree id) refl (sym (begins_a
   where
     by_test : (b : Bool) → begins_at tree id ≡ b → (b || same_id (start_of arc) id) ≡ true → (begins_at tree id ≡ true) ⊎ (start_of arc ≡ id)
     by_test true was _ = inl was
-    by_test false _ same = inr (same_id-is (start_of arc) id same)
+    by_test false _ same = inr (same_id_is (start_of arc) id same)
 
 -- fewer elements pass a stricter test that one of them fails
 module _ {X : Type 0} (p q : X → Bool) (stricter : (x : X) → q x ≡ true → p x ≡ true) where
@@ -120,9 +120,6 @@ Reaches-from_Leads arcs start (arc ∷ []) goal some leads = rw (← leads.0, �
 Reaches-from_Leads arcs start (arc ∷ (next ∷ path)) goal some leads =
     rw (← leads.0) (through (by_arc arc leads.1) (Reaches-from_Leads arcs (end_of arc) (next ∷ path) goal (λ is. cc) leads.2))
 
-pub push≢nil : (path : List Arc) (arc : Arc) → path ++ arc ∷ [] ≢ []
-push≢nil path arc = λ is. omega (arith, ap length is, length_push path arc)
-
 -- what a read past the end of a list of arcs would give
 abbrev pub no_arc : Arc
 no_arc = Session (record { session = 0; number = 0 }) (record { session = 0; number = 0 })
@@ -137,6 +134,6 @@ IsWholeTree-more arcs goal tree i d within whole here = λ arc among leads. elim
 -- the arc at a place of the tree ends at the goal, or where one before that place begins
 pub goes_on : (goal : TxnId) (tree : List Arc) (k : ℕ) (d : Arc) → IsTreeTo goal tree → k < length tree → same_id (end_of (get_or tree k d)) goal ≡ false → begins_at (take k tree) (end_of (get_or tree k d)) ≡ true
 goes_on goal tree k d is within apart = elim (is k d within) [
-  | inl there ↦ absurd (false≢true (sym apart ∙ same_id-from _ goal there))
+  | inl there ↦ absurd (false≢true (sym apart ∙ same_id_from _ goal there))
   | inr begins ↦ begins
 ]

@@ -1,5 +1,5 @@
 -- The begin and the end of a round make moves.
-use Rattle.std.proofs.Common.{◌≡◌, ℕ, ◌+◌, ◌-◌, ◌<◌, ◌^◌, true, false, [], ◌∷◌, Option, Some, None, sym, ◌∙◌, subst, refl, arith}
+use Rattle.std.proofs.Common.{◌≡◌, ℕ, true, false, [], ◌∷◌, Option, Some, None, sym, subst, refl}
 use Rattle.std.specs.Prelude.{IfSome, IfErr, OnOk, IsSomeAnd, IsSome, Result, Ok, Err}
 use Rattle.polygraph.specs.ProblemState.{ProblemState}
 use Rattle.std.specs.Option.{option_to_list}
@@ -10,14 +10,13 @@ use Rattle.report_queue.specs.declared.entries.Entry.{Entry}
 use Rattle.report_queue.specs.declared.entries.Entry.TheVariants.{Report, Cut, Skipped}
 use Rattle.round_state.specs.EngineState.{EngineState}
 use Rattle.round_state.specs.Runs.{StepsLegally}
-use Rattle.round_state.specs.Steps.{IsSolvedRefusal, IsRightReport}
+use Rattle.round_state.specs.Steps.{IsSolvedRefusal}
 use Rattle.round_state.specs.declared.reports.Report as reports
 use Rattle.round_state.specs.declared.steps.Step.TheVariants as step
 use Rattle.round_state.specs.declared.steps.StepReply.TheVariants as reply
 use Rattle.live_audit.specs.CoreState.{Search, IsCore}
 use Rattle.live_audit.specs.Live.{MovesOn, start, begun, not_begun, cut, reported, abandoned}
 use Rattle.live_audit.specs.Takes.{BeginsBy, Finishes, Forgets}
-use Rattle.live_audit.specs.Told.{IsOutcome, IsFollowUp}
 
 pub begun_moves : (search : Search) (old new : EngineState) → StepsLegally old step.Begin reply.Done new → MovesOn search old [] [] new
 begun_moves search old new steps before holds =
@@ -46,25 +45,6 @@ abandoned_moves search old between new finishes gives_up before holds =
     let first = finishes.0 before holds in
     let second = gives_up first.0 first.2 in
     (second.0, abandoned [] [] before first.0 second.0 1 start first.1 second.1, second.2)
-
-pub follows_up : (between new : EngineState) (report : reports.Report) (more : Option Entry) → Forgets between more new → IsFollowUp (Report report) more
-follows_up between new report (Some (Cut gone)) forgets = tt
-follows_up between new report None forgets = tt
-follows_up between new report (Some other) forgets = absurd forgets
-
-number_of : (old : EngineState) (held : Parts → Type 0) (asked : Option Parts) (budget depth : ℕ) (report : reports.Report) → IsSomeAnd asked (λ parts. IsRightReport old parts budget depth report × held parts) → report.round ≡ old.rounds + 1
-number_of old held (Some parts) budget depth report said = said.0.number
-number_of old held None budget depth report said = absurd said
-
-pub open_number : (engine : EngineState) (lawful : Parts → Type 0) (asked : Option Parts) → engine.asked ≡ asked → IsSomeAnd asked lawful → ((parts : Parts) → engine.asked ≡ Some parts → engine.rounds < 2 ^ 48 - 1) → engine.rounds < 2 ^ 48 - 1
-open_number engine lawful (Some parts) is some numbers = numbers parts is
-open_number engine lawful None is some numbers = absurd some
-
-pub reported_outcome : (search : Search) (old between new : EngineState) (report : reports.Report) → old.rounds < 2 ^ 48 - 1 → Finishes search old (Some report) between → new.rounds ≡ between.rounds → IsOutcome old (Report report) new
-reported_outcome search old between new report low finishes same =
-    let number = number_of old _ old.asked search.budget search.depth report finishes.0.0 in
-    let below : report.round < 2 ^ 48 = omega (arith, number, low) in
-    (number, below, same ∙ finishes.0.1.rounds, λ before holds. (finishes.1 before holds).1.true_reply)
 
 -- an open round is refused its finish for want of memory alone
 pub for_memory : (old : EngineState) (lawful : Parts → Type 0) (refusal : Refusal) → IsSomeAnd old.asked lawful → IsSolvedRefusal old refusal → refusal ≡ refusals.NoMemory

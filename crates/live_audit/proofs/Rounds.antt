@@ -1,6 +1,6 @@
 -- What a round comes to.
 use Rattle.std.proofs.Common.{◌≡◌, ℕ, ◌+◌, ◌≤◌, ◌⊎◌, List, [], ◌∷◌, ◌++◌, Option, Some, None, refl, sym, ◌∙◌, ap, subst, inl, inr, length, append-nil, append_assoc, arith}
-use Rattle.std.specs.Prelude.{Result, All, IsSomeAnd, map}
+use Rattle.std.specs.Prelude.{All, IsSomeAnd, map}
 use Rattle.std.specs.Option.{option_to_list}
 use Rattle.std.proofs.lemmas.List.Elements.{All-append, All-weaker, All-nil, All-cons}
 use Rattle.txn.specs.declared.refusals.Refusal.{Refusal}
@@ -11,7 +11,6 @@ use Rattle.polygraph.specs.Solving.{IsLawful}
 use Rattle.polygraph.specs.ProblemState.{ProblemState}
 use Rattle.polygraph.specs.declared.solving.Answer.{Answer}
 use Rattle.fragment_intake.specs.declared.rules.Parcel.{Parcel}
-use Rattle.report_queue.specs.Reports.{IsBefore}
 use Rattle.report_queue.specs.declared.entries.Entry.{Entry}
 use Rattle.report_queue.specs.declared.entries.Entry.TheVariants.{Accepted, Refused, Report, Cut, Skipped, End}
 use Rattle.round_state.specs.EngineState.{EngineState}
@@ -24,7 +23,7 @@ use Rattle.round_state.specs.declared.steps.StepReply.TheVariants as reply
 use Rattle.live_audit.specs.CoreState.{Search, CoreState}
 use Rattle.live_audit.specs.Live.{MovesOn, start, begun}
 use Rattle.live_audit.specs.Told.{IsTold, IsSkipped, IsOutcome, IsFollowUp}
-use Rattle.live_audit.specs.Running.{reports_in, IsRoundTold, HasCountedAll, IsRound, IsSaid, CanBeTold, IsBetweenRounds, HasPublished, IsNumbered, HasMoved}
+use Rattle.live_audit.specs.Running.{reports_in, IsRoundTold, HasCountedAll, IsBetweenRounds, HasPublished, IsNumbered, HasMoved}
 use Rattle.live_audit.proofs.Answering.{none_or_some}
 use Rattle.live_audit.proofs.Joining.{moves_join, moves_on}
 
@@ -107,13 +106,6 @@ outcome_numbered old new (Report report) told = (told.0, told.1, told.2)
 outcome_numbered old new (Skipped refusals.NoMemory) told = told
 outcome_numbered old new outcome told = absurd told
 
-pub can_be_told : (old new : CoreState) (outcome : Entry) (sent : List Entry) (published : List (ℕ × Kind)) → IsNumbered old.engine.rounds outcome new.engine.rounds → HasPublished old sent published → CanBeTold published outcome
-can_be_told old new (Report report) sent published told has =
-    let number = told.0 in
-    (omega (arith, number), told.1, All-weaker (λ (t : ℕ × Kind). t.0 ≤ old.engine.rounds) (IsBefore report.round) (λ t low. omega (arith, number, low)) published has.rounds)
-can_be_told old new (Skipped refusal) sent published told has = tt
-can_be_told old new outcome sent published told has = absurd told
-
 rounds_after : (old new : CoreState) (outcome : Entry) (published : List (ℕ × Kind)) → IsNumbered old.engine.rounds outcome new.engine.rounds → All (λ told. told.0 ≤ old.engine.rounds) published → All (λ told. told.0 ≤ new.engine.rounds) (published ++ reports_in (outcome ∷ []))
 rounds_after old new (Report report) published told low =
     let number = told.0 in let after = told.2 in
@@ -136,13 +128,6 @@ between_after old new outcome more sent sent_now published published_now told fo
         rounds = subst (λ (l : List (ℕ × Kind)). All (λ (t : ℕ × Kind). t.0 ≤ new.engine.rounds) l) (sym published_is) (rounds_after old new outcome published told has.rounds);
       };
     }
-
-pub round_is : (old new : CoreState) (outcome : Entry) (more : Option Entry) (sent sent_now : List Entry) (said : Result (Unit {0}) Refusal) → IsRoundTold old outcome more new → IsFollowUp outcome more → IsSaid outcome said → sent_now ≡ sent ++ (outcome ∷ option_to_list more) → IsRound old sent said new sent_now
-round_is old new (Report report) more sent sent_now said told follows is sent_is =
-    subst (λ (s : Result (Unit {0}) Refusal). IsRound old sent s new sent_now) (sym is) (report, option_to_list more, sent_is, none_behind (Report report) more follows, told.3)
-round_is old new (Skipped refusal) more sent sent_now said told follows is sent_is =
-    subst (λ (s : Result (Unit {0}) Refusal). IsRound old sent s new sent_now) (sym is) (sent_is ∙ ap (λ (o : Option Entry). sent ++ (Skipped refusal ∷ option_to_list o)) told.0, told.2)
-round_is old new outcome more sent sent_now said told follows is sent_is = absurd told
 
 pub no_report : (parcel : Parcel) (entry : Entry) → IsTold parcel entry → reports_in (entry ∷ []) ≡ []
 no_report parcel (Accepted collector place) told = refl

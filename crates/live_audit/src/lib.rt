@@ -3,11 +3,14 @@
 
 mod live;
 mod live_core;
+mod means;
 mod patience;
 mod running;
 mod searching;
 mod steps;
 
-pub use live::{AuditorSide, Effort, audit_live};
+pub use live::{AuditorSide, audit_live};
 pub use live_core::Core;
+pub use means::Means;
 pub use patience::Patience;
+pub use polygraph::Effort;

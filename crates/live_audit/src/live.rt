@@ -11,27 +11,19 @@ ghost use Rattle.live_audit.specs.Running.{AreEnded, HasEnded, HasMoved, HasPubl
 ghost use Rattle.live_audit.specs.Truth.{IsTrueEntry, accepted_history};
 
 use crate::live_core::Core;
+use crate::means::Means;
 use crate::patience::Patience;
 use crate::running::Running;
 use crate::searching::{solved, start};
 use fragment_intake::{AuditorPass, Desk};
 use order_check::Kind;
-use polygraph::{Answer, Problem, Solver};
+use polygraph::{Answer, Effort, Problem, Solver};
 use report_queue::{Entry, Latest, PublisherSeat, ReportSender};
 use round_state::Engine;
-use std::alloc::Global;
 use std::sync::atomic::{AtomicBool, Ordering};
 use std::sync::{Arc, Wait};
-use std::thread::{Scope, Threads};
+use std::thread::Threads;
 use txn::Refusal;
-
-/// How much the search of a round may cost: its budget in nodes, how often it is split, and the workers that share it.
-#[derive(Clone, Copy, Debug, PartialEq, Eq)]
-pub struct Effort {
-    pub budget: u64,
-    pub depth: u64,
-    pub workers: u64,
-}
 
 /// The auditor's side of the desk, of the ring and of the word.
 #[derive(Drop)]
@@ -158,19 +150,14 @@ fn take_until<R: Wait>(
 /// What the search answers to the problem of the open round. Parcels are taken while it goes on in a thread of its own; where none can be made, or
 /// memory is wanting for the flag, it is made in place.
 fn answer<'s, E, R: Threads + Wait, S: Solver + Sync>(
-    scope: &Scope<'s, E>,
-    rt: &R,
-    alloc: Global,
-    desk: &Desk,
+    means: &Means<'_, 's, E, R, S>,
     side: &mut AuditorSide,
     running: &mut Running,
     problem: Problem,
-    solver: &'s S,
-    workers: u64,
 ) -> Answer
     requires ready { S.ready }
-    requires effort { IsEffort running.old.core.search.budget running.old.core.search.depth workers }
-    requires desk { side.old.pass.0 ≡ desk.now.0 }
+    requires effort { IsEffort running.old.core.search.budget running.old.core.search.depth means.now.effort.workers }
+    requires desk { side.old.pass.0 ≡ means.now.desk.now.0 }
     requires told { HasPublished running.old.core side.old.sender.sent side.old.seat.published }
     requires ended { AreEnded running.old.ended side.old.pass.1 }
     ensures moved { HasMoved running.old.core side.old.pass.1 side.old.sender.sent running.new.core side.new.pass.1 side.new.sender.sent }
@@ -184,16 +171,21 @@ fn answer<'s, E, R: Threads + Wait, S: Solver + Sync>(
     ensures lawful { IsLawful problem.known.parts running.old.core.search.budget running.old.core.search.depth result }
 {
     let (budget, depth) = running.core.search();
-    let Ok(ended) = Arc::new(alloc, AtomicBool::new(false)) else {
-        return solved(alloc, problem, solver, budget, depth, workers);
+    let effort = Effort {
+        budget,
+        depth,
+        workers: means.effort.workers,
+    };
+    let Ok(ended) = Arc::new(means.alloc, AtomicBool::new(false)) else {
+        return solved(means.alloc, problem, means.solver, effort);
     };
     let Ok(flag) = Arc::try_clone(&ended) else {
-        return solved(alloc, problem, solver, budget, depth, workers);
+        return solved(means.alloc, problem, means.solver, effort);
     };
-    match start(scope, alloc, problem, solver, budget, depth, workers, flag) {
+    match start(means, problem, effort, flag) {
         Ok(thread) => {
-            take_until(rt, desk, side, running, &ended);
-            thread.join(rt)
+            take_until(means.rt, means.desk, side, running, &ended);
+            thread.join(means.rt)
         }
         Err(answer) => answer,
     }
@@ -201,20 +193,14 @@ fn answer<'s, E, R: Threads + Wait, S: Solver + Sync>(
 
 /// Makes a round on all that was received, and tells what it came to. Meanwhile parcels are taken.
 fn make_round_meanwhile<'s, E, R: Threads + Wait, S: Solver + Sync>(
-    scope: &Scope<'s, E>,
-    rt: &R,
-    alloc: Global,
-    desk: &Desk,
-    latest: &Latest,
+    means: &Means<'_, 's, E, R, S>,
     side: &mut AuditorSide,
     running: &mut Running,
-    solver: &'s S,
-    workers: u64,
 )
     requires ready { S.ready }
-    requires effort { IsEffort running.old.core.search.budget running.old.core.search.depth workers }
-    requires desk { side.old.pass.0 ≡ desk.now.0 }
-    requires word { side.old.seat.word ≡ latest.now }
+    requires effort { IsEffort running.old.core.search.budget running.old.core.search.depth means.now.effort.workers }
+    requires desk { side.old.pass.0 ≡ means.now.desk.now.0 }
+    requires word { side.old.seat.word ≡ means.now.latest.now }
     requires between { IsBetweenRounds running.old.core side.old.sender.sent side.old.seat.published }
     requires ended { AreEnded running.old.ended side.old.pass.1 }
     ensures moved { HasMoved running.old.core side.old.pass.1 side.old.sender.sent running.new.core side.new.pass.1 side.new.sender.sent }
@@ -226,31 +212,25 @@ fn make_round_meanwhile<'s, E, R: Threads + Wait, S: Solver + Sync>(
     running.unasked = 0;
     match running.core.begin() {
         Ok(problem) => {
-            let answer = answer(
-                scope, rt, alloc, desk, side, running, problem, solver, workers,
-            );
+            let answer = answer(means, side, running, problem);
             let (outcome, more) = running.core.answered(answer);
-            let _ = tell(rt, latest, side, outcome, more);
+            let _ = tell(means.rt, means.latest, side, outcome, more);
         }
         Err(skipped) => {
-            let _ = tell(rt, latest, side, skipped, None);
+            let _ = tell(means.rt, means.latest, side, skipped, None);
         }
     }
 }
 
 /// Makes a round on all that was received, and tells what it came to.
-fn make_round<R: Wait, S: Solver>(
-    rt: &R,
-    alloc: Global,
-    latest: &Latest,
+fn make_round<E, R: Wait, S: Solver>(
+    means: &Means<'_, '_, E, R, S>,
     side: &mut AuditorSide,
     running: &mut Running,
-    solver: &S,
-    workers: u64,
 ) -> Result<(), Refusal>
     requires ready { S.ready }
-    requires effort { IsEffort running.old.core.search.budget running.old.core.search.depth workers }
-    requires word { side.old.seat.word ≡ latest.now }
+    requires effort { IsEffort running.old.core.search.budget running.old.core.search.depth means.now.effort.workers }
+    requires word { side.old.seat.word ≡ means.now.latest.now }
     requires between { IsBetweenRounds running.old.core side.old.sender.sent side.old.seat.published }
     ensures round { IsRound running.old.core side.old.sender.sent result running.new.core side.new.sender.sent }
     ensures moved { HasMoved running.old.core side.old.pass.1 side.old.sender.sent running.new.core side.new.pass.1 side.new.sender.sent }
@@ -258,26 +238,20 @@ fn make_round<R: Wait, S: Solver>(
     ensures counts { rounds_in side.new.sender.sent ≡ rounds_in side.old.sender.sent + 1 }
     ensures same { (side.new.pass ≡ side.old.pass) × (side.new.sender.ring ≡ side.old.sender.ring) × (side.new.seat.word ≡ side.old.seat.word) × (running.new.ended ≡ running.old.ended) }
 {
-    let (outcome, more) = running.make_round(alloc, solver, workers);
-    tell(rt, latest, side, outcome, more)
+    let (outcome, more) = running.make_round(means.alloc, means.solver, means.effort.workers);
+    tell(means.rt, means.latest, side, outcome, more)
 }
 
 /// Takes a parcel, if one waits, and then makes a round, if it is time for one. It says whether either was done.
 fn turn<'s, E, R: Threads + Wait, S: Solver + Sync>(
-    scope: &Scope<'s, E>,
-    rt: &R,
-    alloc: Global,
-    desk: &Desk,
-    latest: &Latest,
+    means: &Means<'_, 's, E, R, S>,
     side: &mut AuditorSide,
     running: &mut Running,
-    solver: &'s S,
-    workers: u64,
 ) -> bool
     requires ready { S.ready }
-    requires effort { IsEffort running.old.core.search.budget running.old.core.search.depth workers }
-    requires desk { side.old.pass.0 ≡ desk.now.0 }
-    requires word { side.old.seat.word ≡ latest.now }
+    requires effort { IsEffort running.old.core.search.budget running.old.core.search.depth means.now.effort.workers }
+    requires desk { side.old.pass.0 ≡ means.now.desk.now.0 }
+    requires word { side.old.seat.word ≡ means.now.latest.now }
     requires between { IsBetweenRounds running.old.core side.old.sender.sent side.old.seat.published }
     requires ended { AreEnded running.old.ended side.old.pass.1 }
     ensures moved { HasMoved running.old.core side.old.pass.1 side.old.sender.sent running.new.core side.new.pass.1 side.new.sender.sent }
@@ -286,11 +260,9 @@ fn turn<'s, E, R: Threads + Wait, S: Solver + Sync>(
     ensures turn { IsTurn running.old.unasked side.old.pass.1 side.old.sender.sent running.new.unasked side.new.pass.1 side.new.sender.sent }
     ensures same { (side.new.pass.0 ≡ side.old.pass.0) × (side.new.sender.ring ≡ side.old.sender.ring) × (side.new.seat.word ≡ side.old.seat.word) }
 {
-    let found = take_one(rt, desk, side, running);
+    let found = take_one(means.rt, means.desk, side, running);
     if running.wants_round(found) {
-        make_round_meanwhile(
-            scope, rt, alloc, desk, latest, side, running, solver, workers,
-        );
+        make_round_meanwhile(means, side, running);
         return true;
     }
     found
@@ -298,20 +270,14 @@ fn turn<'s, E, R: Threads + Wait, S: Solver + Sync>(
 
 /// Takes parcels and makes rounds until all four collectors have ended.
 fn take_all<'s, E, R: Threads + Wait, S: Solver + Sync>(
-    scope: &Scope<'s, E>,
-    rt: &R,
-    alloc: Global,
-    desk: &Desk,
-    latest: &Latest,
+    means: &Means<'_, 's, E, R, S>,
     side: &mut AuditorSide,
     running: &mut Running,
-    solver: &'s S,
-    workers: u64,
 )
     requires ready { S.ready }
-    requires effort { IsEffort running.old.core.search.budget running.old.core.search.depth workers }
-    requires desk { side.old.pass.0 ≡ desk.now.0 }
-    requires word { side.old.seat.word ≡ latest.now }
+    requires effort { IsEffort running.old.core.search.budget running.old.core.search.depth means.now.effort.workers }
+    requires desk { side.old.pass.0 ≡ means.now.desk.now.0 }
+    requires word { side.old.seat.word ≡ means.now.latest.now }
     requires between { IsBetweenRounds running.old.core side.old.sender.sent side.old.seat.published }
     requires ended { AreEnded running.old.ended side.old.pass.1 }
     ensures moved { HasMoved running.old.core side.old.pass.1 side.old.sender.sent running.new.core side.new.pass.1 side.new.sender.sent }
@@ -321,14 +287,12 @@ fn take_all<'s, E, R: Threads + Wait, S: Solver + Sync>(
     ensures same { (side.new.pass.0 ≡ side.old.pass.0) × (side.new.sender.ring ≡ side.old.sender.ring) × (side.new.seat.word ≡ side.old.seat.word) }
 {
     let mut patience = Patience::new();
-    for _ in rt.forever() {
+    for _ in means.rt.forever() {
         if running.is_over() {
             return;
         }
-        let is_done = turn(
-            scope, rt, alloc, desk, latest, side, running, solver, workers,
-        );
-        patience.after(rt, is_done);
+        let is_done = turn(means, side, running);
+        patience.after(means.rt, is_done);
     }
     unreachable!()
 }
@@ -341,23 +305,17 @@ fn take_all<'s, E, R: Threads + Wait, S: Solver + Sync>(
 /// A round is searched in a thread of the scope, and parcels are taken meanwhile; the last one in this thread. Where the ring is full, it waits for
 /// its reader.
 pub fn audit_live<'s, E, R: Threads + Wait, S: Solver + Sync>(
-    scope: &Scope<'s, E>,
-    rt: &R,
-    alloc: Global,
+    means: &Means<'_, 's, E, R, S>,
     engine: Engine,
-    solver: &'s S,
-    effort: Effort,
-    desk: &Desk,
-    latest: &Latest,
     side: &mut AuditorSide,
 ) -> Result<(), Refusal>
     requires ready { S.ready }
-    requires effort { IsEffort effort.budget effort.depth effort.workers }
+    requires effort { IsEffort means.now.effort.budget means.now.effort.depth means.now.effort.workers }
     requires none_open { engine.asked ≡ None }
-    requires desk { side.old.pass.0 ≡ desk.now.0 }
-    requires word { side.old.seat.word ≡ latest.now }
+    requires desk { side.old.pass.0 ≡ means.now.desk.now.0 }
+    requires word { side.old.seat.word ≡ means.now.latest.now }
     requires fresh { (side.old.pass.1 ≡ []) × (side.old.sender.sent ≡ []) × (side.old.seat.published ≡ []) }
-    ensures live { (sessions limit : ℕ) → Holds engine (fresh_state sessions limit) → Live sessions limit (record { budget = effort.budget; depth = effort.depth }) side.new.pass.1 side.new.sender.sent }
+    ensures live { (sessions limit : ℕ) → Holds engine (fresh_state sessions limit) → Live sessions limit (record { budget = means.now.effort.budget; depth = means.now.effort.depth }) side.new.pass.1 side.new.sender.sent }
     // Each report is true of what was accepted.
     ensures true_reports { (sessions limit : ℕ) → Holds engine (fresh_state sessions limit) → All (IsTrueEntry (accepted_history sessions side.new.pass.1 side.new.sender.sent)) side.new.sender.sent }
     ensures ended { (collector : ℕ) → collector < 4 → HasEnded collector side.new.pass.1 }
@@ -368,21 +326,10 @@ pub fn audit_live<'s, E, R: Threads + Wait, S: Solver + Sync>(
     ensures published { side.new.seat.published ≡ reports_in side.new.sender.sent }
     ensures same { (side.new.pass.0 ≡ side.old.pass.0) × (side.new.sender.ring ≡ side.old.sender.ring) × (side.new.seat.word ≡ side.old.seat.word) }
 {
-    let core = Core::new(alloc, engine, effort.budget, effort.depth);
+    let core = Core::new(means.alloc, engine, means.effort.budget, means.effort.depth);
     let mut running = Running::new(core);
-    let workers = effort.workers;
-    take_all(
-        scope,
-        rt,
-        alloc,
-        desk,
-        latest,
-        side,
-        &mut running,
-        solver,
-        workers,
-    );
-    let last = make_round(rt, alloc, latest, side, &mut running, solver, workers);
-    send(rt, &mut side.sender, Entry::End);
+    take_all(means, side, &mut running);
+    let last = make_round(means, side, &mut running);
+    send(means.rt, &mut side.sender, Entry::End);
     last
 }

@@ -11,7 +11,7 @@ ghost use Rattle.live_audit.specs.Told.{IsTold, IsFollowUp};
 use crate::live_core::Core;
 use crate::searching::solved;
 use fragment_intake::{Item, Parcel};
-use polygraph::Solver;
+use polygraph::{Effort, Solver};
 use report_queue::Entry;
 use std::alloc::Global;
 
@@ -121,7 +121,12 @@ impl Running {
         match self.core.begin() {
             Ok(problem) => {
                 let (budget, depth) = self.core.search();
-                let answer = solved(alloc, problem, solver, budget, depth, workers);
+                let effort = Effort {
+                    budget,
+                    depth,
+                    workers,
+                };
+                let answer = solved(alloc, problem, solver, effort);
                 self.core.answered(answer)
             }
             Err(skipped) => (skipped, None),

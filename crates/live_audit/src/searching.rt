@@ -3,12 +3,13 @@ ghost use Rattle.std.specs.Prelude.{◌≡◌, IfOk, IfErr};
 ghost use Rattle.order_check.specs.Effort.{IsEffort};
 ghost use Rattle.polygraph.specs.Solving.{IsLawful};
 
-use polygraph::{Answer, Problem, Solver};
+use crate::means::Means;
+use polygraph::{Answer, Effort, Problem, Solver};
 use std::alloc::Global;
 use std::snapshot::Snapshot;
 use std::sync::Arc;
 use std::sync::atomic::{AtomicBool, Ordering};
-use std::thread::{Promise, PromisedHandle, Scope};
+use std::thread::{Promise, PromisedHandle};
 
 /// That an answer is one that a search of this problem may give.
 #[derive(Drop)]
@@ -29,47 +30,43 @@ pub(crate) fn solved<S: Solver>(
     alloc: Global,
     problem: Problem,
     solver: &S,
-    budget: u64,
-    depth: u64,
-    workers: u64,
+    effort: Effort,
 ) -> Answer
     requires ready { S.ready }
-    requires effort { IsEffort budget depth workers }
-    ensures { IsLawful problem.known.parts budget depth result }
+    requires effort { IsEffort effort.budget effort.depth effort.workers }
+    ensures { IsLawful problem.known.parts effort.budget effort.depth result }
 {
-    solver.solve(alloc, &problem, budget, depth, workers)
+    solver.solve(alloc, &problem, effort.budget, effort.depth, effort.workers)
 }
 
 /// Starts the search in a thread of its own, which sets the flag at its end. Where none can be made, it is made in place.
-pub(crate) fn start<'s, E, S: Solver + Sync>(
-    scope: &Scope<'s, E>,
-    alloc: Global,
+pub(crate) fn start<'s, E, R, S: Solver + Sync>(
+    means: &Means<'_, 's, E, R, S>,
     problem: Problem,
-    solver: &'s S,
-    budget: u64,
-    depth: u64,
-    workers: u64,
+    effort: Effort,
     flag: Arc<AtomicBool, Global>,
 ) -> Result<PromisedHandle<Answer, LawOf>, Answer>
     requires ready { S.ready }
-    requires effort { IsEffort budget depth workers }
-    ensures runs { IfOk result (λ thread. (thread.promise.problem.value ≡ problem) × (thread.promise.budget ≡ budget) × (thread.promise.depth ≡ depth)) }
-    ensures ended { IfErr result (IsLawful problem.known.parts budget depth) }
+    requires effort { IsEffort effort.budget effort.depth effort.workers }
+    ensures runs { IfOk result (λ thread. (thread.promise.problem.value ≡ problem) × (thread.promise.budget ≡ effort.budget) × (thread.promise.depth ≡ effort.depth)) }
+    ensures ended { IfErr result (IsLawful problem.known.parts effort.budget effort.depth) }
 {
+    let alloc = means.alloc;
+    let solver = means.solver;
     let law = LawOf {
         problem: Snapshot::of(&problem),
-        budget,
-        depth,
+        budget: effort.budget,
+        depth: effort.depth,
     };
     let search = move || -> Answer
-        requires { S.ready × IsEffort budget depth workers }
-        ensures { IsLawful problem.known.parts budget depth result }
+        requires { S.ready × IsEffort effort.budget effort.depth effort.workers }
+        ensures { IsLawful problem.known.parts effort.budget effort.depth result }
     {
-        let answer = solved(alloc, problem, solver, budget, depth, workers);
+        let answer = solved(alloc, problem, solver, effort);
         flag.store(true, Ordering::SeqCst);
         answer
     };
-    match scope.spawn_with(law, search) {
+    match means.scope.spawn_with(law, search) {
         Ok(thread) => Ok(thread),
         Err(refused) => {
             let search = refused.value;

@@ -20,6 +20,7 @@ fn words_of_the_row()
 
 #[test]
 fn a_seat_that_met_one_that_saw_round_2_never_sees_round_1(rt: HostRuntime) -> Result<(), Fail> {
+    // A law that the proof cites. It does nothing when it runs.
     words_of_the_row();
     let (latest, mut publisher, mut seats) = Latest::new(rt.alloc(), 2)?;
     let mut fresh = seats.pop().ok_or("two seats")?;

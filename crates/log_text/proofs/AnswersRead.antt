@@ -2,6 +2,7 @@
 use Rattle.std.proofs.Common.{◌≡◌, ℕ, List, [], ◌∷◌, Bool, true, false, bytes_eq, codes, Option, Some, None, option_map, option_and_then, inl, inr, refl, sym, ap, ◌∙◌, subst, arith}
 use Rattle.std.specs.Prelude.{MatchOption, if◌then◌else◌}
 use Rattle.std.proofs.lemmas.Slice.Eq.{bytes_eq-Decides}
+use Rattle.std.proofs.lemmas.Option.{none-some, same_Some}
 use Rattle.json.specs.Lex.{tokens}
 use Rattle.json.specs.Token.{Token}
 use Rattle.json.specs.Json as json
@@ -128,12 +129,6 @@ said_shows (array (item (object ms) rest)) first e = absurd (let never : ⊥ = c
 
 -- ---- the same of a text
 
-only_some : {A : Type 0} (a b : A) → Some a ≡ Some b → a ≡ b
-only_some a b e = cc
-
-none_some : {A : Type 0} (a : A) → None ≡ Some a → ⊥
-none_some a e = let never : ⊥ = cc in never
-
 -- data, where no token is behind them
 abbrev if_end : Data × List Token → Option Data
 if_end (said, []) = Some said
@@ -158,7 +153,7 @@ read_last text = of_read (value 127 (tokens text))
 
 end_none : (told : Option (Data × List Token)) (said : Data) → option_and_then if_end told ≡ Some said → told ≡ Some (said, [])
 end_none None said e = absurd (let never : ⊥ = cc in never)
-end_none (Some (d, [])) said e = ap (λ (x : Data). Some (x, [])) (only_some d said e)
+end_none (Some (d, [])) said e = ap (λ (x : Data). Some (x, [])) (same_Some d said e)
 end_none (Some (d, t ∷ ts)) said e = absurd (let never : ⊥ = cc in never)
 
 -- what the data are in the form, where they are the text's
@@ -178,7 +173,7 @@ said_of (Some p) h behind e = at (array_of answer_in p.0) refl e
     at : (found : Option Handed) → array_of answer_in p.0 ≡ found → option_map {U = Handed × List Token} (λ x. (x, p.1)) found ≡ Some (h, behind) → IsSaid (Some p) h behind
     at None is e = absurd (let never : ⊥ = cc in never)
     at (Some other) is e =
-        let both : (other, p.1) ≡ (h, behind) = only_some (other, p.1) (h, behind) e in
+        let both : (other, p.1) ≡ (h, behind) = same_Some (other, p.1) (h, behind) e in
         record { said = p.0; is = ap (λ (q : Handed × List Token). Some (p.0, q.1)) both; reads = is ∙ ap (λ (q : Handed × List Token). Some q.0) both }
 
 no_answer : (text : List ℕ) (first : Option Handed) (behind : List Token) → IsFoundAs (then_of (array_of answer_in) (read_as (λ said. Some said) 127 (tokens text))) first behind → ShowsAtEnd first behind None → IsAnswerOf text None
@@ -188,10 +183,10 @@ no_answer text first behind found shows said shown reads answer = none first fou
     told = said_at (read_as (λ said. Some said) 127 (tokens text)) said (end_none (read_as (λ said. Some said) 127 (tokens text)) said (sym (read_last text) ∙ reads)) (answer_handed said shown answer).0 (answer_handed said shown answer).1
 
     none : (first : Option Handed) → IsFoundAs (then_of (array_of answer_in) (read_as (λ said. Some said) 127 (tokens text))) first behind → ShowsAtEnd first behind None → ⊥
-    none None found shows = none_some {A = Handed × List Token} ((answer_handed said shown answer).0, []) (sym found ∙ told)
-    none (Some h) found (inl more) = more (ap (λ (p : Handed × List Token). p.1) (only_some (h, behind) ((answer_handed said shown answer).0, []) (sym found ∙ told)))
+    none None found shows = none-some {A = Handed × List Token} ((answer_handed said shown answer).0, []) (sym found ∙ told)
+    none (Some h) found (inl more) = more (ap (λ (p : Handed × List Token). p.1) (same_Some (h, behind) ((answer_handed said shown answer).0, []) (sym found ∙ told)))
     none (Some h) found (inr nothing) =
-        nothing shown (subst (λ (x : Handed). IsShownBy x shown) (sym (ap (λ (p : Handed × List Token). p.0) (only_some (h, behind) ((answer_handed said shown answer).0, []) (sym found ∙ told)))) (answer_handed said shown answer).2)
+        nothing shown (subst (λ (x : Handed). IsShownBy x shown) (sym (ap (λ (p : Handed × List Token). p.0) (same_Some (h, behind) ((answer_handed said shown answer).0, []) (sym found ∙ told)))) (answer_handed said shown answer).2)
 
 an_answer : (text : List ℕ) (first : Option Handed) (behind : List Token) (shown : Shown) → IsFoundAs (then_of (array_of answer_in) (read_as (λ said. Some said) 127 (tokens text))) first behind → ShowsAtEnd first behind (Some shown) → IsAnswerOf text (Some shown)
 an_answer text None behind shown found shows = absurd (let never : ⊥ = cc in never)

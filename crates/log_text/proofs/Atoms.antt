@@ -8,7 +8,6 @@ use Rattle.log_text.specs.Lines.{plain_named}
 use Rattle.log_text.specs.Numbers.{whole_number, if_within, number_within, session_of}
 use Rattle.log_text.specs.Refutations.{id_at, choice_in, ends_in, keyed_ends_in, arc_named, arc_in, reader_in}
 use Rattle.log_text.specs.Searches.{search_in, search_of}
-use Rattle.log_text.specs.Shown.{id_in}
 use Rattle.log_text.specs.Streams.{is_atom, is_few, TakesFew}
 use Rattle.log_text.specs.Versions.{version_in, promise_of, opening_in}
 use Rattle.log_text.specs.declared.commands.Command.TheVariants.{Begin, Skip, Truncate, Rebuild, Show, Resumed}
@@ -164,17 +163,11 @@ version_few no_items there = tt
 version_few (item a no_items) there = (within_atom 2 2 a (map_there _ (number_within 2 2 a) there), tt)
 version_few (item a (item b rest)) never = absurd never
 
-pub version_takes_few : TakesFew 1 version_in
-version_takes_few = of_few 1 version_in version_few
-
 source_few : (given : Items) → IsThere (source_in given) → AreFewAtoms 2 given
 source_few no_items never = absurd never
 source_few (item a no_items) there = (init_atom a there, tt)
 source_few (item a (item b no_items)) there = let both = both_there _ (session_of a) (whole_number b) there in (session_atom a both.0, (number_atom b both.1, tt))
 source_few (item a (item b (item c rest))) never = absurd never
-
-pub source_takes_few : TakesFew 2 source_in
-source_takes_few = of_few 2 source_in source_few
 
 read_few : (given : Items) → IsThere (read_in given) → AreFewAtoms 3 given
 read_few no_items never = absurd never
@@ -205,13 +198,13 @@ start_few (item a (item b rest)) there = let all = three_there _ (whole_number a
 pub start_takes_few : TakesFew 4 start_in
 start_takes_few = of_few 4 start_in start_few
 
-resume_few : (given : Items) → IsThere (resume_in given) → AreFewAtoms 3 given
+resume_few : (given : Items) → IsThere (resume_in given) → AreFewAtoms 4 given
 resume_few no_items never = absurd never
 resume_few (item a no_items) never = absurd never
-resume_few (item a (item b rest)) there = let all = three_there _ (whole_number a) (whole_number b) (version_in rest) there in (number_atom a all.0, (number_atom b all.1, version_few rest all.2))
+resume_few (item a (item b rest)) there = let all = three_there _ (whole_number a) (whole_number b) (opening_in rest) there in (number_atom a all.0, (number_atom b all.1, opening_few rest all.2))
 
-pub resume_takes_few : TakesFew 3 resume_in
-resume_takes_few = of_few 3 resume_in resume_few
+pub resume_takes_few : TakesFew 4 resume_in
+resume_takes_few = of_few 4 resume_in resume_few
 
 pub close_takes_few : TakesFew 1 close_in
 close_takes_few = of_few 1 close_in (one_few _ session_of session_atom)
@@ -289,9 +282,6 @@ pub save_takes_few : TakesFew 3 save_in
 save_takes_few = of_few 3 save_in save_few
 
 -- ---- the forms of trees and orders
-
-pub id_takes_few : TakesFew 2 id_in
-id_takes_few = of_few 2 id_in (two_few _ session_of whole_number session_atom number_atom)
 
 at_atoms : (a b : Data) → IsThere (id_at a b) → IsAtom a × IsAtom b
 at_atoms a b there = let both = both_there _ (session_of a) (whole_number b) there in (session_atom a both.0, number_atom b both.1)
@@ -396,6 +386,6 @@ plain_takes_few name parts many =
     (if_none (bytes_eq name (codes "truncate")) _ _ (takes_more 0 4 (alone Truncate) (omega arith) (alone_takes_few Truncate) parts many)
     (if_none (bytes_eq name (codes "rebuild")) _ _ (takes_more 0 4 (alone Rebuild) (omega arith) (alone_takes_few Rebuild) parts many)
     (if_none (bytes_eq name (codes "show")) _ _ (takes_more 0 4 (alone Show) (omega arith) (alone_takes_few Show) parts many)
-    (if_none (bytes_eq name (codes "resume")) _ _ (takes_more 3 4 resume_in (omega arith) resume_takes_few parts many)
+    (if_none (bytes_eq name (codes "resume")) _ _ (resume_takes_few parts many)
     (if_none (bytes_eq name (codes "resumed")) _ _ (takes_more 0 4 (alone Resumed) (omega arith) (alone_takes_few Resumed) parts many)
     (if_none (bytes_eq name (codes "save")) _ _ (takes_more 3 4 save_in (omega arith) save_takes_few parts many) refl)))))))))))))

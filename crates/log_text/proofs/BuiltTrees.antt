@@ -1,6 +1,6 @@
 -- Trees put together from the last of their items on, and how many trees items make.
 use Rattle.std.proofs.Common.{◌≡◌, ◌≢◌, ℕ, suc, ◌+◌, List, [], ◌∷◌, ◌++◌, length, map, reverse, Option, Some, None, option_map, option_and_then, append_assoc, append-nil, refl, sym, ap, subst, ◌∙◌, arith}
-use Rattle.std.proofs.lemmas.List.{reverse-append, nil_from_length}
+use Rattle.std.proofs.lemmas.List.{nil_from_length}
 use Rattle.txn.specs.declared.choices.Choice.{Choice}
 use Rattle.txn.specs.declared.choices.ForceStep.{ForceStep}
 use Rattle.refutation.specs.declared.trees.Leaf.{Leaf}
@@ -68,10 +68,6 @@ AreMerged-apart : (trees : List Tree) (tree : Tree) → AreMerged (trees ++ tree
 AreMerged-apart [] tree all = (tt, all.0)
 AreMerged-apart (other ∷ trees) tree all = let rest = AreMerged-apart trees tree all.1 in ((all.0, rest.0), rest.1)
 
--- no tree was in front, so there is none
-pub behind_none : (behind : List Tree) (nodes : List TreeItem) → AreBuilt None behind nodes → (nodes ≡ nodes_behind behind) × AreMerged behind
-behind_none behind nodes built = (built.nodes_are, built.all_merged)
-
 -- the tree in front was put together, and stands behind the next one
 pub behind_some : (front : Front) (tree : Tree) (behind now : List Tree) (nodes : List TreeItem) → nodes_of tree ≡ map node.Force (reverse front.steps.items) ++ nodes_of front.rest → (IsNoForce front.rest → IsMerged front.rest → IsMerged tree)
     → now ≡ behind ++ tree ∷ [] → AreBuilt (Some front) behind nodes → (nodes ≡ nodes_behind now) × AreMerged now
@@ -91,17 +87,6 @@ leaf_built leaf made behind nodes none rest before = record {
   all_merged = before.1;
 }
 
--- a step more stands before the rest
-pub step_built : (step : ForceStep) (front made : Front) (behind : List Tree) (nodes : List TreeItem) → made.steps.items ≡ front.steps.items ++ step ∷ [] → made.rest ≡ front.rest → AreBuilt (Some front) behind nodes → AreBuilt (Some made) behind (node.Force step ∷ nodes)
-step_built step front made behind nodes more rest built =
-    let turned : reverse made.steps.items ≡ step ∷ reverse front.steps.items = ap (λ (steps : List ForceStep). reverse steps) more ∙ reverse-append front.steps.items (step ∷ []) in
-    let now : nodes_in_front (Some made) ≡ node.Force step ∷ nodes_in_front (Some front) =
-    ap (λ (steps : List ForceStep). map node.Force steps ++ nodes_of made.rest) turned ∙ ap (λ (tree : Tree). node.Force step ∷ (map node.Force (reverse front.steps.items) ++ nodes_of tree)) rest in record {
-      nodes_are = ap (λ (ns : List TreeItem). node.Force step ∷ ns) built.nodes_are ∙ ap (λ (ns : List TreeItem). ns ++ nodes_behind behind) (sym now);
-      in_front = (subst IsNoForce (sym rest) built.in_front.0, subst IsMerged (sym rest) built.in_front.1);
-      all_merged = built.all_merged;
-    }
-
 -- the tree in front and the one behind it are the halves of a split
 pub split_built : (choice : Choice) (front made : Front) (first second rest : Tree) (behind now : List Tree) (nodes : List TreeItem) → nodes_of first ≡ map node.Force (reverse front.steps.items) ++ nodes_of front.rest → (IsNoForce front.rest → IsMerged front.rest → IsMerged first)
     → behind ≡ now ++ second ∷ [] → made.steps.items ≡ [] → made.rest ≡ rest → nodes_of rest ≡ node.Split choice ∷ (nodes_of first ++ nodes_of second) → IsNoForce rest → (IsMerged first → IsMerged second → IsMerged rest) → AreBuilt (Some front) behind nodes → AreBuilt (Some made) now (node.Split choice ∷ nodes)
@@ -119,12 +104,6 @@ split_built choice front made first second rest behind now nodes whole merged po
 
 nothing_there : (behind : List Tree) (nodes : List TreeItem) → AreBuilt None behind nodes → nodes ≡ []
 nothing_there behind nodes built = built.nodes_are ∙ ap nodes_behind built.in_front
-
-pub step_alone : (step : ForceStep) (behind : List Tree) (nodes : List TreeItem) → AreBuilt None behind nodes → trees_in (node.Force step ∷ nodes) ≡ None
-step_alone step behind nodes built = ap (λ (ns : List TreeItem). trees_in (node.Force step ∷ ns)) (nothing_there behind nodes built)
-
-pub split_alone : (choice : Choice) (behind : List Tree) (nodes : List TreeItem) → AreBuilt None behind nodes → trees_in (node.Split choice ∷ nodes) ≡ None
-split_alone choice behind nodes built = ap (λ (ns : List TreeItem). trees_in (node.Split choice ∷ ns)) (nothing_there behind nodes built)
 
 -- the tree in front and those behind it
 built_count : (front : Front) (behind : List Tree) (nodes : List TreeItem) → AreBuilt (Some front) behind nodes → trees_in nodes ≡ Some (suc (length behind))
@@ -144,13 +123,6 @@ pub record IsBuilding (all left : List TreeItem) (front : Option Front) (behind 
   pub done : List TreeItem
   pub split : all ≡ left ++ done
   pub built : AreBuilt front behind done
-
-pub building_first : (all : List TreeItem) (behind : List Tree) → behind ≡ [] → IsBuilding all all None behind
-building_first all behind none = record {
-  done = [];
-  split = sym (append-nil all);
-  built = record { nodes_are = sym (ap nodes_behind none); in_front = none; all_merged = subst AreMerged (sym none) tt };
-}
 
 one_less : (all left now done : List TreeItem) (given : TreeItem) → all ≡ left ++ done → left ≡ now ++ given ∷ [] → all ≡ now ++ given ∷ done
 one_less all left now done given split popped = split ∙ ap (λ (ns : List TreeItem). ns ++ done) popped ∙ append_assoc now (given ∷ []) done
@@ -175,11 +147,3 @@ built_many all left given front behind is s none some =
     let count = built_count front behind s.done (subst (λ (f : Option Front). AreBuilt f behind s.done) is s.built) in
     no_tree all (Some (suc (length behind))) (ap trees_in (all_done all left s.done s.split none) ∙ count)
     (λ e. some (nil_from_length behind (let same : suc (length behind) ≡ 1 = cc in omega arith)))
-
-pub built_one : (all left : List TreeItem) (given : Option Front) (front : Front) (behind : List Tree) (tree : Tree) → given ≡ Some front → IsBuilding all left given behind → left ≡ [] → behind ≡ [] → nodes_of tree ≡ map node.Force (reverse front.steps.items) ++ nodes_of front.rest
-    → (IsNoForce front.rest → IsMerged front.rest → IsMerged tree) → AreNodesOf all tree
-built_one all left given front behind tree is s none alone whole merged =
-    let built = subst (λ (f : Option Front). AreBuilt f behind s.done) is s.built in (
-      all_done all left s.done s.split none ∙ built.nodes_are ∙ ap (λ (trees : List Tree). nodes_in_front (Some front) ++ nodes_behind trees) alone ∙ append-nil (nodes_in_front (Some front)) ∙ sym whole,
-      merged built.in_front.0 built.in_front.1,
-    )

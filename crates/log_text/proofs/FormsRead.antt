@@ -3,52 +3,14 @@ use Rattle.std.proofs.Common.{◌≡◌, ℕ, ◌≤◌, ◌<◌, List, length, 
 use Rattle.std.specs.Prelude.{IfSome, if◌then◌else◌}
 use Rattle.json.specs.Token.{Token}
 use Rattle.json.specs.Json as json
-use Rattle.json.specs.Json.{after_end_array, items, value}
+use Rattle.json.specs.Json.{after_end_array, value}
 use Rattle.serde_json.specs.Data.{Data, null, boolean, number, string, array, object, Items, no_items, item}
-use Rattle.serde_json.specs.Read.{of_json, of_items, converted}
-use Rattle.log_text.specs.Items.{array_of, alone, one_item, two_items, three_items, with_both, with_three}
+use Rattle.serde_json.specs.Read.{of_json, converted}
+use Rattle.log_text.specs.Items.{array_of, alone, one_item, two_items, three_items}
 use Rattle.log_text.specs.Answers.{handed_named, handed_in}
 use Rattle.log_text.specs.Refutations.{node_named, node_in}
 use Rattle.log_text.specs.Streams.{few_in, is_few, TakesFew, read_as, IsFoundAs, IsRead, AreRead, word_of}
-use Rattle.log_text.proofs.TokensRead.{head_none, head_then, end_then, end_none, deeper, is_read}
-
--- ---- a form, and one item less
-
-once : {A X : Type 0} (make : A → X) (o : Option A) → option_map make o ≡ option_and_then (λ a. Some (make a)) o
-once make None = refl
-once make (Some a) = refl
-
-never : {A X : Type 0} (o : Option A) → None ≡ option_and_then {U = X} (λ a. None) o
-never None = refl
-never (Some a) = refl
-
-one_less : {A X : Type 0} (make : A → X) (f : Data → Option A) (given : Data) (rest : Items) → one_item make f (item given rest) ≡ option_and_then (λ a. alone (make a) rest) (f given)
-one_less make f given no_items = once make (f given)
-one_less make f given (item other rest) = never (f given)
-
-both_less : {A B X : Type 0} (make : A → B → X) (a : Option A) (b : Option B) → with_both make a b ≡ option_and_then (λ x. option_map (make x) b) a
-both_less make None None = refl
-both_less make None (Some b) = refl
-both_less make (Some a) None = refl
-both_less make (Some a) (Some b) = refl
-
-two_less : {A B X : Type 0} (make : A → B → X) (f : Data → Option A) (g : Data → Option B) (given : Data) (rest : Items) → two_items make f g (item given rest) ≡ option_and_then (λ a. one_item (make a) g rest) (f given)
-two_less make f g given no_items = never (f given)
-two_less make f g given (item b no_items) = both_less make (f given) (g b)
-two_less make f g given (item b (item c rest)) = never (f given)
-
-three_less : {A B C X : Type 0} (make : A → B → C → X) (a : Option A) (b : Option B) (c : Option C) → with_three make a b c ≡ option_and_then (λ x. with_both (make x) b c) a
-three_less make None b c = refl
-three_less make (Some a) None c = refl
-three_less make (Some a) (Some b) None = refl
-three_less make (Some a) (Some b) (Some c) = refl
-
-each_less : {A B C X : Type 0} (make : A → B → C → X) (f : Data → Option A) (g : Data → Option B) (h : Data → Option C) (given : Data) (rest : Items)
-    → three_items make f g h (item given rest) ≡ option_and_then (λ a. two_items (make a) g h rest) (f given)
-each_less make f g h given no_items = never (f given)
-each_less make f g h given (item b no_items) = never (f given)
-each_less make f g h given (item b (item c no_items)) = three_less make (f given) (g b) (h c)
-each_less make f g h given (item b (item c (item d rest))) = never (f given)
+use Rattle.log_text.proofs.TokensRead.{head_none, head_then, end_then, end_none, deeper, is_read, one_less, two_less, each_less, found_at}
 
 -- ---- one item read
 
@@ -114,10 +76,6 @@ handed_law (object given) rest = refl
 
 -- ---- changed forms
 
--- arrays may nest deeper
-pub are_read_deeper : {X : Type 0} (form : Items → Option X) (first nests : ℕ) (old new : List Token) (found : Option X) → first ≤ nests → AreRead form first old found new → AreRead form nests old found new
-are_read_deeper form first nests old new found less read = record { is = λ depth turns deep enough. read.is depth turns (omega arith) enough; shorter = read.shorter }
-
 -- what comes of a value that was read
 abbrev pub then_of : {A X : Type 0} → (A → Option X) → Option (A × List Token) → Option (X × List Token)
 then_of next = option_and_then (λ p. option_map (λ x. (x, p.1)) (next p.0))
@@ -138,10 +96,6 @@ read_then {A} {X} form next depth old = of_read (value depth old)
     of_read None = refl
     of_read (Some p) = of_given (of_json p.0) p.1
 
-found_then : {X : Type 0} (told : Option (X × List Token)) (found : Option X) (new : List Token) → told ≡ option_map (λ x. (x, new)) found → IsFoundAs told found new
-found_then told None new is = is
-found_then told (Some x) new is = is
-
 told_as : {A : Type 0} (told : Option (A × List Token)) (found : Option A) (new : List Token) → IsFoundAs told found new → told ≡ option_map (λ a. (a, new)) found
 told_as told None new is = is
 told_as told (Some a) new is = is
@@ -160,7 +114,7 @@ shorter_then {A} {X} next (Some a) old new less = some (next a)
 
 pub read_and_then : {A X : Type 0} (form : Data → Option A) (next : A → Option X) (nests : ℕ) (old new : List Token) (found : Option A) → IsRead form nests old found new → IsRead (λ given. option_and_then next (form given)) nests old (option_and_then next found) new
 read_and_then form next nests old new found read = record {
-  is = λ depth deep. found_then _ (option_and_then next found) new (read_then form next depth old ∙ ap (then_of next) (told_as _ found new (read.is depth deep)) ∙ then_found next found new);
+  is = λ depth deep. found_at _ (option_and_then next found) new (read_then form next depth old ∙ ap (then_of next) (told_as _ found new (read.is depth deep)) ∙ then_found next found new);
   shorter = shorter_then next found old new read.shorter;
 }
 
@@ -168,7 +122,7 @@ read_and_then form next nests old new found read = record {
 
 -- a form that is the same of all data
 same_read : {X : Type 0} (form other : Data → Option X) (nests : ℕ) (old new : List Token) (found : Option X) → ((given : Data) → form given ≡ other given) → IsRead form nests old found new → IsRead other nests old found new
-same_read {X} form other nests old new found same read = record { is = λ depth deep. found_then _ found new (sym (both (value depth old)) ∙ told_as _ found new (read.is depth deep)); shorter = read.shorter }
+same_read {X} form other nests old new found same read = record { is = λ depth deep. found_at _ found new (sym (both (value depth old)) ∙ told_as _ found new (read.is depth deep)); shorter = read.shorter }
   where
     of_given : (o : Option Data) → option_and_then form o ≡ option_and_then other o
     of_given None = refl
@@ -195,7 +149,3 @@ pub few_some : {X : Type 0} (form : Items → Option X) (most nests : ℕ) (old 
 few_some form most nests old new given seen found few read same is =
     is_read (array_of form) nests old new (form given) found (sym (is ∙ ap form same))
     (same_read (λ d. option_and_then form (array_of (few_in most) d)) (array_of form) nests old new (form given) (few_first form most few) (read_and_then (array_of (few_in most)) form nests old new (Some given) read))
-
-pub few_gone : {X : Type 0} (form : Items → Option X) (most nests : ℕ) (old new : List Token) → TakesFew most form → IsRead (array_of (few_in most)) nests old None new → IsRead (array_of form) nests old None new
-few_gone form most nests old new few read =
-    same_read (λ d. option_and_then form (array_of (few_in most) d)) (array_of form) nests old new None (few_first form most few) (read_and_then (array_of (few_in most)) form nests old new None read)

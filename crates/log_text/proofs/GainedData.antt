@@ -28,9 +28,6 @@ gains_filled old new start v ds none gains is = gains_list old new v ds (gains �
 pub gains_more : {X : Type 0} (form : X → Data) (us vs ws : List Value) (xs : List X) (i : ℕ) (d : X) → GainsData us vs (map form (take i xs)) → i < length xs → GainsData vs ws (form (get_or xs i d) ∷ []) → GainsData us ws (map form (take (i + 1) xs))
 gains_more form us vs ws xs i d before within more = subst (λ (ds : List Data). GainsData us ws ds) (sym (map_more form xs i d within)) (gains_then us vs ws (map form (take i xs)) (form (get_or xs i d) ∷ []) before more)
 
-pub gains_all : {X : Type 0} (form : X → Data) (us vs : List Value) (xs : List X) (i : ℕ) → GainsData us vs (map form (take i xs)) → length xs ≤ i → GainsData us vs (map form xs)
-gains_all {X = X} form us vs xs i gains all = subst (λ (ys : List X). GainsData us vs (map form ys)) (take_all i xs all) gains
-
 -- the same in a list that was empty
 pub have_more : {X : Type 0} (form : X → Data) (vs ws : List Value) (xs : List X) (i : ℕ) (d : X) → map view vs ≡ map form (take i xs) → i < length xs → GainsData vs ws (form (get_or xs i d) ∷ []) → map view ws ≡ map form (take (i + 1) xs)
 have_more form vs ws xs i d h within more = more ∙ ap (λ (ds : List Data). ds ++ form (get_or xs i d) ∷ []) h ∙ sym (map_more form xs i d within)

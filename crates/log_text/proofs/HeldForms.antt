@@ -9,16 +9,16 @@ use Rattle.txn.specs.declared.transactions.Txn.{Txn}
 use Rattle.logged_fragments.specs.declared.logged.LoggedFragment.{LoggedFragment}
 use Rattle.log_text.specs.Items.{alone, one_item, two_items, three_items, with_both, with_three, list_of, each_of}
 use Rattle.log_text.specs.Numbers.{whole_number, session_of}
-use Rattle.log_text.specs.Commands.{txn_of, fragment_of, offer_in, join_in, start_of, start_in, resume_in, effort_in, waits_in, marks_in, last_in, flag_of, writer_of, save_in, command_named}
+use Rattle.log_text.specs.Commands.{txn_of, fragment_of, offer_in, join_in, start_of, start_in, resume_in, effort_in, waits_in, begun_in, closed_in, marks_in, last_in, flag_of, writer_of, save_in, command_named}
 use Rattle.log_text.specs.Held.{held}
 use Rattle.log_text.specs.Kept.{kept, txns_of, made, behind_of, joined_by, joined_within}
 use Rattle.log_text.specs.Lines.{plain_named}
 use Rattle.log_text.specs.Streams.{AreRead}
-use Rattle.log_text.specs.Versions.{version_in, opening_in}
+use Rattle.log_text.specs.Versions.{opening_in}
 use Rattle.log_text.specs.declared.versions.Opening.{Opening}
 use Rattle.log_text.specs.declared.versions.Opening.TheVariants.{Ordered, Isolated}
 use Rattle.log_text.specs.declared.commands.Command.{Command}
-use Rattle.log_text.specs.declared.commands.Command.TheVariants.{Start, Offer, Join, Resume, Marks, Last}
+use Rattle.log_text.specs.declared.commands.Command.TheVariants.{Offer, Join, Resume, MarksBegun, Last}
 use Rattle.log_text.specs.declared.fragments.Behind.{Behind}
 use Rattle.log_text.specs.declared.fragments.Behind.TheVariants.{First, Txns}
 use Rattle.log_text.proofs.TokensRead.{are_read, are_read_map, same_form, deeper_items}
@@ -173,7 +173,7 @@ module _ (n : ℕ) where
   resume_kept : (parts : Items) → IsKept (resume_in parts)
   resume_kept no_items = refl
   resume_kept (item a no_items) = refl
-  resume_kept (item a (item b behind)) = kept_three Resume (λ x y z. refl) (whole_number a) (whole_number b) (version_in behind)
+  resume_kept (item a (item b behind)) = kept_three Resume (λ x y z. refl) (whole_number a) (whole_number b) (opening_in behind)
 
   save_kept : (parts : Items) → IsKept (save_in parts)
   save_kept no_items = refl
@@ -207,9 +207,29 @@ plain_held : (most : Option ℕ) (name : List ℕ) (parts : Items) → option_ma
 plain_held None name parts = all_held (plain_named name parts)
 plain_held (Some n) name parts = plain_kept n name parts
 
+begun_kept : (n : ℕ) (marks : List ℕ) (closed : List Bool) (behind : Items) → IsKept n (begun_in marks closed behind)
+begun_kept n marks closed no_items = refl
+begun_kept n marks closed (item begun rest) = one_kept n (MarksBegun marks closed) (list_of flag_of) (λ b. refl) (item begun rest)
+
+closed_kept : (n : ℕ) (marks : List ℕ) (behind : Items) → IsKept n (closed_in marks behind)
+closed_kept n marks no_items = refl
+closed_kept n marks (item closed behind) = on (list_of flag_of closed)
+  where
+    on : (flags : Option (List Bool)) → IsKept n (option_and_then (λ fs. begun_in marks fs behind) flags)
+    on None = refl
+    on (Some fs) = begun_kept n marks fs behind
+
+marks_kept : (n : ℕ) (parts : Items) → IsKept n (marks_in parts)
+marks_kept n no_items = refl
+marks_kept n (item marks behind) = on (list_of whole_number marks)
+  where
+    on : (counts : Option (List ℕ)) → IsKept n (option_and_then (λ cs. closed_in cs behind) counts)
+    on None = refl
+    on (Some cs) = closed_kept n cs behind
+
 marks_held : (most : Option ℕ) (parts : Items) → option_map (held most) (marks_in parts) ≡ marks_in parts
 marks_held None parts = all_held (marks_in parts)
-marks_held (Some n) parts = two_kept n Marks (list_of whole_number) (list_of flag_of) (λ a b. refl) parts
+marks_held (Some n) parts = marks_kept n parts
 
 last_held : (most : Option ℕ) (parts : Items) → option_map (held most) (last_in parts) ≡ last_in parts
 last_held None parts = all_held (last_in parts)

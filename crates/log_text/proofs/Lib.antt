@@ -7,6 +7,7 @@ pub mod FormsRead
 pub mod GainedData
 pub mod HeldForms
 pub mod LinesRead
+pub mod MarksRead
 pub mod NumbersRead
 pub mod OwedRead
 pub mod ReportsRead
@@ -19,4 +20,3 @@ pub mod TreesRead
 pub mod TxnsRead
 pub mod ValueTexts
 pub mod WaitingTrees
-pub mod WordData

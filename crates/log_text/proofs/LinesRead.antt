@@ -1,9 +1,10 @@
 -- What the text of a line says, by its tokens.
 use Rattle.std.proofs.Common.{◌≡◌, ℕ, List, [], ◌∷◌, Option, Some, None, option_map, option_and_then, codes, refl, sym, ap, ◌∙◌, subst, arith, inl, inr}
+use Rattle.std.proofs.lemmas.Option.{none-some, some_pair_parts}
 use Rattle.json.specs.Token.{Token}
 use Rattle.json.specs.Lex.{tokens}
 use Rattle.json.specs.Json as json
-use Rattle.json.specs.Json.{after_end_array, items, value, if_last}
+use Rattle.json.specs.Json.{items, value, if_last}
 use Rattle.serde_json.specs.Data.{Data, null, boolean, number, string, array, object, Items, no_items, item}
 use Rattle.serde_json.specs.Read.{of_json, of_items, converted, read}
 use Rattle.log_text.specs.Answers.{IsAnswerOf}
@@ -19,37 +20,20 @@ use Rattle.log_text.specs.declared.commands.Command.TheVariants.{Answer}
 use Rattle.log_text.proofs.AnswersRead.{answer_text}
 use Rattle.log_text.proofs.TokensRead.{array_none, array_then, head_none, told_at_name}
 
-none_some : {X : Type 0} (x : X) → None ≡ Some x → ⊥
-none_some x e = let never : ⊥ = cc in never
-
 some_empty : {X : Type 0} (x : X) (xs : List X) → x ∷ xs ≡ [] → ⊥
 some_empty x xs e = let never : ⊥ = cc in never
-
-abbrev inside : {X : Type 0} → X → Option X → X
-inside x None = x
-inside x (Some y) = y
-
-first_same : {A B : Type 0} (p q : A × B) → Some p ≡ Some q → p ≡ q
-first_same p q e = ap (inside p) e
-
-some_pair : {A B : Type 0} (a b : A) (x y : B) → ◌≡◌ {A = Option (A × B)} (Some (a, x)) (Some (b, y)) → (a ≡ b) × (x ≡ y)
-some_pair {A} {B} a b x y e =
-    let p : A × B = (a, x) in
-    let q : A × B = (b, y) in
-    let same : p ≡ q = first_same p q e in
-    (ap (λ (p : A × B). p.0) same, ap (λ (p : A × B). p.1) same)
 
 -- ---- up to the end of the tokens
 
 pub whole_none : {X : Type 0} (form : Items → Option X) (old new : List Token) → AreRead form 4 old None new → IsWhole form old None
-whole_none form old new said depth turns deep enough x is = none_some (x, []) (sym (said.is depth turns deep enough) ∙ is)
+whole_none form old new said depth turns deep enough x is = none-some (x, []) (sym (said.is depth turns deep enough) ∙ is)
 
 pub whole_some : {X : Type 0} (form : Items → Option X) (old new : List Token) (x : X) → AreRead form 4 old (Some x) new → new ≡ [] → IsWhole form old (Some x)
 whole_some form old new x said over depth turns deep enough = said.is depth turns deep enough ∙ ap (λ ts. Some (x, ts)) over
 
 pub whole_more : {X : Type 0} (form : Items → Option X) (old new behind : List Token) (t : Token) (x : X) → AreRead form 4 old (Some x) new → new ≡ t ∷ behind → IsWhole form old None
 whole_more form old new behind t x said more depth turns deep enough y is =
-    some_empty t behind (some_pair x y (t ∷ behind) [] (ap (λ ts. Some (x, ts)) (sym more) ∙ sym (said.is depth turns deep enough) ∙ is)).1
+    some_empty t behind (some_pair_parts x y (t ∷ behind) [] (ap (λ ts. Some (x, ts)) (sym more) ∙ sym (said.is depth turns deep enough) ∙ is)).1
 
 -- ---- what is read of the text
 
@@ -79,7 +63,7 @@ text_of {X} form text x is = by (value 127 (tokens text)) refl is
         formed : (p : Option X) → form said ≡ p → option_map {U = X × List Token} (λ y. (y, behind)) p ≡ Some (x, []) → Told form text x
         formed None f e = absurd (let no : ⊥ = cc in no)
         formed (Some y) f e =
-            let both = some_pair y x behind [] e in
+            let both = some_pair_parts y x behind [] e in
             (said, ap (λ o. option_and_then of_json (option_and_then (λ p. if_last p.0 p.1) o)) (at ∙ ap (λ ts. Some (j, ts)) both.1) ∙ of, f ∙ ap Some both.0)
 
     by : (o : Option (json.Json × List Token)) → value 127 (tokens text) ≡ o → converted (λ j. option_and_then form (of_json j)) o ≡ Some (x, []) → Told form text x
@@ -145,7 +129,7 @@ says_named said whole (inr is) = (codes "answer", answer_named said is.0 is.1)
 nameless : (most : Option ℕ) (text : List ℕ) → read_as name_of 127 (tokens text) ≡ None → IsTextOf most text None
 nameless most text none said whole reads says =
     let named = says_named said whole says in
-    none_some (named.0, []) (sym none ∙ told_of name_of text said reads ∙ ap (option_map (λ x. (x, []))) named.1)
+    none-some (named.0, []) (sym none ∙ told_of name_of text said reads ∙ ap (option_map (λ x. (x, []))) named.1)
 
 pub no_bracket : (most : Option ℕ) (text : List ℕ) → opens_array (tokens text) ≡ None → IsTextOf most text None
 no_bracket most text none = nameless most text ((array_none first_word 1 (tokens text) [] none).is 127 (omega arith))
@@ -160,7 +144,7 @@ same_name name other behind (Some (js, ts)) e = at (of_items js) e
   where
     at : (p : Option Items) → option_map {U = List ℕ × List Token} (λ x. (x, ts)) (option_and_then (λ rest. Some name) p) ≡ Some (other, behind) → other ≡ name
     at None e = absurd (let no : ⊥ = cc in no)
-    at (Some rest) e = sym (some_pair name other ts behind e).0
+    at (Some rest) e = sym (some_pair_parts name other ts behind e).0
 
 -- the data of a text have no other name than the word behind the bracket
 name_is : (text : List ℕ) (mid here : List Token) (name other : List ℕ) (said : Data) → opens_array (tokens text) ≡ Some mid → IsRead word_of 0 mid (Some name) here → read text ≡ Some said → name_of said ≡ Some other → other ≡ name
@@ -178,7 +162,7 @@ no_such_command : (text : List ℕ) (mid here : List Token) (said : Data) (whole
 no_such_command text mid here said whole opens word reads is =
     let named = command_is_named said whole is in
     let same : named.0 ≡ codes "answer" = name_is text mid here (codes "answer") named.0 said opens word reads (ap name_of named.2) in
-    none_some whole (sym (ap (λ s. command_named s named.1) same) ∙ sym (ap command_of named.2) ∙ is)
+    none-some whole (sym (ap (λ s. command_named s named.1) same) ∙ sym (ap command_of named.2) ∙ is)
 
 unanswered : (most : Option ℕ) (text : List ℕ) (mid here : List Token) → opens_array (tokens text) ≡ Some mid → IsRead word_of 0 mid (Some (codes "answer")) here → IsAnswerOf text None → IsTextOf most text None
 unanswered most text mid here opens word none said whole reads (inl is) = no_such_command text mid here said whole opens word reads is

@@ -83,13 +83,6 @@ all_listed (object ms) nodes e = absurd (let never : ⊥ = cc in never)
 
 -- ---- an item at a time
 
-pub nodes_begin : (old : List Token) (front : List TreeItem) (owed : ℕ) → front ≡ [] → owed ≡ 1 → NodesSoFar old front owed old
-nodes_begin old front owed empty one = record { whole = λ found new rest. subst (λ o. AreRead (nodes_in 1) 3 old o new) (same found) (subst (λ n. AreRead (nodes_in n) 3 old found new) one rest) }
-  where
-    same : (o : Option (List TreeItem)) → o ≡ option_map (λ nodes. front ++ nodes) o
-    same None = refl
-    same (Some nodes) = ap (λ (ns : List TreeItem). Some (ns ++ nodes)) (sym empty)
-
 pub nodes_more : (old here seen mid : List Token) (front now : List TreeItem) (was owed more : ℕ) (x : TreeItem) → was ≡ suc more → NodesSoFar old front was here → seen ≡ here → IsRead node_of 3 seen (Some x) mid → now ≡ front ++ x ∷ [] → owed ≡ owed_behind more x → NodesSoFar old now owed mid
 nodes_more old here seen mid front now was owed more x some before still read pushed less = record {
   whole = λ found new rest.

@@ -2,7 +2,6 @@
 use Rattle.std.proofs.Common.{◌≡◌, ℕ, ◌≤◌, List, [], ◌∷◌, Option, Some, None, codes, refl, ap, sym, ◌∙◌, subst, inl, inr, arith}
 use Rattle.std.specs.Prelude.{◌⊎◌, All, IsUtf8, MatchOption}
 use Rattle.serde_json.specs.Data.{Data, string, array, Items, no_items, item, depth}
-use Rattle.serde_json.specs.Find.{as_str}
 use Rattle.serde_json.specs.Read.{read, max_depth}
 use Rattle.serde_json.specs.View.{items_of}
 use Rattle.txn.specs.declared.transactions.TxnId.{TxnId}
@@ -16,9 +15,8 @@ use Rattle.log_text.specs.ReadBack.{IsNamed, CanBeRead, IsSameShown, ReportsThat
 use Rattle.log_text.specs.Refutations.{nodes_of}
 use Rattle.log_text.specs.Replies.{HasKindOfOrder, kind_name}
 use Rattle.log_text.specs.Saved.{number_data}
-use Rattle.log_text.specs.Shown.{id_of, Shows, ShowsAs, Reports, ReportsBy, IsReportOf, ShowsIn, IsShownIn}
+use Rattle.log_text.specs.Shown.{id_of, Shows, ShowsAs, Reports, IsReportOf, ShowsIn, IsShownIn}
 use Rattle.log_text.specs.Told.{id_data, reply_data}
-use Rattle.log_text.proofs.WordData.{is_word}
 use Rattle.log_text.proofs.SameTrees.{same_tree}
 use Rattle.log_text.proofs.SavedRead.{each_read, session_read, list_depth, number_depth}
 use Rattle.log_text.proofs.TreesRead.{nodes_read, violated_depth}
@@ -129,27 +127,3 @@ pub tree_as : (k given : Data) → k ≡ string (codes "violated") → (found : 
 tree_as k given is None none = λ shown shows. no_tree k given is none shown shows
 tree_as k given is (Some (Refuted tree)) some = (is, some.1)
 tree_as k given is (Some (Order order)) some = absurd (let no : string (codes "refuted") ≡ string (codes "order") = some.0 in let it : ⊥ = cc in it)
-
-no_word : (given : Data) (word : List ℕ) → None ≡ as_str given → given ≡ string word → ⊥
-no_word given word e is = let no : None ≡ Some word = e ∙ ap as_str is in cc
-
-pub reports_no_name : (name k given : Data) → None ≡ as_str name → (shown : Shown) → ¬ ReportsBy name k given shown
-reports_no_name name k given none shown reports = no_word name (codes "report") none reports.0
-
-shows_no_kind : (k given : Data) → None ≡ as_str k → (shown : Shown) → ¬ ShowsAs k given shown
-shows_no_kind k given none (Order order) (inl is, a) = no_word k (codes "serial") none is
-shows_no_kind k given none (Order order) (inr is, a) = no_word k (codes "pending") none is
-shows_no_kind k given none (Refuted tree) shows = no_word k (codes "violated") none shows.0
-
-pub reports_no_kind : (name k given : Data) → None ≡ as_str k → (shown : Shown) → ¬ ReportsBy name k given shown
-reports_no_kind name k given none shown reports = shows_no_kind k given none shown reports.1
-
-pub reports_other_name : (name k given : Data) (said : List ℕ) → Some said ≡ as_str name → (said ≡ codes "report" → ⊥) → (shown : Shown) → ¬ ReportsBy name k given shown
-reports_other_name name k given said is other shown reports =
-    let same : string said ≡ string (codes "report") = sym (is_word name said is) ∙ reports.0 in
-    other (let words : said ≡ codes "report" = cc in words)
-
-pub reported_by : (name k given : Data) (said behind : List ℕ) → Some said ≡ as_str name → said ≡ codes "report" → Some behind ≡ as_str k → (found : Option Shown)
-    → MatchOption found ((shown : Shown) → ¬ ShowsAs (string behind) given shown) (ShowsAs (string behind) given) → MatchOption found ((shown : Shown) → ¬ ReportsBy name k given shown) (ReportsBy name k given)
-reported_by name k given said behind is report next None none = λ shown reports. none shown (subst (λ w. ShowsAs w given shown) (is_word k behind next) reports.1)
-reported_by name k given said behind is report next (Some shown) some = (is_word name said is ∙ ap string report, subst (λ w. ShowsAs w given shown) (sym (is_word k behind next)) some)

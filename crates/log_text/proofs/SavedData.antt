@@ -1,32 +1,19 @@
 -- Lists of values beside the data that they are, and the texts of these.
-use Rattle.std.proofs.Common.{◌≡◌, ℕ, List, [], ◌∷◌, ◌++◌, Vec, Global, map, take, length, get_or, codes, decimal, ◌+◌, ◌<◌, ◌≤◌, refl, sym, ap, ◌∙◌}
-use Rattle.std.proofs.lemmas.List.{take_all, map_more, map-append}
-use Rattle.serde_json.specs.Data.{Data, boolean, string, array}
-use Rattle.serde_json.specs.View.{view, items_of}
-use Rattle.serde_json.specs.declared.value.Value.{Value, Array}
-use Rattle.serde_json.proofs.Views.{view-Array}
+use Rattle.std.proofs.Common.{ℕ, List, [], ◌∷◌, ◌++◌, map, codes, decimal, refl}
+use Rattle.serde_json.specs.Data.{Data, boolean, string}
+use Rattle.serde_json.specs.View.{items_of}
 use Rattle.serde_json.proofs.OnLiterals.{serde_json_on_literals}
 use Rattle.txn.specs.declared.transactions.TxnId.{TxnId}
 use Rattle.txn.specs.declared.transactions.Source.{Source}
 use Rattle.txn.specs.declared.transactions.Source.TheVariants.{Init, By}
 use Rattle.txn.specs.declared.transactions.Txn.{Txn}
 use Rattle.log_text.specs.declared.saved.Saved.{Saved}
-use Rattle.log_text.specs.declared.saved.Saved.TheVariants.{Marks, Last, Offer}
+use Rattle.log_text.specs.declared.saved.Saved.TheVariants.{Marks, MarksBegun, Last, Offer}
 use Rattle.log_text.specs.Lists.{list_text, word_text, numbers_text}
 use Rattle.log_text.specs.Replies.{flag_text, writer_text, read_text, txn_text, saved_parts}
 use Rattle.log_text.specs.Saved.{number_data, list_data, writer_data, read_data, txn_data, saved_data}
 use Rattle.log_text.specs.Texts.{HasText, HaveTexts}
 use Rattle.log_text.proofs.ValueTexts.{number_written, word_written, list_written, flag_written}
-
--- the value of one more element
-pub more_data : {X : Type 0} (form : X → Data) (old new : List Value) (v : Value) (xs : List X) (i : ℕ) (d : X) → map view old ≡ map form (take i xs) → i < length xs → view v ≡ form (get_or xs i d) → new ≡ old ++ v ∷ [] → map view new ≡ map form (take (i + 1) xs)
-more_data form old new v xs i d before within is pushed =
-    ap (λ (vs : List Value). map view vs) pushed ∙ map-append view old (v ∷ []) ∙ rw (before, is) (sym (map_more form xs i d within))
-
--- an array of all of them
-pub all_data : {X : Type 0} (form : X → Data) (v : Vec Value Global) (xs : List X) (i : ℕ) → map view v.items ≡ map form (take i xs) → length xs ≤ i → view (Array v) ≡ list_data form xs
-all_data {X = X} form v xs i h all =
-    view-Array v ∙ ap (λ ds. array (items_of ds)) (h ∙ ap (λ (ys : List X). map form ys) (take_all i xs all))
 
 -- ---- texts
 
@@ -70,6 +57,8 @@ txn_written txn =
 
 pub saved_written : (saved : Saved) → HaveTexts (items_of (saved_data saved)) (saved_parts saved)
 saved_written (Marks marks closed) = (marks_written, (list_data_written number_data decimal number_written marks, (list_data_written boolean flag_text flag_written closed, tt)))
+saved_written (MarksBegun marks closed begun) =
+    (marks_written, (list_data_written number_data decimal number_written marks, (list_data_written boolean flag_text flag_written closed, (list_data_written boolean flag_text flag_written begun, tt))))
 saved_written (Last last) = (last_written, (list_data_written writer_data writer_text writer_written last, tt))
 saved_written (Offer fragment) = (offer_written, (number_written fragment.session, (number_written fragment.first, (list_data_written txn_data txn_text txn_written fragment.txns, tt))))
 

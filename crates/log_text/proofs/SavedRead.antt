@@ -13,7 +13,7 @@ use Rattle.txn.specs.declared.transactions.Txn.{Txn}
 use Rattle.log_text.specs.declared.replies.Reply.{Reply}
 use Rattle.log_text.specs.declared.replies.Reply.TheVariants as reply
 use Rattle.log_text.specs.declared.saved.Saved.{Saved}
-use Rattle.log_text.specs.declared.saved.Saved.TheVariants.{Marks, Last, Offer}
+use Rattle.log_text.specs.declared.saved.Saved.TheVariants.{Marks, MarksBegun, Last, Offer}
 use Rattle.log_text.specs.Commands.{IsCommand, flag_of, writer_of, read_of, txn_of, both_lists, command_of}
 use Rattle.log_text.specs.declared.commands.Command.TheVariants as command
 use Rattle.log_text.specs.Items.{each_of}
@@ -72,6 +72,8 @@ none_told (txn ∷ txns) = ap (λ (lists : List Txn × List Bool). (txn ∷ list
 pub saved_read : (saved : Saved) → NamesSessions saved → command_of (array (items_of (saved_data saved))) ≡ Some (handed_by saved)
 saved_read (Marks marks closed) h =
     rw (each_read whole_number number_data (λ n. ⊤) number_read marks (any marks), each_read flag_of boolean (λ b. ⊤) flag_read closed (any closed)) refl
+saved_read (MarksBegun marks closed begun) h =
+    rw (each_read whole_number number_data (λ n. ⊤) number_read marks (any marks), each_read flag_of boolean (λ b. ⊤) flag_read closed (any closed), each_read flag_of boolean (λ b. ⊤) flag_read begun (any begun)) refl
 saved_read (Last last) h = rw (each_read writer_of writer_data (λ entry. entry.1.session ≤ 255) writer_read last h) refl
 saved_read (Offer fragment) h =
     rw (session_read fragment.session h.0, each_read_as txn_of txn_data (λ txn. (txn, false)) (λ txn. All (λ read. IsReadable read.1) txn.reads) txn_read fragment.txns h.1)
@@ -104,6 +106,7 @@ txn_depth txn = omega (arith, list_depth read_data 1 read_depth txn.reads, list_
 
 pub saved_depth : (saved : Saved) → depth (array (items_of (saved_data saved))) ≤ 127
 saved_depth (Marks marks closed) = omega (arith, list_depth number_data 0 number_depth marks, list_depth boolean 0 flag_depth closed)
+saved_depth (MarksBegun marks closed begun) = omega (arith, list_depth number_data 0 number_depth marks, list_depth boolean 0 flag_depth closed, list_depth boolean 0 flag_depth begun)
 saved_depth (Last last) = omega (arith, list_depth writer_data 1 writer_depth last)
 saved_depth (Offer fragment) = omega (arith, list_depth txn_data 3 txn_depth fragment.txns)
 

@@ -19,9 +19,6 @@ same_found : {X : Type 0} (told other : Option (X × List Token)) (found : Optio
 same_found told other None new same is = same ∙ is
 same_found told other (Some x) new same is = same ∙ is
 
-none_found : {X : Type 0} (told : Option (X × List Token)) (new : List Token) → told ≡ None → IsFoundAs told None new
-none_found told new none = none
-
 -- ---- brackets
 
 opened : (ts more : List Token) → opens_array ts ≡ Some more → ts ≡ Token.begin_array ∷ more
@@ -104,7 +101,7 @@ module _ {X : Type 0} (form : Data → Option X) where
   no_value : (depth : ℕ) (ts behind : List Token) → after_end_array ts ≡ Some behind → read_as form depth ts ≡ None
   no_value depth ts behind over = ap (read_as form depth) (closed ts behind over) ∙ ap (converted (λ j. option_and_then form (of_json j))) (value_is depth (Token.end_array ∷ behind))
 
-found_at : {X : Type 0} (told : Option (X × List Token)) (found : Option X) (new : List Token) → told ≡ option_map (λ x. (x, new)) found → IsFoundAs told found new
+pub found_at : {X : Type 0} (told : Option (X × List Token)) (found : Option X) (new : List Token) → told ≡ option_map (λ x. (x, new)) found → IsFoundAs told found new
 found_at told None new is = is
 found_at told (Some x) new is = is
 
@@ -590,81 +587,67 @@ few_missing found is = ap (option_map (λ v. items_view v.items)) is
 
 -- ---- one item, two or three, and the end behind them
 
-one_first : {A X : Type 0} (make : A → X) (f : Data → Option A) (given : Data) (rest : Items) → one_item make f (item given rest) ≡ option_and_then (λ a. alone (make a) rest) (f given)
-one_first {A} {X} make f given no_items = same (f given)
-  where
-    same : (o : Option A) → option_map make o ≡ option_and_then (λ a. Some (make a)) o
-    same None = refl
-    same (Some a) = refl
-one_first {A} {X} make f given (item more rest) = none (f given)
-  where
-    none : (o : Option A) → None ≡ option_and_then {U = X} (λ a. None) o
-    none None = refl
-    none (Some a) = refl
+once : {A X : Type 0} (make : A → X) (o : Option A) → option_map make o ≡ option_and_then (λ a. Some (make a)) o
+once make None = refl
+once make (Some a) = refl
 
-two_first : {A B X : Type 0} (make : A → B → X) (f : Data → Option A) (g : Data → Option B) (given : Data) (rest : Items) → two_items make f g (item given rest) ≡ option_and_then (λ a. one_item (make a) g rest) (f given)
-two_first {A} {B} {X} make f g given no_items = none (f given)
-  where
-    none : (o : Option A) → None ≡ option_and_then {U = X} (λ a. None) o
-    none None = refl
-    none (Some a) = refl
-two_first {A} {B} {X} make f g given (item more no_items) = same (f given) (g more)
-  where
-    same : (o : Option A) (p : Option B) → with_both make o p ≡ option_and_then (λ a. option_map (make a) p) o
-    same None p = refl
-    same (Some a) None = refl
-    same (Some a) (Some b) = refl
-two_first {A} {B} {X} make f g given (item more (item last rest)) = none (f given)
-  where
-    none : (o : Option A) → None ≡ option_and_then {U = X} (λ a. None) o
-    none None = refl
-    none (Some a) = refl
+never : {A X : Type 0} (o : Option A) → None ≡ option_and_then {U = X} (λ a. None) o
+never None = refl
+never (Some a) = refl
 
-three_first : {A B C X : Type 0} (make : A → B → C → X) (f : Data → Option A) (g : Data → Option B) (h : Data → Option C) (given : Data) (rest : Items)
+pub one_less : {A X : Type 0} (make : A → X) (f : Data → Option A) (given : Data) (rest : Items) → one_item make f (item given rest) ≡ option_and_then (λ a. alone (make a) rest) (f given)
+one_less make f given no_items = once make (f given)
+one_less make f given (item other rest) = never (f given)
+
+both_less : {A B X : Type 0} (make : A → B → X) (a : Option A) (b : Option B) → with_both make a b ≡ option_and_then (λ x. option_map (make x) b) a
+both_less make None None = refl
+both_less make None (Some b) = refl
+both_less make (Some a) None = refl
+both_less make (Some a) (Some b) = refl
+
+pub two_less : {A B X : Type 0} (make : A → B → X) (f : Data → Option A) (g : Data → Option B) (given : Data) (rest : Items) → two_items make f g (item given rest) ≡ option_and_then (λ a. one_item (make a) g rest) (f given)
+two_less make f g given no_items = never (f given)
+two_less make f g given (item b no_items) = both_less make (f given) (g b)
+two_less make f g given (item b (item c rest)) = never (f given)
+
+three_less : {A B C X : Type 0} (make : A → B → C → X) (a : Option A) (b : Option B) (c : Option C) → with_three make a b c ≡ option_and_then (λ x. with_both (make x) b c) a
+three_less make None b c = refl
+three_less make (Some a) None c = refl
+three_less make (Some a) (Some b) None = refl
+three_less make (Some a) (Some b) (Some c) = refl
+
+pub each_less : {A B C X : Type 0} (make : A → B → C → X) (f : Data → Option A) (g : Data → Option B) (h : Data → Option C) (given : Data) (rest : Items)
     → three_items make f g h (item given rest) ≡ option_and_then (λ a. two_items (make a) g h rest) (f given)
-three_first {A} {B} {C} {X} make f g h given rest = on rest
-  where
-    none : (o : Option A) → None ≡ option_and_then {U = X} (λ a. None) o
-    none None = refl
-    none (Some a) = refl
-
-    same : (o : Option A) (p : Option B) (q : Option C) → with_three make o p q ≡ option_and_then (λ a. with_both (make a) p q) o
-    same None p q = refl
-    same (Some a) None q = refl
-    same (Some a) (Some b) None = refl
-    same (Some a) (Some b) (Some c) = refl
-
-    on : (behind : Items) → three_items make f g h (item given behind) ≡ option_and_then (λ a. two_items (make a) g h behind) (f given)
-    on no_items = none (f given)
-    on (item b no_items) = none (f given)
-    on (item b (item c no_items)) = same (f given) (g b) (h c)
-    on (item b (item c (item d more))) = none (f given)
+each_less make f g h given no_items = never (f given)
+each_less make f g h given (item b no_items) = never (f given)
+each_less make f g h given (item b (item c no_items)) = three_less make (f given) (g b) (h c)
+each_less make f g h given (item b (item c (item d rest))) = never (f given)
 
 pub one_none : {A X : Type 0} (make : A → X) (f : Data → Option A) (nests : ℕ) (old mid new : List Token) → IsRead f nests old None mid → AreRead (one_item make f) nests old None new
-one_none make f nests old mid new read = head_none (one_item make f) f (λ a. alone (make a)) (one_first make f) refl nests old mid new read
+one_none make f nests old mid new read = head_none (one_item make f) f (λ a. alone (make a)) (one_less make f) refl nests old mid new read
 
 pub one_ends : {A X : Type 0} (make : A → X) (f : Data → Option A) (nests : ℕ) (old mid new : List Token) (a : A) (x : X) → IsRead f nests old (Some a) mid → after_end_array mid ≡ Some new → x ≡ make a → AreRead (one_item make f) nests old (Some x) new
 one_ends make f nests old mid new a x read over is =
-    head_then (one_item make f) f (λ b. alone (make b)) (one_first make f) nests nests old mid new a (Some x) (omega arith) read (end_then (alone (make a)) nests mid new (Some x) over (ap Some (sym is)))
+    head_then (one_item make f) f (λ b. alone (make b)) (one_less make f) nests nests old mid new a (Some x) (omega arith) read (end_then (alone (make a)) nests mid new (Some x) over (ap Some (sym is)))
 
 pub one_goes_on : {A X : Type 0} (make : A → X) (f : Data → Option A) (nests : ℕ) (old mid new : List Token) (a : A) → IsRead f nests old (Some a) mid → after_end_array mid ≡ None → AreRead (one_item make f) nests old None new
 one_goes_on make f nests old mid new a read going =
-    head_then (one_item make f) f (λ b. alone (make b)) (one_first make f) nests nests old mid new a None (omega arith) read (end_none (alone (make a)) nests mid new going (λ given rest. refl))
+    head_then (one_item make f) f (λ b. alone (make b)) (one_less make f) nests nests old mid new a None (omega arith) read (end_none (alone (make a)) nests mid new going (λ given rest. refl))
 
 pub two_none : {A B X : Type 0} (make : A → B → X) (f : Data → Option A) (g : Data → Option B) (first nests : ℕ) (old mid new : List Token) → first ≤ nests → IsRead f first old None mid → AreRead (two_items make f g) nests old None new
 two_none make f g first nests old mid new less read =
-    head_none (two_items make f g) f (λ a. one_item (make a) g) (two_first make f g) refl nests old mid new (deeper f first nests old mid None less read)
+    head_none (two_items make f g) f (λ a. one_item (make a) g) (two_less make f g) refl nests old mid new (deeper f first nests old mid None less read)
 
 pub two_then : {A B X : Type 0} (make : A → B → X) (f : Data → Option A) (g : Data → Option B) (first nests : ℕ) (old mid new : List Token) (a : A) (found : Option X) → first ≤ nests → IsRead f first old (Some a) mid → AreRead (one_item (make a) g) nests mid found new → AreRead (two_items make f g) nests old found new
-two_then make f g first nests old mid new a found less read rest = head_then (two_items make f g) f (λ b. one_item (make b) g) (two_first make f g) first nests old mid new a found less read rest
+two_then make f g first nests old mid new a found less read rest = head_then (two_items make f g) f (λ b. one_item (make b) g) (two_less make f g) first nests old mid new a found less read rest
 
 pub three_none : {A B C X : Type 0} (make : A → B → C → X) (f : Data → Option A) (g : Data → Option B) (h : Data → Option C) (first nests : ℕ) (old mid new : List Token) → first ≤ nests → IsRead f first old None mid → AreRead (three_items make f g h) nests old None new
 three_none make f g h first nests old mid new less read =
-    head_none (three_items make f g h) f (λ a. two_items (make a) g h) (three_first make f g h) refl nests old mid new (deeper f first nests old mid None less read)
+    head_none (three_items make f g h) f (λ a. two_items (make a) g h) (each_less make f g h) refl nests old mid new (deeper f first nests old mid None less read)
 
 pub three_then : {A B C X : Type 0} (make : A → B → C → X) (f : Data → Option A) (g : Data → Option B) (h : Data → Option C) (first nests : ℕ) (old mid new : List Token) (a : A) (found : Option X) → first ≤ nests → IsRead f first old (Some a) mid
     → AreRead (two_items (make a) g h) nests mid found new → AreRead (three_items make f g h) nests old found new
-three_then make f g h first nests old mid new a found less read rest = head_then (three_items make f g h) f (λ b. two_items (make b) g h) (three_first make f g h) first nests old mid new a found less read rest
+three_then make f g h first nests old mid new a found less read rest = head_then (three_items make f g h) f (λ b. two_items (make b) g h) (each_less make f g h) first nests old mid new a found less read rest
 
 -- an array whose first item is this one is as the items behind it
 pub told_at_name : {A X : Type 0} (form : Items → Option X) (head : Data → Option A) (next : A → Items → Option X) → ((given : Data) (rest : Items) → form (item given rest) ≡ option_and_then (λ a. next a rest) (head given))

@@ -1,5 +1,5 @@
 -- What was written of a tree, and the trees that wait.
-use Rattle.std.proofs.Common.{◌≡◌, ◌+◌, ◌*◌, ◌<◌, List, [], ◌∷◌, ◌++◌, map, Bor, append_assoc, append-nil, refl, sym, ap, ◌∙◌, arith}
+use Rattle.std.proofs.Common.{◌≡◌, ◌+◌, ◌*◌, ◌<◌, List, [], ◌∷◌, ◌++◌, map, Bor, append_assoc, append-nil, sym, ap, ◌∙◌, arith}
 use Rattle.serde_json.specs.Data.{Data}
 use Rattle.serde_json.specs.View.{view}
 use Rattle.serde_json.specs.declared.value.Value.{Value}
@@ -21,10 +21,6 @@ waiting_data-push names (u ∷ ts) t = ap (λ (ds : List Data). ds ++ nodes_data
 pub waiting_weight-push : (ts : List (Bor Tree)) (t : Bor Tree) → waiting_weight (ts ++ t ∷ []) ≡ waiting_weight ts + weight t.now
 waiting_weight-push [] t = omega arith
 waiting_weight-push (u ∷ ts) t = omega (arith, waiting_weight-push ts t)
-
--- nothing is written yet
-pub comes_first : (names : Names) (t : Bor Tree) → ComeTo names [] (t ∷ []) (nodes_data names t.now)
-comes_first names t = refl
 
 -- some of the last tree's items were written, and what is left of it waits
 comes_on : (names : Names) (values more : List Value) (ts us : List (Bor Tree)) (t : Bor Tree) (here all : List Data) → GainsData values more here

@@ -1,5 +1,5 @@
 -- Which lines of a script are commands: each is a JSON array, of a word and the command's parts.
-use Rattle.std.specs.Prelude.{◌≡◌, ℕ, ◌^◌, ◌⊎◌, ⊤, Bool, true, false, List, map, Option, Some, None, IsUtf8, bytes_eq, codes, option_map, if◌then◌else◌}
+use Rattle.std.specs.Prelude.{◌≡◌, ℕ, ◌^◌, ◌⊎◌, ⊤, Bool, true, false, List, map, Option, Some, None, IsUtf8, bytes_eq, codes, option_and_then, option_map, if◌then◌else◌}
 use Rattle.serde_json.specs.Data.{Data, boolean, string, Items, no_items, item}
 use Rattle.serde_json.specs.Read.{read}
 use Rattle.txn.specs.declared.transactions.Source.{Source}
@@ -10,14 +10,14 @@ use Rattle.order_check.specs.Effort.{IsEffort}
 use Rattle.logged_fragments.specs.declared.logged.LoggedFragment.{LoggedFragment}
 use Rattle.log_text.specs.declared.commands.Command.{Command}
 use Rattle.log_text.specs.declared.commands.Effort.{Effort}
-use Rattle.log_text.specs.declared.commands.Command.TheVariants.{Start, StartIsolated, Offer, Join, Close, Begin, Finish, Round, BeginSearch, Collect, Skip, Truncate, Rebuild, Show, Resume, Marks, Last, Resumed, Save, Answer}
+use Rattle.log_text.specs.declared.commands.Command.TheVariants.{Start, StartIsolated, Offer, Join, Close, Begin, Finish, Round, BeginSearch, Collect, Skip, Truncate, Rebuild, Show, Resume, Marks, MarksBegun, Last, Resumed, Save, Answer}
 use Rattle.log_text.specs.declared.commands.Wanted.TheVariants as wanted
 use Rattle.log_text.specs.Items.{array_of, list_of, with_both, with_three, with_four, alone, one_item, two_items, three_items}
 use Rattle.log_text.specs.Numbers.{whole_number, number_within, session_of}
 use Rattle.log_text.specs.Searches.{search_in}
 use Rattle.log_text.specs.Shown.{IsAnswer}
 use Rattle.log_text.specs.declared.shown.Shown.{Shown}
-use Rattle.log_text.specs.Versions.{version_in, opening_in}
+use Rattle.log_text.specs.Versions.{opening_in}
 use Rattle.log_text.specs.declared.versions.Opening.{Opening}
 use Rattle.log_text.specs.declared.versions.Opening.TheVariants.{Ordered, Isolated}
 
@@ -137,9 +137,9 @@ waits_in items = None
 abbrev pub collect_in : Items → Option Command
 collect_in parts = option_map Collect (waits_in parts)
 
--- ["resume",sessions,limit] or ["resume",sessions,limit,2]
+-- ["resume",sessions,limit], ["resume",sessions,limit,2] or ["resume",sessions,limit,2,"snapshot"]
 abbrev pub resume_in : Items → Option Command
-resume_in (item sessions (item limit behind)) = with_three Resume (whole_number sessions) (whole_number limit) (version_in behind)
+resume_in (item sessions (item limit behind)) = with_three Resume (whole_number sessions) (whole_number limit) (opening_in behind)
 resume_in items = None
 
 -- true or false
@@ -147,9 +147,20 @@ abbrev pub flag_of : Data → Option Bool
 flag_of (boolean flag) = Some flag
 flag_of given = None
 
--- ["marks",[mark,..],[closed,..]]
+-- marks and flags, and behind them nothing, or flags of what has begun
+abbrev pub begun_in : List ℕ → List Bool → Items → Option Command
+begun_in marks closed no_items = Some (Marks marks closed)
+begun_in marks closed behind = one_item (MarksBegun marks closed) (list_of flag_of) behind
+
+-- marks, and behind them flags
+abbrev pub closed_in : List ℕ → Items → Option Command
+closed_in marks (item closed behind) = option_and_then (λ flags. begun_in marks flags behind) (list_of flag_of closed)
+closed_in marks no_items = None
+
+-- ["marks",[mark,..],[closed,..]] or ["marks",[mark,..],[closed,..],[begun,..]]
 abbrev pub marks_in : Items → Option Command
-marks_in = two_items Marks (list_of whole_number) (list_of flag_of)
+marks_in (item marks behind) = option_and_then (λ counts. closed_in counts behind) (list_of whole_number marks)
+marks_in no_items = None
 
 -- a key's last gone writer: [key,session,number]
 abbrev pub writer_in : Items → Option (ℕ × TxnId)

@@ -1,5 +1,5 @@
 -- The text of what replies are made of.
-use Rattle.std.specs.Prelude.{ℕ, List, ◌∷◌, ◌++◌, codes, decimal, map}
+use Rattle.std.specs.Prelude.{ℕ, List, ◌++◌, codes, decimal, map}
 use Rattle.std.specs.List.{join_with_byte}
 
 -- texts in brackets, with a comma (44) between each two

@@ -45,9 +45,10 @@ read_text read = list_text (decimal read.0 ∷ source_texts read.1)
 abbrev pub txn_text : Txn → List ℕ
 txn_text txn = list_text (list_text (map read_text txn.reads) ∷ numbers_text txn.writes ∷ [])
 
--- what is given out: ["marks",[mark,..],[closed,..]], ["last",[[key,session,number],..]] or ["offer",session,first,[txn,..]]
+-- what is given out: ["marks",[mark,..],[closed,..]], the same with [begun,..], ["last",[[key,session,number],..]] or ["offer",session,first,[txn,..]]
 abbrev pub saved_parts : Saved → List (List ℕ)
 saved_parts (saved.Marks marks closed) = word_text (codes "marks") ∷ numbers_text marks ∷ list_text (map flag_text closed) ∷ []
+saved_parts (saved.MarksBegun marks closed begun) = word_text (codes "marks") ∷ numbers_text marks ∷ list_text (map flag_text closed) ∷ list_text (map flag_text begun) ∷ []
 saved_parts (saved.Last last) = word_text (codes "last") ∷ list_text (map writer_text last) ∷ []
 saved_parts (saved.Offer fragment) = word_text (codes "offer") ∷ decimal fragment.session ∷ decimal fragment.first ∷ list_text (map txn_text fragment.txns) ∷ []
 

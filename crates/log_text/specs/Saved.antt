@@ -12,7 +12,7 @@ use Rattle.logged_fragments.specs.declared.logged.LoggedFragment.{LoggedFragment
 use Rattle.log_text.specs.declared.commands.Command.{Command}
 use Rattle.log_text.specs.declared.commands.Command.TheVariants as command
 use Rattle.log_text.specs.declared.saved.Saved.{Saved}
-use Rattle.log_text.specs.declared.saved.Saved.TheVariants.{Marks, Last, Offer}
+use Rattle.log_text.specs.declared.saved.Saved.TheVariants.{Marks, MarksBegun, Last, Offer}
 
 -- a fragment of which no transaction is told to have aborted
 abbrev pub untold : Fragment → LoggedFragment
@@ -21,6 +21,7 @@ untold fragment = record { fragment = fragment; aborted = map (λ txn. false) fr
 -- the line of a hand-over that gives these parts
 abbrev pub handed_by : Saved → Command
 handed_by (Marks marks closed) = command.Marks marks closed
+handed_by (MarksBegun marks closed begun) = command.MarksBegun marks closed begun
 handed_by (Last last) = command.Last last
 handed_by (Offer fragment) = command.Offer (untold fragment)
 
@@ -32,6 +33,7 @@ IsReadable (By writer) = writer.session ≤ 255
 -- each session that is named is one up to 255
 abbrev pub NamesSessions : Saved → Type 0
 NamesSessions (Marks marks closed) = ⊤
+NamesSessions (MarksBegun marks closed begun) = ⊤
 NamesSessions (Last last) = All (λ entry. entry.1.session ≤ 255) last
 NamesSessions (Offer fragment) = (fragment.session ≤ 255) × All (λ txn. All (λ read. IsReadable read.1) txn.reads) fragment.txns
 
@@ -56,6 +58,7 @@ txn_data txn = array (items_of (list_data read_data txn.reads ∷ list_data numb
 
 abbrev pub saved_data : Saved → List Data
 saved_data (Marks marks closed) = string (codes "marks") ∷ list_data number_data marks ∷ list_data boolean closed ∷ []
+saved_data (MarksBegun marks closed begun) = string (codes "marks") ∷ list_data number_data marks ∷ list_data boolean closed ∷ list_data boolean begun ∷ []
 saved_data (Last last) = string (codes "last") ∷ list_data writer_data last ∷ []
 saved_data (Offer fragment) = string (codes "offer") ∷ number_data fragment.session ∷ number_data fragment.first ∷ list_data txn_data fragment.txns ∷ []
 

@@ -10,7 +10,7 @@ ghost use Rattle.log_text.specs.Commands.{start_of, start_in, close_in, effort_i
 use crate::numbers::{number_within, session_of, whole_number};
 use crate::searches::{Search, search_in};
 use crate::shown::Shown;
-use crate::versions::{Opening, Version, opening_in, version_in};
+use crate::versions::{Opening, Version, opening_in};
 use logged_fragments::LoggedFragment;
 use serde_json::Value;
 use txn::{Sequence, TxnId};
@@ -76,16 +76,22 @@ pub enum Command {
     Rebuild,
     /// To tell the state.
     Show,
-    /// To begin with parts, which are handed over next, and to go on by lines of this version.
+    /// To begin with parts, which are handed over next, and to go on as in a script that is opened for this.
     Resume {
         sessions: u64,
         limit: u64,
-        version: Version,
+        opening: Opening,
     },
     /// Handed over: of each session how many transactions are gone, and whether it is closed.
     Marks {
         marks: Sequence<u64>,
         closed: Sequence<bool>,
+    },
+    /// The same, and whether the begin of the next transaction is gone, so that its commit alone remains.
+    MarksBegun {
+        marks: Sequence<u64>,
+        closed: Sequence<bool>,
+        begun: Sequence<bool>,
     },
     /// Handed over: last gone writers.
     Last(Sequence<(u64, TxnId)>),
@@ -108,13 +114,13 @@ pub enum Wanted {
     Remain { session: u8, number: u64 },
 }
 
-/// How much a search may cost, and which it is.
+/// Which search a round is to make, and what that may cost.
 #[derive(Clone, Copy)]
-struct Effort {
-    budget: u64,
-    depth: u64,
-    workers: u64,
-    search: Search,
+pub struct Effort {
+    pub budget: u64,
+    pub depth: u64,
+    pub workers: u64,
+    pub search: Search,
 }
 
 #[tactic(auto, using(crate::proofs::Arity::alone_none))]
@@ -281,7 +287,7 @@ fn resume_in(parts: &[Value]) -> Option<Command>
         [sessions, limit, behind @ ..] => Some(Command::Resume {
             sessions: whole_number(sessions)?,
             limit: whole_number(limit)?,
-            version: version_in(behind)?,
+            opening: opening_in(behind)?,
         }),
         _ => None,
     }

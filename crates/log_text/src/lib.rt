@@ -20,7 +20,7 @@ mod tree_tokens;
 mod trees;
 mod versions;
 
-pub use commands::{Command, Wanted};
+pub use commands::{Command, Effort, Wanted};
 pub use lines::{read_line, read_line_within};
 pub use names::Names;
 pub use replies::{Reply, write_reply};

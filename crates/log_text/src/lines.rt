@@ -1,6 +1,6 @@
 //! A line of a script is read token by token, by the name that stands first.
 ghost use Rattle.std.specs.Prelude.{◌≡◌, ◌⊎◌, IfOk, IfErr, IfSome, IsUtf8, option_map};
-ghost use Rattle.log_text.specs.Commands.{offer_in, join_in, marks_in, last_in, command_named, IsCommand, HasLimits};
+ghost use Rattle.log_text.specs.Commands.{offer_in, join_in, begun_in, marks_in, last_in, command_named, IsCommand, HasLimits};
 ghost use Rattle.log_text.specs.Held.{held};
 ghost use Rattle.log_text.specs.Lines.{plain_named, IsWhole, IsAnsweredWith, IsTextOf};
 ghost use Rattle.log_text.specs.Streams.{AreRead};
@@ -13,7 +13,7 @@ use crate::handed::{flags, writers};
 use crate::streams::{atoms, numbers, takes_array, word};
 use json::{Reader, Scratch};
 use std::alloc::Global;
-use txn::{NoMemory, Refusal};
+use txn::{NoMemory, Refusal, Sequence};
 
 /// A command whose parts are words and numbers has no more of them.
 const MOST_PARTS: usize = 4;
@@ -56,6 +56,33 @@ fn join(
     }
 }
 
+/// What stands behind marks and flags: nothing, or flags of what has begun.
+fn begun(
+    alloc: Global,
+    reader: &mut Reader<'_>,
+    marks: Sequence<u64>,
+    closed: Sequence<bool>,
+) -> Result<Option<Command>, NoMemory>
+    ensures form { IfOk result (λ command. AreRead (begun_in marks closed) 1 reader.old command reader.new) }
+    ensures limits { IfOk result (λ command. IfSome command HasLimits) }
+{
+    if reader.take_end_array() {
+        return Ok(Some(Command::Marks { marks, closed }));
+    }
+    let Some(begun) = flags(alloc, reader)? else {
+        return Ok(None);
+    };
+    if reader.take_end_array() {
+        Ok(Some(Command::MarksBegun {
+            marks,
+            closed,
+            begun,
+        }))
+    } else {
+        Ok(None)
+    }
+}
+
 fn marks(alloc: Global, reader: &mut Reader<'_>) -> Result<Option<Command>, NoMemory>
     ensures form { IfOk result (λ command. AreRead marks_in 1 reader.old command reader.new) }
     ensures limits { IfOk result (λ command. IfSome command HasLimits) }
@@ -66,11 +93,7 @@ fn marks(alloc: Global, reader: &mut Reader<'_>) -> Result<Option<Command>, NoMe
     let Some(closed) = flags(alloc, reader)? else {
         return Ok(None);
     };
-    if reader.take_end_array() {
-        Ok(Some(Command::Marks { marks, closed }))
-    } else {
-        Ok(None)
-    }
+    begun(alloc, reader, marks, closed)
 }
 
 fn last(alloc: Global, reader: &mut Reader<'_>) -> Result<Option<Command>, NoMemory>

@@ -16,6 +16,12 @@ pub enum Saved {
         marks: Sequence<u64>,
         closed: Sequence<bool>,
     },
+    /// The same, and whether the begin of the next transaction is gone, so that its commit alone remains.
+    MarksBegun {
+        marks: Sequence<u64>,
+        closed: Sequence<bool>,
+        begun: Sequence<bool>,
+    },
     /// Last gone writers, keys rising.
     Last(Sequence<(u64, TxnId)>),
     /// Transactions of a session that remain.
@@ -130,6 +136,16 @@ pub(crate) fn push_saved(
             items.push(word_value(alloc, "marks")?)?;
             items.push(numbers_value(alloc, marks.as_slice())?)?;
             items.push(flags_value(alloc, closed.as_slice())?)?;
+        }
+        Saved::MarksBegun {
+            marks,
+            closed,
+            begun,
+        } => {
+            items.push(word_value(alloc, "marks")?)?;
+            items.push(numbers_value(alloc, marks.as_slice())?)?;
+            items.push(flags_value(alloc, closed.as_slice())?)?;
+            items.push(flags_value(alloc, begun.as_slice())?)?;
         }
         Saved::Last(last) => {
             items.push(word_value(alloc, "last")?)?;

@@ -1,5 +1,5 @@
 -- Fronts of parts that have of each session what stands below a count.
-use Rattle.std.proofs.Common.{◌≡◌, ℕ, zero, suc, ◌+◌, ◌-◌, ◌<◌, ◌≤◌, Bool, true, false, not, List, [], ◌∷◌, ◌++◌, length, map, take, Option, Some, None, refl, sym, ap, subst, ◌∙◌, inl, inr, arith, get_or, length-append}
+use Rattle.std.proofs.Common.{◌≡◌, ℕ, zero, suc, ◌-◌, ◌<◌, ◌≤◌, Bool, true, false, not, List, [], ◌∷◌, length, map, take, Option, Some, None, refl, sym, ap, subst, ◌∙◌, inl, inr, arith, get_or, length-append}
 use Rattle.std.specs.Prelude.{slice_get, slice_index, sum_by}
 use Rattle.std.specs.Option.{is_some}
 use Rattle.std.specs.FinMap as finite
@@ -10,8 +10,7 @@ use Rattle.txn.specs.declared.transactions.Txn.{Txn}
 use Rattle.txn.specs.declared.transactions.TxnId.{TxnId}
 use Rattle.txn.specs.History.{History, session_of}
 use Rattle.order_check.specs.declared.remainder.Parts.{Parts}
-use Rattle.order_check.specs.declared.remainder.Base.{Base}
-use Rattle.order_check.specs.Based.{mark_of, remaining_of, remaining_at, received_count, received_counts, IsReceived, Remains}
+use Rattle.order_check.specs.Based.{mark_of, remaining_of, remaining_at, received_count, received_counts, IsReceived}
 use Rattle.order_check.specs.CountedFronts.{below_counts, front_of, front_at, AreFrontCounts, IsCountedFront}
 use Rattle.order_check.specs.Cuts.{IsKeptFront}
 use Rattle.order_check.specs.Good.{IsGood}
@@ -187,25 +186,12 @@ good_front front parts counts live e good is flags = subst (λ (p : Parts). IsGo
 
 -- the front of all that was received is the whole
 
-all_below : (marks : List ℕ) (remain : History) → length marks ≡ length remain → below_counts marks (received_counts (plain marks remain)) remain ≡ remain
-all_below [] [] e = refl
-all_below [] (txns ∷ remain) e = absurd (omega arith)
-all_below (mark ∷ marks) [] e = absurd (omega arith)
-all_below (mark ∷ marks) (txns ∷ remain) e =
-    let e' : length marks ≡ length remain = omega arith in
-    let first : take (mark + length txns - mark) txns ≡ txns = take_all (mark + length txns - mark) txns (omega arith) in
-    let rest = all_below marks remain e' in
-    cc
-
 pub whole_counts : (parts : Parts) → IsGood parts → AreFrontCounts parts (received_counts parts)
 whole_counts parts good = record {
   sessions = counts_length parts.base.marks parts.remain good.marks;
   low = λ s. omega (arith, counts_at parts.base.marks parts.remain s good.marks);
   high = λ s. omega (arith, counts_at parts.base.marks parts.remain s good.marks);
 }
-
-pub whole_front : (parts : Parts) → IsGood parts → front_of parts (received_counts parts) ≡ parts
-whole_front parts good = ap (λ (remain : History). record parts { remain = remain }) (all_below parts.base.marks parts.remain good.marks)
 
 -- a front that was kept is that of its own counts
 

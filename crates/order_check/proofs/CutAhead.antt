@@ -4,6 +4,8 @@ use Rattle.std.specs.Prelude.{Contains}
 use Rattle.std.specs.List.{slice_get}
 use Rattle.std.specs.FinMap.{FinMap, get}
 use Rattle.std.proofs.lemmas.Bool.{false≢true}
+use Rattle.list_lemmas.proofs.Places.{place_in, place_left, place_right, IsAt}
+use Rattle.list_lemmas.specs.Precedes.{Precedes}
 use Rattle.txn.specs.declared.transactions.TxnId.{TxnId}
 use Rattle.txn.specs.declared.transactions.Txn.{Txn}
 use Rattle.txn.specs.History.{writes_key}
@@ -11,7 +13,6 @@ use Rattle.order_check.specs.declared.remainder.Parts.{Parts}
 use Rattle.order_check.specs.Based.{remaining_at, Remains, HasGoneBase}
 use Rattle.order_check.specs.Explains.{Explains}
 use Rattle.order_check.specs.Known.{WritesKey}
-use Rattle.order_check.specs.Precedes.{Precedes}
 use Rattle.order_check.specs.Settled.{IsSettled, IsBefore, IsCutAt, IsCutOf, IsLastIn, InFront}
 use Rattle.order_check.specs.Cuts.{IsFront, GoesOn, IsSettledBehind}
 use Rattle.order_check.proofs.CutCounts.{cut_looks, fronts_remain, at_contains}
@@ -19,7 +20,6 @@ use Rattle.order_check.proofs.CutReads.{LastOf, silent, written, Gone, contains_
 use Rattle.order_check.proofs.Fenced.{at_place, in_front_or_behind, known_whole, remains_whole, still_remains, writes_whole}
 use Rattle.order_check.proofs.KeepingLaws.{kept_never_twice, kept_one_place}
 use Rattle.order_check.proofs.OrderLaws.{stands, precedes_left}
-use Rattle.order_check.proofs.Places.{IsAt, place_left, place_right, place_in}
 use Rattle.order_check.proofs.TakenLaws.{keeps_taken}
 
 -- what remains of the front has the same transaction in the whole

@@ -1,11 +1,13 @@
 -- What a cut takes out of each session.
-use Rattle.std.proofs.Common.{◌≡◌, ◌≢◌, ℕ, ◌+◌, ◌-◌, ◌<◌, ◌≤◌, ◌⊎◌, Bool, true, false, List, [], ◌∷◌, length, get_or, filter, drop, Some, None, Option, refl, sym, subst, ◌∙◌, inl, inr, arith, suc, zero, ap, IsSome, nat_cmp, nat_eq, nat_lt, ◌||◌, ◌&&◌}
+use Rattle.std.proofs.Common.{◌≡◌, ℕ, ◌+◌, ◌-◌, ◌<◌, ◌≤◌, ◌⊎◌, Bool, true, false, List, [], ◌∷◌, length, get_or, filter, drop, Some, None, Option, refl, sym, subst, ◌∙◌, inl, inr, arith, suc, zero, ap, IsSome, nat_cmp, nat_eq, nat_lt, ◌||◌, ◌&&◌}
 use Rattle.std.specs.Prelude.{Contains, IsSomeAnd}
 use Rattle.std.specs.List.{slice_get}
 use Rattle.std.specs.FinMap.{FinMap}
 use Rattle.std.proofs.lemmas.Bool.{false≢true, cases_lt, eq-eqb, eqb-true, and_parts, ltb-true}
 use Rattle.std.proofs.lemmas.List.Sums.{length-filter}
 use Rattle.std.proofs.lemmas.Option.{slice_get_within, get_or_from_slice_get, slice_get_past}
+use Rattle.list_lemmas.proofs.Places.{filtered_at, precedes_filtered, at_filter, IsAt, within_some}
+use Rattle.list_lemmas.specs.Precedes.{Precedes}
 use Rattle.txn.specs.declared.transactions.TxnId.{TxnId}
 use Rattle.txn.specs.declared.transactions.Txn.{Txn}
 use Rattle.txn.specs.declared.transactions.Source.TheVariants.{By}
@@ -14,14 +16,12 @@ use Rattle.txn.specs.History.{in_session}
 use Rattle.order_check.specs.declared.remainder.Parts.{Parts}
 use Rattle.order_check.specs.Based.{mark_of, remaining_of, remaining_at, Remains, IsGone}
 use Rattle.order_check.specs.Known.{Known, by_session, by_read, by_base, by_taken, through, forces_after, forces_before}
-use Rattle.order_check.specs.Precedes.{Precedes}
 use Rattle.order_check.specs.Settled.{IsSettled, IsCutAt, IsCutOf, InFront, count_in}
 use Rattle.order_check.specs.Cuts.{IsFront}
 use Rattle.order_check.proofs.CutReads.{CutLooks}
 use Rattle.order_check.proofs.Fenced.{at_place, mark_same}
 use Rattle.order_check.proofs.OrderLaws.{in_own_session, writer_remains, reader_remains}
-use Rattle.order_check.proofs.Places.{IsAt, at_filter, filtered_at, precedes_filtered}
-use Rattle.order_check.proofs.Received.{look_up, within_some, gone_past}
+use Rattle.order_check.proofs.Received.{look_up, gone_past}
 use Rattle.order_check.proofs.Remaining.{remaining_place}
 
 -- the ids of a session, the first of which has this number, that go up by one

@@ -5,6 +5,7 @@ use Rattle.std.specs.List.{slice_get}
 use Rattle.std.specs.FinMap.{FinMap}
 use Rattle.std.proofs.lemmas.Bool.{false≢true, cases_lt}
 use Rattle.std.proofs.lemmas.List.Sums.{length-filter}
+use Rattle.list_lemmas.proofs.Places.{filtered_at, within_some}
 use Rattle.txn.specs.declared.transactions.TxnId.{TxnId}
 use Rattle.txn.specs.declared.transactions.Txn.{Txn}
 use Rattle.txn.specs.History.{in_session, ids_from}
@@ -15,8 +16,7 @@ use Rattle.order_check.specs.Cutting.{CanBeApplied}
 use Rattle.order_check.specs.Settled.{IsSettled, IsCutAt, NoSession, count_in}
 use Rattle.order_check.proofs.CutCounts.{AreFrom, are_from, gone_without_gap, fronts_remain, at_contains}
 use Rattle.order_check.proofs.Fenced.{remains_whole, mark_same}
-use Rattle.order_check.proofs.Places.{filtered_at}
-use Rattle.order_check.proofs.Received.{within_some, remains_received}
+use Rattle.order_check.proofs.Received.{remains_received}
 
 -- no more are gone of a session than remain of it
 pub few_gone : (front whole : Parts) (fence : TxnId) (gone : List TxnId) (last : FinMap nat_cmp TxnId) (is_open : ℕ → Type 0) → IsFront front whole → IsSettled front is_open fence → IsCutAt front fence gone last → (s : ℕ) → length (filter (in_session s) gone) ≤ length (remaining_of whole s)

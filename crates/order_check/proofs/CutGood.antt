@@ -5,10 +5,13 @@ use Rattle.std.specs.List.{slice_get}
 use Rattle.std.specs.FinMap.{FinMap, get}
 use Rattle.std.proofs.lemmas.List.{length-drop}
 use Rattle.std.proofs.lemmas.List.Sums.{length-filter, sum_by-cons}
+use Rattle.list_lemmas.proofs.Places.{at_filter, IsAt}
+use Rattle.list_lemmas.proofs.Ends.{length_taken}
 use Rattle.txn.specs.declared.transactions.TxnId.{TxnId}
 use Rattle.txn.specs.declared.transactions.Txn.{Txn}
 use Rattle.txn.specs.History.{in_session, session_of}
 use Rattle.txn.specs.Transactions.{IsWellFormed}
+use Rattle.txn.proofs.Sessions.{length_ids_from}
 use Rattle.order_check.specs.declared.remainder.Parts.{Parts}
 use Rattle.order_check.specs.Based.{mark_of, remaining_of, remaining_ids, received_count, IsGone}
 use Rattle.order_check.specs.Cutting.{CanBeApplied}
@@ -17,8 +20,7 @@ use Rattle.order_check.specs.Settled.{IsCutOf, count_in, or_else}
 use Rattle.order_check.proofs.CutCounts.{drop_at}
 use Rattle.order_check.proofs.Fenced.{at_place}
 use Rattle.order_check.proofs.OrderLaws.{in_own_session}
-use Rattle.order_check.proofs.Places.{IsAt, at_filter}
-use Rattle.order_check.proofs.SessionIds.{id_at_place, length_ids_from}
+use Rattle.order_check.proofs.SessionIds.{id_at_place}
 
 -- what stands in a front of a list stands there in the list, and within the front
 taken_at : {X : Type 0} (n : ℕ) (xs : List X) (k : ℕ) (x : X) → slice_get (take n xs) k ≡ Some x → (k < n) × (slice_get xs k ≡ Some x)
@@ -26,11 +28,6 @@ taken_at zero xs k x at = absurd cc
 taken_at (suc n) [] k x at = absurd cc
 taken_at (suc n) (y ∷ xs) zero x at = (omega arith, at)
 taken_at (suc n) (y ∷ xs) (suc k) x at = let rest = taken_at n xs k x at in (omega arith, rest.1)
-
-length_taken : {X : Type 0} (n : ℕ) (xs : List X) → length (take n xs) ≤ length xs
-length_taken zero xs = omega arith
-length_taken (suc n) [] = omega arith
-length_taken (suc n) (x ∷ xs) = let rest = length_taken n xs in omega arith
 
 -- lists that are shorter, place by place, are shorter together
 sum_shorter : {X : Type 0} (xs ys : List (List X)) → length xs ≡ length ys → ((s : ℕ) → length (session_of xs s) ≤ length (session_of ys s)) → sum_by length xs ≤ sum_by length ys

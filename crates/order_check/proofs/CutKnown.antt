@@ -9,6 +9,7 @@ use Rattle.txn.specs.declared.transactions.Source.TheVariants.{Init, By}
 use Rattle.txn.specs.declared.choices.Choice.{Choice}
 use Rattle.txn.specs.Transactions.{same_id}
 use Rattle.txn.specs.History.{session_of, writes_key}
+use Rattle.txn.proofs.Ids.{same_id_is, same_id_itself}
 use Rattle.order_check.specs.declared.remainder.Parts.{Parts}
 use Rattle.order_check.specs.Based.{IsGone, mark_of, remaining_at, Remains, last_gone}
 use Rattle.order_check.specs.Known.{Known, IsChoice, ReadsKey, WritesKey, IsBaseSource, by_session, by_read, by_base, by_taken, through, forces_after, forces_before}
@@ -18,7 +19,6 @@ use Rattle.order_check.specs.Settled.{IsCutAt, IsCutOf, InFront, NoSession, coun
 use Rattle.order_check.proofs.CutAhead.{last_of_key, rest_behind}
 use Rattle.order_check.proofs.CutCounts.{cut_looks, fronts_remain, known_remain}
 use Rattle.order_check.proofs.CutReads.{CutLooks, LastOf, silent, written}
-use Rattle.order_check.proofs.EachRemaining.{same_id_is, same_id_itself}
 use Rattle.order_check.proofs.Fenced.{known_whole, remains_whole}
 use Rattle.order_check.proofs.OrderLaws.{reader_remains, writer_remains}
 use Rattle.order_check.proofs.Received.{gone_past}

@@ -8,6 +8,7 @@ use Rattle.std.proofs.lemmas.List.Sums.{length-filter}
 use Rattle.std.proofs.lemmas.List.{get_or_default}
 use Rattle.std.proofs.lemmas.List.Elements.{filter-append, All-weaker}
 use Rattle.std.proofs.lemmas.Option.{slice_get_within}
+use Rattle.list_lemmas.proofs.Places.{filtered_at, at_filter, place_left, place_right, IsAt, within_some}
 use Rattle.txn.specs.declared.transactions.TxnId.{TxnId}
 use Rattle.txn.specs.declared.transactions.Txn.{Txn}
 use Rattle.txn.specs.declared.transactions.Source.{Source}
@@ -22,8 +23,7 @@ use Rattle.order_check.specs.Cuts.{IsFront}
 use Rattle.order_check.proofs.CutCounts.{AreFrom, are_from, gone_without_gap, fronts_remain, at_contains}
 use Rattle.order_check.proofs.CutReads.{Gone, AreBehind, met_new, met_whole, place_has, contains_left}
 use Rattle.order_check.proofs.Fenced.{at_place, mark_same, order_remains}
-use Rattle.order_check.proofs.Places.{IsAt, place_left, place_right, at_filter, filtered_at}
-use Rattle.order_check.proofs.Received.{within_some, received_cases, gone_past}
+use Rattle.order_check.proofs.Received.{received_cases, gone_past}
 use Rattle.order_check.proofs.SessionIds.{id_at_place}
 use Rattle.order_check.proofs.CutAhead.{same_in_whole}
 

@@ -7,21 +7,21 @@ use Rattle.std.proofs.lemmas.Bool.{false≢true, cases_lt, false_from_ne_true}
 use Rattle.std.proofs.lemmas.List.{get_or_default}
 use Rattle.std.proofs.lemmas.List.Elements.{All-append}
 use Rattle.std.proofs.lemmas.Option.{slice_get_within, get_or_from_slice_get}
+use Rattle.list_lemmas.proofs.Places.{place_in, place_left, place_right, split_at}
+use Rattle.list_lemmas.specs.Precedes.{Precedes}
 use Rattle.txn.specs.declared.transactions.TxnId.{TxnId}
 use Rattle.txn.specs.declared.transactions.Source.{Source}
 use Rattle.txn.specs.declared.transactions.Source.TheVariants.{Init, By}
 use Rattle.txn.specs.Transactions.{same_id}
 use Rattle.txn.specs.History.{writes_key, NoneWrites, IsLastWriter}
+use Rattle.txn.proofs.Ids.{same_id_is, same_id_itself}
 use Rattle.order_check.specs.declared.remainder.Parts.{Parts}
 use Rattle.order_check.specs.Based.{mark_of, remaining_at, Remains, IsGone, last_gone, HasGoneBase}
 use Rattle.order_check.specs.Explains.{Meets}
 use Rattle.order_check.specs.Known.{WritesKey}
-use Rattle.order_check.specs.Precedes.{Precedes}
 use Rattle.order_check.specs.Settled.{IsBefore, or_else}
-use Rattle.order_check.proofs.EachRemaining.{same_id_is, same_id_itself}
 use Rattle.order_check.proofs.Fenced.{at_place}
 use Rattle.order_check.proofs.OrderLaws.{writer_remains}
-use Rattle.order_check.proofs.Places.{place_left, place_right, place_in, split_at}
 use Rattle.order_check.proofs.Received.{gone_past}
 
 -- what the parts after a cut have and lack
@@ -74,11 +74,6 @@ contains_left xs ys id has = let (k, at) = at_place xs id has in let here = plac
 all_right : (P : TxnId → Type 0) (xs ys : List TxnId) → All P (xs ++ ys) → All P ys
 all_right P [] ys all = all
 all_right P (x ∷ xs) ys all = all_right P xs ys (λ k d within. all (suc k) d (omega arith))
-
-all_left : (P : TxnId → Type 0) (xs ys : List TxnId) → All P (xs ++ ys) → All P xs
-all_left P [] ys all k d within = absurd (omega arith)
-all_left P (x ∷ xs) ys all zero d within = all 0 d (omega arith)
-all_left P (x ∷ xs) ys all (suc k) d within = all_left P xs ys (λ j e inside. all (suc j) e (omega arith)) k d (omega arith)
 
 -- where a list in two pieces is split at an id that isn't in the first piece, the second is split there
 pub split_behind : (xs ys older newer : List TxnId) (id : TxnId) → xs ++ ys ≡ older ++ id ∷ newer → (¬ Contains xs id) → (between : List TxnId) × (ys ≡ between ++ id ∷ newer) × (older ≡ xs ++ between)

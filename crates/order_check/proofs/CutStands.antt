@@ -3,6 +3,8 @@ use Rattle.std.proofs.Common.{◌≡◌, ◌≢◌, ◌↔◌, ℕ, ◌+◌, ◌
 use Rattle.std.specs.Prelude.{IsSomeAnd, slice_get, slice_set}
 use Rattle.std.specs.FinMap.{FinMap, get}
 use Rattle.std.proofs.lemmas.Bool.{cases_lt, cases_eq}
+use Rattle.std.proofs.lemmas.List.{drop_all, length_push}
+use Rattle.list_lemmas.proofs.Places.{place_left}
 use Rattle.txn.specs.declared.transactions.Txn.{Txn}
 use Rattle.txn.specs.declared.transactions.TxnId.{TxnId}
 use Rattle.txn.specs.declared.transactions.Fragment.{Fragment}
@@ -21,9 +23,8 @@ use Rattle.order_check.proofs.CutCounts.{cut_looks}
 use Rattle.order_check.proofs.CutReads.{CutLooks}
 use Rattle.order_check.proofs.Extending.{Extends, base_grown, begins_behind, comes_behind, comes_past, extends_joined, extends_returned, extends_with, fence_writes, first_of, front_through, settled_grown}
 use Rattle.order_check.proofs.Fenced.{fence_whole}
-use Rattle.order_check.proofs.Joined.{length_more, opened_other}
+use Rattle.order_check.proofs.Joined.{opened_other}
 use Rattle.order_check.proofs.OrderLaws.{writer_remains}
-use Rattle.order_check.proofs.Places.{place_left}
 use Rattle.order_check.proofs.Splitting.{split_law, received_same}
 
 -- the old parts and those that a cut of a front of them left
@@ -40,12 +41,6 @@ drop_seam zero xs ys within = refl
 drop_seam (suc n) [] ys within = absurd (omega arith)
 drop_seam (suc n) (x ∷ xs) ys within = drop_seam n xs ys (omega arith)
 
-length_dropped : {X : Type 0} (n : ℕ) (xs : List X) → length xs ≤ n → drop n xs ≡ []
-length_dropped zero [] h = refl
-length_dropped zero (x ∷ xs) h = absurd (omega arith)
-length_dropped (suc n) [] h = refl
-length_dropped (suc n) (x ∷ xs) h = length_dropped n xs (omega arith)
-
 received_kept : (front old new : Parts) (fence : TxnId) (gone : List TxnId) (last : FinMap nat_cmp TxnId) → Cut front old new fence gone last → (s : ℕ) → received_count new s ≡ received_count old s
 received_kept front old new fence gone last c = received_same front old new fence gone last NoSession c.is c.settled.so_far.settled c.cut c.leaves
 
@@ -58,7 +53,7 @@ few_gone front old new fence gone last c s = by_case (cases_lt (length (remainin
     by_case (inl many) =
         let same = received_kept front old new fence gone last c s in
         let mark = c.leaves.marks s in
-        let none : length (remaining_of new s) ≡ 0 = ap length (c.leaves.remain s ∙ length_dropped (count_in gone s) (remaining_of old s) (omega arith)) in
+        let none : length (remaining_of new s) ≡ 0 = ap length (c.leaves.remain s ∙ drop_all (count_in gone s) (remaining_of old s) (omega arith)) in
         absurd (omega (arith, same, mark, none))
 
 looks_of : (front old new : Parts) (fence : TxnId) (gone : List TxnId) (last : FinMap nat_cmp TxnId) → Cut front old new fence gone last → CutLooks old new gone
@@ -166,13 +161,13 @@ cut_after front old new fence gone last (Joins fragment) c next =
     let extends = extends_joined old fragment before.session in
     let settled = settled_anchored front old new (parts_joined old fragment) fence gone last fragment c extends next.anchored (λ s apart receives. was_open s apart receives before.session) in
     cut_grown front old new (parts_joined old fragment) (parts_joined new fragment) fence gone last fragment c extends (extends_joined new fragment next.session) settled
-    (length_more new.remain fragment.txns ∙ ap (λ n. n + 1) c.leaves.sessions ∙ sym (length_more old.remain fragment.txns))
-    (length_more new.base.marks 0 ∙ ap (λ n. n + 1) c.leaves.marks_length ∙ sym (length_more old.base.marks 0))
+    (length_push new.remain fragment.txns ∙ ap (λ n. n + 1) c.leaves.sessions ∙ sym (length_push old.remain fragment.txns))
+    (length_push new.base.marks 0 ∙ ap (λ n. n + 1) c.leaves.marks_length ∙ sym (length_push old.base.marks 0))
     (ap (λ (flags : List Bool). flags ++ false ∷ []) c.leaves.closed) c.leaves.limit
   where
     was_open : (s : ℕ) → ¬ (s ≡ fragment.session) → IsOpenSession (parts_joined old fragment) s → fragment.session ≡ length old.remain → IsOpenSession old s
     was_open s apart receives new_one = (
-      (let more = length_more old.remain fragment.txns in let not_last : ¬ (s ≡ length old.remain) = λ same. apart (same ∙ sym new_one) in omega (arith, more, receives.0, not_last)),
+      (let more = length_push old.remain fragment.txns in let not_last : ¬ (s ≡ length old.remain) = λ same. apart (same ∙ sym new_one) in omega (arith, more, receives.0, not_last)),
       λ closed. receives.1 (place_left old.closed (false ∷ []) s true closed),
     )
 cut_after front old new fence gone last (Returns fragment) c next =

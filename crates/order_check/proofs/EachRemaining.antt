@@ -1,7 +1,7 @@
 -- A test of each remaining transaction, and what its answer says of ids.
-use Rattle.std.proofs.Common.{◌≡◌, ◌≢◌, ℕ, ◌+◌, ◌-◌, ◌<◌, Bool, true, false, ◌&&◌, List, [], ◌∷◌, length, Option, Some, None, Contains, IsSome, IsSomeAnd, nat_eq, refl, sym, ◌∙◌, subst, inl, inr, zero, suc, add-zero, eqb, arith}
+use Rattle.std.proofs.Common.{◌≡◌, ◌≢◌, ℕ, ◌+◌, ◌-◌, ◌<◌, Bool, true, false, ◌&&◌, List, [], ◌∷◌, length, Option, Some, None, Contains, IsSome, IsSomeAnd, nat_eq, refl, sym, ◌∙◌, subst, inl, inr, zero, suc, add-zero, arith}
 use Rattle.std.specs.List.{slice_get, list_any, list_all}
-use Rattle.std.proofs.lemmas.Bool.{and_parts, and_from, false≢true, eqb-true, eq-eqb, cases_eq, cases_lt}
+use Rattle.std.proofs.lemmas.Bool.{and_parts, false≢true, cases_eq, cases_lt}
 use Rattle.std.proofs.lemmas.Option.{same_Some}
 use Rattle.std.proofs.lemmas.List.{get_or_past}
 use Rattle.std.proofs.lemmas.List.Sums.{AllPass-from_list_all}
@@ -11,6 +11,7 @@ use Rattle.txn.specs.declared.transactions.Source.{Source}
 use Rattle.txn.specs.declared.transactions.Txn.{Txn}
 use Rattle.txn.specs.Transactions.{same_id}
 use Rattle.txn.specs.History.{writes_key}
+use Rattle.txn.proofs.Ids.{same_id_itself}
 use Rattle.order_check.specs.declared.remainder.Parts.{Parts}
 use Rattle.order_check.specs.Based.{mark_of, remaining_of, remaining_at, Remains}
 use Rattle.order_check.specs.Known.{ReadsKey, WritesKey}
@@ -98,16 +99,6 @@ each_writer_at key test parts all id = by_case (remaining_at parts id) refl
     by_case : (o : Option Txn) → remaining_at parts id ≡ o → writes_key o key ≡ true → test id ≡ true
     by_case None is written = absurd (false≢true written)
     by_case (Some txn) is written = implied (list_any (nat_eq key) txn.writes) (test id) (each_at (λ i t. implies (list_any (nat_eq key) t.writes) (test i)) parts all id txn is) written
-
-pub same_id_is : (a b : TxnId) → same_id a b ≡ true → a ≡ b
-same_id_is a b same =
-    let both = and_parts (eqb a.session b.session) (eqb a.number b.number) same in
-    let session = eqb-true a.session b.session both.0 in
-    let number = eqb-true a.number b.number both.1 in
-    λ i. record { session = session i; number = number i }
-
-pub same_id_itself : (a : TxnId) → same_id a a ≡ true
-same_id_itself a = and_from (eqb a.session a.session) (eqb a.number a.number) (eq-eqb a.session a.session refl) (eq-eqb a.number a.number refl)
 
 pub apart_by_test : (a b : TxnId) → same_id a b ≡ false → a ≢ b
 apart_by_test a b test same = false≢true (sym test ∙ subst (λ x. same_id a x ≡ true) same (same_id_itself a))

@@ -1,10 +1,12 @@
 -- Parts to which a fragment has come, and what it leaves of a settled fence.
-use Rattle.std.proofs.Common.{◌≡◌, ℕ, ◌+◌, ◌-◌, ◌<◌, ◌≤◌, ◌⊎◌, true, zero, suc, List, [], ◌∷◌, ◌++◌, length, Option, Some, None, IsSome, refl, sym, subst, ap, ◌∙◌, arith, inl, inr, append_assoc, length-set}
+use Rattle.std.proofs.Common.{◌≡◌, ℕ, ◌+◌, ◌-◌, ◌<◌, ◌≤◌, ◌⊎◌, true, List, [], ◌++◌, length, Option, Some, None, refl, sym, subst, ap, ◌∙◌, arith, inl, inr, append_assoc}
 use Rattle.std.specs.Prelude.{Contains, IsSomeAnd}
 use Rattle.std.specs.List.{slice_get, list_any}
 use Rattle.std.specs.FinMap.{get}
 use Rattle.std.proofs.Common.{nat_eq}
 use Rattle.std.proofs.lemmas.Bool.{cases_lt, cases_eq}
+use Rattle.std.proofs.lemmas.List.{length_push}
+use Rattle.list_lemmas.proofs.Places.{place_right}
 use Rattle.txn.specs.declared.transactions.TxnId.{TxnId}
 use Rattle.txn.specs.declared.transactions.Txn.{Txn}
 use Rattle.txn.specs.declared.transactions.Fragment.{Fragment}
@@ -19,9 +21,8 @@ use Rattle.order_check.specs.Settled.{IsBefore, IsPast}
 use Rattle.order_check.specs.Cuts.{IsFront, GoesOn, IsSettledFor}
 use Rattle.order_check.specs.StandsFor.{IsOpenSession, IsFenceFrom, parts_with, parts_joined, parts_returned}
 use Rattle.order_check.proofs.Fenced.{in_front_or_behind, known_whole, remains_whole, writes_whole}
-use Rattle.order_check.proofs.Joined.{length_more, marks_more, session_here, session_old}
+use Rattle.order_check.proofs.Joined.{marks_more, session_here, session_old}
 use Rattle.order_check.proofs.KeptFronts.{front_itself, front_with, known_past, past_whole, with_other, with_same}
-use Rattle.order_check.proofs.Places.{place_right}
 use Rattle.order_check.proofs.Received.{gone_past, look_up, received_cases}
 
 -- the whole has what the old parts have, and the fragment at the end of its session
@@ -51,7 +52,7 @@ extends_joined parts fragment new = record {
   is = record {
     last = refl;
     marks = λ s. sym (marks_more parts.base.marks s);
-    sessions = omega (arith, length_more parts.remain fragment.txns);
+    sessions = omega (arith, length_push parts.remain fragment.txns);
     remain = λ s. by_case s (cases_eq s (length parts.remain));
   };
   here = session_here parts.remain fragment fragment.session new;

@@ -9,12 +9,12 @@ use Rattle.std.proofs.lemmas.List.Sums.{length-filter}
 use Rattle.std.proofs.lemmas.Option.{slice_get_within}
 use Rattle.txn.specs.declared.transactions.TxnId.{TxnId}
 use Rattle.txn.specs.History.{in_session}
+use Rattle.txn.proofs.Sessions.{length_ids_from}
 use Rattle.order_check.specs.declared.remainder.Parts.{Parts}
 use Rattle.order_check.specs.Based.{remaining_ids}
 use Rattle.order_check.specs.Explains.{KeepsSessions, Explains}
 use Rattle.order_check.specs.Fronts.{HasOrderFrom, HasOrderInto, next_of, Tells}
 use Rattle.order_check.proofs.Lengths.{length_kept}
-use Rattle.order_check.proofs.SessionIds.{length_ids_from}
 use Rattle.order_check.proofs.Remaining.{session_past}
 
 slice_get_behind : {X : Type 0} (xs : List X) (y : X) (ys : List X) → slice_get (xs ++ y ∷ ys) (length xs) ≡ Some y

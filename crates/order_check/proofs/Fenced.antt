@@ -4,6 +4,8 @@ use Rattle.std.specs.Prelude.{Contains, IsSomeAnd}
 use Rattle.std.specs.List.{slice_get}
 use Rattle.std.proofs.lemmas.Bool.{false≢true, cases_lt}
 use Rattle.std.proofs.lemmas.Option.{slice_get_within, slice_get_read}
+use Rattle.list_lemmas.proofs.Places.{at_filter, place_left, place_right, split_at, IsAt, within_some}
+use Rattle.list_lemmas.specs.Precedes.{Precedes}
 use Rattle.txn.specs.declared.transactions.TxnId.{TxnId}
 use Rattle.txn.specs.declared.transactions.Txn.{Txn}
 use Rattle.txn.specs.declared.transactions.Source.{Source}
@@ -15,14 +17,12 @@ use Rattle.order_check.specs.declared.remainder.Parts.{Parts}
 use Rattle.order_check.specs.Based.{mark_of, remaining_of, remaining_ids, remaining_at, Remains, HasGoneBase}
 use Rattle.order_check.specs.Explains.{Explains}
 use Rattle.order_check.specs.Known.{Known, IsChoice, ReadsKey, WritesKey, IsBaseSource, by_session, by_read, by_base, by_taken, through, forces_after, forces_before}
-use Rattle.order_check.specs.Precedes.{Precedes}
 use Rattle.order_check.specs.Settled.{IsBefore, InFront}
 use Rattle.order_check.specs.CutLaws.{SplitsAt}
 use Rattle.order_check.specs.Cuts.{IsFront, GoesOn, IsSettledBehind}
 use Rattle.order_check.proofs.KeepingLaws.{kept_never_twice, one_way}
 use Rattle.order_check.proofs.OrderLaws.{stands, in_own_session}
-use Rattle.order_check.proofs.Places.{IsAt, at_filter, place_left, place_right, split_at}
-use Rattle.order_check.proofs.Received.{look_up, within_some}
+use Rattle.order_check.proofs.Received.{look_up}
 use Rattle.order_check.proofs.Remaining.{remaining_place}
 use Rattle.order_check.proofs.SessionIds.{id_at_place}
 use Rattle.order_check.proofs.TakenLaws.{keeps_taken}

@@ -3,6 +3,8 @@ use Rattle.std.proofs.Common.{◌≡◌, ℕ, ◌+◌, ◌<◌, ◌≤◌, Bool,
 use Rattle.std.proofs.lemmas.Bool.{cases_lt, cases_eq, lt-ltb, le-ltb, false≢true}
 use Rattle.std.proofs.lemmas.List.{set_past}
 use Rattle.std.proofs.lemmas.List.Elements.{All-weaker, All-filter, filter-append}
+use Rattle.list_lemmas.proofs.Places.{place_left, some_within}
+use Rattle.list_lemmas.proofs.Filters.{filters_swap}
 use Rattle.txn.specs.declared.transactions.TxnId.{TxnId}
 use Rattle.txn.specs.declared.transactions.Source.{Source}
 use Rattle.txn.specs.declared.transactions.Source.TheVariants.{Init, By}
@@ -12,8 +14,6 @@ use Rattle.txn.specs.History.{History, Received, session_of, txn_at, in_session,
 use Rattle.order_check.specs.Whole.{MeetsWhole, ExplainsWhole, HasOrderWhole}
 use Rattle.order_check.specs.StandsFor.{Arrival, More, Joins, Returns, with_fragment, with_session, history_after, history_then}
 use Rattle.order_check.proofs.Joined.{session_here, session_old}
-use Rattle.order_check.proofs.Places.{place_left}
-use Rattle.order_check.proofs.Received.{some_within}
 
 -- each session has what it had, and maybe more behind it
 abbrev Grows : History → History → Type 0
@@ -74,16 +74,6 @@ split_back {X} p (y ∷ xs) front back x is = by_test (p y) refl front is (λ re
         let (before, after, whole, front_is) = split begin is in
         (y ∷ before, after, ap (λ zs. y ∷ zs) whole, rw pass front_is)
 
-filter_swap : {X : Type 0} (p q : X → Bool) (xs : List X) → filter p (filter q xs) ≡ filter q (filter p xs)
-filter_swap p q [] = refl
-filter_swap p q (x ∷ xs) = by_tests (p x) (q x) refl refl (filter_swap p q xs)
-  where
-    by_tests : (t u : Bool) → p x ≡ t → q x ≡ u → filter p (filter q xs) ≡ filter q (filter p xs) → filter p (cond u (x ∷ filter q xs) (filter q xs)) ≡ filter q (cond t (x ∷ filter p xs) (filter p xs))
-    by_tests true true passes also rest = rw (passes, also) (ap (λ ys. x ∷ ys) rest)
-    by_tests true false passes not rest = rw not rest
-    by_tests false true fails passes rest = rw fails rest
-    by_tests false false fails also rest = rest
-
 none_had : (test : TxnId → Bool) (s n k : ℕ) → ((m : ℕ) → test (record { session = s; number = m }) ≡ nat_lt m n) → n ≤ k → (txns : List Txn) → filter test (ids_from s k txns) ≡ []
 none_had test s n k is past [] = refl
 none_had test s n k is past (txn ∷ txns) = rw (is k ∙ le-ltb k n past) (none_had test s n (k + 1) is (omega arith) txns)
@@ -97,7 +87,7 @@ kept_ids test s n k is (txn ∷ txns) more sum =
 explains_before : (old new : History) (order : List TxnId) → Grows old new → ExplainsWhole new order → ExplainsWhole old (filter (had old) order)
 explains_before old new order grows explains = record {
   sessions = λ s. let (more, is) = grows s in
-      filter_swap (in_session s) (had old) order ∙ ap (filter (had old)) (explains.sessions s ∙ ap (ids_from s 0) is) ∙ kept_ids (had old) s (length (session_of old s)) 0 (λ m. refl) (session_of old s) more (omega arith);
+      filters_swap (in_session s) (had old) order ∙ ap (filter (had old)) (explains.sessions s ∙ ap (ids_from s 0) is) ∙ kept_ids (had old) s (length (session_of old s)) 0 (λ m. refl) (session_of old s) more (omega arith);
   reads = λ front back id is txn at.
       let (before, after, whole, front_is) = split_back (had old) order front back id is in
       let met = explains.reads before after id whole txn (still_at old new grows id txn at) in

@@ -1,12 +1,12 @@
 -- Histories and parts with one session more.
-use Rattle.std.proofs.Common.{◌≡◌, ℕ, ◌+◌, ◌⊎◌, Bool, true, false, zero, suc, List, [], ◌∷◌, ◌++◌, length, Some, refl, sym, ap, ◌∙◌, arith, inl, inr, length-append, slice_index}
+use Rattle.std.proofs.Common.{◌≡◌, ℕ, ◌+◌, ◌⊎◌, Bool, true, false, zero, suc, List, [], ◌∷◌, ◌++◌, length, Some, refl, sym, ap, ◌∙◌, arith, inl, inr, slice_index}
 use Rattle.std.specs.List.{slice_get}
 use Rattle.std.specs.Prelude.{slice_set}
+use Rattle.list_lemmas.proofs.Places.{place_in, place_left}
 use Rattle.txn.specs.declared.transactions.Fragment.{Fragment}
 use Rattle.txn.specs.declared.transactions.Txn.{Txn}
 use Rattle.txn.specs.History.{History, session_of}
 use Rattle.order_check.specs.StandsFor.{with_session}
-use Rattle.order_check.proofs.Places.{place_in, place_left}
 use Rattle.order_check.proofs.Remaining.{session_past}
 
 -- a mark of 0 at the end changes no mark
@@ -15,9 +15,6 @@ marks_more [] zero = refl
 marks_more [] (suc s) = refl
 marks_more (mark ∷ marks) zero = refl
 marks_more (mark ∷ marks) (suc s) = marks_more marks s
-
-pub length_more : {X : Type 0} (xs : List X) (x : X) → length (xs ++ x ∷ []) ≡ length xs + 1
-length_more xs x = length-append xs (x ∷ [])
 
 -- the new session has the fragment
 pub session_new : (history : History) (fragment : Fragment) → session_of (with_session history fragment) (length history) ≡ fragment.txns

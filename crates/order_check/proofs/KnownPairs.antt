@@ -1,7 +1,7 @@
 -- A list of pairs that has all that is known, shown by a test.
-use Rattle.std.proofs.Common.{◌≡◌, ◌≢◌, ℕ, Bool, true, false, not, ◌&&◌, List, [], arith, Contains, Option, Some, None, nat_eq, nat_lt, refl, sym, ◌∙◌, subst}
+use Rattle.std.proofs.Common.{◌≡◌, ℕ, Bool, true, false, not, ◌&&◌, List, [], arith, Contains, Option, Some, None, nat_eq, nat_lt, refl, sym, ◌∙◌, subst}
 use Rattle.std.specs.List.{list_any, list_all}
-use Rattle.std.proofs.lemmas.Bool.{and_parts, and_from, eq-eqb, lt-ltb, false_from_ne_true, not_from_false, eqb-true, false≢true}
+use Rattle.std.proofs.lemmas.Bool.{and_parts, and_from, eq-eqb, lt-ltb, eqb-true, false≢true}
 use Rattle.std.proofs.lemmas.List.Sums.{AllPass-from_list_all}
 use Rattle.std.proofs.lemmas.List.Elements.{All-contains}
 use Rattle.std.proofs.lemmas.Map.Views.{Contains-from_any}
@@ -11,10 +11,11 @@ use Rattle.txn.specs.declared.transactions.Source.TheVariants.{Init, By}
 use Rattle.txn.specs.declared.choices.Choice.{Choice}
 use Rattle.txn.specs.Transactions.{same_id}
 use Rattle.txn.specs.History.{writes_key}
+use Rattle.txn.proofs.Ids.{apart_test, same_id_is, same_id_itself}
 use Rattle.order_check.specs.declared.remainder.Parts.{Parts}
 use Rattle.order_check.specs.Based.{remaining_at, last_gone}
 use Rattle.order_check.specs.Known.{ReadsKey, WritesKey, IsBaseSource, IsChoice, IsOpen, Known}
-use Rattle.order_check.proofs.EachRemaining.{each, each_read, each_read_at, each_writer, each_writer_at, each_remains, implies, implied, same_id_is, same_id_itself, apart_by_test}
+use Rattle.order_check.proofs.EachRemaining.{each, each_read, each_read_at, each_writer, each_writer_at, each_remains, implies, implied, apart_by_test}
 use Rattle.order_check.proofs.KnownLaws.{IsClosed, known_least}
 
 abbrev pub Pairs : Type 0
@@ -72,9 +73,6 @@ pub record Covers (parts : Parts) (base : ℕ → Option TxnId) (pairs : Pairs) 
   pub from_base : each_read (test_base parts base pairs) parts ≡ true
   pub transitive : test_through pairs ≡ true
   pub forced : each_read (test_forced parts pairs) parts ≡ true
-
-apart_test : (a b : TxnId) → a ≢ b → not (same_id a b) ≡ true
-apart_test a b apart = not_from_false (same_id a b) (false_from_ne_true (same_id a b) (λ same. apart (same_id_is a b same)))
 
 same_pair_is : (p q : TxnId × TxnId) → same_pair p q ≡ true → p ≡ q
 same_pair_is p q same =

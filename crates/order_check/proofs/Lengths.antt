@@ -6,9 +6,9 @@ use Rattle.std.proofs.lemmas.List.Filters.{length-filter_both}
 use Rattle.std.proofs.lemmas.List.Sums.{sum_by-cons}
 use Rattle.txn.specs.declared.transactions.TxnId.{TxnId}
 use Rattle.txn.specs.History.{in_session, session_of}
+use Rattle.txn.proofs.Sessions.{length_ids_from}
 use Rattle.order_check.specs.declared.remainder.Parts.{Parts}
 use Rattle.order_check.specs.Explains.{KeepsSessions}
-use Rattle.order_check.proofs.SessionIds.{length_ids_from}
 
 -- the ids of a session
 abbrev pub ids_in : ℕ → List TxnId → List TxnId

@@ -14,6 +14,7 @@ pub mod ExplainedFronts
 pub mod Extensions
 pub mod Extending
 pub mod Fenced
+pub mod FirstEntries
 pub mod Fresh
 pub mod Grown
 pub mod Joined
@@ -30,7 +31,6 @@ pub mod OrderTest
 pub mod Orders
 pub mod Parted
 pub mod PendingReads
-pub mod Places
 pub mod Received
 pub mod ReceivedCounts
 pub mod Remaining

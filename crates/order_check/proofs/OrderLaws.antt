@@ -4,6 +4,8 @@ use Rattle.std.specs.Prelude.{Contains, IsSomeAnd}
 use Rattle.std.specs.List.{slice_get}
 use Rattle.std.proofs.lemmas.Bool.{false≢true, eq-eqb, ltb-false, cases_lt}
 use Rattle.std.proofs.lemmas.Option.{slice_get_within, get_or_from_slice_get}
+use Rattle.list_lemmas.proofs.Places.{filtered_at, precedes_filtered, precedes_filter, place_in, place_left, place_right, split_at, IsAt}
+use Rattle.list_lemmas.specs.Precedes.{Precedes}
 use Rattle.txn.specs.declared.transactions.TxnId.{TxnId}
 use Rattle.txn.specs.declared.transactions.Txn.{Txn}
 use Rattle.txn.specs.declared.transactions.Source.{Source}
@@ -14,8 +16,6 @@ use Rattle.order_check.specs.declared.remainder.Parts.{Parts}
 use Rattle.order_check.specs.Based.{mark_of, remaining_of, remaining_ids, remaining_at, Remains, HasGoneBase}
 use Rattle.order_check.specs.Explains.{Explains, Meets}
 use Rattle.order_check.specs.Known.{IsChoice, ReadsKey, WritesKey, ReadsBase, IsBaseSource}
-use Rattle.order_check.specs.Precedes.{Precedes}
-use Rattle.order_check.proofs.Places.{IsAt, filtered_at, precedes_filtered, precedes_filter, place_in, place_left, place_right, split_at}
 use Rattle.order_check.proofs.SessionIds.{ids_from_at, id_at_place}
 
 -- an id is in its session

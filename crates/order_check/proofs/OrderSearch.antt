@@ -6,20 +6,20 @@ use Rattle.std.proofs.lemmas.Option.{slice_get_past}
 use Rattle.std.proofs.lemmas.List.{get_or_past}
 use Rattle.std.proofs.lemmas.List.Sums.{list_all-from_AllPass}
 use Rattle.std.proofs.lemmas.List.Elements.{All-weaker, filter-append}
+use Rattle.list_lemmas.proofs.Places.{within_some}
 use Rattle.txn.specs.declared.transactions.TxnId.{TxnId}
 use Rattle.txn.specs.declared.transactions.Source.{Source}
 use Rattle.txn.specs.declared.transactions.Source.TheVariants.{Init, By}
 use Rattle.txn.specs.declared.transactions.Txn.{Txn}
 use Rattle.txn.specs.Transactions.{same_id}
 use Rattle.txn.specs.History.{in_session, ids_from, writes_key, NoneWrites, IsLastWriter}
+use Rattle.txn.proofs.Ids.{same_id_itself}
+use Rattle.txn.proofs.Sessions.{length_ids_from}
 use Rattle.order_check.specs.declared.remainder.Parts.{Parts}
 use Rattle.order_check.specs.Based.{mark_of, remaining_of, remaining_at, remaining_ids, last_gone}
 use Rattle.order_check.specs.Explains.{Meets, Explains}
 use Rattle.order_check.specs.Verdict.{HasOrder}
-use Rattle.order_check.proofs.EachRemaining.{same_id_itself}
 use Rattle.order_check.proofs.OrderLaws.{in_own_session}
-use Rattle.order_check.proofs.Received.{within_some}
-use Rattle.order_check.proofs.SessionIds.{length_ids_from}
 
 abbrev pub none_writes : Parts → ℕ → List TxnId → Bool
 none_writes parts key ids = list_all (λ id. not (writes_key (remaining_at parts id) key)) ids

@@ -11,10 +11,10 @@ use Rattle.txn.specs.declared.transactions.Source.TheVariants.{Init, By}
 use Rattle.txn.specs.declared.transactions.Txn.{Txn}
 use Rattle.txn.specs.Transactions.{same_id}
 use Rattle.txn.specs.History.{in_session, ids_from, writes_key, NoneWrites, IsLastWriter}
+use Rattle.txn.proofs.Ids.{same_id_is}
 use Rattle.order_check.specs.declared.remainder.Parts.{Parts}
 use Rattle.order_check.specs.Based.{mark_of, remaining_of, remaining_at, remaining_ids, last_gone, Remains}
 use Rattle.order_check.specs.Explains.{Meets, MeetsReads, MeetsAllReads, KeepsSessions, Explains}
-use Rattle.order_check.proofs.EachRemaining.{same_id_is}
 use Rattle.order_check.proofs.OrderSearch.{none_writes, ends_in, met, met_by, base_is, all_below}
 
 none_by_test : (parts : Parts) (key : ℕ) (ids : List TxnId) → none_writes parts key ids ≡ true → NoneWrites (remaining_at parts) key ids

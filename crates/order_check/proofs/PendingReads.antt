@@ -1,8 +1,9 @@
 -- When some read of what remains waits.
-use Rattle.std.proofs.Common.{◌≡◌, ℕ, ◌-◌, [], length, Option, Some, None, Any, Contains, IsSomeAnd, refl, sym}
+use Rattle.std.proofs.Common.{◌≡◌, ℕ, ◌-◌, [], length, Some, Any, Contains, refl, sym}
 use Rattle.std.specs.List.{slice_get}
 use Rattle.std.proofs.lemmas.Option.{slice_get_within, get_or_from_slice_get, slice_get_read}
 use Rattle.std.proofs.lemmas.List.{get_or_default}
+use Rattle.list_lemmas.proofs.Options.{some_and_of}
 use Rattle.txn.specs.declared.transactions.TxnId.{TxnId}
 use Rattle.txn.specs.declared.transactions.Source.{Source}
 use Rattle.txn.specs.declared.transactions.Source.TheVariants.{Init, By}
@@ -28,14 +29,9 @@ pending_from_waits parts (s, txns, within, is, (n, txn, n-within, n-is, (k, read
     let at : slice_get (remaining_of parts s) n ≡ Some txn = rw session (slice_get_read txns (length txns) n txn refl n-within (sym n-is)) in
     pending_from_read parts (record { session = s; number = _ }) txn read.0 read.1 (remaining_from_place parts s n txn at) (k, k-within, k-is) awaited
 
--- the transaction that an id has, where a fact about it is known
-some_of : {X : Type 0} (o : Option X) (P : X → Type 0) → IsSomeAnd o P → (x : X) × (o ≡ Some x) × P x
-some_of None P h = absurd h
-some_of (Some x) P h = (x, refl, h)
-
 pub waits_from_pending : (parts : Parts) → HasPending parts → Any (SomeWaits parts) parts.remain
 waits_from_pending parts (reader, writer, key, reads, missing) =
-    let found = some_of (remaining_at parts reader) (λ txn. Contains txn.reads (key, By writer)) reads in
+    let found = some_and_of (remaining_at parts reader) (λ txn. Contains txn.reads (key, By writer)) reads in
     let place = remaining_place parts reader found.0 found.1 in
     let s = reader.session in
     let n = reader.number - mark_of parts s in

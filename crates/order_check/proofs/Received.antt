@@ -1,9 +1,9 @@
 -- Ids that are gone, that remain, and that are received.
-use Rattle.std.proofs.Common.{◌≡◌, ℕ, ◌-◌, ◌<◌, ◌≤◌, true, cond, sym, ap, ◌∙◌, ◌⊎◌, inl, inr, arith, None, List, length}
+use Rattle.std.proofs.Common.{◌≡◌, ◌-◌, ◌≤◌, true, cond, sym, ap, ◌∙◌, ◌⊎◌, inl, inr, arith, None}
 use Rattle.std.specs.List.{slice_get}
 use Rattle.std.specs.Option.{is_some}
 use Rattle.std.proofs.lemmas.Bool.{lt-ltb, le-ltb, cases_lt}
-use Rattle.std.proofs.lemmas.Option.{slice_get_cases}
+use Rattle.list_lemmas.proofs.Places.{some_within, within_some}
 use Rattle.txn.specs.declared.transactions.TxnId.{TxnId}
 use Rattle.order_check.specs.declared.remainder.Parts.{Parts}
 use Rattle.order_check.specs.Based.{mark_of, remaining_of, remaining_at, IsGone, Remains, IsReceived}
@@ -22,13 +22,6 @@ gone_received parts id gone = omega arith
 -- a gone id doesn't remain
 pub gone_past : (parts : Parts) (id : TxnId) → IsGone parts id → Remains parts id → ⊥
 gone_past parts id gone remains = let none = gone_none parts id gone in let some : is_some (remaining_at parts id) ≡ true = remains in cc
-
--- something stands at the places within, and there alone
-pub some_within : {X : Type 0} (xs : List X) (i : ℕ) → is_some (slice_get xs i) ≡ true → i < length xs
-some_within xs i some = elim (slice_get_cases xs i).1 as (λ _. i < length xs) [ inl w ↦ w.1 | inr w ↦ let none = w.1 in cc ]
-
-pub within_some : {X : Type 0} (xs : List X) (i : ℕ) → i < length xs → is_some (slice_get xs i) ≡ true
-within_some xs i within = elim (slice_get_cases xs i).1 as (λ _. is_some (slice_get xs i) ≡ true) [ inl w ↦ ap is_some w.2 | inr w ↦ absurd (omega arith) ]
 
 pub remains_received : (parts : Parts) (id : TxnId) → Remains parts id → IsReceived parts id
 remains_received parts id remains =

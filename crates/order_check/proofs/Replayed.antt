@@ -1,23 +1,15 @@
 -- The last writers that a walk notes.
-use Rattle.std.proofs.Common.{◌≡◌, ℕ, ◌+◌, ◌<◌, Bool, true, false, cond, ◌||◌, nat_eq, refl, sym, ap, ◌∙◌, arith, Option, Some, List, [], ◌∷◌, ◌++◌, length, get_or, take, ◌⊎◌, inl, inr}
+use Rattle.std.proofs.Common.{◌≡◌, ℕ, ◌+◌, ◌<◌, Bool, true, false, cond, ◌||◌, nat_eq, refl, sym, ap, ◌∙◌, Option, Some, List, [], ◌∷◌, ◌++◌, length, get_or, take, ◌⊎◌, inl, inr}
 use Rattle.std.specs.List.{list_any}
-use Rattle.std.specs.Ordering.{nat_cmp, eq_by_cmp}
+use Rattle.std.specs.Ordering.{nat_cmp}
 use Rattle.std.specs.FinMap as map
-use Rattle.std.proofs.lemmas.Cmp.{nat_cmp_total}
-use Rattle.std.proofs.lemmas.Bool.Decides.{nat_tests}
 use Rattle.std.proofs.lemmas.List.Folds.{list_any_more}
 use Rattle.std.proofs.lemmas.List.Elements.{All-nil, All-cons, All-head, All-tail}
+use Rattle.list_lemmas.proofs.Keys.{get_after}
 use Rattle.txn.specs.declared.transactions.TxnId.{TxnId}
 use Rattle.txn.specs.declared.transactions.Txn.{Txn}
 use Rattle.txn.specs.History.{writes_key, Writes, NoneWrites, IsLastWriter}
 use Rattle.order_check.specs.Replay.{writer_after}
-
-ties : (x y : ℕ) → eq_by_cmp nat_cmp x y ≡ nat_eq x y
-ties x y = grind (arith, nat_tests)
-
--- what a map has after an insert, by a test of the keys
-get_after : {X : Type 0} (m : map.FinMap nat_cmp X) (key : ℕ) (x : X) (q : ℕ) → map.get (map.insert m key x) q ≡ cond (nat_eq q key) (Some x) (map.get m q)
-get_after m key x q = map.get-insert nat_cmp_total m key x q ∙ ap (λ b. cond b (Some x) (map.get m q)) (ties q key)
 
 cond_or : {X : Type 0} (a b : Bool) (x y : X) → cond b x (cond a x y) ≡ cond (a || b) x y
 cond_or true true x y = refl

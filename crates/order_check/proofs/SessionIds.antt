@@ -5,11 +5,7 @@ use Rattle.std.proofs.lemmas.Option.{slice_get_past}
 use Rattle.txn.specs.declared.transactions.TxnId.{TxnId}
 use Rattle.txn.specs.declared.transactions.Txn.{Txn}
 use Rattle.txn.specs.History.{ids_from}
-
--- there are as many as transactions
-pub length_ids_from : (s m : ℕ) (txns : List Txn) → length (ids_from s m txns) ≡ length txns
-length_ids_from s m [] = refl
-length_ids_from s m (txn ∷ txns) = ap suc (length_ids_from s (m + 1) txns)
+use Rattle.txn.proofs.Sessions.{length_ids_from}
 
 -- the id at a place
 pub ids_from_at : (s m : ℕ) (txns : List Txn) (n : ℕ) → n < length txns → slice_get (ids_from s m txns) n ≡ Some (record { session = s; number = m + n })

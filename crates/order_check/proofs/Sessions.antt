@@ -6,13 +6,14 @@ use Rattle.std.proofs.lemmas.List.Elements.{filter-append}
 use Rattle.txn.specs.declared.transactions.TxnId.{TxnId}
 use Rattle.txn.specs.declared.transactions.Txn.{Txn}
 use Rattle.txn.specs.History.{in_session, ids_from}
+use Rattle.txn.proofs.Sessions.{length_ids_from}
 use Rattle.order_check.specs.declared.remainder.Parts.{Parts}
 use Rattle.order_check.specs.Based.{mark_of, remaining_of, remaining_ids}
 use Rattle.order_check.specs.Explains.{KeepsSessions}
 use Rattle.order_check.specs.Replay.{IsNext, AreAllTaken}
 use Rattle.std.proofs.lemmas.Option.{get_or_from_slice_get}
 use Rattle.order_check.proofs.Orders.{first_id, id_at, split_at}
-use Rattle.order_check.proofs.SessionIds.{length_ids_from, ids_from_at}
+use Rattle.order_check.proofs.SessionIds.{ids_from_at}
 
 -- So many of each session were taken: the ids of a session are the first ones that remain.
 pub record HaveCome (parts : Parts) (ids : List TxnId) (taken : List ℕ) : Type 0 where

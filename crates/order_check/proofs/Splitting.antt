@@ -5,6 +5,7 @@ use Rattle.std.specs.FinMap.{FinMap, get}
 use Rattle.std.proofs.lemmas.Bool.{cases_lt}
 use Rattle.std.proofs.lemmas.List.Sums.{length-filter}
 use Rattle.std.proofs.lemmas.List.{length-drop}
+use Rattle.list_lemmas.proofs.Places.{place_right, IsAt}
 use Rattle.txn.specs.declared.transactions.TxnId.{TxnId}
 use Rattle.txn.specs.declared.transactions.Source.TheVariants.{By}
 use Rattle.txn.specs.History.{in_session}
@@ -22,7 +23,6 @@ use Rattle.order_check.proofs.CutReads.{CutLooks, AreBehind}
 use Rattle.order_check.proofs.Fenced.{at_place, fence_splits, mark_same, order_remains}
 use Rattle.order_check.proofs.KeptFronts.{front_itself}
 use Rattle.order_check.proofs.OrderLaws.{reader_remains}
-use Rattle.order_check.proofs.Places.{IsAt, place_right}
 use Rattle.order_check.proofs.Received.{gone_past}
 use Rattle.order_check.proofs.CutAhead.{same_in_whole, gone_ahead}
 use Rattle.order_check.proofs.CutOrders.{rest_explains, whole_explains}

@@ -1,5 +1,7 @@
 -- Orders where sides are taken.
 use Rattle.std.proofs.Common.{◌≡◌, ◌⊎◌, List, [], ◌∷◌, ◌++◌, length, subst, inl, inr, arith}
+use Rattle.list_lemmas.proofs.Places.{split_at, IsAt}
+use Rattle.list_lemmas.specs.Precedes.{Precedes}
 use Rattle.txn.specs.declared.transactions.TxnId.{TxnId}
 use Rattle.txn.specs.declared.transactions.Source.{Source}
 use Rattle.txn.specs.declared.transactions.Source.TheVariants.{Init, By}
@@ -12,11 +14,9 @@ use Rattle.order_check.specs.BadReads.{IsNoWrite, IsGoneRead, HasBadRead}
 use Rattle.order_check.specs.Cycles.{Sides, IsArc, IsPath, IsCycle}
 use Rattle.order_check.specs.Explains.{Explains, Meets}
 use Rattle.order_check.specs.Known.{Known, IsChoice, ReadsKey, by_session, by_read, by_base, by_taken, through, forces_after, forces_before}
-use Rattle.order_check.specs.Precedes.{Precedes}
 use Rattle.order_check.specs.Based.{HasGoneBase}
 use Rattle.order_check.specs.TakenSides.{KeepsSides}
 use Rattle.order_check.proofs.OrderLaws.{never_twice, precedes_through, session_precedes, choice_sides, read_precedes, base_precedes, stands, reader_remains, read_met}
-use Rattle.order_check.proofs.Places.{IsAt, split_at}
 
 pub takes_sides : (parts : Parts) (order : List TxnId) (choice : Choice) → Explains parts order → IsChoice parts choice → Precedes order choice.other choice.writer ⊎ Precedes order choice.reader choice.other
 takes_sides parts order choice h is = swap (choice_sides parts order choice h is)

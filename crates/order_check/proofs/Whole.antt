@@ -4,6 +4,8 @@ use Rattle.std.proofs.Math.Nat.{sub-zero}
 use Rattle.std.proofs.lemmas.Bool.{cond-false, le-ltb, cases_eq}
 use Rattle.std.proofs.lemmas.List.Elements.{All-weaker}
 use Rattle.std.specs.FinMap.{get, get-empty}
+use Rattle.std.proofs.lemmas.List.{length_push}
+use Rattle.list_lemmas.proofs.Places.{some_within, within_some}
 use Rattle.txn.specs.declared.transactions.TxnId.{TxnId}
 use Rattle.txn.specs.declared.transactions.Source.{Source}
 use Rattle.txn.specs.declared.transactions.Source.TheVariants.{Init, By}
@@ -17,9 +19,8 @@ use Rattle.order_check.specs.NoBase.{HasNoBase}
 use Rattle.order_check.specs.Explains.{Explains, Meets}
 use Rattle.order_check.specs.Verdict.{HasOrder, IsVerdict}
 use Rattle.order_check.specs.Whole.{MeetsWhole, ExplainsWhole, HasOrderWhole, HasPendingWhole, IsVerdictWhole}
-use Rattle.order_check.proofs.Received.{some_within, within_some}
 use Rattle.order_check.specs.StandsFor.{Arrival, More, Joins, Returns, StandsFor, parts_after, parts_joined, parts_returned, parts_with, parts_then, history_after, history_then, IsJoiningFragment, IsNextFragment, IsReturningFragment, with_fragment, with_session}
-use Rattle.order_check.proofs.Joined.{length_more, marks_more, session_here, session_old}
+use Rattle.order_check.proofs.Joined.{marks_more, session_here, session_old}
 
 -- what remains is what the whole history has
 at_same : (parts : Parts) → HasNoBase parts → (id : TxnId) → remaining_at parts id ≡ txn_at parts.remain id
@@ -146,7 +147,7 @@ stands_returned parts history fragment stands returns = record {
 
 pub stands_joined : (parts : Parts) (history : History) (fragment : Fragment) → StandsFor parts history → IsJoiningFragment parts fragment → StandsFor (parts_joined parts fragment) (with_session history fragment)
 stands_joined parts history fragment stands joins = record {
-  sessions = length_more history fragment.txns ∙ ap (λ n. n + 1) stands.sessions ∙ sym (length_more parts.remain fragment.txns);
+  sessions = length_push history fragment.txns ∙ ap (λ n. n + 1) stands.sessions ∙ sym (length_push parts.remain fragment.txns);
   received = λ s. by_case s (cases_eq s (length parts.remain));
   future = λ more come kind. stands.future (Joins fragment ∷ more) (joins, come) kind;
 }

@@ -1,8 +1,6 @@
 -- The last writers that a list of entries makes.
-use Rattle.std.proofs.Common.{◌≡◌, ℕ, cond, true, Option, Some, List, [], ◌∷◌, get_or, All, refl, sym, subst, ap, ◌∙◌}
-use Rattle.std.specs.Ordering.{nat_cmp, is_eq}
-use Rattle.std.specs.declared.cmp.Ordering.{Ordering}
-use Rattle.std.specs.declared.cmp.Ordering.TheVariants.{Less, Equal, Greater}
+use Rattle.std.proofs.Common.{◌≡◌, ℕ, cond, true, Option, Some, List, [], ◌∷◌, All, refl, sym, subst, ap, ◌∙◌}
+use Rattle.std.specs.Ordering.{nat_cmp}
 use Rattle.std.specs.BTreeMap.{is_at}
 use Rattle.std.specs.Map.{lookup}
 use Rattle.std.specs.Cmp.{eq_by_cmp_equiv}
@@ -10,6 +8,7 @@ use Rattle.std.specs.FinMap.{find, get, insert, from_entries, get-from_entries, 
 use Rattle.std.proofs.lemmas.Cmp.{nat_cmp_total}
 use Rattle.std.proofs.lemmas.Map.Lookups.{exact_unsigned}
 use Rattle.std.proofs.lemmas.Map.Views.{Contains-from_lookup}
+use Rattle.list_lemmas.proofs.Keys.{equal_from_is_eq}
 use Rattle.txn.specs.declared.transactions.TxnId.{TxnId}
 use Rattle.order_check.specs.Rules.{IsBelowMark, AreBelowMarks}
 
@@ -31,11 +30,6 @@ one_put es fs key x h = same_map nat_cmp_total nat_cmp-IsAntisymmetric _ _ (λ q
     get-entry_at fs q ∙ h q ∙ ap (λ b. cond b (Some x) (entry_at es q)) ((eq_by_cmp_equiv nat_cmp_total).symm key q)
     ∙ sym (get-insert nat_cmp_total (from_entries es) key x q ∙ ap (cond (is_at (nat_cmp q) key) (Some x)) (get-entry_at es q)))
 
-equal_from_is_eq : (o : Ordering) → is_eq o ≡ true → o ≡ Equal
-equal_from_is_eq Less e = cc
-equal_from_is_eq Equal e = refl
-equal_from_is_eq Greater e = cc
-
 pub same_key : (x y : ℕ) → is_at (nat_cmp x) y ≡ true → x ≡ y
 same_key x y e = exact_unsigned x y (equal_from_is_eq (nat_cmp x y) e)
 
@@ -44,9 +38,3 @@ pub below_from_entries : (marks : List ℕ) (es : List (ℕ × TxnId)) → All (
 below_from_entries marks es all key writer got =
     let (k, within, is) = Contains-from_lookup {eq = λ x. is_at (nat_cmp x)} same_key key writer es (sym (get-entry_at es key) ∙ got) in
     subst (λ (e : ℕ × TxnId). IsBelowMark marks e.1) is (all k (key, writer) within)
-
--- and back, where a look-up finds each entry
-pub entries_from_below : (marks : List ℕ) (es : List (ℕ × TxnId)) → All (λ e. entry_at es e.0 ≡ Some e.1) es → AreBelowMarks marks (from_entries {R = nat_cmp} es) → All (λ e. IsBelowMark marks e.1) es
-entries_from_below marks es found below k d within =
-    let e = get_or es k d in
-    below e.0 e.1 (get-entry_at es e.0 ∙ found k d within)

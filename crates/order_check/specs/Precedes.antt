@@ -1,14 +1,11 @@
 -- What stands before what in an order.
-use Rattle.std.specs.Prelude.{◌≡◌, ℕ, ◌<◌, List, [], slice_get, Some}
+use Rattle.std.specs.Prelude.{List, []}
+use Rattle.list_lemmas.specs.Precedes.{Precedes}
 use Rattle.txn.specs.declared.transactions.TxnId.{TxnId}
 use Rattle.order_check.specs.declared.remainder.Parts.{Parts}
 use Rattle.order_check.specs.Based.{HasGoneBase}
 use Rattle.order_check.specs.Explains.{Explains}
 use Rattle.order_check.specs.Known.{Known}
-
--- the one stands in the list at a place before a place of the other
-abbrev pub Precedes : {X : Type 0} → List X → X → X → Type 0
-Precedes xs earlier later = (i j : ℕ) × (i < j) × (slice_get xs i ≡ Some earlier) × (slice_get xs j ≡ Some later)
 
 -- where each last gone writer is gone, every order that explains the parts keeps the known relation
 abbrev pub KeepsKnown : Type 0

@@ -1,5 +1,6 @@
 -- Laws of orders where sides of choices are taken. None asks that the parts are good: what may still come has no limit.
 use Rattle.std.specs.Prelude.{◌⊎◌, List}
+use Rattle.list_lemmas.specs.Precedes.{Precedes}
 use Rattle.txn.specs.declared.transactions.TxnId.{TxnId}
 use Rattle.txn.specs.declared.choices.Arc.{Arc}
 use Rattle.txn.specs.declared.choices.Choice.{Choice}
@@ -9,7 +10,6 @@ use Rattle.order_check.specs.Based.{HasGoneBase}
 use Rattle.order_check.specs.Cycles.{Sides, IsCycle}
 use Rattle.order_check.specs.Explains.{Explains, KeepsSessions}
 use Rattle.order_check.specs.Known.{IsChoice, IsOpen}
-use Rattle.order_check.specs.Precedes.{Precedes}
 use Rattle.order_check.specs.TakenSides.{KeepsSides, KeepsAllKnown}
 
 -- An order that explains the parts, and keeps the sides taken, keeps what is known with them.

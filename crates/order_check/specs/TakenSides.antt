@@ -1,10 +1,10 @@
 -- Orders where sides of choices are taken.
 use Rattle.std.specs.Prelude.{List, Contains}
+use Rattle.list_lemmas.specs.Precedes.{Precedes}
 use Rattle.txn.specs.declared.transactions.TxnId.{TxnId}
 use Rattle.order_check.specs.declared.remainder.Parts.{Parts}
 use Rattle.order_check.specs.Cycles.{Sides}
 use Rattle.order_check.specs.Known.{Known}
-use Rattle.order_check.specs.Precedes.{Precedes}
 
 -- the order has the start of each side taken before its end
 abbrev pub KeepsSides : List TxnId → Sides → Type 0

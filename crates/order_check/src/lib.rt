@@ -4,11 +4,14 @@
 mod cut_laws;
 mod explaining;
 mod facts;
+mod first_entries;
 mod front_laws;
+mod front_reads;
 mod fronts;
 mod known_laws;
 mod laws;
 mod lookups;
+mod reads;
 mod remainder;
 mod rising;
 mod rules;

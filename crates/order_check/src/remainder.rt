@@ -1,4 +1,4 @@
-ghost use Rattle.std.specs.Prelude.{◌≡◌, ◌↔◌, IfOk, OnOk, OnErr, IsTrue};
+ghost use Rattle.std.specs.Prelude.{◌≡◌, ◌↔◌, IfOk, OnOk, OnErr, IsTrue, take, filter, nat_le};
 ghost use Rattle.std.specs.FinMap as map;
 ghost use Rattle.order_check.specs.Rules.{AreBelowMarks};
 
@@ -73,6 +73,21 @@ impl LastWriters {
     {
         match &self.shared {
             Some(writers) => writers.entries(alloc),
+            None => Ok(Sequence::new(Vec::new(alloc))),
+        }
+    }
+
+    /// So many of the keys from this one on at most, the first ones, each with its last writer.
+    pub fn entries_from(
+        &self,
+        alloc: Global,
+        key: u64,
+        most: usize,
+    ) -> Result<Sequence<(u64, TxnId)>, NoMemory>
+        ensures { IfOk result (λ page. page ≡ take most (filter (λ entry. nat_le key entry.0) (map.entries self.now))) }
+    {
+        match &self.shared {
+            Some(writers) => writers.entries_from(alloc, key, most),
             None => Ok(Sequence::new(Vec::new(alloc))),
         }
     }

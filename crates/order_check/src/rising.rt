@@ -75,7 +75,7 @@ impl Clone for RisingEntries {
 }
 
 /// How many of the entries have keys below.
-fn count_below(entries: &[(u64, TxnId)], key: u64) -> usize
+pub fn count_below(entries: &[(u64, TxnId)], key: u64) -> usize
     requires { IsRising entries.now }
     ensures within { result ≤ length entries.now }
     ensures front { take result entries.now ≡ filter (λ entry. nat_lt entry.0 key) entries.now }
@@ -100,7 +100,7 @@ fn writer_if(key: u64, entry: (u64, TxnId)) -> Option<TxnId>
     if key == entry.0 { Some(entry.1) } else { None }
 }
 
-fn entry_in(entries: &[(u64, TxnId)], place: usize) -> Option<(u64, TxnId)>
+pub fn entry_in(entries: &[(u64, TxnId)], place: usize) -> Option<(u64, TxnId)>
     ensures { MatchOption result (length entries.now ≤ place) (λ entry. (place < length entries.now) × (entry ≡ slice_index_or entries.now place entry)) }
 {
     entries.get(place).copied()
@@ -118,7 +118,14 @@ pub fn writer_at(entries: &[(u64, TxnId)], key: u64) -> Option<TxnId>
     }
 }
 
-fn behind(entries: &[(u64, TxnId)], from: usize) -> &[(u64, TxnId)]
+pub fn in_front(entries: &[(u64, TxnId)], to: usize) -> &[(u64, TxnId)]
+    requires { to ≤ length entries.now }
+    ensures { result.now ≡ take to entries.now }
+{
+    entries.split_at(to).0
+}
+
+pub fn behind(entries: &[(u64, TxnId)], from: usize) -> &[(u64, TxnId)]
     requires { from ≤ length entries.now }
     ensures { result.now ≡ drop from entries.now }
 {

@@ -1,10 +1,11 @@
-ghost use Rattle.std.specs.Prelude.{◌≡◌, ◌↔◌, ◌++◌, All, IfOk, OnOk, OnErr, IsTrue, Some};
+ghost use Rattle.std.specs.Prelude.{◌≡◌, ◌↔◌, ◌++◌, All, IfOk, OnOk, OnErr, IsTrue, Some, take, filter, nat_le};
 ghost use Rattle.std.specs.BTreeMap as tree;
 ghost use Rattle.std.specs.FinMap as map;
 ghost use Rattle.std.specs.Ordering.{nat_cmp};
 ghost use Rattle.order_check.specs.Rising.{IsHiddenOrBelow, IsRising};
 ghost use Rattle.order_check.specs.Rules.{IsBelowMark, AreBelowMarks};
 
+use crate::first_entries::first_entries;
 use crate::rising::{RisingEntries, merged, writer_at};
 use std::alloc::Global;
 use std::collections::BTreeMap;
@@ -102,6 +103,20 @@ impl WriterMap {
     {
         let entries = all_entries(alloc, &self.newer, &self.older)?;
         Ok(Sequence::new(entries))
+    }
+
+    /// So many of the keys from this one on at most, the first ones, each with its last writer. What was inserted last is walked,
+    /// and of the rest only these.
+    pub fn entries_from(
+        &self,
+        alloc: Global,
+        key: u64,
+        most: usize,
+    ) -> Result<Sequence<(u64, TxnId)>, NoMemory>
+        ensures { IfOk result (λ page. page ≡ take most (filter (λ entry. nat_le key entry.0) (map.entries self.now))) }
+    {
+        let page = first_entries(alloc, &self.newer, self.older.as_slice(), key, most)?;
+        Ok(Sequence::new(page))
     }
 
     /// Whether each writer's number is below the mark of its session.

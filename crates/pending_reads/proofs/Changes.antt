@@ -1,17 +1,19 @@
 -- What becomes of the index where one awaited transaction's reads change.
-use Rattle.std.proofs.Common.{◌≡◌, ◌≢◌, ℕ, Bool, true, false, cond, refl, sym, ap, subst, ◌∙◌, Option, Some, None, unwrap_or, List, [], ◌∷◌, ◌++◌, length, length-append, arith}
+use Rattle.std.proofs.Common.{◌≡◌, ◌≢◌, ℕ, Bool, true, false, cond, refl, sym, ap, subst, ◌∙◌, Option, Some, None, unwrap_or, List, [], ◌∷◌, ◌++◌, length, arith}
 use Rattle.std.specs.Prelude.{Contains, All, Any, IsTrue, ◌↔◌, not}
 use Rattle.std.proofs.lemmas.Bool.{false≢true}
-use Rattle.std.specs.Map.{lookup, set_value}
+use Rattle.std.specs.Map.{lookup}
 use Rattle.std.specs.BTreeMap.{BTreeMap, UpdatesBy, get_by}
 use Rattle.std.proofs.lemmas.List.{get_or_default}
 use Rattle.std.proofs.lemmas.List.Quantifiers.{all_pairs_push}
 use Rattle.std.proofs.lemmas.Map.Views.{Contains-from_lookup}
 use Rattle.std.proofs.lemmas.Option.{none-some}
+use Rattle.list_lemmas.proofs.Ends.{push_not_nil}
 use Rattle.txn.specs.declared.transactions.TxnId.{TxnId}
 use Rattle.txn.specs.Transactions.{same_id}
+use Rattle.txn.proofs.Ids.{same_id_is, same_id_itself, id_cmp}
 use Rattle.pending_reads.specs.Waiting.{Index, waiting_for, HasWaiting, HasWaitingIn, HasReader, ChangesOnly, AreDistinct, IsKept}
-use Rattle.pending_reads.proofs.Ids.{id_cmp, tests-same_id, same_id-is, same_id-itself, same_id-other}
+use Rattle.pending_reads.proofs.Ids.{tests-same_id, same_id-other}
 
 abbrev pub Reads : Type 0
 Reads = List (TxnId × ℕ)
@@ -49,7 +51,7 @@ IsGood reads = (reads ≢ []) × AreDistinct reads
 kept_after : {old new : Index} {writer : TxnId} {found : Option Reads} → Finds old new writer found → IsKept old → ((reads : Reads) → found ≡ Some reads → IsGood reads) → IsKept new
 kept_after {new = new} {writer = writer} f kept good = λ q reads at.
     elim (same_id writer q) as (λ t. same_id writer q ≡ t → IsGood reads) [
-      | true ↦ λ e. let is : writer ≡ q = same_id-is writer q e in good reads (sym f.here ∙ ap (λ w. lookup (same_id w) new) is ∙ at)
+      | true ↦ λ e. let is : writer ≡ q = same_id_is writer q e in good reads (sym f.here ∙ ap (λ w. lookup (same_id w) new) is ∙ at)
       | false ↦ λ e. kept q reads (sym (f.others q e) ∙ at)
     ] refl
 
@@ -64,13 +66,10 @@ waiting_distinct index writer kept = by_found (lookup (same_id writer) index) re
     by_found None at = none_distinct
     by_found (Some reads) at = (kept writer reads at).1
 
-none_after : {X : Type 0} (xs : List X) (x : X) → xs ++ x ∷ [] ≢ []
-none_after xs x e = let h = rw length-append at (ap length e) in absurd (omega (arith, h))
-
 -- a read that isn't there goes to the end
 good_push : (reads : Reads) (read : TxnId × ℕ) → AreDistinct reads → (Contains reads read → ⊥) → IsGood (reads ++ read ∷ [])
 good_push reads read distinct new =
-    (none_after reads read, all_pairs_push (λ a b. a ≢ b) reads read distinct (λ k d within same. new (k, within, get_or_default reads k read d within ∙ same)))
+    (push_not_nil reads read, all_pairs_push (λ a b. a ≢ b) reads read distinct (λ k d within same. new (k, within, get_or_default reads k read d within ∙ same)))
 
 -- one more read waits for the writer
 abbrev pub Adds : Index → Index → TxnId → TxnId × ℕ → Type 0
@@ -90,15 +89,6 @@ kept_none f kept = kept_after f kept (λ reads e. absurd (none-some reads e))
 pub kept_less : {old new : Index} {writer : TxnId} {reads : Reads} → Finds old new writer (Some reads) → IsKept old → IsGood reads → IsKept new
 kept_less {reads = reads} f kept good = kept_after f kept (λ found e. subst IsGood (ap (λ o. unwrap_or o []) e) good)
 
--- a value that is put where it is found changes nothing
-pub set_value-found : {K X : Type 0} (test : K → Bool) (es : List (K × X)) (x : X) → lookup test es ≡ Some x → set_value test es x ≡ es
-set_value-found test [] x found = refl
-set_value-found test (e ∷ es) x found =
-    elim (test e.0) as (λ t. cond t (Some e.1) (lookup test es) ≡ Some x → cond t ((e.0, x) ∷ es) (e ∷ set_value test es x) ≡ e ∷ es) [
-      | true ↦ λ f. let is : e.1 ≡ x = ap (λ o. unwrap_or o x) f in ap (λ y. (e.0, y) ∷ es) (sym is)
-      | false ↦ λ f. ap (λ more. e ∷ more) (set_value-found test es x f)
-    ] found
-
 some_read : (index : Index) (writer : TxnId) (reads : Reads) → waiting_for index writer ≡ reads → reads ≢ [] → HasWaiting index
 some_read index writer [] at some = absurd (some refl)
 some_read index writer (read ∷ more) at some =
@@ -108,7 +98,7 @@ some_read index writer (read ∷ more) at some =
 some_waits : (index : Index) → IsKept index → length index ≢ 0 → HasWaiting index
 some_waits [] kept some = absurd (some refl)
 some_waits ((writer, reads) ∷ more) kept some =
-    let at : lookup (same_id writer) ((writer, reads) ∷ more) ≡ Some reads = ap (λ t. cond t (Some reads) (lookup (same_id writer) more)) (same_id-itself writer) in
+    let at : lookup (same_id writer) ((writer, reads) ∷ more) ≡ Some reads = ap (λ t. cond t (Some reads) (lookup (same_id writer) more)) (same_id_itself writer) in
     some_read ((writer, reads) ∷ more) writer reads (ap (λ o. unwrap_or o []) at) (kept writer reads at).0
 
 -- an index with no entry has none
@@ -137,7 +127,7 @@ waiting_in index readers found = (to_read, to_list)
     to_list_at : (reader writer : TxnId) (key : ℕ) → Contains readers reader → (reads : Option Reads) → lookup (same_id writer) index ≡ reads → Contains (unwrap_or reads []) (reader, key) → Any (λ list. HasReader list.1 readers) index
     to_list_at reader writer key among None at waits = let within = waits.1 in absurd (omega arith)
     to_list_at reader writer key among (Some reads) at waits =
-        let stored = Contains-from_lookup same_id-is writer reads index at in
+        let stored = Contains-from_lookup same_id_is writer reads index at in
         (stored.0, (writer, reads), stored.1, stored.2, (waits.0, (reader, key), waits.1, waits.2, among))
 
     to_list : HasWaitingIn index readers → Any (λ list. HasReader list.1 readers) index

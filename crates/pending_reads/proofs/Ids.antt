@@ -1,7 +1,6 @@
 -- The order of ids by which a map finds them.
 use Rattle.std.proofs.Common.{◌≡◌, ◌≢◌, ℕ, ◌+◌, true, false, ◌&&◌, refl, sym, ap, ◌∙◌, inl, inr, nat_eq, List, length, get_or, arith}
-use Rattle.std.proofs.lemmas.Bool.{false≢true, ltb-true, eqb-true, eq-eqb, and_parts, and_from, or_cases, cases_lt}
-use Rattle.std.specs.declared.cmp.Ordering.{Ordering}
+use Rattle.std.proofs.lemmas.Bool.{false≢true, ltb-true, eqb-true, and_parts, or_cases, cases_lt}
 use Rattle.std.specs.declared.cmp.Ordering.TheVariants.{Less, Equal}
 use Rattle.std.specs.Prelude.{Contains, Result, Ok, Err, is_ok, IsTrue, ◌↔◌}
 use Rattle.std.specs.Ordering.{nat_cmp, is_eq, is_lt, ordering_then, ordering_reverse, ordering_index}
@@ -13,10 +12,7 @@ use Rattle.txn.specs.declared.transactions.TxnId.{TxnId}
 use Rattle.txn.specs.contracts.transactions.TxnIdOrd.TheImpl as id_ord
 use Rattle.txn.specs.contracts.transactions.TxnIdOrd.TheImpl.Laws.{total-law}
 use Rattle.txn.specs.Transactions.{id_below, same_id, Rises}
-
--- what `cmp` answers
-abbrev pub id_cmp : TxnId → TxnId → Ordering
-id_cmp = (id_ord.ghosts).cmp
+use Rattle.txn.proofs.Ids.{same_id_is, id_cmp}
 
 -- a map looks for the same id
 pub is_at-same_id : (a b : TxnId) → is_at (id_cmp a) b ≡ same_id a b
@@ -28,21 +24,10 @@ is_at-same_id a b =
 pub tests-same_id : (λ (a : TxnId). is_at (id_cmp a)) ≡ same_id
 tests-same_id = λ i a b. is_at-same_id a b i
 
--- ids that are the same are equal
-pub same_id-is : (a b : TxnId) → same_id a b ≡ true → a ≡ b
-same_id-is a b same =
-    let parts = and_parts (nat_eq a.session b.session) (nat_eq a.number b.number) same in
-    let session = eqb-true a.session b.session parts.0 in
-    let number = eqb-true a.number b.number parts.1 in
-    λ i. record { session = session i; number = number i }
-
-pub same_id-itself : (a : TxnId) → same_id a a ≡ true
-same_id-itself a = and_from _ _ (eq-eqb a.session a.session refl) (eq-eqb a.number a.number refl)
-
 -- other ids are not the same
 pub same_id-other : (a b : TxnId) → b ≢ a → same_id a b ≡ false
 same_id-other a b other =
-    elim (same_id a b) as (λ t. same_id a b ≡ t → t ≡ false) [ true ↦ λ e. absurd (other (sym (same_id-is a b e))) | false ↦ λ _. refl ] refl
+    elim (same_id a b) as (λ t. same_id a b ≡ t → t ≡ false) [ true ↦ λ e. absurd (other (sym (same_id_is a b e))) | false ↦ λ _. refl ] refl
 
 id_total : IsTotalOrder id_cmp
 id_total = total-law
@@ -71,7 +56,7 @@ searchable ids x rises = searchable_from_sorted id_total (λ id. id) ids x (λ k
 -- a search of ids that rise finds those that are there, and no others
 pub searched : (ids : List TxnId) (x : TxnId) (found : Result ℕ ℕ) → Rises id_below ids → IsSearchInRange found (length ids) → IsBinarySearchResult (λ y. id_cmp y x) ids found → IsTrue (is_ok found) ↔ Contains ids x
 searched ids x (Ok place) rises within at =
-    (λ _. (place, within, same_id-is (get_or ids place x) x (sym (is_at-same_id (get_or ids place x) x) ∙ ap is_eq (at x))), λ _. refl)
+    (λ _. (place, within, same_id_is (get_or ids place x) x (sym (is_at-same_id (get_or ids place x) x) ∙ ap is_eq (at x))), λ _. refl)
 searched ids x (Err place) rises within at =
     let parts = at (searchable ids x rises) in (
       λ none. absurd (false≢true none),

@@ -1,16 +1,17 @@
 -- Reads that are added together, and taken back.
-use Rattle.std.proofs.Common.{◌≡◌, ◌≢◌, ℕ, zero, suc, ◌+◌, ◌-◌, ◌<◌, ◌≤◌, ◌⊎◌, ◌↔◌, inl, inr, Bool, true, false, cond, refl, sym, ap, subst, ◌∙◌, List, [], ◌∷◌, ◌++◌, length, length-append, length-take-le, take, get_or, arith, append-nil}
-use Rattle.std.specs.Prelude.{Contains, All}
+use Rattle.std.proofs.Common.{◌≡◌, ◌≢◌, ℕ, zero, suc, ◌+◌, ◌-◌, ◌<◌, ◌⊎◌, inl, inr, Bool, true, false, cond, refl, sym, ap, subst, ◌∙◌, List, [], ◌∷◌, ◌++◌, length, length-append, length-take-le, take, get_or, arith, append-nil}
+use Rattle.std.specs.Prelude.{Contains}
 use Rattle.std.proofs.lemmas.Bool.{false≢true}
-use Rattle.std.proofs.lemmas.List.{append_assoc, take_more, take_all, length_push, get_or_append_left, get_or_default}
+use Rattle.std.proofs.lemmas.List.{append_assoc, take_more, length_push, get_or_append_left, get_or_default}
 use Rattle.std.proofs.Math.Seq.{take-append_seam}
 use Rattle.std.proofs.lemmas.List.Elements.{All-get_or}
-use Rattle.std.specs.List.{AllPairs}
+use Rattle.list_lemmas.proofs.Members.{in_from_contains, contains_from_in, in_left, in_right, in_either}
+use Rattle.list_lemmas.specs.Members.{In}
 use Rattle.txn.specs.declared.transactions.TxnId.{TxnId}
 use Rattle.txn.specs.Transactions.{same_id}
+use Rattle.txn.proofs.Ids.{same_id_is, same_id_itself}
 use Rattle.pending_reads.specs.declared.index.PendingRead.{PendingRead}
-use Rattle.pending_reads.specs.Waiting.{Index, waiting_for, waiting_among, Waits, ChangesOnly, HasAlso, WaitsAlso, WaitsAsBefore, AreNew, all_but_last, AreDistinct}
-use Rattle.pending_reads.proofs.Ids.{same_id-is, same_id-itself}
+use Rattle.pending_reads.specs.Waiting.{Index, waiting_for, waiting_among, Waits, ChangesOnly, HasAlso, WaitsAlso, AreNew, all_but_last, AreDistinct}
 
 -- lists without their last element
 
@@ -34,41 +35,6 @@ distinct_front front back distinct = λ i j d below within same.
     distinct i j d below all (get_or_append_left front back d i (omega (arith, below, within)) ∙ same ∙ sym (get_or_append_left front back d j within))
 
 -- elements, by cases on the list
-
-abbrev In : {X : Type 0} → List X → X → Type 0
-In [] y = ⊥
-In (x ∷ xs) y = (x ≡ y) ⊎ In xs y
-
-in_from : {X : Type 0} (xs : List X) (y : X) → Contains xs y → In xs y
-in_from [] y (k, within, is) = absurd (omega arith)
-in_from (x ∷ xs) y (zero, within, is) = inl is
-in_from (x ∷ xs) y (suc k, within, is) = inr (in_from xs y (k, omega arith, is))
-
-from_in : {X : Type 0} (xs : List X) (y : X) → In xs y → Contains xs y
-from_in [] y h = absurd h
-from_in (x ∷ xs) y (inl e) = (0, omega arith, e)
-from_in {X} (x ∷ xs) y (inr h) = more (from_in xs y h)
-  where
-    more : Contains xs y → Contains (x ∷ xs) y
-    more (k, within, is) = (suc k, omega arith, is)
-
-in_left : {X : Type 0} (xs ys : List X) (y : X) → In xs y → In (xs ++ ys) y
-in_left [] ys y h = absurd h
-in_left (x ∷ xs) ys y (inl e) = inl e
-in_left (x ∷ xs) ys y (inr h) = inr (in_left xs ys y h)
-
-in_right : {X : Type 0} (xs ys : List X) (y : X) → In ys y → In (xs ++ ys) y
-in_right [] ys y h = h
-in_right (x ∷ xs) ys y h = inr (in_right xs ys y h)
-
-in_either : {X : Type 0} (xs ys : List X) (y : X) → In (xs ++ ys) y → In xs y ⊎ In ys y
-in_either [] ys y h = inr h
-in_either (x ∷ xs) ys y (inl e) = inl (inl e)
-in_either {X} (x ∷ xs) ys y (inr h) = more (in_either xs ys y h)
-  where
-    more : In xs y ⊎ In ys y → In (x ∷ xs) y ⊎ In ys y
-    more (inl h) = inl (inr h)
-    more (inr h) = inr h
 
 -- what is found past the end of a list of reads
 abbrev pub no_read : PendingRead
@@ -96,7 +62,7 @@ in_among (read ∷ reads) reader writer key h = by_writer (same_id read.writer w
   where
     same_read : same_id read.writer writer ≡ true → ◌≡◌ {A = TxnId × ℕ} (read.reader, read.key) (reader, key) → read ≡ read_of reader key writer
     same_read same e =
-        let w : read.writer ≡ writer = same_id-is read.writer writer same in
+        let w : read.writer ≡ writer = same_id_is read.writer writer same in
         λ i. record { reader = (e i).0; key = (e i).1; writer = w i }
 
     by_writer : (t : Bool) → same_id read.writer writer ≡ t → In (cond t ((read.reader, read.key) ∷ waiting_among reads writer) (waiting_among reads writer)) (reader, key) → (In (waiting_among reads writer) (reader, key) → In reads (read_of reader key writer)) → In (read ∷ reads) (read_of reader key writer)
@@ -111,30 +77,24 @@ among_in (read ∷ reads) reader writer key h = by_writer (same_id read.writer w
     by_writer : (t : Bool) → same_id read.writer writer ≡ t → In (read ∷ reads) (read_of reader key writer) → (In reads (read_of reader key writer) → In (waiting_among reads writer) (reader, key)) → In (cond t ((read.reader, read.key) ∷ waiting_among reads writer) (waiting_among reads writer)) (reader, key)
     by_writer true same (inl e) rest = inl (λ i. ((e i).reader, (e i).key))
     by_writer true same (inr h) rest = inr (rest h)
-    by_writer false same (inl e) rest = absurd (false≢true (sym same ∙ ap (λ (r : PendingRead). same_id r.writer writer) e ∙ same_id-itself writer))
+    by_writer false same (inl e) rest = absurd (false≢true (sym same ∙ ap (λ (r : PendingRead). same_id r.writer writer) e ∙ same_id_itself writer))
     by_writer false same (inr h) rest = rest h
 
 -- reads that are there also wait, and those that waited
 
 pub waits_also : (old new : Index) (reads : List PendingRead) → HasAlso old new reads → WaitsAlso old new reads
 waits_also old new reads also = λ reader writer key. (
-  λ waits. by_part reader writer key (in_either (waiting_for old writer) (waiting_among reads writer) (reader, key) (in_from (waiting_for old writer ++ waiting_among reads writer) (reader, key) (subst (λ list. Contains list (reader, key)) (also writer) waits))),
-  λ either. subst (λ list. Contains list (reader, key)) (sym (also writer)) (from_in (waiting_for old writer ++ waiting_among reads writer) (reader, key) (part reader writer key either)),
+  λ waits. by_part reader writer key (in_either (waiting_for old writer) (waiting_among reads writer) (reader, key) (in_from_contains (waiting_for old writer ++ waiting_among reads writer) (reader, key) (subst (λ list. Contains list (reader, key)) (also writer) waits))),
+  λ either. subst (λ list. Contains list (reader, key)) (sym (also writer)) (contains_from_in (waiting_for old writer ++ waiting_among reads writer) (reader, key) (part reader writer key either)),
 )
   where
     by_part : (reader writer : TxnId) (key : ℕ) → In (waiting_for old writer) (reader, key) ⊎ In (waiting_among reads writer) (reader, key) → Waits old reader key writer ⊎ Contains reads (read_of reader key writer)
-    by_part reader writer key (inl h) = inl (from_in (waiting_for old writer) (reader, key) h)
-    by_part reader writer key (inr h) = inr (from_in reads (read_of reader key writer) (in_among reads reader writer key h))
+    by_part reader writer key (inl h) = inl (contains_from_in (waiting_for old writer) (reader, key) h)
+    by_part reader writer key (inr h) = inr (contains_from_in reads (read_of reader key writer) (in_among reads reader writer key h))
 
     part : (reader writer : TxnId) (key : ℕ) → Waits old reader key writer ⊎ Contains reads (read_of reader key writer) → In (waiting_for old writer ++ waiting_among reads writer) (reader, key)
-    part reader writer key (inl h) = in_left (waiting_for old writer) (waiting_among reads writer) (reader, key) (in_from (waiting_for old writer) (reader, key) h)
-    part reader writer key (inr h) = in_right (waiting_for old writer) (waiting_among reads writer) (reader, key) (among_in reads reader writer key (in_from reads (read_of reader key writer) h))
-
-pub also_none : (index : Index) → HasAlso index index []
-also_none index = λ writer. sym (append-nil (waiting_for index writer))
-
-pub none_also : (old new : Index) → HasAlso old new [] → WaitsAsBefore old new
-none_also old new also = λ writer. also writer ∙ append-nil (waiting_for old writer)
+    part reader writer key (inl h) = in_left (waiting_for old writer) (waiting_among reads writer) (reader, key) (in_from_contains (waiting_for old writer) (reader, key) h)
+    part reader writer key (inr h) = in_right (waiting_for old writer) (waiting_among reads writer) (reader, key) (among_in reads reader writer key (in_from_contains reads (read_of reader key writer) h))
 
 -- one more read waits
 
@@ -149,10 +109,10 @@ also_more old mid new reads place read d within at also added = λ writer.
   where
     by_writer : (writer : TxnId) (t : Bool) → same_id read.writer writer ≡ t → waiting_for new writer ≡ waiting_for mid writer ++ cond t ((read.reader, read.key) ∷ []) []
     by_writer writer true same =
-        let is : read.writer ≡ writer = same_id-is read.writer writer same in
+        let is : read.writer ≡ writer = same_id_is read.writer writer same in
         subst (λ w. waiting_for new w ≡ waiting_for mid w ++ (read.reader, read.key) ∷ []) is added.changed
     by_writer writer false same =
-        let other : writer ≢ read.writer = λ e. false≢true (sym same ∙ ap (λ w. same_id read.writer w) e ∙ same_id-itself read.writer) in
+        let other : writer ≢ read.writer = λ e. false≢true (sym same ∙ ap (λ w. same_id read.writer w) e ∙ same_id_itself read.writer) in
         added.others writer other ∙ sym (append-nil (waiting_for mid writer))
 
 -- the read that was added last is taken back
@@ -170,11 +130,11 @@ also_less old mid new reads place read d within at also taken = λ writer. by_wr
 
     by_writer : (writer : TxnId) (t : Bool) → same_id read.writer writer ≡ t → waiting_for mid writer ≡ (waiting_for old writer ++ waiting_among front writer) ++ cond t ((read.reader, read.key) ∷ []) [] → waiting_for new writer ≡ waiting_for old writer ++ waiting_among front writer
     by_writer writer true same e =
-        let is : read.writer ≡ writer = same_id-is read.writer writer same in
+        let is : read.writer ≡ writer = same_id_is read.writer writer same in
         subst (λ w. waiting_for new w ≡ all_but_last (waiting_for mid w)) is taken.changed
         ∙ ap all_but_last e ∙ all_but_pushed (waiting_for old writer ++ waiting_among front writer) (read.reader, read.key)
     by_writer writer false same e =
-        let other : writer ≢ read.writer = λ e. false≢true (sym same ∙ ap (λ w. same_id read.writer w) e ∙ same_id-itself read.writer) in
+        let other : writer ≢ read.writer = λ e. false≢true (sym same ∙ ap (λ w. same_id read.writer w) e ∙ same_id_itself read.writer) in
         taken.others writer other ∙ e ∙ append-nil (waiting_for old writer ++ waiting_among front writer)
 
 get_or_front : (n : ℕ) (xs : List PendingRead) (k : ℕ) (d : PendingRead) → k < n → get_or xs k d ≡ get_or (take n xs) k d

@@ -50,7 +50,7 @@ cube_sides_length (choice ∷ more) cube taken = by_test (nat_lt cube (2 ^ lengt
     by_test true a b = a
     by_test false a b = b
 
-grown : (side other : TxnId × TxnId) (taken : Sides) → Contains taken side → Contains (other ∷ taken) side
+pub grown : (side other : TxnId × TxnId) (taken : Sides) → Contains taken side → Contains (other ∷ taken) side
 grown side other taken (k, within, is) = (suc k, omega arith, is)
 
 stays : (choices : List Choice) (cube : ℕ) (taken : Sides) (side : TxnId × TxnId) → Contains taken side → Contains (cube_sides choices cube taken) side

@@ -1,15 +1,16 @@
 -- Reads that are bad, and lists of ids that have none.
-use Rattle.std.proofs.Common.{ℕ, ◌+◌, ◌<◌, ◌≤◌, ◌++◌, take, zero, suc, List, [], ◌∷◌, length, get_or, Option, Some, None, IsSome, sym, subst, inl, inr, refl, arith}
-use Rattle.std.specs.Prelude.{All, Contains, IsSomeAnd}
-use Rattle.std.proofs.lemmas.List.{take_more, take_all}
+use Rattle.std.proofs.Common.{ℕ, ◌+◌, ◌<◌, ◌≤◌, take, List, length, get_or, Option, Some, None, IsSome, subst, inl, inr, refl, arith}
+use Rattle.std.specs.Prelude.{Contains, IsSomeAnd}
+use Rattle.std.proofs.lemmas.List.{take_all}
+use Rattle.std.proofs.lemmas.List.Elements.{All-contains, All-more}
 use Rattle.txn.specs.declared.transactions.TxnId.{TxnId}
 use Rattle.txn.specs.declared.transactions.Txn.{Txn}
 use Rattle.txn.specs.declared.transactions.Source.{Source}
+use Rattle.txn.specs.History.{reads_in}
 use Rattle.order_check.specs.declared.remainder.Parts.{Parts}
 use Rattle.order_check.specs.BadReads.{HasBadRead, IsNoWrite, IsGoneRead, IsSilent, IsOverwritten}
 use Rattle.order_check.specs.Based.{remaining_at, Remains}
 use Rattle.order_check.specs.Known.{ReadsKey}
-use Rattle.refutation.specs.Reading.{reads_in}
 use Rattle.polygraph.specs.Reading.{IsGoodRead, AreGoodReads, HaveNoBadRead}
 
 pub reads_there : (parts : Parts) (id : TxnId) (read : ℕ × Source) → Contains (reads_in (remaining_at parts id)) read → ReadsKey parts id read.0 read.1
@@ -33,23 +34,11 @@ reader_remains parts id key source h = by_found (remaining_at parts id) h
     by_found None h = absurd h
     by_found (Some txn) h = refl
 
-all_at : {X : Type 0} (P : X → Type 0) (xs : List X) (x : X) → All P xs → Contains xs x → P x
-all_at P xs x all (k, within, is) = subst P is (all k x within)
-
-all_push : {X : Type 0} (P : X → Type 0) (xs : List X) (x : X) → All P xs → P x → All P (xs ++ x ∷ [])
-all_push P [] x all here zero d within = here
-all_push P [] x all here (suc k) d within = absurd (omega arith)
-all_push P (y ∷ ys) x all here zero d within = all 0 d (omega arith)
-all_push P (y ∷ ys) x all here (suc k) d within = all_push P ys x (λ k d within. all (suc k) d (omega arith)) here k d (omega arith)
-
-all_next : {X : Type 0} (P : X → Type 0) (xs : List X) (k : ℕ) (d : X) → k < length xs → All P (take k xs) → P (get_or xs k d) → All P (take (k + 1) xs)
-all_next P xs k d within all here = subst (λ ys. All P ys) (sym (take_more xs k d within)) (all_push P (take k xs) (get_or xs k d) all here)
-
 pub reads_none : (parts : Parts) (reads : List (ℕ × Source)) → AreGoodReads parts (take 0 reads)
 reads_none parts reads = record { each = λ k d within. absurd (omega arith) }
 
 pub reads_next : (parts : Parts) (reads : List (ℕ × Source)) (k : ℕ) (d : ℕ × Source) → k < length reads → AreGoodReads parts (take k reads) → IsGoodRead parts (get_or reads k d) → AreGoodReads parts (take (k + 1) reads)
-reads_next parts reads k d within so_far here = record { each = all_next (IsGoodRead parts) reads k d within so_far.each here }
+reads_next parts reads k d within so_far here = record { each = All-more (IsGoodRead parts) reads k d within so_far.each here }
 
 pub reads_all : (parts : Parts) (reads : List (ℕ × Source)) (k : ℕ) → length reads ≤ k → AreGoodReads parts (take k reads) → AreGoodReads parts reads
 reads_all parts reads k past so_far = subst (λ r. AreGoodReads parts r) (take_all k reads past) so_far
@@ -58,7 +47,7 @@ pub ids_none : (parts : Parts) (ids : List TxnId) → HaveNoBadRead parts (take 
 ids_none parts ids = record { each = λ k d within. absurd (omega arith) }
 
 pub ids_next : (parts : Parts) (ids : List TxnId) (k : ℕ) (d : TxnId) → k < length ids → HaveNoBadRead parts (take k ids) → AreGoodReads parts (reads_in (remaining_at parts (get_or ids k d))) → HaveNoBadRead parts (take (k + 1) ids)
-ids_next parts ids k d within so_far here = record { each = all_next (λ id. AreGoodReads parts (reads_in (remaining_at parts id))) ids k d within so_far.each here }
+ids_next parts ids k d within so_far here = record { each = All-more (λ id. AreGoodReads parts (reads_in (remaining_at parts id))) ids k d within so_far.each here }
 
 pub ids_all : (parts : Parts) (ids : List TxnId) (k : ℕ) → length ids ≤ k → HaveNoBadRead parts (take k ids) → HaveNoBadRead parts ids
 ids_all parts ids k past so_far = subst (λ r. HaveNoBadRead parts r) (take_all k ids past) so_far
@@ -71,8 +60,8 @@ over_bad parts id read among over = (read.1, reads_there parts id read among, ov
 
 good_at : (parts : Parts) (ids : List TxnId) (reader : TxnId) (key : ℕ) (source : Source) → ((id : TxnId) → Remains parts id → Contains ids id) → HaveNoBadRead parts ids → ReadsKey parts reader key source → IsGoodRead parts (key, source)
 good_at parts ids reader key source members none reads =
-    let good : AreGoodReads parts (reads_in (remaining_at parts reader)) = all_at (λ id. AreGoodReads parts (reads_in (remaining_at parts id))) ids reader none.each (members reader (reader_remains parts reader key source reads)) in
-    all_at (IsGoodRead parts) (reads_in (remaining_at parts reader)) (key, source) good.each (there_reads parts reader key source reads)
+    let good : AreGoodReads parts (reads_in (remaining_at parts reader)) = All-contains (λ id. AreGoodReads parts (reads_in (remaining_at parts id))) ids reader none.each (members reader (reader_remains parts reader key source reads)) in
+    All-contains (IsGoodRead parts) (reads_in (remaining_at parts reader)) (key, source) good.each (there_reads parts reader key source reads)
 
 pub none_bad : (parts : Parts) (ids : List TxnId) → ((id : TxnId) → Remains parts id → Contains ids id) → HaveNoBadRead parts ids → ¬ HasBadRead parts
 none_bad parts ids members none (reader, key, inl (source, reads, silent)) = (good_at parts ids reader key source members none reads).heard silent

@@ -1,6 +1,7 @@
 -- Steps that are noted on the way to a cube.
 use Rattle.std.proofs.Common.{◌≡◌, ℕ, ◌+◌, ◌*◌, List, [], ◌∷◌, ◌++◌, length, sym, subst, zero, suc, arith}
 use Rattle.std.specs.Prelude.{All, Contains}
+use Rattle.polygraph.proofs.CubeBounds.{grown}
 use Rattle.txn.specs.declared.transactions.TxnId.{TxnId}
 use Rattle.txn.specs.declared.choices.Choice.{Choice}
 use Rattle.txn.specs.declared.choices.ForceStep.{ForceStep}
@@ -21,9 +22,6 @@ pub record Laws : Type 0 where
   pub together : ForcedBoth
   pub after : AfterMore
   pub after_together : AfterBoth
-
-grown : (side other : TxnId × TxnId) (taken : Sides) → Contains taken side → Contains (other ∷ taken) side
-grown side other taken (k, within, is) = (suc k, omega arith, is)
 
 -- a side that is taken stays taken
 stays : (taken : Sides) (steps : List ForceStep) (side : TxnId × TxnId) → Contains taken side → Contains (sides_after taken steps) side

@@ -1,12 +1,11 @@
 -- What cubes come to.
-use Rattle.std.proofs.Common.{◌≡◌, ℕ, ◌+◌, ◌-◌, ◌*◌, ◌/◌, ◌<◌, ◌≤◌, ◌^◌, ◌⊎◌, Bool, true, false, List, [], ◌∷◌, ◌++◌, length, get_or, Some, sym, ap, subst, inl, inr, zero, suc, refl, ◌∙◌, arith}
+use Rattle.std.proofs.Common.{◌≡◌, ℕ, ◌+◌, ◌-◌, ◌*◌, ◌<◌, ◌≤◌, ◌^◌, ◌⊎◌, Bool, true, false, List, [], ◌∷◌, ◌++◌, length, get_or, Some, sym, ap, subst, inl, inr, zero, suc, refl, ◌∙◌, arith}
 use Rattle.std.specs.Prelude.{All}
 use Rattle.std.specs.List.{slice_get}
 use Rattle.std.proofs.lemmas.Bool.{cases_lt}
 use Rattle.std.proofs.lemmas.List.{length-take}
-use Rattle.std.proofs.lemmas.Nat.{pow-add, pow_pos}
-use Rattle.std.proofs.Math.Nat.{add-mul, lt-div-mul-add, mul-le-mul_right}
 use Rattle.std.proofs.lemmas.Option.{slice_get-get_or}
+use Rattle.list_lemmas.proofs.Numbers.{budget_bound}
 use Rattle.order_check.specs.Search.{Outcome, has_order, no_order, used_up}
 use Rattle.order_check.specs.SearchLaws.{ScansFindOne}
 use Rattle.refutation.specs.declared.trees.Tree.{Tree}
@@ -16,7 +15,7 @@ use Rattle.refutation.specs.Refutes.{depth_of, IsRefutation}
 use Rattle.polygraph.specs.ProblemState.{ProblemState, IsProblem}
 use Rattle.polygraph.specs.declared.solving.Answer.{Answer}
 use Rattle.polygraph.specs.declared.solving.Answer.TheVariants.{Yes, No, Spent, NoMemory}
-use Rattle.polygraph.specs.Outcomes.{split_choices, cube_count, share_of, Finds, IsLeastYes, RefutesCube, IsPicked}
+use Rattle.polygraph.specs.Outcomes.{split_choices, cube_count, share_of, Finds, RefutesCube, IsPicked}
 use Rattle.polygraph.specs.Solving.{MayComeTo, IsLawful}
 use Rattle.polygraph.specs.SoFar.{AreRefuted, IsTooSmall, IsSoFar, IsPickedOf}
 use Rattle.polygraph.proofs.CubeBounds.{split_choices_of, split_length}
@@ -30,13 +29,6 @@ none_next problem depth share cube before here lower below finds = by_place (cas
     by_place : (lower < cube) ⊎ (cube ≤ lower) → ⊥
     by_place (inl less) = before lower less finds
     by_place (inr same) = let e : lower ≡ cube = omega arith in here (subst (λ k. Finds problem depth share k has_order) e finds)
-
-pub so_far_first : (problem : ProblemState) (depth share : ℕ) → IsSoFar problem depth share 0 [] false
-so_far_first problem depth share = record {
-  no_yes = λ lower below. absurd (omega arith);
-  refuted = λ e. record { one_each = refl; each = λ k tree is. absurd cc; finds = λ k below. absurd (omega arith) };
-  used = λ e. absurd cc;
-}
 
 at_end : (trees : List Tree) (tree other : Tree) (k : ℕ) → slice_get (trees ++ tree ∷ []) k ≡ Some other → (slice_get trees k ≡ Some other) ⊎ ((k ≡ length trees) × (tree ≡ other))
 at_end [] tree other zero is = inr (refl, cc)
@@ -77,9 +69,6 @@ so_far_spent law problem depth share cube trees spent before finds small = recor
   used = λ e. record { at = cube; below = omega arith; finds = finds; small = small };
 }
 
-pub least_yes : (problem : ProblemState) (depth share cube : ℕ) (trees : List Tree) (spent : Bool) → IsSoFar problem depth share cube trees spent → cube < cube_count problem depth → Finds problem depth share cube has_order → IsLeastYes problem depth share cube
-least_yes problem depth share cube trees spent before within finds = record { within = within; found = finds; least = before.no_yes }
-
 pub all_spent : (problem : ProblemState) (depth share cube : ℕ) (trees : List Tree) (spent : Bool) → cube ≡ cube_count problem depth → spent ≡ true → IsSoFar problem depth share cube trees spent → IsPickedOf problem depth share Spent
 all_spent problem depth share cube trees spent end e far = let is = far.used e in ((is.at, subst (λ n. is.at < n) end is.below, is.finds, λ other within. far.no_yes other (subst (λ n. other < n) (sym end) within)), is.small)
 
@@ -91,18 +80,6 @@ picked_of problem budget depth (Yes order) h = h
 picked_of problem budget depth (No tree) h = h
 picked_of problem budget depth Spent h = h.0
 picked_of problem budget depth NoMemory h = h
-
-budget_bound : (budget e c share : ℕ) → e ≤ c → share ≡ budget / 2 ^ e → share + 1 < 2 ^ (c - e + 1) → budget + 2 ^ e < 2 ^ (c + 1)
-budget_bound budget e c share low is small =
-    let some : 0 < 2 ^ e = pow_pos e in
-    let place : c + 1 ≡ (c - e + 1) + e = omega arith in
-    let whole : 2 ^ (c + 1) ≡ 2 ^ (c - e + 1) * 2 ^ e = ap (λ k. 2 ^ k) place ∙ pow-add 2 (c - e + 1) e in
-    let reach : share + 2 ≤ 2 ^ (c - e + 1) = omega arith in
-    let more : (share + 2) * 2 ^ e ≤ 2 ^ (c - e + 1) * 2 ^ e = mul-le-mul_right (2 ^ e) reach in
-    let split : (share + 2) * 2 ^ e ≡ share * 2 ^ e + 2 * 2 ^ e = add-mul share 2 (2 ^ e) in
-    let parts : budget < budget / 2 ^ e * 2 ^ e + 2 ^ e = lt-div-mul-add some in
-    let moved : budget < share * 2 ^ e + 2 ^ e = subst (λ n. budget < n * 2 ^ e + 2 ^ e) (sym is) parts in
-    omega (arith, whole, more, split, moved)
 
 -- what the cubes come to is what a search may come to
 may_come : (problem : ProblemState) (budget depth : ℕ) (answer : Answer) → IsProblem problem → IsPicked problem budget depth answer → MayComeTo problem.known.parts budget depth answer

@@ -6,6 +6,7 @@ use Rattle.std.proofs.lemmas.Bool.{cases_lt}
 use Rattle.std.proofs.lemmas.List.{get_or-map, length-map}
 use Rattle.std.proofs.lemmas.List.Sorted.{All-permutation, Contains-permutation, IsPermutation-map}
 use Rattle.std.proofs.lemmas.Option.{slice_get-get_or}
+use Rattle.list_lemmas.specs.Precedes.{Precedes}
 use Rattle.txn.specs.declared.transactions.TxnId.{TxnId}
 use Rattle.txn.specs.declared.transactions.Txn.{Txn}
 use Rattle.txn.specs.History.{in_session, ids_from}
@@ -14,7 +15,6 @@ use Rattle.order_check.specs.Based.{Remains, mark_of, remaining_of}
 use Rattle.order_check.specs.Cycles.{Sides}
 use Rattle.order_check.specs.Explains.{KeepsSessions}
 use Rattle.order_check.specs.Known.{Known, by_session, through}
-use Rattle.order_check.specs.Precedes.{Precedes}
 use Rattle.order_check.specs.Search.{HasCycle}
 use Rattle.order_check.specs.TakenSides.{KeepsAllKnown}
 use Rattle.forced_choices.specs.declared.ranks.Rank.{Rank}

@@ -4,6 +4,7 @@ use Rattle.std.specs.Prelude.{⊤}
 use Rattle.std.specs.List.Sorted.{ties, IsNonDecreasingBy, IsStableByKey}
 use Rattle.std.proofs.lemmas.Bool.{cond-true, cond-false, cases_Bool}
 use Rattle.std.proofs.lemmas.Bool.Decides.{nat_tests}
+use Rattle.list_lemmas.proofs.Filters.{filters_swap}
 
 ties_at : (m n : ℕ) → (ties (λ x y. is_lt (nat_cmp x y)) m n ≡ true → m ≡ n) × (m ≡ n → ties (λ x y. is_lt (nat_cmp x y)) m n ≡ true)
 ties_at m n = (λ h. grind (arith, nat_tests), λ h. grind (arith, nat_tests))
@@ -50,20 +51,6 @@ climbs_from n (x ∷ xs) h = (
   each_at (λ y. n x ≤ n y) xs (λ k d within. h 0 (suc k) d (omega arith) (omega arith)),
   climbs_from n xs (λ i j d below within. h (suc i) (suc j) d (omega arith) (omega arith)),
 )
-
--- two tests, one after the other
-filters_swap : {X : Type 0} (p q : X → Bool) (xs : List X) → filter p (filter q xs) ≡ filter q (filter p xs)
-filters_swap p q [] = refl
-filters_swap p q (x ∷ xs) = elim (cases_Bool (p x)) [
-  | inl pass ↦ elim (cases_Bool (q x)) [
-    | inl both ↦ ap (filter p) (filter_passes q x xs both) ∙ filter_passes p x (filter q xs) pass ∙ ap (λ ys. x ∷ ys) (filters_swap p q xs) ∙ sym (ap (filter q) (filter_passes p x xs pass) ∙ filter_passes q x (filter p xs) both)
-    | inr only ↦ ap (filter p) (filter_fails q x xs only) ∙ filters_swap p q xs ∙ sym (ap (filter q) (filter_passes p x xs pass) ∙ filter_fails q x (filter p xs) only)
-  ]
-  | inr fail ↦ elim (cases_Bool (q x)) [
-    | inl only ↦ ap (filter p) (filter_passes q x xs only) ∙ filter_fails p x (filter q xs) fail ∙ filters_swap p q xs ∙ sym (ap (filter q) (filter_fails p x xs fail))
-    | inr neither ↦ ap (filter p) (filter_fails q x xs neither) ∙ filters_swap p q xs ∙ sym (ap (filter q) (filter_fails p x xs fail))
-  ]
-]
 
 module _ {X : Type 0} (n : X → ℕ) where
   -- whether they have the same number

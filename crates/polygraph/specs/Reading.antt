@@ -2,10 +2,10 @@
 use Rattle.std.specs.Prelude.{ℕ, List, All}
 use Rattle.txn.specs.declared.transactions.TxnId.{TxnId}
 use Rattle.txn.specs.declared.transactions.Source.{Source}
+use Rattle.txn.specs.History.{reads_in}
 use Rattle.order_check.specs.declared.remainder.Parts.{Parts}
 use Rattle.order_check.specs.BadReads.{IsSilent, IsOverwritten}
 use Rattle.order_check.specs.Based.{remaining_at}
-use Rattle.refutation.specs.Reading.{reads_in}
 
 -- the read isn't bad
 pub record IsGoodRead (parts : Parts) (read : ℕ × Source) : Type 0 where

@@ -1,13 +1,13 @@
 ghost use Rattle.std.specs.Prelude.{◌≡◌, Contains, IfOk, MatchOption};
+ghost use Rattle.txn.specs.History.{reads_in};
 ghost use Rattle.order_check.specs.BadReads.{HasBadRead};
 ghost use Rattle.order_check.specs.Based.{remaining_at};
-ghost use Rattle.refutation.specs.Reading.{reads_in};
 ghost use Rattle.polygraph.specs.Reading.{IsGoodRead, AreGoodReads, HaveNoBadRead};
 ghost use Rattle.polygraph.specs.Shown.{IsBadRead, leaf_of};
 
 use forced_choices::Branch;
 use order_check::Parts;
-use refutation::{Leaf, is_overwritten, is_silent, reads_of};
+use refutation::Leaf;
 use std::alloc::Global;
 use txn::{NoMemory, Source, TxnId};
 
@@ -35,10 +35,10 @@ fn bad_read_in(parts: &Parts, reader: TxnId, read: (u64, Source)) -> Option<BadR
     requires { Contains (reads_in (remaining_at parts.now reader)) read }
     ensures { MatchOption result (IsGoodRead parts.now read) (IsBadRead parts.now) }
 {
-    if is_silent(parts, read.0, read.1) {
+    if parts.is_silent(read.0, read.1) {
         return Some(BadRead::Silent(reader, read.0));
     }
-    if is_overwritten(parts, read.0, read.1) {
+    if parts.is_overwritten(read.0, read.1) {
         return Some(BadRead::Overwritten(reader, read.0));
     }
     None
@@ -49,7 +49,7 @@ fn bad_read_in(parts: &Parts, reader: TxnId, read: (u64, Source)) -> Option<BadR
 fn bad_read_of(parts: &Parts, reader: TxnId) -> Option<BadRead>
     ensures { MatchOption result (AreGoodReads parts.now (reads_in (remaining_at parts.now reader))) (IsBadRead parts.now) }
 {
-    for read in reads_of(parts, reader) {
+    for read in parts.reads_of(reader) {
         if let Some(bad) = bad_read_in(parts, reader, *read) {
             return Some(bad);
         }

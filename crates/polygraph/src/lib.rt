@@ -15,5 +15,5 @@ mod stopping;
 
 pub use problems::Problem;
 pub use single::Single;
-pub use solving::{Answer, Cube, PlainSolver, Solver, solve_cube};
+pub use solving::{Answer, Cube, Effort, PlainSolver, Solver, solve_cube};
 pub use stopping::StopWord;

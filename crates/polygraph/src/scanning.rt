@@ -29,6 +29,7 @@ fn explaining_order(alloc: Global, branch: &Branch) -> Result<Sequence<TxnId>, N
     ensures explains { IfOk result (Explains branch.now.parts) }
     ensures sides { IfOk result (λ order. KeepsSides order (assumed branch.now.levels)) }
 {
+    // A law that the proof cites. It does nothing when it runs.
     keeping_explains();
     let order = order_of(alloc, branch)?;
     Ok(order)

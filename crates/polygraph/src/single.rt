@@ -36,6 +36,7 @@ fn search_next(
         (IsSoFar problem.now depth share (cube + 1) trees.new.items spent.new)
         (λ order. Explains problem.now.known.parts order × IsLeastYes problem.now depth share cube × KeepsSides order (sides_of_cube problem.now depth cube))) }
 {
+    // A law that the proof cites. It does nothing when it runs.
     scans_find_one();
     match solve_cube(alloc, problem, cube, depth, share)? {
         Cube::Yes(order) => Ok(Some(order)),
@@ -62,6 +63,7 @@ fn joined(
     requires refuted { AreRefuted problem.now depth share (cube_count problem.now depth) trees.items }
     ensures { IfOk result (IsRefutation problem.now.known.parts) }
 {
+    // Laws that the proof cites. They do nothing when they run.
     joined_trees_refute();
     joined_depth();
     let choices = problem.choices(depth);

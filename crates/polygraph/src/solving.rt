@@ -11,6 +11,14 @@ use refutation::Tree;
 use std::alloc::Global;
 use txn::{NoMemory, Sequence, TxnId};
 
+/// What a search may take: so many nodes, cubes of so many splits, so many workers.
+#[derive(Clone, Copy, Debug, PartialEq, Eq)]
+pub struct Effort {
+    pub budget: u64,
+    pub depth: u64,
+    pub workers: u64,
+}
+
 /// What a search of one cube finds.
 #[derive(Drop, Debug)]
 pub enum Cube {
@@ -84,6 +92,7 @@ pub fn solve_cube(
     // It is spent only where the share doesn't reach.
     ensures spent { IfOk result (λ told. told ≡ cubes.Spent → share + 1 < 2 ^ (problem.now.open_count - length (split_choices problem.now depth) + 1)) }
 {
+    // A law that the proof cites. It does nothing when it runs.
     scans_are_bounded();
     problem.go_on()?;
     let choices = problem.choices(depth);

@@ -161,12 +161,6 @@ cycle_uses parts taken used arcs notes h = (cycle_used parts taken used arcs in_
         by_case (inl (k, within, is)) = absurd (omega arith)
         by_case (inr (uses, _)) = cycle_takes parts taken arcs h side uses
 
-pub none_among : (sides taken : Sides) → sides ≡ [] → AreAmong sides taken
-none_among sides taken is side has = nothing (subst (λ s. Contains s side) is has)
-  where
-    nothing : Contains [] side → Contains taken side
-    nothing (k, within, _) = absurd (omega arith)
-
 -- the kept steps stand above the rest
 pub above_steps : (parts : Parts) (taken used : Sides) (steps kept : List ForceStep) (rest : Pruned) →
     ((parts : Parts) (taken : Sides) → AreForced parts taken steps → AreAmong rest.used (sides_after taken steps) → AreAmong used taken × AreForced parts used kept × AreAmong rest.used (sides_after used kept)) →

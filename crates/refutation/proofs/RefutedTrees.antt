@@ -1,5 +1,6 @@
 -- Where a tree refutes parts, no order that keeps the sides taken explains them.
 use Rattle.std.proofs.Common.{◌⊎◌, List, [], ◌∷◌, subst, inl, inr, zero, suc, arith}
+use Rattle.list_lemmas.specs.Precedes.{Precedes}
 use Rattle.txn.specs.declared.transactions.TxnId.{TxnId}
 use Rattle.txn.specs.declared.choices.ForceStep.{ForceStep}
 use Rattle.txn.specs.declared.choices.Side.{Side}
@@ -9,7 +10,6 @@ use Rattle.order_check.specs.declared.remainder.Parts.{Parts}
 use Rattle.order_check.specs.Cycles.{Sides, side_taken, side_not_taken, AreForced, sides_after}
 use Rattle.order_check.specs.Explains.{Explains}
 use Rattle.order_check.specs.Known.{IsChoice}
-use Rattle.order_check.specs.Precedes.{Precedes}
 use Rattle.order_check.specs.Based.{HasGoneBase}
 use Rattle.order_check.specs.TakenSides.{KeepsSides}
 use Rattle.order_check.specs.TakenLaws.{TakesSides, CycleOfArcsLeavesNone, BadReadLeavesNone}

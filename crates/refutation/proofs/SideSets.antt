@@ -14,9 +14,7 @@ use Rattle.std.specs.BTreeSet.{BTreeSet, contains, Updates}
 use Rattle.txn.specs.declared.transactions.TxnId.{TxnId}
 use Rattle.txn.specs.contracts.transactions.TxnIdOrd.TheImpl as id_ord
 use Rattle.txn.specs.contracts.transactions.TxnIdOrd.TheImpl.Laws.{total-law}
-
-abbrev pub id_cmp : TxnId → TxnId → Ordering
-id_cmp = (id_ord.ghosts).cmp
+use Rattle.txn.proofs.Ids.{id_cmp}
 
 -- how a set of sides compares them
 abbrev pub side_cmp : TxnId × TxnId → TxnId × TxnId → Ordering

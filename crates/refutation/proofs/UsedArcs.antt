@@ -2,11 +2,11 @@
 use Rattle.std.proofs.Common.{◌≡◌, ◌≢◌, ◌⊎◌, ◌↔◌, ◌∙◌, ℕ, ◌+◌, ◌<◌, List, [], ◌∷◌, ◌++◌, length, take, get_or, Option, Some, sym, ap, subst, inl, inr, zero, suc, arith}
 use Rattle.std.specs.Prelude.{Contains}
 use Rattle.std.proofs.Math.Seq.{take-suc}
+use Rattle.std.proofs.lemmas.List.Elements.{Contains-append_left, Contains-append_right, Contains-append_cases}
 use Rattle.txn.specs.declared.transactions.TxnId.{TxnId}
 use Rattle.txn.specs.declared.choices.Arc.{Arc}
 use Rattle.txn.specs.declared.choices.Arc.TheVariants.{Taken}
 use Rattle.refutation.specs.Pruned.{UseSide}
-use Rattle.refutation.proofs.Reversed.{in_left, in_right, in_either}
 
 -- the sides besides which those of these arcs were noted, but for one that is skipped
 abbrev pub Notes : List (TxnId × TxnId) → List (TxnId × TxnId) → List Arc → Option (TxnId × TxnId) → Type 0
@@ -32,16 +32,6 @@ arc_noted old new from to arc skipped is kept added other = (there, back)
         let two : other.1 ≡ to = cc in
         (added other).1 (inr (λ i. (one i, two i)))
 
-none_before : {X : Type 0} (x : X) → Contains [] x → ⊥
-none_before x (k, within, is) = omega arith
-
-pub none_noted : (sides : List (TxnId × TxnId)) (skipped : Option (TxnId × TxnId)) → Notes sides sides [] skipped
-none_noted sides skipped other = (inl, back)
-  where
-    back : Contains sides other ⊎ (UseSide [] other × (skipped ≢ Some other)) → Contains sides other
-    back (inl h) = h
-    back (inr (h, _)) = absurd (none_before (Taken other.0 other.1) h)
-
 only : {X : Type 0} (x y : X) → Contains (x ∷ []) y → x ≡ y
 only x y (zero, within, is) = is
 only x y (suc k, within, is) = absurd (omega arith)
@@ -57,15 +47,15 @@ more_noted old between new done arc skipped so_far more other = (there, back)
       where
         before : Contains old other ⊎ (UseSide done other × (skipped ≢ Some other)) → Contains old other ⊎ (UseSide (done ++ arc ∷ []) other × (skipped ≢ Some other))
         before (inl h) = inl h
-        before (inr (h, apart)) = inr (in_left done (arc ∷ []) (Taken other.0 other.1) h, apart)
+        before (inr (h, apart)) = inr (Contains-append_left done (arc ∷ []) (Taken other.0 other.1) h, apart)
 
         by_case : Contains between other ⊎ ((arc ≡ Taken other.0 other.1) × (skipped ≢ Some other)) → Contains old other ⊎ (UseSide (done ++ arc ∷ []) other × (skipped ≢ Some other))
         by_case (inl h) = before ((so_far other).0 h)
-        by_case (inr (is, apart)) = inr (in_right done (arc ∷ []) (Taken other.0 other.1) (0, omega arith, is), apart)
+        by_case (inr (is, apart)) = inr (Contains-append_right done (arc ∷ []) (Taken other.0 other.1) (0, omega arith, is), apart)
 
     back : Contains old other ⊎ (UseSide (done ++ arc ∷ []) other × (skipped ≢ Some other)) → Contains new other
     back (inl h) = (more other).1 (inl ((so_far other).1 (inl h)))
-    back (inr (h, apart)) = by_case (in_either done (arc ∷ []) (Taken other.0 other.1) h)
+    back (inr (h, apart)) = by_case (Contains-append_cases done (arc ∷ []) (Taken other.0 other.1) h)
       where
         by_case : UseSide done other ⊎ UseSide (arc ∷ []) other → Contains new other
         by_case (inl h) = (more other).1 (inl ((so_far other).1 (inr (h, apart))))
@@ -74,13 +64,6 @@ more_noted old between new done arc skipped so_far more other = (there, back)
 -- the sides besides which these were added
 abbrev pub HasBoth : List (TxnId × TxnId) → List (TxnId × TxnId) → List (TxnId × TxnId) → Type 0
 HasBoth old new sides = (other : TxnId × TxnId) → Contains new other ↔ (Contains old other ⊎ Contains sides other)
-
-pub none_added : (sides : List (TxnId × TxnId)) → HasBoth sides sides []
-none_added sides other = (inl, back)
-  where
-    back : Contains sides other ⊎ Contains [] other → Contains sides other
-    back (inl h) = h
-    back (inr h) = absurd (none_before other h)
 
 -- one more side
 pub more_added : (old between new done : List (TxnId × TxnId)) (side : TxnId × TxnId) → HasBoth old between done →
@@ -92,15 +75,15 @@ more_added old between new done side so_far more other = (there, back)
       where
         before : Contains old other ⊎ Contains done other → Contains old other ⊎ Contains (done ++ side ∷ []) other
         before (inl h) = inl h
-        before (inr h) = inr (in_left done (side ∷ []) other h)
+        before (inr h) = inr (Contains-append_left done (side ∷ []) other h)
 
         by_case : Contains between other ⊎ (other ≡ side) → Contains old other ⊎ Contains (done ++ side ∷ []) other
         by_case (inl h) = before ((so_far other).0 h)
-        by_case (inr is) = inr (in_right done (side ∷ []) other (0, omega arith, sym is))
+        by_case (inr is) = inr (Contains-append_right done (side ∷ []) other (0, omega arith, sym is))
 
     back : Contains old other ⊎ Contains (done ++ side ∷ []) other → Contains new other
     back (inl h) = (more other).1 (inl ((so_far other).1 (inl h)))
-    back (inr h) = by_case (in_either done (side ∷ []) other h)
+    back (inr h) = by_case (Contains-append_cases done (side ∷ []) other h)
       where
         by_case : Contains done other ⊎ Contains (side ∷ []) other → Contains new other
         by_case (inl h) = (more other).1 (inl ((so_far other).1 (inr h)))

@@ -1,22 +1,12 @@
-ghost use Rattle.std.specs.Prelude.{◌≡◌, ◌↔◌, ◌∷◌, Any, Contains, IsTrue, reverse};
-ghost use Rattle.order_check.specs.Based.{Remains, IsGone, remaining_at};
+ghost use Rattle.std.specs.Prelude.{◌≡◌, ◌↔◌, Any, Contains, IsTrue, reverse};
+ghost use Rattle.txn.specs.History.{reads_in};
+ghost use Rattle.order_check.specs.Based.{remaining_at};
 ghost use Rattle.order_check.specs.BadReads.{IsSilent, IsOverwritten};
 ghost use Rattle.order_check.specs.Cycles.{IsArc, IsPath, IsCycle};
-ghost use Rattle.refutation.specs.Reading.{reads_in};
-ghost use Rattle.order_check.specs.Known.{ReadsKey, WritesKey, ReadsBase, IsBaseSource, IsChoice};
+ghost use Rattle.order_check.specs.Known.{ReadsBase, IsBaseSource, IsChoice};
 
-use crate::front_reads::{is_overwritten, is_silent, reads_of, remains, writes};
 use order_check::Front;
 use txn::{Arc, Choice, Source, TxnId};
-
-fn reads(parts: &Front<'_>, id: TxnId, key: u64, source: Source) -> bool
-    ensures { IsTrue result ↔ ReadsKey parts.now id key source }
-{
-    match parts.remaining_at(id) {
-        Some(txn) => txn.reads.as_slice().contains(&(key, source)),
-        None => false,
-    }
-}
 
 /// The source that a read of the key from the base names.
 fn base_source(parts: &Front<'_>, key: u64) -> Source
@@ -31,15 +21,15 @@ fn base_source(parts: &Front<'_>, key: u64) -> Source
 fn reads_base(parts: &Front<'_>, id: TxnId, key: u64) -> bool
     ensures { IsTrue result ↔ ReadsBase parts.now id key }
 {
-    reads(parts, id, key, base_source(parts, key))
+    parts.reads(id, key, base_source(parts, key))
 }
 
 pub fn is_choice(parts: &Front<'_>, choice: Choice) -> bool
     ensures { IsTrue result ↔ IsChoice parts.now choice }
 {
-    reads(parts, choice.reader, choice.key, Source::By(choice.writer))
-        && writes(parts, choice.writer, choice.key)
-        && writes(parts, choice.other, choice.key)
+    parts.reads(choice.reader, choice.key, Source::By(choice.writer))
+        && parts.writes(choice.writer, choice.key)
+        && parts.writes(choice.other, choice.key)
         && choice.other != choice.writer
         && choice.other != choice.reader
 }
@@ -63,16 +53,16 @@ fn is_arc(parts: &Front<'_>, taken: &[(TxnId, TxnId)], arc: Arc) -> bool
 {
     match arc {
         Arc::Session { from, to } => {
-            remains(parts, from)
-                && remains(parts, to)
+            parts.remains(from)
+                && parts.remains(to)
                 && from.session == to.session
                 && from.number < to.number
         }
         Arc::Read { key, from, to } => {
-            reads(parts, to, key, Source::By(from)) && writes(parts, from, key)
+            parts.reads(to, key, Source::By(from)) && parts.writes(from, key)
         }
         Arc::Base { key, from, to } => {
-            reads_base(parts, from, key) && writes(parts, to, key) && to != from
+            reads_base(parts, from, key) && parts.writes(to, key) && to != from
         }
         Arc::Taken { from, to } => is_taken(taken, (from, to)),
     }
@@ -112,16 +102,18 @@ pub fn is_cycle(parts: &Front<'_>, taken: &[(TxnId, TxnId)], arcs: &[Arc]) -> bo
 pub fn is_no_write(parts: &Front<'_>, reader: TxnId, key: u64) -> bool
     ensures { IsTrue result ↔ Any (λ read. (read.0 ≡ key) × IsSilent parts.now key read.1) (reads_in (remaining_at parts.now reader)) }
 {
-    reads_of(parts, reader)
+    parts
+        .reads_of(reader)
         .iter()
-        .any(|read| read.0 == key && is_silent(parts, key, read.1))
+        .any(|read| read.0 == key && parts.is_silent(key, read.1))
 }
 
 /// Whether the transaction reads the key from what is gone, but not from what the base has for the key.
 pub fn is_gone_read(parts: &Front<'_>, reader: TxnId, key: u64) -> bool
     ensures { IsTrue result ↔ Any (λ read. (read.0 ≡ key) × IsOverwritten parts.now key read.1) (reads_in (remaining_at parts.now reader)) }
 {
-    reads_of(parts, reader)
+    parts
+        .reads_of(reader)
         .iter()
-        .any(|read| read.0 == key && is_overwritten(parts, key, read.1))
+        .any(|read| read.0 == key && parts.is_overwritten(key, read.1))
 }

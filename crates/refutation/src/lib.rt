@@ -3,12 +3,10 @@
 
 mod arcs;
 mod checking;
-mod front_reads;
 mod joining;
 mod laws;
 mod pruned;
 mod pruning;
-mod reads;
 mod shortening;
 mod steps;
 mod trees;
@@ -21,6 +19,5 @@ pub use laws::{
     refuted_has_no_order, refutes_with_more,
 };
 pub use pruned::Pruned;
-pub use reads::{is_overwritten, is_silent, reads_of};
 pub use shortening::shortened;
 pub use trees::{Leaf, Tree};

@@ -104,6 +104,7 @@ pub fn cut_through(alloc: Global, parts: &Parts, cut: &Cut) -> Result<Parts, NoM
     ensures good { IfOk result IsGood }
     ensures cut_off { IfOk result (IsCutOff parts.now cut.now.gone) }
 {
+    // Laws that the proof cites. They do nothing when they run.
     front_of_itself();
     cut_past(alloc, parts, parts, cut)
 }

@@ -1,9 +1,8 @@
 -- What is found of stored replies, and of a script.
-use Rattle.std.proofs.Common.{◌≡◌, ◌≢◌, ℕ, ◌≤◌, List, [], ◌∷◌, ◌++◌, append_assoc, append-nil, Option, Some, None, IfSome, false, refl, ap, sym, ◌∙◌, subst, arith, inl, inr}
+use Rattle.std.proofs.Common.{◌≡◌, ◌≢◌, ℕ, ◌≤◌, List, [], ◌∷◌, ◌++◌, append_assoc, Option, Some, None, false, refl, ap, sym, ◌∙◌, subst, arith, inl, inr}
 use Rattle.txn.specs.declared.refusals.Refusal.TheVariants.{BadLine}
 use Rattle.log_text.specs.declared.commands.Command.{Command}
 use Rattle.log_text.specs.declared.commands.Command.TheVariants.{Start, Collect}
-use Rattle.log_text.specs.declared.replies.Reply.{Reply}
 use Rattle.log_text.specs.declared.replies.Reply.TheVariants as told
 use Rattle.byte_lines.specs.declared.lines.Next.{Next}
 use Rattle.byte_lines.specs.declared.lines.Next.TheVariants.{Line, TooLong, End}
@@ -12,9 +11,9 @@ use Rattle.byte_lines.specs.Lines.{lines}
 use Rattle.round_state.specs.Opening.{IsSessions, IsLimit, fresh_state}
 use Rattle.round_state.specs.Runs.{Holds}
 use Rattle.cobra.specs.Outputs.{Asks, IsTold}
-use Rattle.report_checking.specs.Checking.{TakesMemory, Checks, start, right, unchecked, IsAllRight, left_by}
+use Rattle.report_checking.specs.Checking.{TakesMemory, Checks, start, right, unchecked}
 use Rattle.report_checking.specs.Owing.{Owes, ScriptState}
-use Rattle.report_checking.specs.Reading.{HoldsScript, LeadsScript, MayGoOn, script_left, IsOwedBy, IsOfKind, IsRead, Finds, FindsFor, FindsNext, IsFoundBy, IsFoundOf, IsFine, IsChecking, LeadsOn, Advances}
+use Rattle.report_checking.specs.Reading.{HoldsScript, LeadsScript, MayGoOn, IsRead, Finds, FindsFor, FindsNext, IsFoundBy, IsFine, IsChecking, LeadsOn, Advances}
 use Rattle.report_checking.specs.declared.findings.Found.{Found}
 use Rattle.report_checking.specs.declared.open_scripts.OpenScript.{OpenScript}
 use Rattle.report_checking.specs.declared.findings.Found.TheVariants as found
@@ -22,7 +21,6 @@ use Rattle.report_checking.specs.declared.findings.Fault.{Fault}
 use Rattle.report_checking.specs.declared.findings.Fault.TheVariants as fault
 use Rattle.report_checking.specs.declared.findings.Advance.TheVariants as advance
 use Rattle.report_checking.specs.declared.checking.TheConstants.{LONGEST_REPLY}
-use Rattle.report_checking.specs.declared.findings.Owed.{Owed}
 use Rattle.report_checking.specs.declared.findings.Owed.TheVariants as owed
 
 -- None was open, and the first one is.
@@ -35,43 +33,12 @@ pub opened : (old : Option OpenScript) (script : OpenScript) (sessions limit : �
 opened old script sessions limit none unsearched holds numbers =
     subst (λ (o : Option OpenScript). LeadsScript o (Some script) (λ before after. Owes before (Start sessions limit script.version) told.Done after)) (sym none) (opened_by script sessions limit unsearched holds numbers)
 
--- Memory was wanting for a command.
-pub left_out : (old : Option OpenScript) (command : Command) → LeadsScript old (script_left command old) (λ before after. after ≡ left_by command before)
-left_out (Some script) (Collect waits) (Some before) holds = (Some (record before { searched = false }), refl, (holds.0, holds.1, refl))
-left_out None (Collect waits) None holds = (None, refl, holds)
-left_out (Some script) (Collect waits) None holds = absurd holds
-left_out None (Collect waits) (Some before) holds = absurd holds
-left_out script command before holds = (before, refl, holds)
-
 -- A search goes on.
 pub goes_on : (old : Option OpenScript) (command : Command) → MayGoOn old command → LeadsScript old old (λ before after. Owes before command told.Searching after)
 goes_on (Some script) (Collect waits) may (Some before) holds =
     (Some before, (inl (may.0, sym holds.2 ∙ may.1, refl, refl, refl), refl), holds)
 goes_on (Some script) (Collect waits) may None holds = absurd holds
 goes_on script command may before holds = absurd may
-
-pub owed_kind : (P : Reply → Type 0) (given : Owed) → IsOwedBy P given → IsOfKind given
-owed_kind P (owed.Reply answer) owes = owes.0
-owed_kind P (owed.Nothing why) owes = tt
-
--- what was owed is found, or isn't
-found_for_reply : (old new : Option OpenScript) (command : Command) (stored : List ℕ) (answer : Reply) (given : Found) → LeadsScript old new (λ before after. Owes before command answer after) → IsFoundBy answer stored given → FindsFor old command stored given new
-found_for_reply old new command stored answer (found.Right what) owes is = (answer, is, owes)
-found_for_reply old new command stored answer found.Unchecked owes is = absurd is
-found_for_reply old new command stored answer (found.Wrong (fault.Other text)) owes is = (answer, is.0, is.1, owes)
-found_for_reply old new command stored answer (found.Wrong why) owes is = absurd is
-
-found_for_nothing : (old new : Option OpenScript) (command : Command) (stored : List ℕ) (given : Owed) (got : Found) → IsOwedBy (λ answer. LeadsScript old new (λ before after. Owes before command answer after)) given → IsFoundOf given stored got → FindsFor old command stored got new
-found_for_nothing old new command stored (owed.Reply answer) got owes is = found_for_reply old new command stored answer got owes.1 is.0
-found_for_nothing old new command stored (owed.Nothing why) (found.Wrong (fault.Unshown shown)) owes is = tt
-found_for_nothing old new command stored (owed.Nothing why) (found.Wrong (fault.Other text)) owes is = absurd is
-found_for_nothing old new command stored (owed.Nothing why) (found.Wrong fault.Missing) owes is = absurd is
-found_for_nothing old new command stored (owed.Nothing why) (found.Wrong fault.TooLong) owes is = absurd is
-found_for_nothing old new command stored (owed.Nothing why) (found.Right what) owes is = absurd is
-found_for_nothing old new command stored (owed.Nothing why) found.Unchecked owes is = absurd is
-
-pub found_for : (old new : Option OpenScript) (command : Command) (stored : List ℕ) (given : Owed) → IsOwedBy (λ answer. LeadsScript old new (λ before after. Owes before command answer after)) given → (got : Found) → IsFoundOf given stored got → FindsFor old command stored got new
-found_for old new command stored given owes got is = found_for_nothing old new command stored given got owes is
 
 -- along the histories beside the engine
 takes_along : (engine : Option OpenScript) (state : Option ScriptState) (command : Command) → HoldsScript engine state → TakesMemory engine command → TakesMemory state command
@@ -158,21 +125,6 @@ checking_on input limit a b c next line stored given old new s long is some told
       holds = after.2;
     }
 
--- all of it was checked
-all_checked : (input : List ℕ) (front left : List (List ℕ)) (state : Option ScriptState) → lines input ≡ front ++ left → left ≡ [] → Checks front state → Checks (lines input) state
-all_checked input front left state split none checks =
-    subst (λ ls. Checks ls state) (sym (split ∙ ap (λ ls. front ++ ls) none ∙ append-nil front)) checks
-
-pub checking_end : (input : List ℕ) (limit : ℕ) (a b : Option (List (List ℕ))) (engine : Option OpenScript) → IsChecking input a engine → IsNextOf limit a End b → IsAllRight input
-checking_end input limit a b engine s is =
-    let none = subst (λ (o : Option (List (List ℕ))). IsNextOf limit o End b) s.left_is is in
-    (s.state, all_checked input s.front s.left s.state s.split none.1 s.checks)
-
--- what is said of the input where that is told
-pub if_told : (told : Option (List ℕ)) (P : List ℕ → Type 0) → ((bytes : List ℕ) → told ≡ Some bytes → P bytes) → IfSome told P
-if_told None P h = tt
-if_told (Some bytes) P h = h bytes refl
-
 pub ahead_first : (reader : LineState) (left : Option (List ℕ)) (input : List ℕ) → left ≡ Some input → reader.ahead ≡ [] → lines_ahead reader left ≡ Some (lines input)
 ahead_first reader left input told none =
     ap (λ (o : Option (List ℕ)). lines_ahead reader o) told ∙ ap (λ (bytes : List ℕ). Some (lines (bytes ++ input))) none
@@ -196,7 +148,3 @@ not_end old new line End found.Unchecked finds fine e = absurd finds
 -- a line and its reply were checked
 pub advances_on : (limit now : ℕ) (a b c : Option (List (List ℕ))) (next : Next) (given : Found) (old new : Option OpenScript) → now ≡ limit → IsNextOf limit a next b → next ≢ End → LeadsOn now b next old given c new → IsFine given → Advances a old advance.On c new
 advances_on limit now a b c next given old new same is some leads fine input s = leads input a s (subst (λ n. IsNextOf n a next b) (sym same) is) some fine
-
--- or there was none
-pub advances_end : (limit : ℕ) (a b : Option (List (List ℕ))) (next : Next) (old : Option OpenScript) → next ≡ End → IsNextOf limit a next b → Advances a old advance.End b old
-advances_end limit a b next old end is input s = checking_end input limit a b old s (subst (λ (n : Next). IsNextOf limit a n b) end is)

@@ -3,6 +3,7 @@ use Rattle.std.proofs.Common.{◌≡◌, ℕ, zero, suc, ◌+◌, ◌<◌, List,
 use Rattle.std.specs.Prelude.{IsSomeAnd}
 use Rattle.std.specs.FinMap as finite
 use Rattle.std.proofs.lemmas.List.{ext_get_or, length-map, get_or-map}
+use Rattle.std.proofs.lemmas.Option.{none-some}
 use Rattle.txn.specs.declared.transactions.Txn.{Txn}
 use Rattle.txn.specs.History.{History, session_of}
 use Rattle.order_check.specs.declared.remainder.Parts.{Parts}
@@ -81,9 +82,6 @@ tells_of old new (Some parts) whole answer report law refuted fits said =
       kind = true_kind parts whole report.kind (λ k h. (law parts whole k stands).1 h) (kind_earned parts answer report.kind report.certificate refuted good said.0.right);
     }
 
-none_or_some : (parts : Parts) → None ≡ Some parts → ⊥
-none_or_some parts e = cc
-
 -- Whatever histories the engine stood for, an earned report is owed.
 pub owed_report : (old new : EngineState) (report : Report) → SameVerdictAsStoodFor → RefutedHasNoOrder → ((parts : Parts) → old.asked ≡ Some parts → IsGood parts) → IsEarned old report new → Leads old new (λ before after. IsOwedReport before report after)
 owed_report old new report law refuted good earned before holds =
@@ -98,7 +96,7 @@ owed_report old new report law refuted good earned before holds =
       record {
         same = refl;
         parts = subst (λ (p : Parts). StandsFor p before.whole) (sym earned.finished.parts) holds.parts;
-        asked = λ parts h. absurd (none_or_some parts (sym earned.finished.none_open ∙ h));
+        asked = λ parts h. absurd (none-some parts (sym earned.finished.none_open ∙ h));
       },
     )
 

@@ -103,9 +103,6 @@ finish_alone old (owed.Nothing why) none = λ answer is. absurd (let e = none is
 pub where_alone : (may : Bool) (refusal : Refusal) (old : EngineState) (given : Owed) → may ≡ true → IsAlone (λ answer. (old.asked ≡ None) × (answer ≡ told.No NoRound)) given → IsAlone (GivesWhere may refusal old) given
 where_alone may refusal old given is alone = subst (λ (m : Bool). IsAlone (GivesWhere m refusal old) given) (sym is) alone
 
-pub where_refused_alone : (may : Bool) (refusal : Refusal) (old : EngineState) → may ≡ false → IsAlone (GivesWhere may refusal old) (owed.Reply (told.No refusal))
-where_refused_alone may refusal old is = subst (λ (m : Bool). IsAlone (GivesWhere m refusal old) (owed.Reply (told.No refusal))) (sym is) (λ answer same. inr (inr (sym same)))
-
 -- a search is begun in one way
 begun_once : (asked : Option Parts) (searched one two : Bool) (answer given : Reply) → BeginsSearch asked searched given one → BeginsSearch asked searched answer two → given ≡ answer
 begun_once None searched one two answer given a b = a.0 ∙ sym b.0
@@ -229,6 +226,7 @@ takes_open version old command.Skip is = other_refusal is
 takes_open version old (command.StartIsolated sessions limit) is = other_refusal is
 takes_open version old (command.Resume sessions limit lines) is = other_refusal is
 takes_open version old (command.Marks marks closed) is = other_refusal is
+takes_open version old (command.MarksBegun marks closed begun) is = other_refusal is
 takes_open version old (command.Last last) is = other_refusal is
 takes_open version old command.Resumed is = other_refusal is
 takes_open version old asked is = tt

@@ -16,7 +16,7 @@ use Rattle.log_text.specs.declared.versions.Version.{Version}
 use Rattle.logged_fragments.specs.declared.logged.LoggedFragment.{LoggedFragment}
 use Rattle.round_state.specs.Legal.{State}
 use Rattle.round_state.specs.EngineState.{EngineState}
-use Rattle.round_state.specs.Runs.{HasLimits, Holds, StepsLegally}
+use Rattle.round_state.specs.Runs.{Holds, StepsLegally}
 use Rattle.round_state.specs.Steps.{StepsTo, answer_told}
 use Rattle.round_state.specs.declared.reports.Report.{Report}
 use Rattle.round_state.specs.declared.steps.Step.{Step}
@@ -32,17 +32,6 @@ use Rattle.report_checking.specs.Reading.{Leads, LeadsScript, IsOwedBy}
 use Rattle.report_checking.specs.declared.findings.Owed.{Owed}
 use Rattle.report_checking.specs.declared.open_scripts.OpenScript.{OpenScript}
 use Rattle.report_checking.specs.declared.findings.Owed.TheVariants as owed
-
-pub plain_limits : (asked : Step) → IsPlain asked → HasLimits asked
-plain_limits (step.Finish budget depth workers) is = absurd is
-plain_limits (step.Offer fragment) is = tt
-plain_limits (step.Join fragment) is = tt
-plain_limits (step.Close session) is = tt
-plain_limits step.Begin is = tt
-plain_limits (step.Judge certificate) is = tt
-plain_limits step.Abandon is = tt
-plain_limits step.Truncate is = tt
-plain_limits step.Rebuild is = tt
 
 -- a step that isn't a finish reports nothing, or what was judged
 pub plain_kind : (old new : EngineState) (asked : Step) (said : StepReply) → IsPlain asked → StepsTo old asked said new → HasKindOfOrder (reply_of said)

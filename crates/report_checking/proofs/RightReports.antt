@@ -1,7 +1,6 @@
 -- Right reports are told right.
-use Rattle.std.proofs.Common.{◌≡◌, ◌≢◌, ℕ, ◌+◌, ◌≤◌, List, [], ◌∷◌, ◌++◌, map, Option, Some, None, true, false, codes, refl, ap, ap₂, sym, ◌∙◌, subst, arith, inl, inr}
-use Rattle.std.specs.Prelude.{◌⊎◌, Bool, IsSome, IsSomeAnd}
-use Rattle.std.proofs.lemmas.Bool.{false≢true}
+use Rattle.std.proofs.Common.{◌≡◌, ◌≢◌, ℕ, ◌+◌, ◌≤◌, List, [], ◌∷◌, ◌++◌, map, Option, Some, None, codes, refl, ap, ap₂, sym, ◌∙◌, subst, arith, inl, inr}
+use Rattle.std.specs.Prelude.{Bool, IsSome, IsSomeAnd}
 use Rattle.serde_json.specs.Data.{Data, string, array, Items, no_items, item}
 use Rattle.txn.specs.Choices.{first_side, second_side}
 use Rattle.txn.specs.declared.choices.ForceStep.{ForceStep}
@@ -46,31 +45,16 @@ use Rattle.round_state.specs.declared.steps.StepReply.TheVariants as reply
 use Rattle.cobra.specs.Outputs.{Asks, IsTold}
 use Rattle.cobra.specs.StepReplies.{certificate_of, certified, report_of, reply_of}
 use Rattle.report_checking.specs.Owing.{IsEarned, IsOfEngine}
-use Rattle.report_checking.specs.Reading.{IsAnswerOf, IsToldOf, OwesText, Earns, EarnsWhere, EarnsBeside, EarnsScript, OfRight, IsFair, IsFairTo, IsFoundBy, IsFoundOf}
+use Rattle.report_checking.specs.Reading.{IsAnswerOf, IsToldOf, OwesText, Earns, EarnsWhere, EarnsBeside, EarnsScript, OfRight, IsFair, IsFairTo}
 use Rattle.report_checking.specs.RightReports.{shown_of}
 use Rattle.report_checking.specs.declared.findings.Found.{Found}
 use Rattle.report_checking.specs.declared.findings.Found.TheVariants as found
-use Rattle.report_checking.specs.declared.findings.Fault.{Fault}
 use Rattle.report_checking.specs.declared.findings.Fault.TheVariants as fault
 use Rattle.report_checking.specs.declared.open_scripts.OpenScript.{OpenScript}
 use Rattle.report_checking.specs.declared.findings.Owed.{Owed}
 use Rattle.report_checking.specs.declared.findings.Owed.TheVariants as owed
 
 -- ---- what is shown, as an answer
-
-pub order_told : (order : List TxnId) (other : Option Shown) → IsSameShown (Some (shown.Order order)) other → IsAnswerOf other (answers.Yes order)
-order_told order None same = absurd same
-order_told order (Some (shown.Order order')) same = same
-order_told order (Some (shown.Refuted tree)) same = absurd same
-
-pub tree_told : (tree : Tree) (other : Option Shown) → IsSameShown (Some (shown.Refuted tree)) other → IsAnswerOf other (answers.No tree)
-tree_told tree None same = absurd same
-tree_told tree (Some (shown.Order order)) same = absurd same
-tree_told tree (Some (shown.Refuted tree')) same = same
-
-pub nothing_told : (other : Option Shown) → IsSameShown None other → IsAnswerOf other answers.Spent
-nothing_told None same = tt
-nothing_told (Some it) same = absurd same
 
 -- ---- trees that are the same
 
@@ -316,24 +300,6 @@ right_judged old it stored given told = subst (λ (g : Owed). OfRight (Earns old
 
 -- ---- what is found
 
-not_found : (answer : Reply) (stored text right : List ℕ) → (answer ≡ told.No refusals.NoMemory) ⊎ (text_of answer ≡ right) → stored ≢ text → text ≡ text_of answer → (answer ≡ told.No refusals.NoMemory → ⊥) → stored ≢ right
-not_found answer stored text right (inl none) other is enough same = enough none
-not_found answer stored text right (inr owes) other is enough same = other (same ∙ sym owes ∙ sym is)
-
-found_fair : (old : Option OpenScript) (asked : Command) (stored : List ℕ) (answer : Reply) (why : Fault) → OfRight (EarnsScript old asked) stored (λ text. OwesText text (owed.Reply answer)) → IsFoundBy answer stored (found.Wrong why) → (answer ≡ told.No refusals.NoMemory → ⊥)
-    → OfRight (EarnsScript old asked) stored (λ text. stored ≢ text)
-found_fair old asked stored answer (fault.Other text) right is enough =
-    λ report new earned shows. not_found answer stored text.items (text_of (report_of report)) (right report new earned shows) is.0 is.1 enough
-found_fair old asked stored answer (fault.Unshown it) right is enough = absurd is
-found_fair old asked stored answer fault.Missing right is enough = absurd is
-found_fair old asked stored answer fault.TooLong right is enough = absurd is
-
-pub fair_found : (old : Option OpenScript) (asked : Command) (stored : List ℕ) (given : Owed) → OfRight (EarnsScript old asked) stored (λ text. OwesText text given) → (got : Found) → IsFoundOf given stored got → IsFair old asked stored got
-fair_found old asked stored given right (found.Right what) is = tt
-fair_found old asked stored given right found.Unchecked is = tt
-fair_found old asked stored (owed.Reply answer) right (found.Wrong why) is = found_fair old asked stored answer why right is.0 is.1
-fair_found old asked stored (owed.Nothing it) right (found.Wrong why) is = λ report new earned shows same. right report new earned shows
-
 -- ---- a line is one command
 
 -- a line that hands an answer in is no other command
@@ -374,9 +340,6 @@ is_said line asked other one two =
 
 pub where_right : (old : EngineState) (may : Bool) (stored : List ℕ) (given : Owed) → OfRight (IsEarned old) stored (λ text. OwesText text given) → OfRight (EarnsWhere may old) stored (λ text. OwesText text given)
 where_right old may stored given right report new earned shows = right report new earned.1 shows
-
-pub where_refused : (old : EngineState) (may : Bool) (stored : List ℕ) (given : Owed) → may ≡ false → OfRight (EarnsWhere may old) stored (λ text. OwesText text given)
-where_refused old may stored given refused report new earned shows = absurd (false≢true (sym refused ∙ earned.0))
 
 earns_by_engine : (searched : Bool) (old : EngineState) (asked : Command) (report : Report) (new : EngineState) → IsOfEngine asked → EarnsBeside searched old asked report new → Earns old asked report new
 earns_by_engine searched old (command.BeginSearch budget depth workers search) report new of earned = absurd of

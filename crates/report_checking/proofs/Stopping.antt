@@ -1,6 +1,7 @@
 -- Where the check of a script stops.
-use Rattle.std.proofs.Common.{◌≡◌, ℕ, ◌+◌, List, ◌∷◌, ◌++◌, Option, Some, None, true, false, refl, ap, sym, ◌∙◌, subst, arith, inl, inr}
-use Rattle.std.specs.Prelude.{Bool, not}
+use Rattle.std.proofs.Common.{◌≡◌, ℕ, List, ◌∷◌, ◌++◌, Option, Some, None, ap, sym, ◌∙◌, subst, arith, inl, inr}
+use Rattle.std.specs.Prelude.{Bool}
+use Rattle.std.proofs.lemmas.Bool.{not_from_false}
 use Rattle.polygraph.specs.declared.solving.Answer.{Answer}
 use Rattle.log_text.specs.declared.commands.Command.{Command}
 use Rattle.log_text.specs.declared.commands.Command.TheVariants as command
@@ -24,12 +25,8 @@ use Rattle.report_checking.proofs.RightReports.{shown_self}
 
 -- ---- where the check stops
 
-not_searched : (searched : Bool) → searched ≡ false → not searched ≡ true
-not_searched true is = sym is
-not_searched false is = refl
-
 earns_of : (before : ScriptState) (asked : Command) (report : Report) (new : State) → OwesReport before asked report new → EarnsBeside before.searched before.state.engine asked report new.engine
-earns_of before (command.Finish budget depth workers search) report new owes = (not_searched before.searched owes.0, owes.1.earned)
+earns_of before (command.Finish budget depth workers search) report new owes = (not_from_false before.searched owes.0, owes.1.earned)
 earns_of before (command.Collect waits) report new owes = (owes.0, owes.1.earned)
 earns_of before (command.Round budget depth workers search) report new owes = (owes.0.engine, owes.1.engine, owes.2.earned)
 earns_of before (command.Answer it) report new owes = (it, shown_self it, owes.engine)

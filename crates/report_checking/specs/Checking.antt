@@ -2,7 +2,7 @@
 use Rattle.std.specs.Prelude.{◌≡◌, ℕ, ⊤, false, List, [], ◌∷◌, ◌++◌, Option, Some, None}
 use Rattle.txn.specs.declared.refusals.Refusal.TheVariants.{NoMemory}
 use Rattle.log_text.specs.declared.commands.Command.{Command}
-use Rattle.log_text.specs.declared.commands.Command.TheVariants.{Start, StartIsolated, Close, BeginSearch, Collect, Skip, Show, Resume, Marks, Last, Resumed, Save}
+use Rattle.log_text.specs.declared.commands.Command.TheVariants.{Start, StartIsolated, Close, BeginSearch, Collect, Skip, Show, Resume, Marks, MarksBegun, Last, Resumed, Save}
 use Rattle.log_text.specs.declared.replies.Reply.{Reply}
 use Rattle.log_text.specs.declared.replies.Reply.TheVariants as told
 use Rattle.log_text.specs.Replies.{text_of}
@@ -32,6 +32,7 @@ AsksOfMemory (Save wanted) = ⊥
 AsksOfMemory (StartIsolated sessions limit) = ⊥
 AsksOfMemory (Resume sessions limit version) = ⊥
 AsksOfMemory (Marks marks closed) = ⊥
+AsksOfMemory (MarksBegun marks closed begun) = ⊥
 AsksOfMemory (Last last) = ⊥
 AsksOfMemory Resumed = ⊥
 AsksOfMemory command = ⊤

@@ -133,6 +133,7 @@ pub(crate) fn owed_open(
         Command::StartIsolated { .. } => Ok(Owed::Reply(Reply::No(Refusal::BadLine))),
         Command::Resume { .. } => Ok(Owed::Reply(Reply::No(Refusal::BadLine))),
         Command::Marks { .. } => Ok(Owed::Reply(Reply::No(Refusal::BadLine))),
+        Command::MarksBegun { .. } => Ok(Owed::Reply(Reply::No(Refusal::BadLine))),
         Command::Last(_) => Ok(Owed::Reply(Reply::No(Refusal::BadLine))),
         Command::Resumed => Ok(Owed::Reply(Reply::No(Refusal::BadLine))),
     }

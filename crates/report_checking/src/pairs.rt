@@ -54,6 +54,7 @@ impl Replay {
             | Command::StartIsolated { .. }
             | Command::Resume { .. }
             | Command::Marks { .. }
+            | Command::MarksBegun { .. }
             | Command::Last(_)
             | Command::Resumed => false,
             _ => self.script.is_some(),

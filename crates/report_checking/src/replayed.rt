@@ -106,6 +106,7 @@ impl Replayed {
         ensures owed { IfOk result (λ report. Leads self.old self.new (λ before after. IsOwedReport before report after)) }
         ensures err { IfErr result (λ refusal. IsFinishRefusal self.old answer refusal × (self.new ≡ self.old)) }
     {
+        // A law that the proof cites. It does nothing when it runs.
         verdict_as_stood_for();
         refuted_has_no_order();
         self.has_good_snapshot();

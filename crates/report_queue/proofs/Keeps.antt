@@ -1,23 +1,19 @@
 -- Each step of a seat on the word of a latest report keeps its rule.
-use Rattle.std.proofs.Common.{◌≡◌, ◌≢◌, ℕ, zero, suc, ◌+◌, ◌*◌, ◌<◌, ⊎_elim, inl, inr, refl, sym, ap, subst, ◌∙◌, List, [], ◌∷◌, ◌++◌, set, get_or, arith}
+use Rattle.std.proofs.Common.{◌≡◌, ◌≢◌, ℕ, ◌+◌, ◌*◌, ◌<◌, ⊎_elim, inl, inr, refl, sym, ap, subst, ◌∙◌, List, [], ◌∷◌, ◌++◌, set, get_or, arith}
 use Rattle.std.specs.Prelude.{All}
-use mathlib.Core.Option.{some, none, some-injective, some-ne-none}
+use mathlib.Core.Option.{some, none}
 use lib.ListN.{get_elem?}
 use Rattle.atomic_table.specs.Table.{State, Me, step, keeps, Allows, Splits, Joins, opening}
 use Rattle.atomic_table.proofs.Lists.{at_set, at_snoc, set_again}
+use Rattle.list_lemmas.proofs.Counts.{all_set, only_one, total_set, total_snoc, total_two}
+use Rattle.list_lemmas.specs.Counts.{total}
 use Rattle.order_check.specs.declared.remainder.Kind.{Kind}
 use Rattle.report_queue.specs.declared.words.View.{View}
-use Rattle.report_queue.specs.Counts.{total}
 use Rattle.report_queue.specs.Reports.{Told, code_of, word_of, report_at, told_by, round_of, IsBefore, IsNoLater, WasPublished, last_of}
 use Rattle.report_queue.specs.Rule.{publisher, reader, publishes, looks_at, heard_of, note_of, IsPast, Fits, Kept, published_after, looked_after}
-use Rattle.report_queue.proofs.Totals.{total_set, total_snoc, total_two, all_set}
 use Rattle.report_queue.proofs.Telling.{report_of_word, told_of_word, last_more, past_more, last_published, above_last}
 
 -- at the start
-
-lone : (view : View) (i : ℕ) (v : View) → get_elem? (view ∷ []) i ≡ some v → view ≡ v
-lone view zero v e = some-injective view v e
-lone view (suc i) v e = absurd (some-ne-none v (sym e))
 
 publisher_fits : Fits [] publisher
 publisher_fits = record { list = λ h. refl; seen = (tt, inl refl); told = (tt, inl refl) }
@@ -28,7 +24,7 @@ begins = record {
   words = refl;
   real = inl refl;
   once = omega arith;
-  each = λ i v e. subst (λ (u : View). Fits [] u) (lone publisher i v e) publisher_fits;
+  each = λ i v e. subst (λ (u : View). Fits [] u) (only_one publisher i v e) publisher_fits;
 }
 
 -- a report is published

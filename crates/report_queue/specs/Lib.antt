@@ -1,4 +1,3 @@
-pub mod Counts
 pub mod Reports
 pub mod Rule
 pub mod Seats

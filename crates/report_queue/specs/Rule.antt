@@ -3,8 +3,8 @@ use Rattle.std.specs.Prelude.{◌≡◌, ℕ, ◌+◌, ◌<◌, ◌≤◌, List,
 use mathlib.Core.Option.{some}
 use lib.ListN.{get_elem?}
 use Rattle.atomic_table.specs.Table.{State, Me, Step}
+use Rattle.list_lemmas.specs.Counts.{total}
 use Rattle.report_queue.specs.declared.words.View.{View}
-use Rattle.report_queue.specs.Counts.{total}
 use Rattle.report_queue.specs.Reports.{Told, word_of, report_at, told_by, IsNoLater, WasPublished, last_of}
 
 -- the publisher's seat, of which nothing is published

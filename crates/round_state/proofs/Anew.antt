@@ -1,8 +1,10 @@
 -- The index of pending reads, made anew from the parts, session after session.
-use Rattle.std.proofs.Common.{◌≡◌, ℕ, ◌+◌, ◌-◌, ◌<◌, ◌≤◌, ◌⊎◌, inl, inr, sym, ap, subst, ◌∙◌, List, [], length, get_or, Some, None, arith}
+use Rattle.std.proofs.Common.{◌≡◌, ℕ, ◌+◌, ◌-◌, ◌<◌, ◌≤◌, ◌⊎◌, inl, inr, sym, ap, subst, ◌∙◌, List, [], length, get_or, Some, arith}
 use Rattle.std.specs.Prelude.{Contains, slice_get}
 use Rattle.std.proofs.lemmas.Bool.{cases_lt}
 use Rattle.std.proofs.lemmas.List.{get_or_default, get_or_past}
+use Rattle.list_lemmas.proofs.Options.{some_and_of}
+use Rattle.round_state.proofs.Keeping.{no_txn}
 use Rattle.txn.specs.declared.transactions.TxnId.{TxnId}
 use Rattle.txn.specs.declared.transactions.Source.TheVariants.{By}
 use Rattle.txn.specs.declared.transactions.Txn.{Txn}
@@ -16,10 +18,7 @@ use Rattle.order_check.specs.Good.{IsGood}
 use Rattle.round_state.specs.Awaiting.{awaited_from}
 use Rattle.round_state.specs.Tracked.{AreMarksOf, IsIndexOf, IsIndexBelow, IsPendingRead}
 use Rattle.round_state.proofs.Awaited.{IsReadAt, from_sound, from_complete, awaited_once, id_of}
-use Rattle.round_state.proofs.Indexed.{found, found_low, found_at, some_and_of, some_and_from}
-
-no_txn : (txns : List Txn) (n : ℕ) (txn : Txn) → txns ≡ [] → slice_get txns n ≡ Some txn → ⊥
-no_txn txns n txn e h = let at : None ≡ Some txn = ap (λ (xs : List Txn). slice_get xs n) (sym e) ∙ h in cc
+use Rattle.round_state.proofs.Indexed.{found, found_low, found_at, some_and_from}
 
 -- what remains is of a session that is there
 session_there : (parts : Parts) (id : TxnId) (txn : Txn) → remaining_at parts id ≡ Some txn → id.session < length parts.remain

@@ -1,10 +1,10 @@
 -- The reads of a fragment that wait: which they are, and that none stands twice.
-use Rattle.std.proofs.Common.{◌≡◌, ◌≢◌, ℕ, zero, suc, ◌+◌, ◌<◌, ◌⊎◌, inl, inr, Bool, true, false, cond, ◌&&◌, nat_lt, nat_eq, refl, sym, ap, subst, ◌∙◌, List, [], ◌∷◌, ◌++◌, length, length-append, length-take-le, append-nil, take, get_or, Some, arith, add-one}
+use Rattle.std.proofs.Common.{◌≡◌, ◌≢◌, ℕ, zero, suc, ◌+◌, ◌<◌, ◌⊎◌, inl, inr, Bool, true, false, cond, ◌&&◌, nat_lt, nat_eq, refl, sym, ap, subst, ◌∙◌, List, [], ◌∷◌, ◌++◌, length, length-take-le, append-nil, take, get_or, Some, arith, add-one}
 use Rattle.std.specs.Prelude.{Contains, slice_get, ⊤}
 use Rattle.std.specs.List.{AllPairs}
 use Rattle.std.proofs.lemmas.Bool.{false≢true, ltb-true, lt-ltb, eqb-true, or_cases, and_parts}
-use Rattle.std.proofs.lemmas.List.{get_or_append_left, get_or-append-add, append_assoc, take_more}
-use Rattle.std.proofs.lemmas.List.Elements.{All-weaker, All-contains_itself}
+use Rattle.std.proofs.lemmas.List.{append_assoc, take_more}
+use Rattle.std.proofs.lemmas.List.Elements.{All-weaker, All-contains_itself, Contains-append_left, Contains-append_right, Contains-append_cases}
 use Rattle.std.proofs.lemmas.List.Kept.{AllPairs-cons}
 use Rattle.txn.specs.declared.transactions.TxnId.{TxnId}
 use Rattle.txn.specs.declared.transactions.Source.{Source}
@@ -21,21 +21,6 @@ use Rattle.round_state.specs.Awaiting.{awaited_of, awaited_from}
 later : {X : Type 0} (xs : List X) (x z : X) → Contains xs x → Contains (z ∷ xs) x
 later xs x z (k, within, is) = (suc k, omega arith, is)
 
-contains_left : {X : Type 0} (xs ys : List X) (x : X) → Contains xs x → Contains (xs ++ ys) x
-contains_left xs ys x (k, within, is) = (k, omega (arith, within, length-append xs ys), get_or_append_left xs ys x k within ∙ is)
-
-contains_right : {X : Type 0} (xs ys : List X) (x : X) → Contains ys x → Contains (xs ++ ys) x
-contains_right xs ys x (k, within, is) = (length xs + k, omega (arith, within, length-append xs ys), get_or-append-add xs ys k x ∙ is)
-
-contains_either : {X : Type 0} (xs ys : List X) (x : X) → Contains (xs ++ ys) x → Contains xs x ⊎ Contains ys x
-contains_either [] ys x h = inr h
-contains_either (z ∷ xs) ys x (zero, within, is) = inl (0, omega arith, is)
-contains_either {X} (z ∷ xs) ys x (suc k, within, is) = more (contains_either xs ys x (k, omega arith, is))
-  where
-    more : Contains xs x ⊎ Contains ys x → Contains (z ∷ xs) x ⊎ Contains ys x
-    more (inl h) = inl (later xs x z h)
-    more (inr h) = inr h
-
 -- no element stands twice
 abbrev Apart : {X : Type 0} → List X → Type 0
 Apart [] = ⊤
@@ -43,7 +28,7 @@ Apart (x ∷ xs) = (Contains xs x → ⊥) × Apart xs
 
 apart_append : {X : Type 0} (xs ys : List X) → Apart xs → Apart ys → ((x : X) → Contains xs x → Contains ys x → ⊥) → Apart (xs ++ ys)
 apart_append [] ys hx hy across = hy
-apart_append {X} (x ∷ xs) ys hx hy across = ((λ h. by_part (contains_either xs ys x h)), apart_append xs ys hx.1 hy (λ z hz. across z (later xs z x hz)))
+apart_append {X} (x ∷ xs) ys hx hy across = ((λ h. by_part (Contains-append_cases xs ys x h)), apart_append xs ys hx.1 hy (λ z hz. across z (later xs z x hz)))
   where
     by_part : Contains xs x ⊎ Contains ys x → ⊥
     by_part (inl h) = hx.0 h
@@ -209,7 +194,7 @@ pub record IsReadAt (marks : List SessionMark) (s first : ℕ) (txns : List Txn)
 
 pub from_sound : (marks : List SessionMark) (s first : ℕ) (txns : List Txn) (x : PendingRead) → Contains (awaited_from marks s first txns) x → IsReadAt marks s first txns x
 from_sound marks s first [] x there = absurd (omega (arith, there.1))
-from_sound marks s first (txn ∷ more) x there = by_part (contains_either (awaited_of marks (id_of s first) txn.reads) (awaited_from marks s (first + 1) more) x there) (from_sound marks s (first + 1) more x)
+from_sound marks s first (txn ∷ more) x there = by_part (Contains-append_cases (awaited_of marks (id_of s first) txn.reads) (awaited_from marks s (first + 1) more) x there) (from_sound marks s (first + 1) more x)
   where
     by_part : Contains (awaited_of marks (id_of s first) txn.reads) x ⊎ Contains (awaited_from marks s (first + 1) more) x → (Contains (awaited_from marks s (first + 1) more) x → IsReadAt marks s (first + 1) more x) → IsReadAt marks s first (txn ∷ more) x
     by_part (inl h) rest =
@@ -227,11 +212,11 @@ from_complete marks s first (t ∷ more) zero txn key writer at reads waits =
     let same : t ≡ txn = cc in
     let here : first ≡ first + 0 = omega arith in
     let one = awaited_complete marks (id_of s first) t.reads key writer (subst (λ (u : Txn). Contains u.reads (key, By writer)) (sym same) reads) waits in
-    contains_left (awaited_of marks (id_of s first) t.reads) (awaited_from marks s (first + 1) more) (read_of (id_of s (first + 0)) key writer) (subst (λ n. Contains (awaited_of marks (id_of s first) t.reads) (read_of (id_of s n) key writer)) here one)
+    Contains-append_left (awaited_of marks (id_of s first) t.reads) (awaited_from marks s (first + 1) more) (read_of (id_of s (first + 0)) key writer) (subst (λ n. Contains (awaited_of marks (id_of s first) t.reads) (read_of (id_of s n) key writer)) here one)
 from_complete marks s first (t ∷ more) (suc place) txn key writer at reads waits =
     let there : first + 1 + place ≡ first + suc place = omega arith in
     let one = from_complete marks s (first + 1) more place txn key writer at reads waits in
-    contains_right (awaited_of marks (id_of s first) t.reads) (awaited_from marks s (first + 1) more) (read_of (id_of s (first + suc place)) key writer) (subst (λ n. Contains (awaited_from marks s (first + 1) more) (read_of (id_of s n) key writer)) there one)
+    Contains-append_right (awaited_of marks (id_of s first) t.reads) (awaited_from marks s (first + 1) more) (read_of (id_of s (first + suc place)) key writer) (subst (λ n. Contains (awaited_from marks s (first + 1) more) (read_of (id_of s n) key writer)) there one)
 
 apart_from : (marks : List SessionMark) (s first : ℕ) (txns : List Txn) → ((n : ℕ) (txn : Txn) → slice_get txns n ≡ Some txn → Rises read_below txn.reads) → Apart (awaited_from marks s first txns)
 apart_from marks s first [] rise = tt

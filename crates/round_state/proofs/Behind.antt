@@ -1,5 +1,5 @@
 -- Fronts that known relations are kept of: they stay behind the parts, and are caught up.
-use Rattle.std.proofs.Common.{◌≡◌, ◌≢◌, ℕ, zero, suc, ◌+◌, ◌<◌, ◌≤◌, Bool, true, false, List, [], ◌∷◌, ◌++◌, length, drop, Option, Some, None, refl, sym, ap, ◌∙◌, subst, inl, inr, arith, get_or, append-nil, length-append, length-set, get_or-set_same, get_or-set_other}
+use Rattle.std.proofs.Common.{◌≡◌, ◌≢◌, ℕ, suc, ◌+◌, ◌<◌, ◌≤◌, Bool, true, false, List, [], ◌∷◌, ◌++◌, length, drop, Option, Some, None, refl, sym, ap, ◌∙◌, subst, inl, inr, arith, get_or, append-nil, length-append, length-set, get_or-set_same, get_or-set_other}
 use Rattle.std.specs.Prelude.{IfSome, IsSomeAnd, slice_get, slice_set, sum_by}
 use Rattle.std.specs.FinMap as map
 use Rattle.std.proofs.lemmas.Bool.{cases_eq, cases_lt}
@@ -19,7 +19,7 @@ use Rattle.order_check.specs.Cuts.{IsFront, GoesOn, MayGoOn, IsContentCutOff}
 use Rattle.order_check.specs.FrontLaws.{FrontOfItself, FragmentKeepsFront, CloseKeepsFront}
 use Rattle.order_check.specs.Good.{IsGood}
 use Rattle.order_check.specs.Settled.{IsCutOf}
-use Rattle.order_check.specs.StandsFor.{IsOpenSession, parts_with, parts_closed}
+use Rattle.order_check.specs.StandsFor.{IsOpenSession, parts_with}
 use Rattle.forced_choices.specs.SaturatedState.{SaturatedState}
 use Rattle.settle.specs.declared.cuts.Cut.{Cut}
 use Rattle.round_state.specs.Behind.{IsBehind, AreKnownBehind, IsCaughtBelow, IsClosedBelow, fragment_behind}
@@ -217,18 +217,6 @@ caught_more front parts s within below = record { behind = record { kept = recor
 
 -- flags
 
-get_other : (flags : List Bool) (s t : ℕ) → t ≢ s → slice_get (slice_set flags s true) t ≡ slice_get flags t
-get_other [] s t apart = refl
-get_other (flag ∷ flags) zero zero apart = absurd (apart refl)
-get_other (flag ∷ flags) zero (suc t) apart = refl
-get_other (flag ∷ flags) (suc s) zero apart = refl
-get_other (flag ∷ flags) (suc s) (suc t) apart = get_other flags s t (λ same. apart (ap suc same))
-
-get_same : (flags : List Bool) (s : ℕ) → s < length flags → slice_get (slice_set flags s true) s ≡ Some true
-get_same [] s within = absurd (omega (arith, within))
-get_same (flag ∷ flags) zero within = refl
-get_same (flag ∷ flags) (suc s) within = get_same flags s (omega (arith, within))
-
 some_false : Some false ≡ Some true → ⊥
 some_false h = cc
 
@@ -268,33 +256,6 @@ closed_start front parts n good all below = record {
     low t there =
         let within : t < length parts.closed = omega (arith, slice_get_within front.closed t true there, below.flags) in
         by_flag t (get_or parts.closed t true) there (slice_get-get_or parts.closed t true within)
-
--- a session that isn't closed, or is closed there too
-pub closed_as_is : (front parts : Parts) (s : ℕ) → (slice_get parts.closed s ≡ Some true → slice_get front.closed s ≡ Some true) → IsClosedBelow front parts s → IsClosedBelow front parts (s + 1)
-closed_as_is front parts s here below = record {
-  same = below.same;
-  flags = below.flags;
-  low = below.low;
-  closed = λ t before is. elim (cases_eq t s) [
-    | inl same ↦ subst (λ (q : ℕ). slice_get front.closed q ≡ Some true) (sym same) (here (subst (λ (q : ℕ). slice_get parts.closed q ≡ Some true) same is))
-    | inr apart ↦ below.closed t (omega (arith, before, apart)) is
-  ];
-}
-
--- one that is closed now
-pub closed_more : (front parts : Parts) (s : ℕ) → slice_get parts.closed s ≡ Some true → IsClosedBelow front parts s → IsClosedBelow (parts_closed front s) parts (s + 1)
-closed_more front parts s is below = record {
-  same = ap (λ (p : Parts). parts_closed p s) below.same;
-  flags = length-set front.closed s true ∙ below.flags;
-  low = λ t h. elim (cases_eq t s) [
-    | inl same ↦ subst (λ (q : ℕ). slice_get parts.closed q ≡ Some true) (sym same) is
-    | inr apart ↦ below.low t (sym (get_other front.closed s t apart) ∙ h)
-  ];
-  closed = λ t before h. elim (cases_eq t s) [
-    | inl same ↦ subst (λ (q : ℕ). slice_get (slice_set front.closed s true) q ≡ Some true) (sym same) (get_same front.closed s (omega (arith, slice_get_within parts.closed s true is, below.flags)))
-    | inr apart ↦ get_other front.closed s t apart ∙ below.closed t (omega (arith, before, apart)) h
-  ];
-}
 
 -- at the end it is the parts
 pub closed_all : (front parts : Parts) (n : ℕ) → IsGood parts → length parts.remain ≤ n → IsClosedBelow front parts n → front ≡ parts

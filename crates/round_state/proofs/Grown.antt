@@ -1,10 +1,11 @@
 -- Parts with a fragment keep the rules.
-use Rattle.std.proofs.Common.{◌≡◌, ℕ, zero, suc, ◌+◌, ◌^◌, ◌<◌, ◌≤◌, ◌⊎◌, true, List, [], ◌∷◌, ◌++◌, length, Some, sym, ap, ◌∙◌, subst, inl, inr, arith, length-append, length-set, get_or-set_same, get_or-set_other}
+use Rattle.std.proofs.Common.{◌≡◌, ℕ, ◌+◌, ◌^◌, ◌<◌, ◌≤◌, true, List, [], ◌++◌, length, Some, sym, ap, ◌∙◌, subst, inl, inr, arith, length-append, length-set, get_or-set_same, get_or-set_other}
 use Rattle.std.specs.Prelude.{slice_get}
 use Rattle.std.proofs.lemmas.Bool.{cases_eq}
 use Rattle.std.proofs.lemmas.List.Elements.{All-get_or}
 use Rattle.std.proofs.lemmas.List.Sums.{sum_by-set}
 use Rattle.std.proofs.lemmas.Option.{slice_get_within, get_or_from_slice_get}
+use Rattle.list_lemmas.proofs.Places.{place_in}
 use Rattle.txn.specs.declared.transactions.Txn.{Txn}
 use Rattle.txn.specs.declared.transactions.Fragment.{Fragment}
 use Rattle.txn.specs.History.{session_of}
@@ -14,15 +15,6 @@ use Rattle.order_check.specs.Based.{mark_of, remaining_of, received_count}
 use Rattle.order_check.specs.Good.{IsGood}
 use Rattle.order_check.specs.StandsFor.{parts_with, parts_closed, with_fragment}
 use Rattle.round_state.specs.Steps.{IsAdmitted}
-
--- an element of two lists is one of the first or one of the second
-pub get_either : {X : Type 0} (xs ys : List X) (n : ℕ) (x : X) → slice_get (xs ++ ys) n ≡ Some x → (slice_get xs n ≡ Some x) ⊎ ((m : ℕ) × (n ≡ length xs + m) × (slice_get ys m ≡ Some x))
-get_either [] ys n x h = let e : n ≡ 0 + n = omega arith in inr (n, e, h)
-get_either (y ∷ xs) ys zero x h = inl h
-get_either (y ∷ xs) ys (suc n) x h = elim (get_either xs ys n x h) [
-  | inl a ↦ inl a
-  | inr b ↦ let e : suc n ≡ length (y ∷ xs) + b.0 = omega (arith, b.1) in inr (b.0, e, b.2)
-]
 
 -- What holds of each transaction of the parts, and of each of the fragment at its place, holds of each with the fragment.
 each_with : (P : ℕ → ℕ → Txn → Type 0) (parts : Parts) (f : Fragment) →
@@ -34,7 +26,7 @@ each_with P parts f within old new s n txn h = elim (cases_eq s f.session) [
   | inl same ↦
       let at : slice_get (session_of parts.remain f.session ++ f.txns) n ≡ Some txn =
       ap (λ (txns : List Txn). slice_get txns n) (sym (get_or-set_same parts.remain f.session (session_of parts.remain f.session ++ f.txns) [] within)) ∙ ap (λ (t : ℕ). slice_get (remaining_of (parts_with parts f) t) n) (sym same) ∙ h in
-      subst (λ (t : ℕ). P t n txn) (sym same) (elim (get_either (session_of parts.remain f.session) f.txns n txn at) [
+      subst (λ (t : ℕ). P t n txn) (sym same) (elim (place_in (session_of parts.remain f.session) f.txns n txn at) [
         | inl a ↦ old f.session n txn a
         | inr b ↦ subst (λ (m : ℕ). P f.session m txn) (sym b.1) (new b.0 txn b.2)
       ])

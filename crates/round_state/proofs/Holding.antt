@@ -3,21 +3,13 @@ use Rattle.std.proofs.Common.{Option, sym, subst}
 use Rattle.order_check.specs.declared.remainder.Parts.{Parts}
 use Rattle.order_check.specs.declared.remainder.Kind.{Kind}
 use Rattle.order_check.specs.declared.remainder.Kind.TheVariants as kinds
-use Rattle.order_check.specs.Explains.{Explains}
 use Rattle.polygraph.specs.declared.solving.Answer.{Answer}
 use Rattle.polygraph.specs.declared.solving.Answer.TheVariants as answers
 use Rattle.settle.specs.declared.cuts.Cut.{Cut}
-use Rattle.round_state.specs.Solving.{IsRight, IsShown, IsHeldBy}
+use Rattle.round_state.specs.Solving.{IsRight, IsHeldBy}
 use Rattle.round_state.specs.Steps.{IsHeldAfter}
 use Rattle.round_state.specs.declared.reports.Certificate.{Certificate}
 use Rattle.round_state.specs.declared.reports.Certificate.TheVariants.{Order, Refuted, Nothing}
-
--- the order of a right answer explains
-pub shown_by : (parts : Parts) (answer : Answer) (kind : Kind) (certificate : Certificate) → IsRight parts answer kind certificate → IsShown parts certificate
-shown_by parts (answers.Yes order) kind (Order shown) right = subst (Explains parts) (sym right.0) right.1
-shown_by parts (answers.No tree) kind (Refuted shown) right = tt
-shown_by parts answers.Spent kind Nothing right = tt
-shown_by parts answer kind certificate right = absurd right
 
 -- what is held holds the certificate is held holds the kind
 pub held_after : (parts : Parts) (answer : Answer) (kind : Kind) (certificate : Certificate) (old new : Option Cut) → IsRight parts answer kind certificate → IsHeldBy parts certificate old new → IsHeldAfter parts kind old new

@@ -1,9 +1,11 @@
 -- The index of pending reads keeps having exactly the pending reads of the parts.
-use Rattle.std.proofs.Common.{◌≡◌, ◌≢◌, ℕ, zero, suc, ◌+◌, ◌-◌, ◌<◌, ◌≤◌, ◌⊎◌, inl, inr, Bool, true, false, cond, nat_lt, refl, sym, ap, subst, ◌∙◌, List, [], ◌∷◌, ◌++◌, length, length-append, get_or, get_or-set_same, get_or-set_other, Option, Some, None, arith}
+use Rattle.std.proofs.Common.{◌≡◌, ◌≢◌, ℕ, suc, ◌+◌, ◌-◌, ◌<◌, ◌≤◌, ◌⊎◌, inl, inr, Bool, true, false, cond, nat_lt, refl, sym, ap, subst, ◌∙◌, List, [], ◌∷◌, ◌++◌, length, length-append, get_or, get_or-set_same, get_or-set_other, Option, Some, None, arith}
 use Rattle.std.specs.Prelude.{Contains, slice_get, IsSomeAnd}
 use Rattle.std.proofs.lemmas.Bool.{false≢true, lt-ltb, le-ltb, cases_eq, cases_lt}
 use Rattle.std.proofs.lemmas.List.{get_or_default}
 use Rattle.std.proofs.lemmas.Option.{slice_get_within}
+use Rattle.list_lemmas.proofs.Places.{place_in, place_left}
+use Rattle.list_lemmas.proofs.Options.{some_and_of}
 use Rattle.txn.specs.declared.transactions.TxnId.{TxnId}
 use Rattle.txn.specs.declared.transactions.Source.{Source}
 use Rattle.txn.specs.declared.transactions.Source.TheVariants.{By}
@@ -21,14 +23,8 @@ use Rattle.round_state.specs.Awaiting.{awaited_from, IsOneOf, HaveArrived}
 use Rattle.round_state.specs.Steps.{IsAdmitted}
 use Rattle.round_state.specs.Tracked.{AreMarksOf, IsIndexOf, IsPendingRead}
 use Rattle.round_state.proofs.Awaited.{from_sound, from_complete, awaited_once}
-use Rattle.round_state.proofs.Grown.{get_either}
 
 -- what an id finds
-
-at_here : {X : Type 0} (xs ys : List X) (n : ℕ) (x : X) → slice_get xs n ≡ Some x → slice_get (xs ++ ys) n ≡ Some x
-at_here [] ys n x at = absurd cc
-at_here (y ∷ xs) ys zero x at = at
-at_here (y ∷ xs) ys (suc n) x at = at_here xs ys n x at
 
 at_behind : {X : Type 0} (xs ys : List X) (n : ℕ) → slice_get (xs ++ ys) (length xs + n) ≡ slice_get ys n
 at_behind [] ys n = let e : 0 + n ≡ n = omega arith in ap (slice_get ys) e
@@ -47,10 +43,6 @@ found_low mark txns number txn at = by_test (nat_lt number mark) refl at
 
 pub found_at : (mark : ℕ) (txns : List Txn) (number : ℕ) (txn : Txn) → mark ≤ number → slice_get txns (number - mark) ≡ Some txn → found mark txns number ≡ Some txn
 found_at mark txns number txn high at = ap (λ t. cond t None (slice_get txns (number - mark))) (le-ltb number mark high) ∙ at
-
-pub some_and_of : {X : Type 0} (o : Option X) (P : X → Type 0) → IsSomeAnd o P → (x : X) × (o ≡ Some x) × P x
-some_and_of None P h = absurd h
-some_and_of (Some x) P h = (x, refl, h)
 
 pub some_and_from : {X : Type 0} (o : Option X) (P : X → Type 0) (x : X) → o ≡ Some x → P x → IsSomeAnd o P
 some_and_from o P x e h = subst (λ p. IsSomeAnd p P) (sym e) h
@@ -118,7 +110,7 @@ reads_with parts f reader key source within next reads = elim (cases_eq reader.s
         let there : found mark (remaining_of (parts_with parts f) f.session) reader.number ≡ Some txn = subst (λ s. found (mark_of parts s) (remaining_of (parts_with parts f) s) reader.number ≡ Some txn) same at in
         let there : found mark (before ++ f.txns) reader.number ≡ Some txn = subst (λ txns. found mark txns reader.number ≡ Some txn) (session_with parts f within) there in
         let low = found_low mark (before ++ f.txns) reader.number txn there in
-        elim (get_either before f.txns (reader.number - mark) txn low.1) [
+        elim (place_in before f.txns (reader.number - mark) txn low.1) [
           | inl old ↦
               let is : found mark before reader.number ≡ Some txn = found_at mark before reader.number txn low.0 old in
               inl (some_and_from (remaining_at parts reader) (λ (t : Txn). Contains t.reads (key, source)) txn (subst (λ s. found (mark_of parts s) (remaining_of parts s) reader.number ≡ Some txn) (sym same) is) has)
@@ -139,7 +131,7 @@ reads_still parts f reader key source within reads = elim (cases_eq reader.sessi
         let before = remaining_of parts f.session in
         let there : found mark before reader.number ≡ Some txn = subst (λ s. found (mark_of parts s) (remaining_of parts s) reader.number ≡ Some txn) same at in
         let low = found_low mark before reader.number txn there in
-        let is : found mark (before ++ f.txns) reader.number ≡ Some txn = found_at mark (before ++ f.txns) reader.number txn low.0 (at_here before f.txns (reader.number - mark) txn low.1) in
+        let is : found mark (before ++ f.txns) reader.number ≡ Some txn = found_at mark (before ++ f.txns) reader.number txn low.0 (place_left before f.txns (reader.number - mark) txn low.1) in
         let is : found mark (remaining_of (parts_with parts f) f.session) reader.number ≡ Some txn = subst (λ txns. found mark txns reader.number ≡ Some txn) (sym (session_with parts f within)) is in
         some_and_from (remaining_at (parts_with parts f) reader) (λ (t : Txn). Contains t.reads (key, source)) txn (subst (λ s. found (mark_of parts s) (remaining_of (parts_with parts f) s) reader.number ≡ Some txn) (sym same) is) has
 

@@ -6,6 +6,7 @@ use Rattle.std.specs.Ordering.{nat_cmp}
 use Rattle.std.proofs.lemmas.Bool.{cases_lt}
 use Rattle.std.proofs.lemmas.List.{length-replicate, get_or-replicate, get_or_past}
 use Rattle.std.proofs.lemmas.List.Folds.{sum_by-replicate}
+use Rattle.std.proofs.lemmas.Option.{none-some}
 use Rattle.txn.specs.declared.transactions.TxnId.{TxnId}
 use Rattle.txn.specs.declared.transactions.Txn.{Txn}
 use Rattle.txn.specs.declared.transactions.Fragment.{Fragment}
@@ -31,16 +32,13 @@ use Rattle.round_state.specs.Tracked.{AreMarksOf, IsIndexOf, IsTracked}
 use Rattle.round_state.proofs.Grown.{good_closed}
 use Rattle.round_state.proofs.Marked.{marks_closed}
 
-pub no_parts : (parts : Parts) → None ≡ Some parts → ⊥
-no_parts parts h = cc
-
 no_cut : (cut : Cut) → None ≡ Some cut → ⊥
 no_cut cut h = cc
 
 -- what is kept of fronts
 
 pub no_fronts : (parts : Parts) → AreKeptFronts parts None None
-no_fronts parts = record { round = λ snapshot h. absurd (no_parts snapshot h); cut = λ cut h. absurd (no_cut cut h) }
+no_fronts parts = record { round = λ snapshot h. absurd (none-some snapshot h); cut = λ cut h. absurd (no_cut cut h) }
 
 fronts_with : (parts : Parts) (asked : Option Parts) (held : Option Cut) (f : Fragment) → FragmentKeepsFront → IsOpenSession parts f.session → AreKeptFronts parts asked held → AreKeptFronts (parts_with parts f) asked held
 fronts_with parts asked held f law receives fronts = record {
@@ -106,7 +104,7 @@ same_at n s x = elim (cases_lt s n) [
   | inr past ↦ let low : length (replicate n x) ≤ s = omega (arith, length-replicate n x) in get_or_past (replicate n x) s x low
 ]
 
-no_txn : (txns : List Txn) (n : ℕ) (txn : Txn) → txns ≡ [] → slice_get txns n ≡ Some txn → ⊥
+pub no_txn : (txns : List Txn) (n : ℕ) (txn : Txn) → txns ≡ [] → slice_get txns n ≡ Some txn → ⊥
 no_txn txns n txn e h = let at : None ≡ Some txn = ap (λ (xs : List Txn). slice_get xs n) (sym e) ∙ h in cc
 
 no_writer : (key : ℕ) (writer : TxnId) → map.get {R = nat_cmp} map.empty key ≡ Some writer → ⊥
@@ -172,5 +170,5 @@ fresh_holds sessions limit engine law e =
     subst (λ (engine : EngineState). Holds engine (fresh_state sessions limit)) (sym e) (record {
       same = refl;
       parts = law (empty_parts sessions limit) none;
-      asked = λ parts h. let none_is_some : None ≡ Some parts = h in absurd (no_parts parts none_is_some);
+      asked = λ parts h. let none_is_some : None ≡ Some parts = h in absurd (none-some parts none_is_some);
     })

@@ -1,7 +1,6 @@
 -- The fronts that an engine keeps, and what a cut that is kept leaves.
-use Rattle.std.proofs.Common.{◌≡◌, ℕ, ◌+◌, ◌-◌, ◌<◌, ◌^◌, Bool, false, List, get_or, Option, Some, None, refl, sym, ap, ◌∙◌, subst, arith}
-use Rattle.std.specs.Option.{is_some}
-use Rattle.std.proofs.lemmas.Bool.{false≢true}
+use Rattle.std.proofs.Common.{◌≡◌, ℕ, ◌+◌, ◌-◌, ◌<◌, ◌^◌, Bool, false, List, get_or, Option, Some, None, sym, ap, ◌∙◌, subst, arith}
+use Rattle.std.proofs.lemmas.Option.{none-some}
 use Rattle.session_marks.specs.declared.marks.SessionMark.{SessionMark}
 use Rattle.pending_reads.specs.Waiting.{Index}
 use Rattle.order_check.specs.declared.remainder.Kind.{Kind}
@@ -19,19 +18,14 @@ use Rattle.settle.specs.declared.cuts.Cut.{Cut}
 use Rattle.round_state.specs.Kept.{AreKeptFronts, IsFitting, IsKept, IsKeptCut, KeptCutsFit}
 use Rattle.round_state.specs.Solving.{IsReportOn, IsRight}
 use Rattle.round_state.specs.Steps.{IsHeldAfter}
-use Rattle.round_state.specs.Tracked.{AreMarksOf, AreRaisedBelow, IsIndexOf}
+use Rattle.round_state.specs.Tracked.{AreMarksOf, AreRaisedBelow}
 use Rattle.round_state.specs.declared.reports.Certificate.{Certificate}
 use Rattle.round_state.specs.declared.reports.Certificate.TheVariants.{Order, Refuted, Nothing}
 use Rattle.round_state.specs.declared.reports.Report.{Report}
-use Rattle.round_state.proofs.Keeping.{no_fronts, no_parts}
+use Rattle.round_state.proofs.Keeping.{no_fronts}
 
 same_parts : (a b : Parts) → Some a ≡ Some b → a ≡ b
 same_parts a b e = cc
-
--- no round is open where the test finds none
-pub none_open : {X : Type 0} (asked : Option X) (found : Bool) → found ≡ is_some asked → found ≡ false → asked ≡ None
-none_open None found told failed = refl
-none_open (Some one) found told failed = absurd (false≢true (sym failed ∙ told))
 
 -- a round that begins is about what there is
 pub kept_begun : FrontOfItself → (parts : Parts) (marks : List SessionMark) (waits : Index) (asked : Option Parts) (held : Option Cut) (rounds : ℕ) (snapshot : Parts) → snapshot ≡ parts → rounds < 2 ^ 48 - 1 → IsKept parts marks waits asked held rounds → IsKept parts marks waits (Some snapshot) held rounds
@@ -53,9 +47,9 @@ kept_abandoned parts marks waits asked held rounds kept = record {
   good = kept.good;
   marks_fit = kept.marks_fit;
   waits_fit = kept.waits_fit;
-  fronts = record { round = λ snapshot h. absurd (no_parts snapshot h); cut = kept.fronts.cut };
+  fronts = record { round = λ snapshot h. absurd (none-some snapshot h); cut = kept.fronts.cut };
   numbers = kept.numbers;
-  number = λ snapshot h. absurd (no_parts snapshot h);
+  number = λ snapshot h. absurd (none-some snapshot h);
 }
 
 -- what is held after a right answer is kept
@@ -77,11 +71,11 @@ kept_finished parts marks waits asked old new rounds snapshot round answer repor
   marks_fit = kept.marks_fit;
   waits_fit = kept.waits_fit;
   fronts = record {
-    round = λ other h. absurd (no_parts other h);
+    round = λ other h. absurd (none-some other h);
     cut = held_kept parts snapshot answer report.kind report.certificate old new (kept.fronts.round snapshot open_round) on.right holds kept.fronts.cut;
   };
   numbers = omega (arith, kept.number snapshot open_round);
-  number = λ other h. absurd (no_parts other h);
+  number = λ other h. absurd (none-some other h);
 }
 
 -- the same where the snapshot stays
@@ -91,17 +85,6 @@ kept_asked parts marks waits old new held rounds e kept = subst (λ (asked : Opt
 -- the same where the cut that is held stays
 pub kept_holding : (parts : Parts) (marks : List SessionMark) (waits : Index) (asked : Option Parts) (old new : Option Cut) (rounds : ℕ) → new ≡ old → IsKept parts marks waits asked old rounds → IsKept parts marks waits asked new rounds
 kept_holding parts marks waits asked old new rounds e kept = subst (λ (held : Option Cut). IsKept parts marks waits asked held rounds) (sym e) kept
-
--- made anew
-pub kept_anew : (parts : Parts) (marks : List SessionMark) (waits : Index) (asked : Option Parts) → asked ≡ None → IsGood parts → AreMarksOf marks parts → IsIndexOf waits parts → IsKept parts marks waits asked None 0
-kept_anew parts marks waits asked none good are is = subst (λ (a : Option Parts). IsKept parts marks waits a None 0) (sym none) (record {
-  good = good;
-  marks_fit = are;
-  waits_fit = is;
-  fronts = no_fronts parts;
-  numbers = omega arith;
-  number = λ snapshot h. absurd (no_parts snapshot h);
-})
 
 -- what is known of a cut that is kept
 pub fitting : SettledStaysSettled → CutsOfFrontsFit → CutKeepsReceived → CutKeepsWaiting → CutKeepsStandsFor → KeptCutsFit
@@ -141,7 +124,3 @@ kept_truncated old new marks new_marks waits asked held rounds cut none kept fit
   numbers = kept.numbers;
   number = kept.number;
 }
-
--- parts as they were
-pub kept_parts : (old new : Parts) (marks : List SessionMark) (waits : Index) (asked : Option Parts) (held : Option Cut) (rounds : ℕ) → new ≡ old → IsKept old marks waits asked held rounds → IsKept new marks waits asked held rounds
-kept_parts old new marks waits asked held rounds e kept = subst (λ (parts : Parts). IsKept parts marks waits asked held rounds) (sym e) kept

@@ -2,7 +2,7 @@
 use Rattle.std.proofs.Common.{◌≡◌, ◌⊎◌, ℕ, zero, suc, ◌+◌, ◌-◌, ◌<◌, ◌≤◌, ◌∷◌, ◌++◌, take, Bool, true, false, cond, nat_lt, List, [], length, Option, Some, None, refl, sym, ap, ◌∙◌, subst, inl, inr, arith, get_or, length-set}
 use Rattle.std.specs.Prelude.{slice_get, slice_set, Contains, IsSomeAnd, sum_by}
 use Rattle.std.proofs.lemmas.Bool.{cases_lt}
-use Rattle.std.proofs.lemmas.List.{get_or-take, get_or_past, length-take-le}
+use Rattle.std.proofs.lemmas.List.{get_or-take, get_or_past, length-take-le, length_push}
 use Rattle.std.proofs.lemmas.List.Sums.{sum_by-append}
 use Rattle.txn.specs.declared.transactions.TxnId.{TxnId}
 use Rattle.txn.specs.declared.transactions.Txn.{Txn}
@@ -24,22 +24,11 @@ use Rattle.round_state.proofs.Marked.{marks_flagged}
 
 -- lists with one element more
 
-length_more : {X : Type 0} (xs : List X) (x : X) → length (xs ++ x ∷ []) ≡ length xs + 1
-length_more [] x = refl
-length_more (y ∷ xs) x = let rest = length_more xs x in omega arith
-
 default_more : {X : Type 0} (xs : List X) (x : X) (n : ℕ) → get_or (xs ++ x ∷ []) n x ≡ get_or xs n x
 default_more [] x zero = refl
 default_more [] x (suc n) = refl
 default_more (y ∷ xs) x zero = refl
 default_more (y ∷ xs) x (suc n) = default_more xs x n
-
-pub taken_again : {X : Type 0} (xs : List X) (x : X) → take (length (xs ++ x ∷ []) - 1) (xs ++ x ∷ []) ≡ xs
-taken_again {X = X} xs x = let n : length (xs ++ x ∷ []) - 1 ≡ length xs = omega (arith, length_more xs x) in ap (λ k. take k (xs ++ x ∷ [])) n ∙ take_front xs
-  where
-    take_front : (ys : List X) → take (length ys) (ys ++ x ∷ []) ≡ ys
-    take_front [] = refl
-    take_front (y ∷ ys) = ap (λ zs. y ∷ zs) (take_front ys)
 
 set_last : {X : Type 0} (xs : List X) (x y : X) (n : ℕ) → n ≡ length xs → slice_set (xs ++ x ∷ []) n y ≡ xs ++ y ∷ []
 set_last [] x y zero e = refl
@@ -60,12 +49,12 @@ at_same parts id = λ i. cond (nat_lt id.number (marks_same parts id.session i))
 
 pub good_more : (parts : Parts) → IsGood parts → length parts.remain < 64 → IsGood (parts_more parts)
 good_more parts good few =
-    let size = length_more parts.remain [] in
+    let size = length_push parts.remain [] in
     record {
       some_sessions = omega (arith, size);
       few_sessions = omega (arith, size, few);
-      marks = length_more parts.base.marks 0 ∙ ap (λ n. n + 1) good.marks ∙ sym size;
-      closed = length_more parts.closed false ∙ ap (λ n. n + 1) good.closed ∙ sym size;
+      marks = length_push parts.base.marks 0 ∙ ap (λ n. n + 1) good.marks ∙ sym size;
+      closed = length_push parts.closed false ∙ ap (λ n. n + 1) good.closed ∙ sym size;
       some_limit = good.some_limit;
       low_limit = good.low_limit;
       room = let sum : sum_by length (parts.remain ++ [] ∷ []) ≡ sum_by length parts.remain + 0 = sum_by-append length parts.remain ([] ∷ []) in omega (arith, sum, good.room);
@@ -79,7 +68,7 @@ marks_more : (marks : List SessionMark) (parts : Parts) → AreMarksOf marks par
 marks_more marks parts are =
     let same : (s : ℕ) → mark_at (marks ++ fresh ∷ []) s ≡ mark_at marks s = λ s. default_more marks fresh s in
     record {
-      sessions = length_more marks fresh ∙ ap (λ n. n + 1) are.sessions ∙ sym (length_more parts.remain []);
+      sessions = length_push marks fresh ∙ ap (λ n. n + 1) are.sessions ∙ sym (length_push parts.remain []);
       gone = λ s. ap (λ (m : SessionMark). m.gone) (same s) ∙ are.gone s ∙ sym (marks_same parts s);
       received = λ s. let long = ap length (remaining_same parts s) in omega (arith, ap (λ (m : SessionMark). m.received) (same s), are.received s, marks_same parts s, long);
       closed = λ s. ap (λ (m : SessionMark). m.closed) (same s) ∙ are.closed s ∙ sym (default_more parts.closed false s);
@@ -117,7 +106,7 @@ pub admitted_more : (parts : Parts) (f : Fragment) → IsGood parts → IsLetIn 
 admitted_more parts f good fits new = record {
   next = record {
     well_formed = fits.well_formed;
-    session = (omega (arith, new, length_more parts.remain []), λ closed. is_open (closed_at closed));
+    session = (omega (arith, new, length_push parts.remain []), λ closed. is_open (closed_at closed));
     next = let long = ap length (remaining_same parts f.session) in omega (arith, fits.next, marks_same parts f.session, long);
   };
   room = let sum : sum_by length (parts.remain ++ [] ∷ []) ≡ sum_by length parts.remain + 0 = sum_by-append length parts.remain ([] ∷ []) in omega (arith, sum, fits.room);
@@ -210,7 +199,7 @@ marks_less marks parts good are = record {
     n = length marks - 1
 
     long : length marks ≡ length parts.remain + 1
-    long = are.sessions ∙ length_more parts.remain []
+    long = are.sessions ∙ length_push parts.remain []
 
     count : length (take (length marks - 1) marks) ≡ length marks - 1
     count = length-take-le (length marks - 1) marks (omega arith)

@@ -1,27 +1,18 @@
 -- The marks of an engine tell of its parts, and keep telling of them.
-use Rattle.std.proofs.Common.{◌≡◌, ◌≢◌, ℕ, zero, suc, ◌+◌, ◌<◌, ◌≤◌, Bool, true, false, List, [], ◌∷◌, ◌++◌, length, Some, sym, ap, ◌∙◌, subst, inl, inr, arith, length-append, length-set, get_or, get_or-set_same, get_or-set_other}
-use Rattle.std.specs.Prelude.{slice_get, slice_set, sum_by}
+use Rattle.std.proofs.Common.{◌≡◌, ◌≢◌, ℕ, ◌+◌, ◌<◌, Bool, true, false, List, [], ◌++◌, length, sym, ap, ◌∙◌, subst, inl, inr, arith, length-append, length-set, get_or, get_or-set_same, get_or-set_other}
+use Rattle.std.specs.Prelude.{slice_set}
 use Rattle.std.proofs.lemmas.Bool.{cases_eq, false≢true}
 use Rattle.std.proofs.lemmas.Option.{get_or_from_slice_get}
 use Rattle.txn.specs.declared.transactions.Txn.{Txn}
 use Rattle.txn.specs.declared.transactions.Fragment.{Fragment}
-use Rattle.txn.specs.declared.refusals.Refusal.{Refusal}
-use Rattle.txn.specs.declared.refusals.Refusal.TheVariants.{BadSession, Closed, Gap, Repeat}
 use Rattle.txn.specs.History.{session_of}
-use Rattle.txn.specs.Transactions.{IsWellFormedFragment}
 use Rattle.session_marks.specs.declared.marks.SessionMark.{SessionMark}
-use Rattle.session_marks.specs.Marks.{fresh, mark_at, IsOpen, IsClosed, IsNext, AdmitFault, CloseFault, with_received, with_closed, with_flag}
+use Rattle.session_marks.specs.Marks.{fresh, mark_at, IsOpen, with_received, with_closed, with_flag}
 use Rattle.order_check.specs.declared.remainder.Parts.{Parts}
 use Rattle.order_check.specs.Based.{mark_of, received_count}
 use Rattle.order_check.specs.Good.{IsGood}
 use Rattle.order_check.specs.StandsFor.{IsOpenSession, parts_with, parts_closed}
-use Rattle.round_state.specs.Steps.{IsAdmitted, IntakeFault, IsClosedSession, IsCloseRefusal}
 use Rattle.round_state.specs.Tracked.{AreMarksOf}
-
-flag_at : (flags : List Bool) (s : ℕ) → s < length flags → get_or flags s false ≡ true → slice_get flags s ≡ Some true
-flag_at [] s within is = absurd (omega arith)
-flag_at (flag ∷ flags) zero within is = ap Some is
-flag_at (flag ∷ flags) (suc s) within is = flag_at flags s (omega arith) is
 
 -- what is open and closed by the marks is so in the parts
 pub open_session : (marks : List SessionMark) (parts : Parts) (s : ℕ) → AreMarksOf marks parts → IsOpen marks s → IsOpenSession parts s
@@ -29,34 +20,6 @@ open_session marks parts s are open_mark = (
   omega (arith, open_mark.0, are.sessions),
   λ closed. false≢true (sym open_mark.1 ∙ are.closed s ∙ get_or_from_slice_get parts.closed s true false closed),
 )
-
-pub closed_session : (marks : List SessionMark) (parts : Parts) (s : ℕ) → AreMarksOf marks parts → IsGood parts → IsClosed marks s → IsClosedSession parts s
-closed_session marks parts s are good closed =
-    let within : s < length parts.remain = omega (arith, closed.0, are.sessions) in
-    (within, flag_at parts.closed s (omega (arith, within, good.closed)) (sym (are.closed s) ∙ closed.1))
-
--- what the marks admit is next in the parts, and what they refuse is refused
-pub admitted : (marks : List SessionMark) (parts : Parts) (f : Fragment) → AreMarksOf marks parts → IsWellFormedFragment f → IsNext marks f → sum_by length parts.remain + length f.txns ≤ parts.limit → IsAdmitted parts f
-admitted marks parts f are well next room = record {
-  next = record {
-    well_formed = well;
-    session = open_session marks parts f.session are next.session;
-    next = next.place ∙ are.received f.session;
-  };
-  room = room;
-}
-
-pub refused : (marks : List SessionMark) (parts : Parts) (f : Fragment) (refusal : Refusal) → AreMarksOf marks parts → IsGood parts → AdmitFault marks f refusal → IntakeFault parts f refusal
-refused marks parts f BadSession are good fault = omega (arith, fault, are.sessions)
-refused marks parts f Closed are good fault = closed_session marks parts f.session are good fault
-refused marks parts f Gap are good fault = (open_session marks parts f.session are fault.0, omega (arith, fault.1, are.received f.session))
-refused marks parts f Repeat are good fault = (open_session marks parts f.session are fault.0, omega (arith, fault.1, are.received f.session))
-refused marks parts f refusal are good fault = absurd fault
-
-pub close_refused : (marks : List SessionMark) (parts : Parts) (s : ℕ) (refusal : Refusal) → AreMarksOf marks parts → IsGood parts → CloseFault marks s refusal → IsCloseRefusal parts s refusal
-close_refused marks parts s BadSession are good fault = omega (arith, fault, are.sessions)
-close_refused marks parts s Closed are good fault = closed_session marks parts s are good fault
-close_refused marks parts s refusal are good fault = absurd fault
 
 -- the marks after a fragment are those of the parts with it
 pub marks_with : (marks : List SessionMark) (parts : Parts) (f : Fragment) → AreMarksOf marks parts → f.session < length parts.remain → AreMarksOf (with_received marks f.session (length f.txns)) (parts_with parts f)

@@ -1,8 +1,8 @@
 -- The marks of an engine, made anew from its parts, and raised after a cut.
-use Rattle.std.proofs.Common.{◌≡◌, ◌≢◌, ℕ, zero, suc, ◌+◌, ◌-◌, ◌<◌, ◌≤◌, Bool, true, false, List, [], ◌∷◌, ◌++◌, length, Some, refl, sym, ap, ◌∙◌, subst, inl, inr, arith, length-append, length-set, get_or, get_or-set_same, get_or-set_other}
+use Rattle.std.proofs.Common.{◌≡◌, ◌≢◌, ℕ, zero, suc, ◌+◌, ◌-◌, ◌<◌, ◌≤◌, Bool, true, false, List, [], ◌∷◌, length, Some, refl, sym, ap, ◌∙◌, subst, inl, inr, arith, length-set, get_or, get_or-set_same, get_or-set_other}
 use Rattle.std.specs.Prelude.{slice_get, slice_set, IsTrue, ◌↔◌}
 use Rattle.std.proofs.lemmas.Bool.{cases_eq, cases_lt, false≢true}
-use Rattle.std.proofs.lemmas.List.{get_or_append_left, get_or-append-add, get_or_past}
+use Rattle.std.proofs.lemmas.List.{get_or_past}
 use Rattle.std.proofs.lemmas.Option.{get_or_from_slice_get}
 use Rattle.txn.specs.declared.transactions.Txn.{Txn}
 use Rattle.session_marks.specs.declared.marks.SessionMark.{SessionMark}
@@ -31,18 +31,6 @@ mark_told parts s gone received closed g r c = λ i. record { gone = g i; receiv
 
 pub first_none : (parts : Parts) → AreFirstMarks [] parts 0
 first_none parts = record { sessions = refl; same = λ s within. absurd (omega (arith, within)) }
-
-pub first_more : (parts : Parts) (marks more : List SessionMark) (mark : SessionMark) (count : ℕ) → more ≡ marks ++ mark ∷ [] → mark ≡ mark_in parts count → AreFirstMarks marks parts count → AreFirstMarks more parts (count + 1)
-first_more parts marks more mark count e is first = subst (λ list. AreFirstMarks list parts (count + 1)) (sym e) (record {
-  sessions = omega (arith, length-append marks (mark ∷ []), first.sessions);
-  same = λ s within. elim (cases_lt s count) [
-    | inl low ↦ get_or_append_left marks (mark ∷ []) fresh s (omega (arith, low, first.sessions)) ∙ first.same s low
-    | inr high ↦
-        let same : length marks + 0 ≡ s = omega (arith, high, within, first.sessions) in
-        let count_is : count ≡ s = omega (arith, high, within) in
-        ap (λ n. get_or (marks ++ mark ∷ []) n fresh) (sym same) ∙ get_or-append-add marks (mark ∷ []) 0 fresh ∙ is ∙ ap (mark_in parts) count_is
-  ];
-})
 
 -- past the sessions everything is none
 past_mark : (parts : Parts) (s : ℕ) → IsGood parts → length parts.remain ≤ s → mark_of parts s ≡ 0

@@ -2,6 +2,7 @@
 use Rattle.std.proofs.Common.{◌≡◌, ℕ, ◌+◌, ◌⊎◌, inl, inr, Bool, true, false, nat_eq, [], length, arith, List, Option, Some, None, refl, sym, ap, ◌∙◌, subst}
 use Rattle.std.proofs.lemmas.Bool.{eq-eqb, eqb-true, false≢true}
 use Rattle.std.specs.Prelude.{if◌then◌else◌, Result, Ok, Err, IfOk, IfErr, IfSome, IsSomeAnd, MatchResult}
+use Rattle.std.proofs.lemmas.Option.{none-some}
 use Rattle.txn.specs.History.{History, session_of}
 use Rattle.txn.specs.declared.transactions.Fragment.{Fragment}
 use Rattle.txn.specs.declared.transactions.Txn.{Txn}
@@ -41,9 +42,6 @@ use Rattle.round_state.specs.declared.steps.Step.TheVariants.{Offer, Join, Close
 use Rattle.round_state.specs.declared.steps.StepReply.{StepReply}
 use Rattle.round_state.specs.declared.steps.StepReply.TheVariants as reply
 use Rattle.round_state.proofs.Counts.{counts_of}
-
-none_or_some : (parts : Parts) → None ≡ Some parts → ⊥
-none_or_some parts e = cc
 
 -- what a lawful answer earns is the verdict, is shown, and is what a search may come to
 record Earned (parts : Parts) (budget depth : ℕ) (kind : Kind) (certificate : Certificate) : Type 0 where
@@ -243,19 +241,19 @@ legal_of old new (Finish budget depth workers) (reply.Report report) grounds rig
     legal_by old new (Finish budget depth workers) (reply.Report report) before holds right
     (tells_of old new old.asked before.asked budget depth report grounds.verdicts (λ parts e. (grounds.snapshot parts e, holds.asked parts e)) right.0)
     (subst (λ (p : Parts). StandsFor p before.whole) (sym right.1.parts) holds.parts)
-    (λ parts h. absurd (none_or_some parts (sym right.1.none_open ∙ h)))
+    (λ parts h. absurd (none-some parts (sym right.1.none_open ∙ h)))
 legal_of old new (Finish budget depth workers) (reply.Refused refusal) grounds right before holds =
     legal_by old new (Finish budget depth workers) (reply.Refused refusal) before holds right tt (parts_along new old _ right.1 holds.parts) (asked_along new old _ right.1 holds.asked)
 legal_of old new (Judge certificate) (reply.Report report) grounds right before holds =
     legal_by old new (Judge certificate) (reply.Report report) before holds right
     (tells_judged old new old.asked before.asked (answer_told certificate) report grounds.verdicts grounds.refuted (λ parts e. (grounds.snapshot parts e, holds.asked parts e)) right.0)
     (subst (λ (p : Parts). StandsFor p before.whole) (sym right.1.parts) holds.parts)
-    (λ parts h. absurd (none_or_some parts (sym right.1.none_open ∙ h)))
+    (λ parts h. absurd (none-some parts (sym right.1.none_open ∙ h)))
 legal_of old new (Judge certificate) (reply.Refused refusal) grounds right before holds =
     legal_by old new (Judge certificate) (reply.Refused refusal) before holds right tt (parts_along new old _ right.1 holds.parts) (asked_along new old _ right.1 holds.asked)
 legal_of old new Abandon reply.Done grounds right before holds =
     legal_by old new Abandon reply.Done before holds right tt (parts_along new _ _ right.1 holds.parts)
-    (asked_along new _ _ right.1 (λ parts h. absurd (none_or_some parts h)))
+    (asked_along new _ _ right.1 (λ parts h. absurd (none-some parts h)))
 legal_of old new Abandon (reply.Refused refusal) grounds right before holds =
     legal_by old new Abandon (reply.Refused refusal) before holds right tt (parts_along new old _ right.1 holds.parts) (asked_along new old _ right.1 holds.asked)
 legal_of old new Truncate (reply.Cut cut) grounds right before holds =
@@ -266,7 +264,7 @@ legal_of old new Truncate (reply.Refused refusal) grounds right before holds =
     legal_by old new Truncate (reply.Refused refusal) before holds right tt (parts_along new old _ right.1 holds.parts) (asked_along new old _ right.1 holds.asked)
 legal_of old new Rebuild reply.Done grounds right before holds =
     legal_by old new Rebuild reply.Done before holds right tt (parts_along new _ _ right.1 holds.parts)
-    (asked_along new _ _ right.1 (λ parts h. absurd (none_or_some parts h)))
+    (asked_along new _ _ right.1 (λ parts h. absurd (none-some parts h)))
 legal_of old new Rebuild (reply.Refused refusal) grounds right before holds =
     legal_by old new Rebuild (reply.Refused refusal) before holds right tt (parts_along new old _ right.1 holds.parts) (asked_along new old _ right.1 holds.asked)
 legal_of old new step said grounds right before holds = absurd right

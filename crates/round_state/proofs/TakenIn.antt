@@ -1,10 +1,7 @@
 -- What is kept beside the parts tells of them when a fragment was taken in, and where there was no memory for it.
-use Rattle.std.proofs.Common.{◌≡◌, ℕ, zero, suc, ◌<◌, ◌∷◌, ◌++◌, take, List, [], length, sym, ap, ◌∙◌, subst, arith}
-use Rattle.std.specs.Prelude.{slice_set}
-use Rattle.std.proofs.Math.Seq.{take-append_seam}
+use Rattle.std.proofs.Common.{◌≡◌, ℕ, List, length, sym, ap, ◌∙◌, subst}
 use Rattle.txn.specs.declared.transactions.Txn.{Txn}
 use Rattle.txn.specs.declared.transactions.Fragment.{Fragment}
-use Rattle.txn.specs.History.{session_of}
 use Rattle.session_marks.specs.declared.marks.SessionMark.{SessionMark}
 use Rattle.session_marks.specs.Marks.{with_received}
 use Rattle.pending_reads.specs.declared.index.PendingRead.{PendingRead}
@@ -44,15 +41,3 @@ tracked_with parts marks new_marks old mid new count f remain awaited e m n a tr
       marks_fit = subst (λ (ms : List SessionMark). AreMarksOf ms (parts_with parts f)) (sym told) (marks_with marks parts f tracked.marks_fit fits.next.session.0);
       waits_fit = index_with marks parts old mid new f tracked.marks_fit tracked.waits_fit fits wait arrived;
     })
-
--- a session that was lengthened and cut again
-cut_back : (remain : List (List Txn)) (s n : ℕ) (txns : List Txn) → s < length remain → n ≡ length (session_of remain s) → slice_set (slice_set remain s (session_of remain s ++ txns)) s (take n (session_of (slice_set remain s (session_of remain s ++ txns)) s)) ≡ remain
-cut_back [] s n txns within e = absurd (omega arith)
-cut_back (session ∷ remain) zero n txns within e = ap (λ front. front ∷ remain) (ap (λ k. take k (session ++ txns)) e ∙ take-append_seam session txns)
-cut_back (session ∷ remain) (suc s) n txns within e = ap (λ rest. session ∷ rest) (cut_back remain s n txns (omega arith) e)
-
-pub cut_back_to : (remain grown cut : List (List Txn)) (place s n : ℕ) (txns before : List Txn) → place ≡ s → s < length remain → before ≡ session_of remain s → n ≡ length before → grown ≡ slice_set remain place (session_of remain place ++ txns) → cut ≡ slice_set grown place (take n (session_of grown place)) → cut ≡ remain
-cut_back_to remain grown cut place s n txns before p within b e g c =
-    let inside : place < length remain = omega (arith, p, within) in
-    let size : n ≡ length (session_of remain place) = e ∙ ap length (b ∙ ap (session_of remain) (sym p)) in
-    c ∙ ap (λ (list : List (List Txn)). slice_set list place (take n (session_of list place))) g ∙ cut_back remain place n txns inside size

@@ -10,6 +10,7 @@ use order_check::{
 pub(crate) fn kept_cuts_fit()
     ensures { KeptCutsFit }
 {
+    // Laws that the proof cites. They do nothing when they run.
     settled_stays_settled();
     cuts_of_fronts_fit();
     cut_keeps_received();

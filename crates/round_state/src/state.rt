@@ -1,4 +1,4 @@
-ghost use Rattle.std.specs.Prelude.{◌≡◌, ◌+◌, length, sum_by, Some, None, IfOk, IfErr, OnErr, OnOk, IsSome, IsSomeAnd, MatchBool};
+ghost use Rattle.std.specs.Prelude.{◌≡◌, ◌+◌, length, sum_by, Some, None, IfOk, IfErr, OnOk, IsSome, IsSomeAnd, MatchBool};
 ghost use Rattle.txn.specs.History.{History};
 ghost use Rattle.txn.specs.Transactions.{IsWellFormedFragment};
 ghost use Rattle.logged_fragments.specs.Effects.{effects};
@@ -88,6 +88,7 @@ impl Engine {
         if !is_limit(limit) {
             return Err(Refusal::TooLong);
         }
+        // A law that the proof cites. It does nothing when it runs.
         stands_for_what_remains();
         Ok(Engine {
             parts: empty_parts(alloc, sessions, limit)?,
@@ -150,6 +151,7 @@ impl Engine {
         ensures ok { OnOk result (IsWellFormedFragment logged.fragment × IsAdmitted self.old.parts (effects logged) × (self.new ≡ engine_offered self.old (effects logged))) }
         ensures err { IfErr result (λ refusal. IsOfferRefusal self.old.parts logged refusal × (self.new ≡ self.old)) }
     {
+        // Laws that the proof cites. They do nothing when they run.
         fragment_keeps_front();
         kept_fronts_are_counted();
         let fragment = effects_of(logged)?;
@@ -194,6 +196,7 @@ impl Engine {
         ensures ok { OnOk result (IsOpenSession self.old.parts session × (self.new ≡ engine_closed self.old session)) }
         ensures err { IfErr result (λ refusal. IsCloseRefusal self.old.parts session refusal × (self.new ≡ self.old)) }
     {
+        // A law that the proof cites. It does nothing when it runs.
         close_keeps_front();
         self.marks.close(session)?;
         self.parts.closed.set(usize::from(session), true);
@@ -211,6 +214,7 @@ impl Engine {
         if self.round >= LAST_ROUND {
             return Err(Refusal::TooLong);
         }
+        // Laws that the proof cites. They do nothing when they run.
         front_of_itself();
         kept_fronts_are_counted();
         let last = known_of(alloc, self.known.take(), &self.parts)?;
@@ -226,6 +230,7 @@ impl Engine {
         ensures ok { IfOk result (λ report. IsSomeAnd self.old.asked (λ parts. IsReportOn parts (self.old.rounds + 1) answer report × IsHeldAfter parts report.kind self.old.held self.new.held) × IsFinished self.old self.new) }
         ensures err { IfErr result (λ refusal. IsFinishRefusal self.old answer refusal × (self.new ≡ self.old)) }
     {
+        // A law that the proof cites. It does nothing when it runs.
         kept_fronts_are_counted();
         let Some(begun) = &self.asked else {
             return Err(Refusal::NoRound);
@@ -242,6 +247,7 @@ impl Engine {
     pub fn open_problem(&self, alloc: Global) -> Result<Option<Problem>, NoMemory>
         ensures { IfOk result (λ problem. parts_asked problem ≡ self.now.asked) }
     {
+        // A law that the proof cites. It does nothing when it runs.
         kept_fronts_are_counted();
         if !self.is_open() {
             return Ok(None);
@@ -255,6 +261,7 @@ impl Engine {
     pub(crate) fn has_good_snapshot(&self)
         ensures { (parts : Parts) → self.now.asked ≡ Some parts → IsGood parts }
     {
+        // A law that the proof cites. It does nothing when it runs.
         kept_fronts_are_counted();
         let _ = self.asked.is_some();
     }
@@ -288,6 +295,7 @@ impl Engine {
         if self.is_open() {
             return Err(Refusal::RoundOpen);
         }
+        // A law that the proof cites. It does nothing when it runs.
         front_of_itself();
         self.has_fitting_cut();
         let Some(cut) = self.held.take() else {

@@ -12,19 +12,11 @@ use order_check::{
     close_keeps_stands_for, join_keeps_stands_for, offer_keeps_stands_for, return_keeps_stands_for,
     verdict_as_stood_for,
 };
-use polygraph::{Answer, Problem, Solver};
+use polygraph::{Answer, Effort, Problem, Solver};
 use refutation::refuted_has_no_order;
 use settle::Cut;
 use std::alloc::Global;
 use txn::{NoMemory, Refusal};
-
-/// What a search may take: so many nodes, cubes of so many splits, so many workers.
-#[derive(Clone, Copy)]
-struct Effort {
-    budget: u64,
-    depth: u64,
-    workers: u64,
-}
 
 /// A step of an engine.
 #[derive(Drop, Debug)]
@@ -223,6 +215,7 @@ impl Engine {
     pub fn right_is_legal(&self)
         ensures { (step : Step) (reply : StepReply) (new : EngineState) → StepsTo self.now step reply new → StepsLegally self.now step reply new }
     {
+        // Laws that the proof cites. They do nothing when they run.
         offer_keeps_stands_for();
         join_keeps_stands_for();
         return_keeps_stands_for();

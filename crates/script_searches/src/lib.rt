@@ -4,5 +4,6 @@
 mod searches;
 mod under_way;
 
-pub use searches::{Effort, Solvers, is_same, search};
+pub use log_text::Effort;
+pub use searches::{Solvers, is_same, search};
 pub use under_way::UnderWay;

@@ -3,7 +3,7 @@ ghost use Rattle.std.specs.Prelude.{◌≡◌, IsTrue};
 ghost use Rattle.order_check.specs.Effort.{IsEffort};
 ghost use Rattle.script_searches.specs.Searches.{MayAnswer};
 
-use log_text::Search;
+use log_text::{Effort, Search};
 use polygraph::{Answer, PlainSolver, Problem, Solver};
 use std::alloc::Global;
 
@@ -12,15 +12,6 @@ use std::alloc::Global;
 pub struct Solvers<P, S> {
     pub plain: P,
     pub guided: S,
-}
-
-/// Which search a round is to make, and what that may cost.
-#[derive(Clone, Copy)]
-pub struct Effort {
-    pub budget: u64,
-    pub depth: u64,
-    pub workers: u64,
-    pub search: Search,
 }
 
 /// Whether both are the same search.

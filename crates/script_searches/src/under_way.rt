@@ -5,7 +5,8 @@ ghost use Rattle.polygraph.specs.declared.solving.Answer.TheVariants as answers;
 ghost use Rattle.script_searches.specs.Searches.{MayAnswer};
 ghost use Rattle.script_searches.specs.Ways.{IsWayOf};
 
-use crate::searches::{Effort, Solvers, search};
+use crate::searches::{Solvers, search};
+use log_text::Effort;
 use order_check::Parts;
 use polygraph::{Answer, PlainSolver, Problem, Solver, StopWord};
 use std::alloc::Global;

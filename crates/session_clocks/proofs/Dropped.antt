@@ -1,8 +1,9 @@
 -- What is left of the closure, and of the rows, when fronts go that nothing which stays reaches.
-use Rattle.std.proofs.Common.{◌≡◌, ℕ, zero, suc, ◌+◌, ◌-◌, ◌*◌, ◌<◌, ◌≤◌, Bool, true, false, not, cond, ◌&&◌, List, [], ◌∷◌, Vec, Global, filter, length, get_or, refl, sym, ap, subst, ◌∙◌, inl, inr, arith, All, Contains}
-use Rattle.std.proofs.lemmas.Bool.{cases_lt, false≢true, lt-ltb, le-ltb}
+use Rattle.std.proofs.Common.{◌≡◌, ℕ, ◌+◌, ◌-◌, ◌*◌, ◌<◌, ◌≤◌, true, not, List, Vec, Global, filter, length, get_or, refl, sym, ap, subst, ◌∙◌, inl, inr, arith, All}
+use Rattle.std.proofs.lemmas.Bool.{cases_lt, false≢true, lt-ltb, le-ltb, and_parts}
 use Rattle.std.proofs.lemmas.List.Elements.{All-filter, filter_passes}
 use Rattle.std.proofs.Math.Nat.{add-mul}
+use Rattle.list_lemmas.proofs.Filters.{contains_filter, filter_contains}
 use Rattle.txn.specs.declared.transactions.TxnId.{TxnId}
 use Rattle.txn.specs.declared.choices.Arc.{Arc}
 use Rattle.txn.specs.Arcs.{start_of, end_of}
@@ -14,28 +15,6 @@ use Rattle.session_clocks.proofs.Orders.{there_within}
 use Rattle.session_clocks.proofs.Closures.{Reaches-there}
 use Rattle.session_clocks.proofs.Places.{row_before}
 
-module _ {X : Type 0} (p : X → Bool) where
-  Contains-filter : (xs : List X) (x : X) → Contains xs x → p x ≡ true → Contains (filter p xs) x
-  Contains-filter [] x (k, within, is) passes = absurd (omega arith)
-  Contains-filter (y ∷ xs) x (zero, within, is) passes = rw (ap p is ∙ passes) (0, omega arith, is)
-  Contains-filter (y ∷ xs) x (suc k, within, is) passes = by_test (p y) (Contains-filter xs x (k, omega arith, is) passes)
-    where
-      by_test : (b : Bool) → Contains (filter p xs) x → Contains (cond b (y ∷ filter p xs) (filter p xs)) x
-      by_test true later = (suc later.0, omega (arith, later.1), later.2)
-      by_test false later = later
-
-  Contains-from_filter : (xs : List X) (x : X) → Contains (filter p xs) x → Contains xs x × (p x ≡ true)
-  Contains-from_filter [] x there = absurd (omega (arith, there.1))
-  Contains-from_filter (y ∷ xs) x there = by_test (p y) refl (Contains-from_filter xs x) there
-    where
-      more : Contains xs x × (p x ≡ true) → Contains (y ∷ xs) x × (p x ≡ true)
-      more later = ((suc later.0.0, omega (arith, later.0.1), later.0.2), later.1)
-
-      by_test : (b : Bool) → p y ≡ b → (Contains (filter p xs) x → Contains xs x × (p x ≡ true)) → Contains (cond b (y ∷ filter p xs) (filter p xs)) x → Contains (y ∷ xs) x × (p x ≡ true)
-      by_test true passes later (zero, within, is) = ((0, omega arith, is), sym (ap p is) ∙ passes)
-      by_test true passes later (suc k, within, is) = more (later (k, omega arith, is))
-      by_test false fails later there = more (later there)
-
 stays_from : (gone : List ℕ) (id : TxnId) → id_stays gone id ≡ true → get_or gone id.session 0 ≤ id.number
 stays_from gone id is = elim (cases_lt id.number (get_or gone id.session 0)) [
   | inl below ↦ absurd (false≢true (sym (ap not (lt-ltb id.number (get_or gone id.session 0) below)) ∙ is))
@@ -44,10 +23,6 @@ stays_from gone id is = elim (cases_lt id.number (get_or gone id.session 0)) [
 
 stays_is : (gone : List ℕ) (id : TxnId) → get_or gone id.session 0 ≤ id.number → id_stays gone id ≡ true
 stays_is gone id above = ap not (le-ltb id.number (get_or gone id.session 0) above)
-
-both_true : (a b : Bool) → (a && b) ≡ true → (a ≡ true) × (b ≡ true)
-both_true true b is = (refl, is)
-both_true false b is = absurd (false≢true is)
 
 module _ (gone received : List ℕ) (arcs : List Arc) (first count : List (Vec ℕ Global)) (kept : IsKept gone received arcs first count) (left : List ℕ)
     (sessions : length left ≡ length gone) (more : (session : ℕ) → get_or gone session 0 ≤ get_or left session 0) (within : (session : ℕ) → get_or left session 0 ≤ get_or received session 0)
@@ -70,22 +45,22 @@ module _ (gone received : List ℕ) (arcs : List Arc) (first count : List (Vec �
 
   pub Reaches-left : {a b : TxnId} → IsThere left received a → Reaches gone received arcs a b → Reaches left received rest a b
   Reaches-left there (by_session a b first second same below) = by_session a b there (stays_there a b there (by_session a b first second same below)) same below
-  Reaches-left there (by_arc arc known) = by_arc arc (Contains-filter (arc_stays left) arcs arc known (arc_left arc there (stays_there (start_of arc) (end_of arc) there (by_arc arc known))))
+  Reaches-left there (by_arc arc known) = by_arc arc (contains_filter (arc_stays left) arcs arc known (arc_left arc there (stays_there (start_of arc) (end_of arc) there (by_arc arc known))))
   Reaches-left there (through a c b before after) = through a c b (Reaches-left there before) (Reaches-left (stays_there a c there before) after)
 
   pub Reaches-was : {a b : TxnId} → Reaches left received rest a b → Reaches gone received arcs a b
   Reaches-was (by_session a b first second same below) = by_session a b (there_was a first) (there_was b second) same below
-  Reaches-was (by_arc arc known) = by_arc arc ((Contains-from_filter (arc_stays left) arcs arc known).0)
+  Reaches-was (by_arc arc known) = by_arc arc ((filter_contains (arc_stays left) arcs arc known).0)
   Reaches-was (through a c b before after) = through a c b (Reaches-was before) (Reaches-was after)
 
   rest_starts : All (λ arc. IsThere left received (start_of arc)) rest
   rest_starts k d inside =
-      let passes = both_true _ _ (filter_passes (arc_stays left) arcs k d inside) in
+      let passes = and_parts _ _ (filter_passes (arc_stays left) arcs k d inside) in
       (stays_from left (start_of (get_or rest k d)) passes.0, (All-filter (arc_stays left) (λ arc. IsThere gone received (start_of arc)) arcs kept.starts k d inside).1)
 
   rest_ends : All (λ arc. IsThere left received (end_of arc)) rest
   rest_ends k d inside =
-      let passes = both_true _ _ (filter_passes (arc_stays left) arcs k d inside) in
+      let passes = and_parts _ _ (filter_passes (arc_stays left) arcs k d inside) in
       (stays_from left (end_of (get_or rest k d)) passes.1, (All-filter (arc_stays left) (λ arc. IsThere gone received (end_of arc)) arcs kept.ends k d inside).1)
 
   pub rest_there : (a b : TxnId) → Reaches left received rest a b → IsThere left received a × IsThere left received b

@@ -1,16 +1,17 @@
 -- Paths, and the trees along which they are found.
-use Rattle.std.proofs.Common.{◌≡◌, ◌≢◌, ◌⊎◌, ℕ, zero, suc, ◌+◌, ◌-◌, ◌<◌, ◌≤◌, List, [], ◌∷◌, ◌++◌, length, take, get_or, set, replicate, refl, sym, ap, subst, subst₂, ◌∙◌, inl, inr, arith, Contains, All, length-append, length-set, cond, Bool, true, false, ◌&&◌, nat_eq}
+use Rattle.std.proofs.Common.{◌≡◌, ◌≢◌, ◌⊎◌, ℕ, zero, suc, ◌+◌, ◌<◌, ◌≤◌, List, [], ◌∷◌, ◌++◌, length, take, get_or, set, refl, sym, ap, subst, subst₂, ◌∙◌, inl, inr, arith, Contains, length-append, length-set, cond, Bool, true, false, ◌&&◌, nat_eq}
 use Rattle.std.proofs.lemmas.Bool.{cases_eq, cases_lt, lt-ltb, le-ltb, eq-eqb, eqb-true, false≢true}
-use Rattle.std.proofs.lemmas.List.{append-nil, append_assoc, take-append-le, get_or_append_left, get_or-set_same, get_or-set_other, get_or_past, get_or_default, length-replicate, take_more}
+use Rattle.std.proofs.lemmas.List.{take-append-le, get_or_append_left, get_or-set_same, get_or-set_other, get_or_past, get_or_default, take_more}
 use Rattle.std.proofs.lemmas.List.Elements.{All-contains, Contains-append_left, Contains-push, Contains-push_cases}
 use Rattle.std.proofs.Math.Seq.{take-append_seam, get_or-append_seam}
+use Rattle.list_lemmas.proofs.Ends.{push_not_nil}
 use Rattle.txn.specs.declared.transactions.TxnId.{TxnId}
 use Rattle.txn.specs.declared.choices.Arc.{Arc}
 use Rattle.txn.specs.declared.choices.Arc.TheVariants.{Session, Read, Base, Taken}
 use Rattle.txn.specs.Arcs.{start_of, end_of}
-use Rattle.session_clocks.specs.Paths.{IsOfSession, IsStep, Leads, IsPathOf}
+use Rattle.session_clocks.specs.Paths.{IsStep, Leads, IsPathOf}
 use Rattle.session_clocks.specs.Reach.{IsThere, Reaches, by_session, by_arc, through}
-use Rattle.session_clocks.specs.Trees.{IsAlong, IsBefore, IsBetween, StartsOne, LeadsOn, AreNearer, IsLed, IsLedTo, IsTreeTo, IsWhole, IsTaken, IsTreeOf, AreWithin, HasLooked, rooms, along}
+use Rattle.session_clocks.specs.Trees.{IsAlong, IsBefore, StartsOne, LeadsOn, AreNearer, IsLed, IsLedTo, IsTreeTo, IsWhole, IsTaken, IsTreeOf, HasLooked, rooms, along}
 
 module _ (gone received : List ℕ) (arcs : List Arc) where
   pub Leads-append : (a b c : TxnId) (path more : List Arc) → Leads gone received arcs a path b → Leads gone received arcs b more c → Leads gone received arcs a (path ++ more) c
@@ -53,9 +54,6 @@ Leads-more gone received some more stay a (arc ∷ path) goal leads =
 
 pub along_some : (from goal : TxnId) → IsBefore goal from → along from goal ≡ Session from goal ∷ []
 along_some from goal is = ap (λ (b : Bool). cond b (Session from goal ∷ []) []) (lt-ltb from.number goal.number is.1)
-
-pub push_some : (path : List Arc) (arc : Arc) → path ++ arc ∷ [] ≢ []
-push_some path arc none = let e = ap length none in let f = length-append path (arc ∷ []) in absurd (omega (arith, e, f))
 
 -- one more arc of the tree
 module _ (goal : TxnId) (tree : List Arc) (arc : Arc) where
@@ -161,36 +159,6 @@ module _ (received : List ℕ) (goal : TxnId) (arcs : List Arc) (arc : Arc) (top
       (elim (cases_lt (start_of arc).number (get_or tops (start_of arc).session 0)) [ inl led ↦ absurd (taken.out led) | inr high ↦ omega (arith, high) ])
       (omega (arith, low)))
 
--- the tree of nothing, from the goal alone
-pub tree_none : (received : List ℕ) (goal : TxnId) (arcs : List Arc) → goal.number < get_or received goal.session 0 → goal.session < length received → IsTreeOf received goal arcs (set (replicate (length received) 0) goal.session goal.number) []
-tree_none received goal arcs low within = record {
-  sessions = omega (arith, length-set {A = ℕ}, length-replicate {A = ℕ});
-  within = λ session. elim (cases_eq session goal.session) [
-    | inl same ↦ let top = ap (λ s. get_or (set (replicate (length received) 0) goal.session goal.number) s 0) same in let count = ap (λ s. get_or received s 0) same in omega (arith, top, count, at_goal, low)
-    | inr apart ↦ let top = other_top session apart in omega (arith, top)
-  ];
-  leads = record {
-    nearer = λ k d below. absurd (omega (arith, below));
-    below = λ id led. elim (cases_eq id.session goal.session) [
-      | inl same ↦ let top = ap (λ s. get_or (set (replicate (length received) 0) goal.session goal.number) s 0) same in inl (same, omega (arith, led, top, at_goal))
-      | inr apart ↦ let top = other_top id.session apart in absurd (omega (arith, led, top))
-    ];
-    goals = omega (arith, at_goal);
-  };
-  among = λ arc none. absurd (omega (arith, none.1));
-}
-  where
-    at_goal : get_or (set (replicate (length received) 0) goal.session goal.number) goal.session 0 ≡ goal.number
-    at_goal = get_or-set_same (replicate (length received) 0) goal.session goal.number 0 (omega (arith, within, length-replicate {A = ℕ}))
-
-    zeros : (session n : ℕ) → ◌≡◌ {A = ℕ} (get_or (replicate n 0) session 0) 0
-    zeros session zero = refl
-    zeros zero (suc n) = refl
-    zeros (suc session) (suc n) = zeros session n
-
-    other_top : (session : ℕ) → session ≢ goal.session → get_or (set (replicate (length received) 0) goal.session goal.number) session 0 ≡ 0
-    other_top session apart = get_or-set_other (replicate (length received) 0) goal.session session goal.number 0 apart ∙ zeros session (length received)
-
 -- one comes along the session to the start of an arc before the last one of these, where that isn't one
 pub starts_front : (tree : List Arc) (k : ℕ) (d : Arc) (id : TxnId) → k < length tree → StartsOne (take (k + 1) tree) id → ¬ IsAlong id (start_of (get_or tree k d)) → StartsOne (take k tree) id
 starts_front tree k d id within (arc, there, along) not = elim (Contains-push_cases (take k tree) (get_or tree k d) arc (subst (λ (front : List Arc). Contains front arc) (take_more tree k d within) there)) [
@@ -268,7 +236,7 @@ module _ (gone received : List ℕ) (tree : List Arc) (start here : TxnId) (path
   -- along the session to the goal
   pub path_to_goal : (goal : TxnId) → IsBefore goal here → IsThere gone received here → IsThere gone received goal → IsPathOf gone received tree start (path ++ along here goal) goal
   path_to_goal goal before first second = record {
-    some = λ none. push_some path (Session here goal) (sym (ap (λ xs. path ++ xs) (along_some here goal before)) ∙ none);
+    some = λ none. push_not_nil path (Session here goal) (sym (ap (λ xs. path ++ xs) (along_some here goal before)) ∙ none);
     leads = Leads-append gone received tree start here goal path (along here goal) leads (along_leads gone received tree here goal (before.0, omega (arith, before.1)) first second);
   }
 

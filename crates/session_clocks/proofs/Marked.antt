@@ -4,7 +4,7 @@ use Rattle.std.specs.Prelude.{reverse}
 use Rattle.std.proofs.lemmas.Bool.{cases_lt}
 use Rattle.std.proofs.lemmas.Nat.{div-add-mod'}
 use Rattle.std.proofs.Math.Nat.{mod-lt}
-use Rattle.std.proofs.lemmas.List.{append-nil, length-append, take_all, drop_all, take-append-le, drop-append-le, reverse-append}
+use Rattle.std.proofs.lemmas.List.{append-nil, length-append, take_all, drop_all, take-append-le, drop-append-le}
 use Rattle.std.proofs.lemmas.List.Elements.{All-append, All-nil, All-take, All-weaker}
 use Rattle.txn.specs.declared.transactions.TxnId.{TxnId}
 use Rattle.txn.specs.declared.choices.Arc.{Arc}
@@ -129,9 +129,6 @@ last_mark-push Say place gone received arcs extra now saved (mark ∷ marks) mar
   where
     graph_with : List Arc → GraphState
     graph_with xs = record { gone = gone; received = received; arcs = xs; marks = map (λ (mark : Mark). mark.arcs) marks }
-
-pub reverse-push : (marks : List Mark) (mark : Mark) → reverse (marks ++ mark ∷ []) ≡ mark ∷ reverse marks
-reverse-push marks mark = reverse-append marks (mark ∷ [])
 
 module _ (gone received : List ℕ) (lens : length received ≡ length gone) where
   pub respects-firsts : Respects (SayFirsts gone received)

@@ -23,10 +23,3 @@ only-push P old new last is only id there = elim (Contains-push_cases new last i
   | inl before ↦ only id before
   | inr same ↦ inr (subst P same is)
 ]
-
--- each of two that are noted one after another is of the one kind or the other
-pub only-both : (P Q : TxnId → Type 0) (old mid new : List TxnId) → ((id : TxnId) → Contains mid id → Contains old id ⊎ P id) → ((id : TxnId) → Contains new id → Contains mid id ⊎ Q id) → (id : TxnId) → Contains new id → Contains old id ⊎ (P id ⊎ Q id)
-only-both P Q old mid new first second id there = elim (second id there) [
-  | inl before ↦ elim (first id before) [ inl old_one ↦ inl old_one | inr is ↦ inr (inl is) ]
-  | inr is ↦ inr (inr is)
-]

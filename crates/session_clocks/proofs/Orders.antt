@@ -1,8 +1,9 @@
 -- Relations that keep the order of each session, and what an arc joins in one.
-use Rattle.std.proofs.Common.{◌≡◌, ◌⊎◌, ℕ, ◌<◌, ◌≤◌, List, length, ap, ◌∙◌, inl, inr, arith}
+use Rattle.std.proofs.Common.{◌≡◌, ◌⊎◌, ℕ, ◌<◌, ◌≤◌, List, length, inl, inr, arith}
 use Rattle.std.proofs.lemmas.Bool.{cases_eq, cases_lt}
 use Rattle.std.proofs.lemmas.List.{get_or_past}
 use Rattle.txn.specs.declared.transactions.TxnId.{TxnId}
+use Rattle.txn.proofs.Ids.{same_numbers}
 use Rattle.session_clocks.specs.Reach.{IsThere}
 
 abbrev pub Or : (TxnId → TxnId → Type 0) → TxnId → TxnId → Type 0
@@ -19,18 +20,11 @@ pub record IsJoinOf (R new : TxnId → TxnId → Type 0) (start end : TxnId) : T
   pub joined : (a b : TxnId) → Or R a start → Or R end b → new a b
   pub cases : (a b : TxnId) → new a b → R a b ⊎ (Or R a start × Or R end b)
 
--- two with one session and one number are the same
-pub same_txn : (a b : TxnId) → a.session ≡ b.session → a.number ≡ b.number → a ≡ b
-same_txn a b session number =
-    let first : TxnId → ℕ → TxnId = λ id s. record { session = s; number = id.number } in
-    let second : TxnId → ℕ → TxnId = λ id n. record { session = id.session; number = n } in
-    ap (first a) session ∙ ap (second b) number
-
 module _ (gone received : List ℕ) (R : TxnId → TxnId → Type 0) (order : IsOrder gone received R) where
   -- of two in one session, the one with the lower number is the other or stands before it
   pub chain_or : (a b : TxnId) → IsThere gone received a → IsThere gone received b → a.session ≡ b.session → a.number ≤ b.number → Or R a b
   chain_or a b first second session below = elim (cases_eq a.number b.number) [
-    | inl same ↦ inl (same_txn a b session same)
+    | inl same ↦ inl (same_numbers a b session same)
     | inr apart ↦ inr (order.chain a b first second session (omega arith))
   ]
 

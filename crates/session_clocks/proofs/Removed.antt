@@ -1,11 +1,12 @@
 -- What a graph keeps of itself as a session's last transaction goes, which no arc touches.
-use Rattle.std.proofs.Common.{◌≡◌, ◌≢◌, ◌⊎◌, ◌↔◌, ℕ, suc, ◌+◌, ◌-◌, ◌*◌, ◌^◌, ◌<◌, ◌≤◌, List, Vec, Global, length, length-set, get_or, set, refl, sym, ap, subst, ◌∙◌, inl, inr, arith, All}
+use Rattle.std.proofs.Common.{◌≡◌, ◌≢◌, ◌↔◌, ℕ, suc, ◌+◌, ◌-◌, ◌*◌, ◌<◌, ◌≤◌, List, Vec, Global, length, length-set, get_or, set, refl, sym, ap, subst, ◌∙◌, inl, inr, arith, All}
 use Rattle.std.proofs.lemmas.Bool.{cases_eq, cases_lt}
 use Rattle.std.proofs.lemmas.List.{get_or-set_same, get_or-set_other}
 use Rattle.std.proofs.Math.Nat.{suc-mul, mul-le-mul_right}
 use Rattle.txn.specs.declared.transactions.TxnId.{TxnId}
 use Rattle.txn.specs.declared.choices.Arc.{Arc}
 use Rattle.txn.specs.Arcs.{start_of, end_of}
+use Rattle.txn.proofs.Ids.{same_numbers}
 use Rattle.session_clocks.specs.Clocks.{IsFirst, AreFirsts, AreCounts, AreLines, IsKept}
 use Rattle.session_clocks.specs.Graphs.{IsOneMore}
 use Rattle.session_clocks.specs.Reach.{IsThere, Reaches}
@@ -13,7 +14,7 @@ use Rattle.session_clocks.specs.Removals.{IsLast, IsUntouched, HasRowLess}
 use Rattle.session_clocks.specs.Rows.{line_at, number_at, clock_of}
 use Rattle.session_clocks.proofs.Closures.{Reaches-there}
 use Rattle.session_clocks.proofs.Next.{there_more, there_cases, not_new, Reaches-more, Before, Reaches-more_cases}
-use Rattle.session_clocks.proofs.Orders.{same_txn, there_within}
+use Rattle.session_clocks.proofs.Orders.{there_within}
 use Rattle.session_clocks.proofs.Places.{row_before}
 
 -- the session's number is one less
@@ -36,7 +37,7 @@ module _ (gone fewer received : List ℕ) (arcs : List Arc) (session : ℕ) (nex
   pub ends_stay : (id : TxnId) (f : Arc → TxnId) → id.session ≡ session → id.number ≡ get_or fewer session 0 → All (λ arc. IsThere gone received (f arc)) arcs → All (λ arc. f arc ≢ id) arcs → All (λ arc. IsThere gone fewer (f arc)) arcs
   ends_stay id f of number were apart k d within = elim (there_cases gone fewer received arcs session next (f (get_or arcs k d)) (were k d within)) [
     | inl stays ↦ stays
-    | inr last ↦ absurd (apart k d within (same_txn (f (get_or arcs k d)) id (last.0 ∙ sym of) (last.1 ∙ sym number)))
+    | inr last ↦ absurd (apart k d within (same_numbers (f (get_or arcs k d)) id (last.0 ∙ sym of) (last.1 ∙ sym number)))
   ]
 
   module _ (starts : All (λ arc. IsThere gone fewer (start_of arc)) arcs) (ends : All (λ arc. IsThere gone fewer (end_of arc)) arcs) where

@@ -4,6 +4,7 @@ use Rattle.std.proofs.lemmas.Bool.{cases_lt}
 use Rattle.txn.specs.declared.transactions.TxnId.{TxnId}
 use Rattle.txn.specs.declared.choices.Arc.{Arc}
 use Rattle.txn.specs.Arcs.{start_of, end_of}
+use Rattle.txn.proofs.Ids.{same_numbers}
 use Rattle.session_clocks.specs.Additions.{HasGrown, AreTold, IsFrontOf}
 use Rattle.session_clocks.specs.Clocks.{IsKept}
 use Rattle.session_clocks.specs.Notes.{AreTailsNoted, AreSpansNoted, IsOfTails, IsOfSpans, first_of, id_at}
@@ -12,7 +13,7 @@ use Rattle.session_clocks.specs.Rows.{line_at, number_at, clock_of, IsFirstOf, I
 use Rattle.session_clocks.proofs.Closures.{IsOrder-reaches, IsJoinOf-push, Reaches-push_cases}
 use Rattle.session_clocks.proofs.Kept.{both_there, reaching, reached}
 use Rattle.session_clocks.proofs.Noted.{noted_stays}
-use Rattle.session_clocks.proofs.Orders.{Or, chain_or, or_then, then_or, same_txn, there_within}
+use Rattle.session_clocks.proofs.Orders.{Or, chain_or, or_then, then_or, there_within}
 
 -- where the start reaches the end already, nobody is told
 pub AreTold-known : (gone received : List ℕ) (arcs : List Arc) (arc : Arc) (told : List TxnId) → Reaches gone received arcs (start_of arc) (end_of arc) → AreTold gone received arcs arc told told
@@ -28,7 +29,7 @@ AreTold-known gone received arcs arc told known =
 
 -- the transaction of a row is the one at its number
 id_of_row : (gone : List ℕ) (id : TxnId) → get_or gone id.session 0 ≤ id.number → id_at (first_of gone id.session) (id.number - get_or gone id.session 0) ≡ id
-id_of_row gone id stays = same_txn (id_at (first_of gone id.session) (id.number - get_or gone id.session 0)) id refl (omega arith)
+id_of_row gone id stays = same_numbers (id_at (first_of gone id.session) (id.number - get_or gone id.session 0)) id refl (omega arith)
 
 -- so many rows behind the first one
 row_of_id : (first row : ℕ) → row ≡ (first + row) - first

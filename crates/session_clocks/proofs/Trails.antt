@@ -178,9 +178,3 @@ module _ (lines : List (Vec ℕ Global)) (old new : List Saved) (line at : ℕ) 
         ]
         | inr above ↦ inr (IsSavedIn-later lines old new with_one line (at * length row + j) so_far one (saved_number, subst (λ xs. Contains xs saved_number) (sym (since-one new saved_number)) (0, omega arith, refl), refl, (omega arith)))
       ]
-
-pub AreSavedBelow-same : (lines : List (Vec ℕ Global)) (numbers : List Saved) (line at : ℕ) (row : List ℕ) (k : ℕ) → number_at (length row) (line_at lines line) at k ≡ get_or row k 0 → AreSavedBelow lines numbers line at row k → AreSavedBelow lines numbers line at row (k + 1)
-AreSavedBelow-same lines numbers line at row k same below j within = elim (cases_lt j k) [
-  | inl before ↦ below j before
-  | inr above ↦ inl (subst (λ n. number_at (length row) (line_at lines line) at n ≡ get_or row n 0) (omega arith) same)
-]

@@ -1,5 +1,5 @@
 -- Rows with a number more, and what a graph keeps of itself as a session is added.
-use Rattle.std.proofs.Common.{◌≡◌, ◌⊎◌, ◌↔◌, ℕ, suc, ◌+◌, ◌-◌, ◌*◌, ◌^◌, ◌<◌, ◌≤◌, List, [], ◌∷◌, ◌++◌, Vec, Global, length, length-append, get_or, sym, ap, subst, ◌∙◌, inl, inr, arith, All}
+use Rattle.std.proofs.Common.{◌≡◌, ◌⊎◌, ◌↔◌, ℕ, suc, ◌+◌, ◌-◌, ◌*◌, ◌^◌, ◌<◌, List, [], ◌∷◌, ◌++◌, Vec, Global, length, length-append, get_or, sym, ap, subst, ◌∙◌, inl, inr, arith}
 use Rattle.std.proofs.lemmas.Bool.{cases_eq, cases_lt}
 use Rattle.std.proofs.lemmas.List.{length_push, get_or_append_left, get_or-append-add, get_or_past}
 use Rattle.std.proofs.lemmas.List.Elements.{All-weaker}
@@ -15,10 +15,6 @@ use Rattle.session_clocks.specs.Widths.{IsWidened, AreWidened}
 use Rattle.session_clocks.proofs.LineLists.{line_at-push_before, line_at-push_last}
 use Rattle.session_clocks.proofs.Orders.{there_within}
 use Rattle.session_clocks.proofs.Places.{row_before}
-
--- no rows
-pub IsWidened-none : (old : List ℕ) (width number : ℕ) → IsWidened old [] 0 width number
-IsWidened-none old width number = record { len = omega arith; each = λ row place below within. absurd (omega (arith, below)); last = λ row below. absurd (omega (arith, below)) }
 
 -- one more row, with the number at its end
 module _ (old wide row : List ℕ) (n width number : ℕ) (was : IsWidened old wide n width number) (len : length row ≡ width) (numbers : (k : ℕ) → k < width → get_or row k 0 ≡ number_at width old n k) where

@@ -6,15 +6,15 @@ use Rattle.std.proofs.Math.Seq.{get_or-append_seam}
 use Rattle.std.proofs.lemmas.List.{get_or_append_left, length-append}
 use Rattle.std.proofs.lemmas.List.Elements.{All-contains, All-cons, Contains-get_or, Contains-append_cases, Contains-append_left, Contains-push, Contains-push_cases}
 use Rattle.txn.specs.declared.transactions.TxnId.{TxnId}
+use Rattle.txn.proofs.Ids.{same_or_not}
 use Rattle.order_check.specs.declared.remainder.Parts.{Parts}
 use Rattle.order_check.specs.Based.{Remains}
 use Rattle.order_check.specs.Settled.{IsBefore}
 use Rattle.forced_choices.specs.OrderedAmong.{AreOrdered, IsOrderedAmong}
-use Rattle.fence_chain.specs.Chains.{IsChained, IsChain}
+use Rattle.fence_chain.specs.Chains.{IsChain}
 use Rattle.settle.specs.declared.cuts.Cut.{Cut}
 use Rattle.settle.specs.Found.{IsFound}
 use Rattle.settle.specs.Lines.{IsFoundAmong, IsLeft, IsOrderedChain, IsOrderedFence}
-use Rattle.settle.proofs.Noted.{same_or_not}
 use Rattle.settle.proofs.Tested.{IsSettledNow, fence_remains}
 
 -- what stands ahead of an element has the relation to it

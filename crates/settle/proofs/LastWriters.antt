@@ -5,11 +5,11 @@ use Rattle.std.specs.Ordering.{nat_cmp}
 use Rattle.std.specs.FinMap as map
 use Rattle.std.proofs.lemmas.List.Elements.{All-contains, Contains-get_or}
 use Rattle.txn.specs.declared.transactions.TxnId.{TxnId}
+use Rattle.txn.proofs.Ids.{same_or_not}
 use Rattle.order_check.specs.declared.remainder.Parts.{Parts}
 use Rattle.order_check.specs.Known.{Known, WritesKey}
 use Rattle.order_check.specs.Settled.{IsBefore, InFront, IsLastIn}
 use Rattle.settle.specs.Writers.{AreLastWriters, AreNoted, AreWritesOf, HaveLastWriters, IsGreatest, IsOverruled}
-use Rattle.settle.proofs.Noted.{same_or_not}
 
 -- the last writer in front is the one that is noted
 last_noted : (parts : Parts) (fence : TxnId) (front : List TxnId) (writes : List (ℕ × TxnId)) (last : map.FinMap nat_cmp TxnId) → ((id : TxnId) → Contains front id ↔ InFront parts fence id) → AreWritesOf parts front writes → AreNoted parts writes last → (key : ℕ) (writer : TxnId) → IsLastIn parts fence key writer → map.get last key ≡ Some writer

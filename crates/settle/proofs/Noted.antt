@@ -1,34 +1,19 @@
 -- Who is noted for each key, write after write.
-use Rattle.std.proofs.Common.{◌≡◌, ℕ, ◌+◌, ◌<◌, ◌≤◌, ◌⊎◌, true, false, cond, List, [], ◌∷◌, ◌++◌, length, get_or, take, nat_eq, refl, sym, ap, ◌∙◌, inl, inr, subst, arith, Option, Some, None}
+use Rattle.std.proofs.Common.{◌≡◌, ℕ, ◌+◌, ◌<◌, ◌≤◌, ◌⊎◌, true, false, cond, List, [], ◌∷◌, ◌++◌, length, get_or, take, nat_eq, refl, sym, ap, ◌∙◌, inl, inr, subst, Option, Some, None}
 use Rattle.std.specs.Prelude.{Contains}
-use Rattle.std.specs.Ordering.{nat_cmp, eq_by_cmp}
+use Rattle.std.specs.Ordering.{nat_cmp}
 use Rattle.std.specs.FinMap as map
-use Rattle.std.proofs.lemmas.Cmp.{nat_cmp_total}
-use Rattle.std.proofs.lemmas.Bool.Decides.{eqb_tells, nat_tests}
+use Rattle.std.proofs.lemmas.Bool.Decides.{eqb_tells}
 use Rattle.std.proofs.lemmas.List.{take_more, take_all}
 use Rattle.std.proofs.lemmas.List.Elements.{Contains-push, Contains-push_cases, Contains-append_left}
+use Rattle.list_lemmas.proofs.Members.{none_in_none}
+use Rattle.list_lemmas.proofs.Keys.{get_after}
 use Rattle.txn.specs.declared.transactions.TxnId.{TxnId}
+use Rattle.txn.proofs.Ids.{same_or_not}
 use Rattle.order_check.specs.declared.remainder.Parts.{Parts}
 use Rattle.order_check.specs.Known.{Known, through}
 use Rattle.order_check.specs.Settled.{IsBefore}
 use Rattle.settle.specs.Writers.{AreNoted, IsGreatest, NotesOne, Overrules}
-use Rattle.settle.proofs.Written.{none_in_none}
-
--- ids are one, or they are not
-pub same_or_not : (a b : TxnId) → (a ≡ b) ⊎ (a ≡ b → ⊥)
-same_or_not a b = by_fields (eqb_tells a.session b.session) (eqb_tells a.number b.number)
-  where
-    by_fields : ((nat_eq a.session b.session ≡ true) × (a.session ≡ b.session)) ⊎ ((nat_eq a.session b.session ≡ false) × (a.session ≡ b.session → ⊥)) → ((nat_eq a.number b.number ≡ true) × (a.number ≡ b.number)) ⊎ ((nat_eq a.number b.number ≡ false) × (a.number ≡ b.number → ⊥)) → (a ≡ b) ⊎ (a ≡ b → ⊥)
-    by_fields (inl (t, session)) (inl (u, number)) = inl (ap (λ s. let id : TxnId = record { session = s; number = a.number } in id) session ∙ ap (λ n. let id : TxnId = record { session = b.session; number = n } in id) number)
-    by_fields (inl (t, session)) (inr (u, apart)) = inr (λ e. apart (ap (λ (id : TxnId). id.number) e))
-    by_fields (inr (t, apart)) other = inr (λ e. apart (ap (λ (id : TxnId). id.session) e))
-
-ties : (x y : ℕ) → eq_by_cmp nat_cmp x y ≡ nat_eq x y
-ties x y = grind (arith, nat_tests)
-
--- what a map has after an insert, by a test of the keys
-get_after : (m : map.FinMap nat_cmp TxnId) (key : ℕ) (x : TxnId) (q : ℕ) → map.get (map.insert m key x) q ≡ cond (nat_eq q key) (Some x) (map.get m q)
-get_after m key x q = map.get-insert nat_cmp_total m key x q ∙ ap (λ b. cond b (Some x) (map.get m q)) (ties q key)
 
 some_same : (a b : TxnId) → Some a ≡ Some b → a ≡ b
 some_same a b e = cc

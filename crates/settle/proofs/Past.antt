@@ -1,11 +1,12 @@
 -- The last remaining transaction of a session says whether the session is past a fence.
-use Rattle.std.proofs.Common.{◌≡◌, ◌≢◌, ℕ, ◌+◌, ◌-◌, ◌<◌, ◌≤◌, true, cond, refl, sym, ap, ◌∙◌, ◌⊎◌, inl, inr, subst, arith, None, List, [], length}
+use Rattle.std.proofs.Common.{◌≡◌, ◌≢◌, ℕ, ◌-◌, ◌<◌, ◌≤◌, true, cond, refl, sym, ap, ◌∙◌, ◌⊎◌, inl, inr, subst, arith, None, []}
 use Rattle.std.specs.Prelude.{◌↔◌}
 use Rattle.std.specs.List.{slice_get}
 use Rattle.std.specs.Option.{is_some}
 use Rattle.std.proofs.lemmas.Bool.{lt-ltb, le-ltb, cases_lt}
-use Rattle.std.proofs.lemmas.Option.{slice_get_cases}
+use Rattle.list_lemmas.proofs.Places.{some_within, within_some}
 use Rattle.txn.specs.declared.transactions.TxnId.{TxnId}
+use Rattle.txn.proofs.Ids.{same_numbers}
 use Rattle.order_check.specs.declared.remainder.Parts.{Parts}
 use Rattle.order_check.specs.Based.{mark_of, remaining_of, remaining_at, received_count, Remains}
 use Rattle.order_check.specs.Known.{Known, by_session, through}
@@ -15,12 +16,6 @@ use Rattle.settle.specs.Lines.{IsLastRemaining, IsPastBy}
 -- an id that isn't gone is looked up at its place in what remains
 look_up : (parts : Parts) (id : TxnId) → mark_of parts id.session ≤ id.number → remaining_at parts id ≡ slice_get (remaining_of parts id.session) (id.number - mark_of parts id.session)
 look_up parts id at = ap (λ b. cond b None (slice_get (remaining_of parts id.session) (id.number - mark_of parts id.session))) (le-ltb id.number (mark_of parts id.session) at)
-
-some_within : {X : Type 0} (xs : List X) (i : ℕ) → is_some (slice_get xs i) ≡ true → i < length xs
-some_within xs i some = elim (slice_get_cases xs i).1 as (λ _. i < length xs) [ inl w ↦ w.1 | inr w ↦ let none = w.1 in cc ]
-
-within_some : {X : Type 0} (xs : List X) (i : ℕ) → i < length xs → is_some (slice_get xs i) ≡ true
-within_some xs i within = elim (slice_get_cases xs i).1 as (λ _. is_some (slice_get xs i) ≡ true) [ inl w ↦ ap is_some w.2 | inr w ↦ absurd (omega arith) ]
 
 gone_past : (parts : Parts) (id : TxnId) → id.number < mark_of parts id.session → Remains parts id → ⊥
 gone_past parts id gone remains =
@@ -55,9 +50,6 @@ last_remains parts s received mark e f some = record { session = refl; remains =
         let within = subst (λ n. (mark_of parts n ≤ id.number) × (id.number < received_count parts n)) session (remains_within parts id remains) in
         let low = within.0 in let high = within.1 in omega arith
 
-same_id : (a b : TxnId) → a.session ≡ b.session → a.number ≡ b.number → a ≡ b
-same_id a b session number = ap (λ s. let id : TxnId = record { session = s; number = a.number } in id) session ∙ ap (λ n. let id : TxnId = record { session = b.session; number = n } in id) number
-
 -- a session is past the fence where its last remaining transaction is
 pub past_by_last : (parts : Parts) (fence : TxnId) (s : ℕ) (last : TxnId) → IsLastRemaining parts s last → IsPastBy parts fence last ↔ IsPast parts fence s
 past_by_last parts fence s last is = ((λ past. (last, is.session, is.remains, past)), backwards)
@@ -71,7 +63,7 @@ past_by_last parts fence s last is = ((λ past. (last, is.session, is.remains, p
         by_number : (id.number < last.number) ⊎ (last.number ≤ id.number) → IsPastBy parts fence id → IsPastBy parts fence last
         by_number (inl below) (inl same) = inr (subst (λ x. IsBefore parts x last) same (onto below))
         by_number (inl below) (inr before) = inr (through before (onto below))
-        by_number (inr up) given = let high = is.highest id session remains in subst (λ x. IsPastBy parts fence x) (same_id id last (session ∙ sym is.session) (omega arith)) given
+        by_number (inr up) given = let high = is.highest id session remains in subst (λ x. IsPastBy parts fence x) (same_numbers id last (session ∙ sym is.session) (omega arith)) given
 
 pub no_past : (parts : Parts) (fence : TxnId) (s : ℕ) → ((id : TxnId) → id.session ≡ s → ¬ Remains parts id) → ¬ IsPast parts fence s
 no_past parts fence s none (id, session, remains, past) = none id session remains

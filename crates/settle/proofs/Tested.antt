@@ -2,20 +2,21 @@
 use Rattle.std.proofs.Common.{◌≡◌, ◌≢◌, ℕ, ◌<◌, ◌⊎◌, Bool, true, false, List, length, get_or, refl, inl, inr, Option, Some, None, IsSome}
 use Rattle.std.specs.Prelude.{◌↔◌, All, Contains, IsSomeAnd, slice_get}
 use Rattle.std.proofs.lemmas.List.Elements.{All-contains, Contains-get_or}
+use Rattle.list_lemmas.proofs.Members.{none_in_none}
 use Rattle.txn.specs.declared.transactions.TxnId.{TxnId}
 use Rattle.txn.specs.declared.transactions.Txn.{Txn}
 use Rattle.txn.specs.declared.transactions.Source.{Source}
 use Rattle.txn.specs.declared.transactions.Source.TheVariants.{Init, By}
 use Rattle.txn.specs.Transactions.{IsFence}
+use Rattle.txn.specs.History.{reads_in}
 use Rattle.order_check.specs.declared.remainder.Parts.{Parts}
 use Rattle.order_check.specs.Based.{Remains, IsReceived, remaining_at}
 use Rattle.order_check.specs.Known.{ReadsKey}
-use Rattle.order_check.specs.Settled.{IsBefore, InFront, IsPast, IsSettled}
+use Rattle.order_check.specs.Settled.{InFront, IsPast, IsSettled}
 use Rattle.order_check.specs.StandsFor.{IsOpenSession}
 use Rattle.fence_chain.specs.Chains.{IsRemainingFence}
-use Rattle.settle.specs.Lines.{ArePast, HasReceivedReads, IsClosedOrPast, IsOrderedFence, IsReceivedSource, reads_in}
+use Rattle.settle.specs.Lines.{ArePast, HasReceivedReads, IsClosedOrPast, IsOrderedFence, IsReceivedSource}
 use Rattle.settle.specs.Writers.{HaveLastWriters}
-use Rattle.settle.proofs.Written.{none_in_none}
 
 -- a fence that is settled with the sessions that are open
 abbrev pub IsSettledNow : Parts → TxnId → Type 0

@@ -6,16 +6,14 @@ use Rattle.std.proofs.lemmas.Bool.{false≢true}
 use Rattle.std.proofs.lemmas.Bool.Decides.{eqb_tells}
 use Rattle.std.proofs.lemmas.List.{take_more, take_all}
 use Rattle.std.proofs.lemmas.List.Elements.{Contains-push, Contains-push_cases, Contains-append_left}
+use Rattle.list_lemmas.proofs.Members.{none_in_none}
 use Rattle.txn.specs.declared.transactions.TxnId.{TxnId}
 use Rattle.txn.specs.declared.transactions.Txn.{Txn}
-use Rattle.txn.specs.History.{writes_key}
+use Rattle.txn.specs.History.{writes_key, writes_in}
 use Rattle.order_check.specs.declared.remainder.Parts.{Parts}
 use Rattle.order_check.specs.Based.{remaining_at}
 use Rattle.order_check.specs.Known.{WritesKey}
-use Rattle.settle.specs.Writers.{writes_in, GainsWrites, AreWritesOf}
-
-pub none_in_none : {X : Type 0} (x : X) → Contains [] x → ⊥
-none_in_none x (k, within, is) = absurd (omega arith)
+use Rattle.settle.specs.Writers.{GainsWrites, AreWritesOf}
 
 -- a list has a key where a test finds it
 

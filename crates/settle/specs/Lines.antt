@@ -2,9 +2,9 @@
 use Rattle.std.specs.Prelude.{◌≡◌, ◌≢◌, ◌⊎◌, ◌↔◌, ℕ, ◌<◌, ◌≤◌, ⊤, true, slice_get, All, Contains, List, [], ◌∷◌, ◌++◌, Option, Some, None, length}
 use Rattle.std.specs.List.{AllPairs}
 use Rattle.txn.specs.declared.transactions.TxnId.{TxnId}
-use Rattle.txn.specs.declared.transactions.Txn.{Txn}
 use Rattle.txn.specs.declared.transactions.Source.{Source}
 use Rattle.txn.specs.declared.transactions.Source.TheVariants.{Init, By}
+use Rattle.txn.specs.History.{reads_in}
 use Rattle.order_check.specs.declared.remainder.Parts.{Parts}
 use Rattle.order_check.specs.Based.{Remains, IsReceived, remaining_at}
 use Rattle.order_check.specs.Settled.{IsBefore, IsPast, IsSettled, IsCutAt}
@@ -44,11 +44,6 @@ ArePast parts fence = (s : ℕ) → s < length parts.remain → IsClosedOrPast p
 abbrev pub IsReceivedSource : Parts → Source → Type 0
 IsReceivedSource parts Init = ⊤
 IsReceivedSource parts (By writer) = IsReceived parts writer
-
--- the reads of a transaction, where there is one
-abbrev pub reads_in : Option Txn → List (ℕ × Source)
-reads_in None = []
-reads_in (Some txn) = txn.reads
 
 abbrev pub HasReceivedReads : Parts → TxnId → Type 0
 HasReceivedReads parts id = All (λ read. IsReceivedSource parts read.1) (reads_in (remaining_at parts id))

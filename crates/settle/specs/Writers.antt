@@ -1,17 +1,11 @@
 -- For private clauses: who writes which key last.
-use Rattle.std.specs.Prelude.{◌≡◌, ◌≢◌, ◌⊎◌, ◌↔◌, ℕ, ⊤, Contains, List, [], Option, Some, None, IsSomeAnd}
+use Rattle.std.specs.Prelude.{◌≡◌, ◌≢◌, ◌⊎◌, ◌↔◌, ℕ, ⊤, Contains, List, Option, Some, None, IsSomeAnd}
 use Rattle.std.specs.Ordering.{nat_cmp}
 use Rattle.std.specs.FinMap.{FinMap, get, insert}
 use Rattle.txn.specs.declared.transactions.TxnId.{TxnId}
-use Rattle.txn.specs.declared.transactions.Txn.{Txn}
 use Rattle.order_check.specs.declared.remainder.Parts.{Parts}
 use Rattle.order_check.specs.Known.{WritesKey}
 use Rattle.order_check.specs.Settled.{IsBefore, InFront, IsLastIn}
-
--- the keys that a transaction writes, where there is one
-abbrev pub writes_in : Option Txn → List ℕ
-writes_in None = []
-writes_in (Some txn) = txn.writes
 
 -- each of the keys is there with the id, besides what was there
 pub record GainsWrites (keys : List ℕ) (id : TxnId) (old new : List (ℕ × TxnId)) : Type 0 where

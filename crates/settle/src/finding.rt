@@ -1,4 +1,4 @@
-ghost use Rattle.std.specs.Prelude.{◌↔◌, [], Contains, IfOk, IsSomeAnd};
+ghost use Rattle.std.specs.Prelude.{[], Contains, IfOk};
 ghost use Rattle.txn.specs.declared.transactions.TxnId.{TxnId};
 ghost use Rattle.order_check.specs.Explains.{Explains};
 ghost use Rattle.order_check.specs.Known.{Known};
@@ -84,6 +84,7 @@ fn has_no_cycle(known: &Saturated, order: &[TxnId])
     ensures { (id : TxnId) → ¬ Known known.now.parts [] id id }
 {
     known.parts();
+    // A law that the proof cites. It does nothing when it runs.
     cycle_leaves_no_order();
 }
 

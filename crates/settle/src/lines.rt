@@ -1,10 +1,10 @@
 //! What a settled fence has to meet, last writers apart.
 ghost use Rattle.std.specs.Prelude.{◌≡◌, ◌↔◌, All, IsTrue, MatchOption};
 ghost use Rattle.txn.specs.declared.transactions.TxnId.{TxnId};
-ghost use Rattle.order_check.specs.Based.{Remains, remaining_at};
+ghost use Rattle.order_check.specs.Based.{Remains};
 ghost use Rattle.order_check.specs.Good.{IsGood};
 ghost use Rattle.order_check.specs.Settled.{IsPast};
-ghost use Rattle.settle.specs.Lines.{ArePast, IsClosedOrPast, IsLastRemaining, IsPastBy, HasReceivedReads, IsReceivedSource, reads_in};
+ghost use Rattle.settle.specs.Lines.{ArePast, IsClosedOrPast, IsLastRemaining, IsPastBy, HasReceivedReads, IsReceivedSource};
 
 use forced_choices::Saturated;
 use order_check::Parts;
@@ -73,21 +73,12 @@ fn is_received_source(parts: &Parts, source: Source) -> bool
     }
 }
 
-/// What a remaining transaction reads.
-fn reads_of(parts: &Parts, id: TxnId) -> &[(u64, Source)]
-    ensures { result.now ≡ reads_in (remaining_at parts.now id) }
-{
-    match parts.remaining_at(id) {
-        Some(txn) => txn.reads.as_slice(),
-        None => &[],
-    }
-}
-
 fn has_received_reads(parts: &Parts, id: TxnId) -> bool
     requires { IsGood parts.now }
     ensures { IsTrue result ↔ HasReceivedReads parts.now id }
 {
-    reads_of(parts, id)
+    parts
+        .reads_of(id)
         .iter()
         .all(|read| is_received_source(parts, read.1))
 }

@@ -1,26 +1,15 @@
 //! The last writer of each key in front of a fence.
-ghost use Rattle.std.specs.Prelude.{[], ◌≡◌, ◌↔◌, ◌⊎◌, ℕ, All, Contains, IfOk, OnOk, IsTrue, MatchOption};
+ghost use Rattle.std.specs.Prelude.{[], ◌↔◌, All, Contains, IfOk, OnOk, IsTrue, MatchOption};
 ghost use Rattle.std.specs.FinMap as map;
 ghost use Rattle.txn.specs.declared.transactions.TxnId.{TxnId};
-ghost use Rattle.order_check.specs.Based.{remaining_at};
 ghost use Rattle.order_check.specs.Known.{Known};
 ghost use Rattle.order_check.specs.Settled.{InFront};
-ghost use Rattle.settle.specs.Writers.{AreNoted, AreWritesOf, AreLastWriters, GainsWrites, HaveLastWriters, IsOverruled, NotesOne, Overrules, writes_in};
+ghost use Rattle.settle.specs.Writers.{AreNoted, AreWritesOf, AreLastWriters, GainsWrites, HaveLastWriters, IsOverruled, NotesOne, Overrules};
 
 use forced_choices::Saturated;
 use order_check::{LastWriters, Parts};
 use std::alloc::Global;
 use txn::{NoMemory, TxnId};
-
-/// What a remaining transaction writes.
-fn writes_of(parts: &Parts, id: TxnId) -> &[u64]
-    ensures { result.now ≡ writes_in (remaining_at parts.now id) }
-{
-    match parts.remaining_at(id) {
-        Some(txn) => txn.writes.as_slice(),
-        None => &[],
-    }
-}
 
 #[tactic(auto, using(crate::proofs::Written::gains_none, crate::proofs::Written::gains_all))]
 fn push_writes(writes: &mut Vec<(u64, TxnId)>, keys: &[u64], id: TxnId) -> Result<(), NoMemory>
@@ -39,7 +28,7 @@ fn writes_among(alloc: Global, parts: &Parts, ids: &[TxnId]) -> Result<Vec<(u64,
 {
     let mut writes = Vec::new(alloc);
     for id in ids {
-        push_writes(&mut writes, writes_of(parts, *id), *id)?;
+        push_writes(&mut writes, parts.writes_of(*id), *id)?;
     }
     Ok(writes)
 }

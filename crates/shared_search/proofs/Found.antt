@@ -5,11 +5,12 @@ use Rattle.std.proofs.lemmas.Bool.{eqb-true}
 use Rattle.std.proofs.lemmas.List.Elements.{All-head, All-tail}
 use mathlib.Core.Logic.{dite}
 use native.Mathlib.Decide.{dec_le, ℕ_discrete}
+use Rattle.list_lemmas.specs.Counts.{times}
 use Rattle.txn.specs.declared.transactions.TxnId.{TxnId}
 use Rattle.refutation.specs.declared.trees.Tree.{Tree}
 use Rattle.polygraph.specs.declared.solving.Cube.{Cube}
 use Rattle.polygraph.specs.declared.solving.Cube.TheVariants.{Yes, No, Spent}
-use Rattle.shared_search.specs.Counts.{times, lowest, nothing}
+use Rattle.shared_search.specs.Counts.{lowest, nothing}
 use Rattle.shared_search.specs.Worked.{is_yes, numbers, yes_numbers, later, found_in, IsTable}
 use Rattle.shared_search.specs.Picks.{or_yes, first_yes, or_spent, has_spent, and_tree, trees}
 use Rattle.shared_search.proofs.Totals.{same_time}

@@ -1,25 +1,23 @@
 -- What is picked of what workers brought, once all of them are joined.
-use Rattle.std.proofs.Common.{◌≡◌, ℕ, ◌+◌, ◌<◌, ◌≤◌, ◌⊎◌, inl, inr, ⊎_elim, refl, sym, ap, subst, ◌∙◌, List, [], ◌∷◌, ◌++◌, map, length, get_or, set, slice_get, arith, Bool, true, false, Option, Some, None, IsSome, All, append_assoc, append-nil}
+use Rattle.std.proofs.Common.{◌≡◌, ℕ, ◌+◌, ◌<◌, ◌≤◌, ◌⊎◌, inl, inr, ⊎_elim, sym, ap, subst, ◌∙◌, List, [], ◌∷◌, ◌++◌, map, length, get_or, set, slice_get, arith, Bool, true, false, Option, Some, None, IsSome, All, append_assoc, append-nil}
 use Rattle.std.proofs.lemmas.Bool.Decides.{nat_tests}
 use Rattle.std.proofs.lemmas.List.Elements.{All-head, All-tail}
 use mathlib.Core.Logic.{dite}
 use native.Mathlib.Decide.{dec_lt}
+use Rattle.list_lemmas.specs.Counts.{times}
 use Rattle.txn.specs.declared.transactions.TxnId.{TxnId}
-use Rattle.txn.specs.declared.choices.Choice.{Choice}
 use Rattle.refutation.specs.declared.trees.Tree.{Tree}
-use Rattle.refutation.specs.Joining.{IsJoin}
 use Rattle.polygraph.specs.declared.solving.Cube.{Cube}
 use Rattle.polygraph.specs.declared.solving.Cube.TheVariants.{Yes, No, Spent}
-use Rattle.polygraph.specs.declared.solving.Answer.{Answer}
 use Rattle.polygraph.specs.declared.solving.Answer.TheVariants as answers
 use Rattle.shared_search.specs.declared.picking.Pick.{Pick}
 use Rattle.shared_search.specs.declared.picking.Pick.TheVariants as picks
 use Rattle.shared_search.specs.declared.words.View.{View}
-use Rattle.shared_search.specs.Counts.{times, once_below, lowest, nothing}
+use Rattle.shared_search.specs.Counts.{once_below, lowest, nothing}
 use Rattle.shared_search.specs.Rule.{Whole}
 use Rattle.shared_search.specs.Worked.{is_yes, numbers, found_in, IsTable, Worked}
-use Rattle.shared_search.specs.Picks.{first_yes, has_spent, trees, AreOutcomes, Picked}
-use Rattle.shared_search.specs.Gathered.{IsFilled, IsWalked, Gathered, GatheredOf, NoGap, HasTrees, IsJoined}
+use Rattle.shared_search.specs.Picks.{first_yes, has_spent, trees, AreOutcomes}
+use Rattle.shared_search.specs.Gathered.{IsFilled, IsWalked, Gathered, GatheredOf, NoGap, HasTrees}
 use Rattle.shared_search.proofs.Found.{number_at, found_some, found_may, found_yes, table_more, first_there, got_in, at_out, at_end, length-outs, yes-snoc, spent-snoc, trees-snoc, map-snoc, trees_count, lowest_there}
 
 once_is : (x n : ℕ) → x < n → once_below x n ≡ 1
@@ -33,9 +31,6 @@ once_le x n = grind (arith, nat_tests)
 
 -- a table is filled
 
-pub filled_first : (count : ℕ) (all : List (ℕ × Cube)) (table : List (Option Cube)) → All (λ e. e.0 < count) all → IsTable count [] table → IsFilled count all all table
-filled_first count all table below is = record { seen = []; split = refl; table = is; below = below }
-
 pub filled_more : (count : ℕ) (all old rest : List (ℕ × Cube)) (e : ℕ × Cube) (table table' : List (Option Cube)) → IsFilled count all old table → old ≡ e ∷ rest → table' ≡ set table e.0 (Some e.1) → IsFilled count all rest table'
 filled_more count all old rest e table table' f is more =
     let below : All (λ (d : ℕ × Cube). d.0 < count) (e ∷ rest) = subst (λ l. All (λ (d : ℕ × Cube). d.0 < count) l) is f.below in
@@ -46,20 +41,7 @@ filled_more count all old rest e table table' f is more =
       below = All-tail (λ (d : ℕ × Cube). d.0 < count) e rest below;
     }
 
-pub filled_place : (count : ℕ) (all old rest : List (ℕ × Cube)) (e : ℕ × Cube) (table : List (Option Cube)) → IsFilled count all old table → old ≡ e ∷ rest → e.0 < length table
-filled_place count all old rest e table f is =
-    let below : All (λ (d : ℕ × Cube). d.0 < count) (e ∷ rest) = subst (λ l. All (λ (d : ℕ × Cube). d.0 < count) l) is f.below in
-    let here = All-head (λ (d : ℕ × Cube). d.0 < count) e rest below in
-    let long = f.table.0 in
-    omega (arith, here, long)
-
-pub filled_last : (count : ℕ) (all old : List (ℕ × Cube)) (table : List (Option Cube)) → IsFilled count all old table → old ≡ [] → IsTable count all table
-filled_last count all old table f none = subst (λ l. IsTable count l table) (sym (f.split ∙ ap (λ l. f.seen ++ l) none ∙ append-nil f.seen)) f.table
-
 -- the table is walked
-
-pub walked_first : (whole : List (Option Cube)) → IsWalked whole whole false []
-walked_first whole = record { outcomes = []; split = refl; none = refl; spent_is = refl; found_is = refl }
 
 split_more : (whole old rest : List (Option Cube)) (outs : List Cube) (c : Cube) → whole ≡ map Some outs ++ old → old ≡ Some c ∷ rest → whole ≡ map Some (outs ++ c ∷ []) ++ rest
 split_more whole old rest outs c split is = split ∙ ap (λ l. map Some outs ++ l) is ∙ map-snoc outs c rest
@@ -90,9 +72,6 @@ walked_yes whole old rest spent found order pick w is e =
     is_some_of : Option (List TxnId) → Bool
     is_some_of (Some x) = true
     is_some_of None = false
-
-pub walked_some : (whole old rest : List (Option Cube)) (o : Option Cube) (spent : Bool) (found : List Tree) → NoGap whole → IsWalked whole old spent found → old ≡ o ∷ rest → IsSome o
-walked_some whole old rest o spent found full w is = full w.outcomes o rest (w.split ∙ ap (λ l. map Some w.outcomes ++ l) is) w.none
 
 -- what seats with all parts brought
 
@@ -174,17 +153,3 @@ pub has_trees : (may : ℕ → Cube → Type 0) (count : ℕ) (pick : Pick) → 
 has_trees may count (picks.Yes order) g = tt
 has_trees may count (picks.No found) (outs, are, (none, fine, is)) = trees_of may count outs found.items are none fine is
 has_trees may count picks.Spent g = tt
-
-pub joined_pick : (may : ℕ → Cube → Type 0) (choices : List Choice) (count : ℕ) (pick : Pick) (answer : Answer) → Gathered may count pick → IsJoined choices pick answer → Picked may choices count answer
-joined_pick may choices count (picks.Yes order) (answers.Yes found) (outs, are, first) j = inr (outs, are, first ∙ ap (λ (o : List TxnId). Some o) (sym j))
-joined_pick may choices count (picks.No trees_found) (answers.No tree) (outs, are, (none, fine, is)) j = inr (outs, are, (none, fine, subst (λ (l : List Tree). IsJoin choices l tree) is j))
-joined_pick may choices count picks.Spent answers.Spent (outs, are, (none, some)) j = inr (outs, are, (none, some))
-joined_pick may choices count (picks.Yes order) (answers.No tree) g j = absurd j
-joined_pick may choices count (picks.Yes order) answers.Spent g j = absurd j
-joined_pick may choices count (picks.Yes order) answers.NoMemory g j = absurd j
-joined_pick may choices count (picks.No found) (answers.Yes order) g j = absurd j
-joined_pick may choices count (picks.No found) answers.Spent g j = absurd j
-joined_pick may choices count (picks.No found) answers.NoMemory g j = absurd j
-joined_pick may choices count picks.Spent (answers.Yes order) g j = absurd j
-joined_pick may choices count picks.Spent (answers.No tree) g j = absurd j
-joined_pick may choices count picks.Spent answers.NoMemory g j = absurd j

@@ -6,10 +6,12 @@ use mathlib.Core.Logic.{dite}
 use native.Mathlib.Decide.{dec_lt, ℕ_discrete}
 use lib.ListN.{get_elem?}
 use Rattle.atomic_table.specs.Table.{Me, step, keeps, Allows}
+use Rattle.list_lemmas.proofs.Counts.{times-append, total_set}
+use Rattle.list_lemmas.specs.Counts.{times, total}
 use Rattle.shared_search.specs.declared.words.View.{View}
-use Rattle.shared_search.specs.Counts.{times, once_below, lowest, total}
+use Rattle.shared_search.specs.Counts.{once_below, lowest}
 use Rattle.shared_search.specs.Rule.{claims, ends, finds, sees, answers, Fits, Kept, claimed_after, found_after, looked_after, done_after}
-use Rattle.shared_search.proofs.Totals.{total_set, total_le, least_set, least_same, times-append, once_more, same_time, other_time, length_of_counts, lowest_top, lowest-append}
+use Rattle.shared_search.proofs.Totals.{total_le, least_set, least_same, once_more, same_time, other_time, length_of_counts, lowest_top, lowest-append}
 use Rattle.shared_search.proofs.Fitting.{Words, all_fit, few_words}
 
 -- a claim

@@ -3,9 +3,8 @@ use Rattle.std.proofs.Common.{◌≡◌, ℕ, zero, suc, ◌+◌, ◌-◌, ◌*�
 use Rattle.std.specs.List.{slice_get}
 use Rattle.std.proofs.lemmas.List.{length-take, take-take}
 use Rattle.std.proofs.lemmas.List.Elements.{All-take}
-use Rattle.std.proofs.lemmas.Nat.{pow-add, pow_pos}
-use Rattle.std.proofs.Math.Nat.{add-mul, lt-div-mul-add, mul-le-mul_right}
 use Rattle.std.proofs.lemmas.Option.{slice_get-get_or}
+use Rattle.list_lemmas.proofs.Numbers.{budget_bound}
 use Rattle.txn.specs.declared.transactions.TxnId.{TxnId}
 use Rattle.txn.specs.declared.choices.Choice.{Choice}
 use Rattle.order_check.specs.declared.remainder.Parts.{Parts}
@@ -74,18 +73,6 @@ no_there (No tree ∷ outs) (suc k) below none fine = no_there outs k (omega (ar
 no_there (Spent ∷ outs) k below none fine = absurd cc
 
 -- how far a budget reaches
-
-budget_bound : (budget e c share : ℕ) → e ≤ c → share ≡ budget / 2 ^ e → share + 1 < 2 ^ (c - e + 1) → budget + 2 ^ e < 2 ^ (c + 1)
-budget_bound budget e c share low is small =
-    let some : 0 < 2 ^ e = pow_pos e in
-    let place : c + 1 ≡ (c - e + 1) + e = omega arith in
-    let whole : 2 ^ (c + 1) ≡ 2 ^ (c - e + 1) * 2 ^ e = ap (λ k. 2 ^ k) place ∙ pow-add 2 (c - e + 1) e in
-    let reach : share + 2 ≤ 2 ^ (c - e + 1) = omega arith in
-    let more : (share + 2) * 2 ^ e ≤ 2 ^ (c - e + 1) * 2 ^ e = mul-le-mul_right (2 ^ e) reach in
-    let split : (share + 2) * 2 ^ e ≡ share * 2 ^ e + 2 * 2 ^ e = add-mul share 2 (2 ^ e) in
-    let parts : budget < budget / 2 ^ e * 2 ^ e + 2 ^ e = lt-div-mul-add some in
-    let moved : budget < share * 2 ^ e + 2 ^ e = subst (λ n. budget < n * 2 ^ e + 2 ^ e) (sym is) parts in
-    omega (arith, whole, more, split, moved)
 
 -- the answer
 

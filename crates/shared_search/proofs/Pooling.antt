@@ -1,23 +1,21 @@
 -- A board's rule holds at the start, and is kept where seats are split and joined; what a seat with all parts learns.
-use Rattle.std.proofs.Common.{◌≡◌, ◌≢◌, ℕ, zero, suc, ◌<◌, ◌≤◌, ⊎_elim, refl, sym, ap, subst, ◌∙◌, List, [], ◌∷◌, length, length-append, set, get_or, arith}
+use Rattle.std.proofs.Common.{◌≡◌, ◌≢◌, ℕ, ◌<◌, ◌≤◌, ⊎_elim, refl, sym, ap, subst, ◌∙◌, List, [], ◌∷◌, length, length-append, set, get_or, arith}
 use Rattle.std.specs.Prelude.{min}
-use mathlib.Core.Option.{some, none, some-injective, some-ne-none}
+use mathlib.Core.Option.{some, none}
 use mathlib.Core.Logic.{dite}
 use native.Mathlib.Decide.{dec_lt}
 use lib.ListN.{get_elem?}
 use Rattle.atomic_table.specs.Table.{Me, step, keeps, Allows, Splits, Joins, opening}
 use Rattle.atomic_table.proofs.Lists.{at_set, at_snoc, set_here, set_again}
+use Rattle.list_lemmas.proofs.Counts.{times-append, only_one, total_set, total_snoc}
+use Rattle.list_lemmas.specs.Counts.{times, total}
 use Rattle.shared_search.specs.declared.words.View.{View}
-use Rattle.shared_search.specs.Counts.{times, once_below, nothing, lowest, total}
+use Rattle.shared_search.specs.Counts.{once_below, nothing, lowest}
 use Rattle.shared_search.specs.Rule.{fresh, gives_one, both_of, Fits, Kept, Whole, settled_after}
-use Rattle.shared_search.proofs.Totals.{total_set, total_snoc, total_only, least_under, least_at, least_set, least_same, least_snoc, least_up, least_only, times-append, none_below, lowest_top, lowest-append}
+use Rattle.shared_search.proofs.Totals.{total_only, least_under, least_at, least_set, least_same, least_snoc, least_up, least_only, none_below, lowest_top, lowest-append}
 use Rattle.shared_search.proofs.Fitting.{Words, all_fit, index_in}
 
 -- at the start
-
-lone : (view : View) (i : ℕ) (v : View) → get_elem? (view ∷ []) i ≡ some v → view ≡ v
-lone view zero v e = some-injective view v e
-lone view (suc i) v e = absurd (some-ne-none v (sym e))
 
 fresh_fits : (cubes parts : ℕ) → Fits cubes 0 nothing (fresh cubes parts)
 fresh_fits cubes parts = record {
@@ -43,7 +41,7 @@ begins cubes seats few few' = record {
   beyond = omega arith;
   least_is = omega arith;
   done_is = omega arith;
-  each = λ i v e. subst (λ (u : View). Fits cubes 0 nothing u) (lone (fresh cubes seats) i v e) (fresh_fits cubes seats);
+  each = λ i v e. subst (λ (u : View). Fits cubes 0 nothing u) (only_one (fresh cubes seats) i v e) (fresh_fits cubes seats);
 }
 
 -- a part is split off

@@ -6,28 +6,16 @@ use mathlib.Core.Option.{some, some-injective, some-ne-none}
 use mathlib.Core.Logic.{dite}
 use native.Mathlib.Decide.{ℕ_discrete}
 use lib.ListN.{get_elem?}
-use Rattle.shared_search.specs.Counts.{times, once_below, nothing, lowest, total, least_of}
+use Rattle.list_lemmas.specs.Counts.{times, total}
+use Rattle.list_lemmas.proofs.Counts.{total_at}
+use Rattle.shared_search.specs.Counts.{once_below, nothing, lowest, least_of}
 
 -- totals
 
 module _ {V : Type 0} where
-  pub total_set : (f : V → ℕ) (l : List V) (i : ℕ) (v w : V) → get_elem? l i ≡ some v → total f (set l i w) + f v ≡ total f l + f w
-  total_set f [] i v w e = absurd (some-ne-none v (sym e))
-  total_set f (x ∷ xs) zero v w e = let is : f x ≡ f v = ap f (some-injective x v e) in omega arith
-  total_set f (x ∷ xs) (suc i) v w e = let r = total_set f xs i v w e in omega arith
-
-  pub total_snoc : (f : V → ℕ) (l : List V) (w : V) → total f (l ++ w ∷ []) ≡ total f l + f w
-  total_snoc f [] w = omega arith
-  total_snoc f (x ∷ xs) w = let r = total_snoc f xs w in omega arith
-
   pub total_le : (f g : V → ℕ) (l : List V) → ((i : ℕ) (v : V) → get_elem? l i ≡ some v → f v ≤ g v) → total f l ≤ total g l
   total_le f g [] h = omega arith
   total_le f g (x ∷ xs) h = let here = h 0 x refl in let r = total_le f g xs (λ i v e. h (suc i) v e) in omega arith
-
-  pub total_at : (f : V → ℕ) (l : List V) (i : ℕ) (v : V) → get_elem? l i ≡ some v → f v ≤ total f l
-  total_at f [] i v e = absurd (some-ne-none v (sym e))
-  total_at f (x ∷ xs) zero v e = let is : f x ≡ f v = ap f (some-injective x v e) in omega arith
-  total_at f (x ∷ xs) (suc i) v e = let r = total_at f xs i v e in omega arith
 
   -- where p adds up to nothing, f does, too
   pub total_none : (p f : V → ℕ) (l : List V) → total p l ≡ 0 → ((j : ℕ) (u : V) → get_elem? l j ≡ some u → p u ≡ 0 → f u ≡ 0) → total f l ≡ 0
@@ -123,18 +111,11 @@ module _ {V : Type 0} where
 
 -- how often a number stands in a list
 
-pub times-append : (p : ℕ) (xs ys : List ℕ) → times p (xs ++ ys) ≡ times p xs + times p ys
-times-append p [] ys = omega arith
-times-append p (x ∷ xs) ys = let e = times-append p xs ys in omega arith
-
 pub once_more : (x n : ℕ) → once_below x (n + 1) ≡ once_below x n + times x (n ∷ [])
 once_more x n = grind (arith, nat_tests)
 
 pub none_below : (x : ℕ) → 0 + 0 ≡ once_below x 0
 none_below x = grind (arith, nat_tests)
-
-pub one_time : (x i : ℕ) → 0 < times x (i ∷ []) → x ≡ i
-one_time x i h = grind (arith, nat_tests)
 
 pub same_time : (x i : ℕ) → x ≡ i → times x (i ∷ []) ≡ 1
 same_time x i h = grind (arith, nat_tests)

@@ -1,15 +1,16 @@
 -- What a worker has done, as it goes on, and what several have done together.
 use Rattle.std.proofs.Common.{◌≡◌, ℕ, ◌+◌, ◌<◌, ◌≤◌, inl, inr, ⊎_elim, refl, sym, ap, subst, ◌∙◌, List, [], ◌∷◌, ◌++◌, arith, Bool, true, false}
 use Rattle.std.specs.Prelude.{if◌then◌else◌}
-use Rattle.std.proofs.lemmas.List.Elements.{All-nil, All-push, All-append}
+use Rattle.std.proofs.lemmas.List.Elements.{All-push, All-append}
 use mathlib.Core.Logic.{dite}
 use native.Mathlib.Decide.{dec_lt, ℕ_discrete}
+use Rattle.list_lemmas.proofs.Counts.{times-append}
+use Rattle.list_lemmas.specs.Counts.{times}
 use Rattle.polygraph.specs.declared.solving.Cube.{Cube}
 use Rattle.shared_search.specs.declared.words.View.{View}
-use Rattle.shared_search.specs.Counts.{times}
-use Rattle.shared_search.specs.Rule.{fresh, claims, sees, both_of}
+use Rattle.shared_search.specs.Rule.{claims, sees, both_of}
 use Rattle.shared_search.specs.Worked.{is_yes, numbers, yes_numbers, Worked, told}
-use Rattle.shared_search.proofs.Totals.{times-append, same_time, other_time}
+use Rattle.shared_search.proofs.Totals.{same_time, other_time}
 use Rattle.shared_search.proofs.Found.{numbers-append, yes-append}
 
 numbers_more : (x : ℕ) (es fs : List (ℕ × Cube)) → times x (numbers (es ++ fs)) ≡ times x (numbers es) + times x (numbers fs)
@@ -17,18 +18,6 @@ numbers_more x es fs = ap (times x) (numbers-append es fs) ∙ times-append x (n
 
 yes_more : (x : ℕ) (es fs : List (ℕ × Cube)) → times x (yes_numbers (es ++ fs)) ≡ times x (yes_numbers es) + times x (yes_numbers fs)
 yes_more x es fs = ap (times x) (yes-append es fs) ∙ times-append x (yes_numbers es) (yes_numbers fs)
-
-pub starts : (may : ℕ → Cube → Type 0) (count : ℕ) (v : View) → v ≡ fresh count 1 → Worked may count 1 v []
-starts may count v is = subst (λ (u : View). Worked may count 1 u []) (sym is)
-    record {
-      count_is = refl;
-      parts_are = refl;
-      allowed = All-nil (λ (e : ℕ × Cube). may e.0 e.1);
-      answered = λ x h. absurd (omega (arith, h));
-      once = λ x. omega arith;
-      inside = λ x. omega arith;
-      yes = λ x. omega arith;
-    }
 
 skips : (may : ℕ → Cube → Type 0) (count : ℕ) (u : View) (es : List (ℕ × Cube)) (i n : ℕ) → Worked may count 1 u es → n < i → n ≤ u.least → Worked may count 1 (sees (claims u i) n) es
 skips may count u es i n w below low = record {

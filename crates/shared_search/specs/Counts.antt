@@ -1,10 +1,5 @@
 -- How often numbers stand in lists, and what several add to a total.
-use Rattle.std.specs.Prelude.{ℕ, ◌+◌, List, [], ◌∷◌, min, nat_eq, nat_lt, if◌then◌else◌}
-
--- how often x stands in the list
-abbrev pub times : ℕ → List ℕ → ℕ
-times x [] = 0
-times x (y ∷ ys) = (if nat_eq y x then 1 else 0) + times x ys
+use Rattle.std.specs.Prelude.{ℕ, List, [], ◌∷◌, min, nat_lt, if◌then◌else◌}
 
 -- 1 where x is below n, else 0
 abbrev pub once_below : ℕ → ℕ → ℕ
@@ -18,11 +13,6 @@ nothing = 18446744073709551615
 abbrev pub lowest : List ℕ → ℕ
 lowest [] = nothing
 lowest (c ∷ cs) = min c (lowest cs)
-
--- f of each, added up
-abbrev pub total : {V : Type 0} → (V → ℕ) → List V → ℕ
-total f [] = 0
-total f (v ∷ vs) = f v + total f vs
 
 -- the least of f of each
 abbrev pub least_of : {V : Type 0} → (V → ℕ) → List V → ℕ

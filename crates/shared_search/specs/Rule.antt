@@ -3,8 +3,9 @@ use Rattle.std.specs.Prelude.{◌≡◌, ℕ, ◌+◌, ◌-◌, ◌<◌, ◌≤�
 use mathlib.Core.Option.{some}
 use lib.ListN.{get_elem?}
 use Rattle.atomic_table.specs.Table.{State, Me, Step}
+use Rattle.list_lemmas.specs.Counts.{times, total}
 use Rattle.shared_search.specs.declared.words.View.{View}
-use Rattle.shared_search.specs.Counts.{times, once_below, nothing, lowest, total, least_of}
+use Rattle.shared_search.specs.Counts.{once_below, nothing, lowest, least_of}
 
 -- a seat that has done nothing
 abbrev pub fresh : ℕ → ℕ → View

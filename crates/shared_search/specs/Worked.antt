@@ -1,9 +1,9 @@
 -- For private clauses: what a worker brings back, or several together.
 use Rattle.std.specs.Prelude.{◌≡◌, ℕ, ◌<◌, ◌≤◌, ◌⊎◌, Bool, true, false, List, [], ◌∷◌, length, All, Option, Some, None, slice_index_or, nat_eq, if◌then◌else◌}
+use Rattle.list_lemmas.specs.Counts.{times}
 use Rattle.polygraph.specs.declared.solving.Cube.{Cube}
 use Rattle.polygraph.specs.declared.solving.Cube.TheVariants as cubes
 use Rattle.shared_search.specs.declared.words.View.{View}
-use Rattle.shared_search.specs.Counts.{times}
 use Rattle.shared_search.specs.Rule.{finds, answers}
 
 -- whether the outcome is a yes

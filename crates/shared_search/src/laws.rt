@@ -7,5 +7,6 @@ use order_check::scans_find_one;
 pub fn picked_has_one_kind()
     ensures { PickedHasOneKind }
 {
+    // A law that the proof cites. It does nothing when it runs.
     scans_find_one();
 }

@@ -1,4 +1,4 @@
-ghost use Rattle.std.specs.Prelude.{◌≡◌, ◌≤◌, ◌^◌, ⊤, length};
+ghost use Rattle.std.specs.Prelude.{◌≡◌, ◌≤◌, ◌^◌, length};
 ghost use Rattle.order_check.specs.Effort.{IsEffort};
 ghost use Rattle.polygraph.specs.Outcomes.{IsPicked};
 ghost use Rattle.polygraph.specs.Solving.{IsLawful};
@@ -61,6 +61,7 @@ fn share_out<R: Threads + Sync, G: Gate + Sync>(
     ensures lawful { IsLawful problem.now.known.parts budget depth result }
     ensures picked { IsPicked problem.now budget depth result }
 {
+    // Laws that the proof cites. They do nothing when they run.
     scans_find_one();
     joined_trees_refute();
     joined_depth();

@@ -1,5 +1,6 @@
-ghost use Rattle.std.specs.Prelude.{◌≡◌, ◌+◌, ◌<◌, ◌≤◌, ◌^◌, ◌⊎◌, ⊤, All, IfOk, MatchOption, unwrap_or, vec_len};
-ghost use Rattle.shared_search.specs.Counts.{times, nothing};
+ghost use Rattle.std.specs.Prelude.{◌≡◌, ◌<◌, ◌≤◌, ◌^◌, ◌⊎◌, ⊤, All, IfOk, MatchOption, unwrap_or, vec_len};
+ghost use Rattle.list_lemmas.specs.Counts.{times};
+ghost use Rattle.shared_search.specs.Counts.{nothing};
 ghost use Rattle.shared_search.specs.Rule.{claims, ends, finds, sees, answers, both_of, Whole};
 ghost use Rattle.shared_search.specs.Boards.{IsSeatOf, IsFresh};
 

@@ -1,6 +1,6 @@
 // The words of a board, and each step on them. The only ones that may step are those who hold a seat.
-ghost use Rattle.std.specs.Prelude.{◌≡◌, ◌<◌, ◌≤◌, [], List, length};
-ghost use Rattle.shared_search.specs.Counts.{times};
+ghost use Rattle.std.specs.Prelude.{◌≡◌, ◌<◌, ◌≤◌, []};
+ghost use Rattle.list_lemmas.specs.Counts.{times};
 ghost use Rattle.shared_search.specs.Rule.{fresh, claims, ends, finds, sees, answers, gives_one, both_of, Whole};
 
 use atomic_table::{Join, Play, Split, TableRule};

@@ -1,8 +1,8 @@
-ghost use Rattle.std.specs.Prelude.{◌≡◌, ℕ, ◌+◌, ◌<◌, ◌≤◌, ◌^◌, ◌++◌, ◌∷◌, [], List, length, All, IfOk, OnOk, vec_len};
+ghost use Rattle.std.specs.Prelude.{◌≡◌, ℕ, ◌+◌, ◌<◌, ◌^◌, ◌++◌, ◌∷◌, [], List, length, All, IfOk, OnOk, vec_len};
+ghost use Rattle.list_lemmas.specs.Counts.{times};
 ghost use Rattle.txn.specs.declared.choices.Choice.{Choice};
 ghost use Rattle.polygraph.specs.declared.solving.Cube.{Cube};
 ghost use Rattle.shared_search.specs.declared.words.View.{View};
-ghost use Rattle.shared_search.specs.Counts.{times};
 ghost use Rattle.shared_search.specs.Rule.{claims};
 ghost use Rattle.shared_search.specs.Boards.{IsSeatOf, IsFresh};
 ghost use Rattle.shared_search.specs.Worked.{is_yes, told, Worked};

@@ -4,6 +4,7 @@ use Rattle.std.specs.List.{slice_get}
 use Rattle.std.proofs.lemmas.Bool.{cases_lt, cases_eq}
 use Rattle.std.proofs.lemmas.List.Elements.{All-weaker}
 use Rattle.std.proofs.lemmas.Option.{slice_get_within, get_or_from_slice_get}
+use Rattle.list_lemmas.proofs.Places.{place_in}
 use Rattle.txn.specs.declared.transactions.TxnId.{TxnId}
 use Rattle.txn.specs.declared.transactions.Txn.{Txn}
 use Rattle.txn.specs.declared.transactions.Fragment.{Fragment}
@@ -13,7 +14,6 @@ use Rattle.order_check.specs.StandsFor.{Arrival, More, Joins, Returns, history_a
 use Rattle.snapshot_histories.specs.Split.{split_sessions, split_history, split_arrival, IsNextArrival, CanBeSplit, HistoryCanBeSplit}
 use Rattle.snapshot_histories.specs.Splittable.{IsLowRead, HasLowNumbers, IsSplittable, fragment_of}
 use Rattle.snapshot_histories.proofs.Lookups.{session_split}
-use Rattle.snapshot_histories.proofs.Places.{place_in}
 use Rattle.snapshot_histories.proofs.WellFormedSplit.{split_length}
 
 -- there are as many sessions

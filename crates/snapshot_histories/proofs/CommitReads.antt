@@ -5,10 +5,11 @@ use Rattle.std.specs.List.{slice_get, slice_index_or}
 use Rattle.std.proofs.lemmas.Bool.{false≢true, cases_lt}
 use Rattle.std.proofs.lemmas.List.Elements.{All-map}
 use Rattle.std.proofs.lemmas.Option.{slice_get-get_or}
+use Rattle.list_lemmas.proofs.Places.{IsAt}
+use Rattle.list_lemmas.specs.Precedes.{Precedes}
 use Rattle.txn.specs.declared.transactions.TxnId.{TxnId}
 use Rattle.txn.specs.declared.transactions.Txn.{Txn}
 use Rattle.txn.specs.History.{History, txn_at, writes_key, Writes, NoneWrites}
-use Rattle.order_check.specs.Precedes.{Precedes}
 use Rattle.snapshot_histories.specs.declared.events.Event.{Event}
 use Rattle.snapshot_histories.specs.declared.events.Event.TheVariants.{Begin, Commit}
 use Rattle.snapshot_histories.specs.Halves.{begin_half, half_of}
@@ -16,7 +17,6 @@ use Rattle.snapshot_histories.specs.Snapshot.{commits_key, NoneCommits}
 use Rattle.snapshot_histories.specs.Split.{split_history}
 use Rattle.snapshot_histories.proofs.EventPlaces.{AreEvents, one_place, begin_then_commit}
 use Rattle.snapshot_histories.proofs.Lookups.{begin_writes, begin_writes_none, commit_writes}
-use Rattle.snapshot_histories.proofs.Places.{IsAt}
 
 -- two transactions that write one key are apart
 abbrev pub AreApart : History → List Event → Type 0

@@ -3,15 +3,15 @@ use Rattle.std.proofs.Common.{◌≡◌, ℕ, ◌+◌, ◌*◌, ◌<◌, ◌≤�
 use Rattle.std.specs.List.{slice_get, filter}
 use Rattle.std.proofs.lemmas.Bool.{eq-eqb, cases_lt}
 use Rattle.std.proofs.lemmas.Option.{slice_get_within}
+use Rattle.list_lemmas.proofs.Places.{later_place, precedes_filtered, precedes_filter}
+use Rattle.list_lemmas.specs.Precedes.{Precedes}
 use Rattle.txn.specs.declared.transactions.TxnId.{TxnId}
 use Rattle.txn.specs.declared.transactions.Txn.{Txn}
 use Rattle.txn.specs.History.{History, session_of, txn_at}
-use Rattle.order_check.specs.Precedes.{Precedes}
 use Rattle.snapshot_histories.specs.declared.events.Event.{Event}
 use Rattle.snapshot_histories.specs.declared.events.Event.TheVariants.{Begin, Commit}
 use Rattle.snapshot_histories.specs.Events.{txn_of, event_in_session, events_from}
 use Rattle.snapshot_histories.specs.Halves.{half_of}
-use Rattle.snapshot_histories.proofs.Places.{later_place, precedes_filtered, precedes_filter}
 
 -- session by session the events are those of the history
 abbrev pub AreEvents : History → List Event → Type 0

@@ -5,12 +5,13 @@ use Rattle.std.specs.List.{slice_get, slice_index_or}
 use Rattle.std.proofs.lemmas.Bool.{false≢true, cases_lt}
 use Rattle.std.proofs.lemmas.List.{length-map, get_or-map}
 use Rattle.std.proofs.lemmas.Option.{slice_get-get_or, slice_get_within}
+use Rattle.list_lemmas.proofs.Places.{place_in, place_left, place_right, split_at}
+use Rattle.list_lemmas.specs.Precedes.{Precedes}
 use Rattle.txn.specs.declared.transactions.TxnId.{TxnId}
 use Rattle.txn.specs.declared.transactions.Source.{Source}
 use Rattle.txn.specs.declared.transactions.Source.TheVariants.{Init, By}
 use Rattle.txn.specs.declared.transactions.Txn.{Txn}
 use Rattle.txn.specs.History.{History, Received, txn_at, writes_key, Writes, NoneWrites, IsLastWriter}
-use Rattle.order_check.specs.Precedes.{Precedes}
 use Rattle.order_check.specs.Whole.{MeetsWhole}
 use Rattle.snapshot_histories.specs.declared.events.Event.{Event}
 use Rattle.snapshot_histories.specs.declared.events.Event.TheVariants.{Begin, Commit}
@@ -21,7 +22,6 @@ use Rattle.snapshot_histories.proofs.CommitReads.{AreApart, writer_events}
 use Rattle.snapshot_histories.proofs.EventHalves.{parted, halves_of_events, event_of_half}
 use Rattle.snapshot_histories.proofs.EventPlaces.{AreEvents, one_place}
 use Rattle.snapshot_histories.proofs.Lookups.{at_begin, at_commit, begin_writes, commit_writes}
-use Rattle.snapshot_histories.proofs.Places.{place_in, place_left, place_right, split_at}
 
 -- what is received of a history is received of the split one
 pub commit_received : (history : History) (id : TxnId) → Received history id → Received (split_history history) (commit_half id)

@@ -11,7 +11,6 @@ mod FromOrder
 mod Isolation
 mod Lookups
 mod Pending
-mod Places
 mod SplitSteps
 mod ToOrder
 mod WellFormedSplit

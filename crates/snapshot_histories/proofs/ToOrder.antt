@@ -6,12 +6,13 @@ use Rattle.std.proofs.lemmas.Bool.{false≢true}
 use Rattle.std.proofs.lemmas.List.{map-append}
 use Rattle.std.proofs.lemmas.List.Elements.{All-map}
 use Rattle.std.proofs.lemmas.Option.{slice_get_within}
+use Rattle.list_lemmas.proofs.Places.{place_in, place_left, place_right, split_at, IsAt}
+use Rattle.list_lemmas.specs.Precedes.{Precedes}
 use Rattle.txn.specs.declared.transactions.TxnId.{TxnId}
 use Rattle.txn.specs.declared.transactions.Source.{Source}
 use Rattle.txn.specs.declared.transactions.Source.TheVariants.{Init, By}
 use Rattle.txn.specs.declared.transactions.Txn.{Txn}
 use Rattle.txn.specs.History.{History, Received, txn_at, writes_key, Writes, NoneWrites, IsLastWriter}
-use Rattle.order_check.specs.Precedes.{Precedes}
 use Rattle.order_check.specs.Whole.{MeetsWhole}
 use Rattle.snapshot_histories.specs.declared.events.Event.{Event}
 use Rattle.snapshot_histories.specs.declared.events.Event.TheVariants.{Begin, Commit}
@@ -21,7 +22,6 @@ use Rattle.snapshot_histories.specs.Split.{star, split_source, commit_txn, split
 use Rattle.snapshot_histories.proofs.CommitReads.{AreApart, WritesLow, writer_events, closed_between, at_of, none_writes}
 use Rattle.snapshot_histories.proofs.EventPlaces.{AreEvents, one_place}
 use Rattle.snapshot_histories.proofs.Lookups.{at_commit, begin_writes, commit_writes, low_star}
-use Rattle.snapshot_histories.proofs.Places.{IsAt, place_in, place_left, place_right, split_at}
 
 -- what is received of a split history is received of the history
 pub received_commit : (history : History) (id : TxnId) → Received (split_history history) (commit_half id) → Received history id

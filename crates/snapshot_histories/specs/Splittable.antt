@@ -21,6 +21,11 @@ pub record HasLowNumbers (txn : Txn) : Type 0 where
   pub reads : All IsLowRead txn.reads
   pub writes : All (λ key. key < 2 ^ 63) txn.writes
 
+-- low numbers throughout
+pub record HasRoomToSplit (fragment : Fragment) : Type 0 where
+  pub numbers : fragment.first + length fragment.txns ≤ 2 ^ 47
+  pub each : All HasLowNumbers fragment.txns
+
 -- a well-formed fragment with low numbers throughout
 pub record IsSplittable (fragment : Fragment) : Type 0 where
   pub well_formed : IsWellFormedFragment fragment

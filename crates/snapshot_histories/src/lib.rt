@@ -18,5 +18,5 @@ pub use laws::{
 };
 pub use logged::split_logged;
 pub use offered::check_offered;
-pub use splittable::is_splittable;
+pub use splittable::{has_room_to_split, is_splittable};
 pub use splitting::{plain_key, split_fragment};

@@ -1,6 +1,6 @@
 ghost use Rattle.std.specs.Prelude.{◌↔◌, All, IsTrue};
 ghost use Rattle.txn.specs.Transactions.{IsWellFormedFragment};
-ghost use Rattle.snapshot_histories.specs.Splittable.{IsLowSource, HasLowNumbers, IsSplittable};
+ghost use Rattle.snapshot_histories.specs.Splittable.{IsLowSource, HasLowNumbers, HasRoomToSplit, IsSplittable};
 
 use txn::{Fragment, Source, Txn};
 
@@ -41,11 +41,21 @@ fn have_low_numbers(txns: &[Txn]) -> bool
     true
 }
 
+/// Whether keys are below 2^63, and numbers below 2^47.
+pub fn has_room_to_split(fragment: &Fragment) -> bool
+    ensures { IsTrue result ↔ HasRoomToSplit fragment.now }
+{
+    let count = fragment.txns.len() as u64;
+    match fragment.first.checked_add(count) {
+        Some(end) => end <= NUMBERS && have_low_numbers(fragment.txns.as_slice()),
+        None => false,
+    }
+}
+
 /// Whether a well-formed fragment can be split: keys are below 2^63, and numbers below 2^47.
 pub fn is_splittable(fragment: &Fragment) -> bool
     requires { IsWellFormedFragment fragment.now }
     ensures { IsTrue result ↔ IsSplittable fragment.now }
 {
-    fragment.first + fragment.txns.len() as u64 <= NUMBERS
-        && have_low_numbers(fragment.txns.as_slice())
+    has_room_to_split(fragment)
 }

@@ -1,7 +1,7 @@
 ghost use Rattle.std.specs.Prelude.{◌≡◌, ◌+◌, ◌<◌, ◌^◌, [], ◌∷◌, ◌++◌, All, map, IfOk, OnOk};
 ghost use Rattle.snapshot_histories.specs.Halves.{begin_half, commit_half};
 ghost use Rattle.snapshot_histories.specs.Split.{star, plain_key, split_source, begin_read_of, commit_read_of, begin_txn, commit_txn, split_of};
-ghost use Rattle.snapshot_histories.specs.Splittable.{IsLowRead, IsLowSource, HasLowNumbers, IsSplittable};
+ghost use Rattle.snapshot_histories.specs.Splittable.{IsLowRead, IsLowSource, HasLowNumbers, HasRoomToSplit};
 
 use crate::splittable::KEYS;
 use std::alloc::Global;
@@ -130,7 +130,7 @@ fn push_halves(alloc: Global, halves: &mut Vec<Txn>, id: TxnId, txn: &Txn) -> Re
 
 /// Splits a fragment: it has two transactions for each, at twice the place.
 pub fn split_fragment(alloc: Global, fragment: &Fragment) -> Result<Fragment, NoMemory>
-    requires { IsSplittable fragment.now }
+    requires { HasRoomToSplit fragment.now }
     ensures { IfOk result (λ split. split ≡ split_of fragment.now) }
 {
     let mut halves = Vec::new(alloc);

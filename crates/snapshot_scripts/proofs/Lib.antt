@@ -1,4 +1,7 @@
 mod Counting
+mod EnginesStay
 mod Fresh
-mod Kept
+mod GivenBack
+mod Halves
 mod Legality
+mod SplitLists

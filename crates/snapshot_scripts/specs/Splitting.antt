@@ -1,24 +1,30 @@
 -- Commands of a script that asks for snapshot isolation, as an auditor is asked whose transactions are split.
-use Rattle.std.specs.Prelude.{◌≡◌, ⊤}
+use Rattle.std.specs.Prelude.{◌≡◌, ◌*◌, ◌^◌, min, ⊤}
 use Rattle.txn.specs.declared.refusals.Refusal.{Refusal}
 use Rattle.txn.specs.declared.refusals.Refusal.TheVariants.{BadLine}
 use Rattle.log_text.specs.declared.commands.Command.{Command}
 use Rattle.log_text.specs.declared.commands.Command.TheVariants.{Offer, Join, Save, Answer}
+use Rattle.log_text.specs.declared.commands.Wanted.{Wanted}
+use Rattle.log_text.specs.declared.commands.Wanted.TheVariants.{Remain}
 use Rattle.snapshot_histories.specs.Logged.{split_logged}
 use Rattle.snapshot_histories.specs.Offered.{CanBeOffered, OfferedFault}
 
--- what is offered is split; all other commands are as they are
+-- what is to be given out of split parts: a session from the begin of a transaction on
+abbrev pub split_wanted : Wanted → Wanted
+split_wanted (Remain s n) = Remain s (2 * min n (2 ^ 47))
+split_wanted wanted = wanted
+
+-- what is offered is split, and asked for of split parts; all other commands are as they are
 abbrev pub split_command : Command → Command
 split_command (Offer logged) = Offer (split_logged logged)
 split_command (Join logged) = Join (split_logged logged)
+split_command (Save wanted) = Save (split_wanted wanted)
 split_command command = command
 
--- The command may be put to the auditor: what it offers can be split. Parts aren't given out, and no answer is handed in, since these would be
--- of split transactions.
+-- The command may be put to the auditor: what it offers can be split. No answer is handed in, since it would be of split transactions.
 abbrev pub CanBeAsked : Command → Type 0
 CanBeAsked (Offer logged) = CanBeOffered logged.fragment
 CanBeAsked (Join logged) = CanBeOffered logged.fragment
-CanBeAsked (Save wanted) = ⊥
 CanBeAsked (Answer shown) = ⊥
 CanBeAsked command = ⊤
 
@@ -26,6 +32,5 @@ CanBeAsked command = ⊤
 abbrev pub IsAskedFault : Command → Refusal → Type 0
 IsAskedFault (Offer logged) refusal = OfferedFault logged.fragment refusal
 IsAskedFault (Join logged) refusal = OfferedFault logged.fragment refusal
-IsAskedFault (Save wanted) refusal = refusal ≡ BadLine
 IsAskedFault (Answer shown) refusal = refusal ≡ BadLine
 IsAskedFault command refusal = ⊥

@@ -2,13 +2,16 @@ ghost use Rattle.std.specs.Prelude.{◌≡◌, IfOk, MatchResult};
 ghost use Rattle.log_text.specs.Commands.{HasLimits};
 ghost use Rattle.snapshot_histories.specs.Logged.{split_logged};
 ghost use Rattle.snapshot_histories.specs.Offered.{CanBeOffered, OfferedFault};
-ghost use Rattle.snapshot_scripts.specs.Splitting.{CanBeAsked, IsAskedFault, split_command};
+ghost use Rattle.snapshot_scripts.specs.Splitting.{CanBeAsked, IsAskedFault, split_command, split_wanted};
 
-use log_text::Command;
+use log_text::{Command, Wanted};
 use logged_fragments::LoggedFragment;
 use snapshot_histories::{check_offered, split_logged};
 use std::alloc::Global;
 use txn::{NoMemory, Refusal};
+
+/// Transactions are numbered below it.
+const NUMBERS: u64 = 1 << 47;
 
 /// The fragment split, or why it can't be offered.
 fn split_offer(
@@ -20,6 +23,22 @@ fn split_offer(
     match check_offered(&logged.fragment) {
         Ok(()) => Ok(Ok(split_logged(alloc, logged)?)),
         Err(refusal) => Ok(Err(refusal)),
+    }
+}
+
+/// A session is given out from the begin of a transaction on.
+fn split_wanted(wanted: Wanted) -> Wanted
+    ensures { result ≡ split_wanted wanted }
+{
+    match wanted {
+        Wanted::Remain { session, number } => {
+            let within = if number < NUMBERS { number } else { NUMBERS };
+            Wanted::Remain {
+                session,
+                number: 2 * within,
+            }
+        }
+        wanted => wanted,
     }
 }
 
@@ -37,7 +56,8 @@ pub fn split_command(alloc: Global, command: Command) -> Result<Result<Command, 
             Ok(split) => Ok(Ok(Command::Join(split))),
             Err(refusal) => Ok(Err(refusal)),
         },
-        Command::Save(_) | Command::Answer(_) => Ok(Err(Refusal::BadLine)),
+        Command::Save(wanted) => Ok(Ok(Command::Save(split_wanted(wanted)))),
+        Command::Answer(_) => Ok(Err(Refusal::BadLine)),
         command => Ok(Ok(command)),
     }
 }

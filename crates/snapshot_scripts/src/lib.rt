@@ -3,9 +3,14 @@
 #![tactic(auto)]
 
 mod commands;
+mod handed;
 mod laws;
 mod replies;
+mod wholes;
 
 pub use commands::split_command;
-pub use laws::{fresh_engines_are_split, split_steps_are_legal};
+pub use handed::{half_command, half_marks, have_halves};
+pub use laws::{
+    fresh_engines_are_split, given_is_taken, split_engines_stay, split_steps_are_legal,
+};
 pub use replies::isolated_of;

@@ -1,8 +1,10 @@
-ghost use Rattle.std.specs.Prelude.{◌≡◌, ◌+◌, ◌/◌, ◌%◌, ◌^◌, nat_eq, nat_lt, IfOk};
+ghost use Rattle.std.specs.Prelude.{◌≡◌, ◌+◌, ◌/◌, ◌%◌, ◌^◌, nat_eq, nat_lt, map, IfOk};
 ghost use Rattle.log_text.specs.Replies.{HasKindOfOrder};
-ghost use Rattle.snapshot_scripts.specs.Isolated.{halved, whole_of, committed, own_writers, half_gone, isolated_of};
+ghost use Rattle.snapshot_scripts.specs.Isolated.{halved, committed, own_writers, half_gone, half_begun, whole_writer, given_of, isolated_of};
 
-use log_text::Reply;
+use crate::wholes::{whole_fragment, whole_of};
+use log_text::{Reply, Saved};
+use snapshot_histories::plain_key;
 use std::alloc::Global;
 use txn::{NoMemory, Sequence, TxnId};
 
@@ -17,15 +19,6 @@ fn halved(alloc: Global, counts: &[u64]) -> Result<Sequence<u64>, NoMemory>
         halves.push(*count / 2)?;
     }
     Ok(Sequence::new(halves))
-}
-
-fn whole_of(half: TxnId) -> TxnId
-    ensures { result ≡ whole_of half }
-{
-    TxnId {
-        session: half.session,
-        number: half.number / 2,
-    }
 }
 
 fn is_commit(half: TxnId) -> bool
@@ -90,6 +83,55 @@ fn remaining_of(remaining: u64, marks: &[u64]) -> u64
     remaining / 2 + alone / 2 + (remaining % 2 + alone % 2) / 2
 }
 
+fn half_begun(alloc: Global, marks: &[u64]) -> Result<Sequence<bool>, NoMemory>
+    ensures { IfOk result (λ begun. begun ≡ half_begun marks.now) }
+{
+    let mut begun = Vec::with_capacity(alloc, marks.len())?;
+    for mark in marks {
+        begun.push(is_odd(*mark))?;
+    }
+    Ok(Sequence::new(begun))
+}
+
+/// A key's last gone writer; that of a begin is told under the key and 2^63.
+fn whole_writer(entry: (u64, TxnId)) -> (u64, TxnId)
+    ensures { result ≡ whole_writer entry }
+{
+    let (key, half) = entry;
+    let told = if is_commit(half) {
+        key
+    } else {
+        KEYS + plain_key(key)
+    };
+    (told, whole_of(half))
+}
+
+fn whole_writers(alloc: Global, last: &[(u64, TxnId)]) -> Result<Sequence<(u64, TxnId)>, NoMemory>
+    ensures { IfOk result (λ whole. whole ≡ map whole_writer last.now) }
+{
+    let mut whole = Vec::with_capacity(alloc, last.len())?;
+    for entry in last {
+        whole.push(whole_writer(*entry))?;
+    }
+    Ok(Sequence::new(whole))
+}
+
+/// How what is given out of split parts is told.
+fn given_of(alloc: Global, saved: Saved) -> Result<Saved, NoMemory>
+    ensures { IfOk result (λ given. given ≡ given_of saved) }
+{
+    match saved {
+        Saved::Marks { marks, closed } => Ok(Saved::MarksBegun {
+            marks: halved(alloc, marks.as_slice())?,
+            closed,
+            begun: half_begun(alloc, marks.as_slice())?,
+        }),
+        Saved::Last(last) => Ok(Saved::Last(whole_writers(alloc, last.as_slice())?)),
+        Saved::Offer(halves) => Ok(Saved::Offer(whole_fragment(alloc, &halves)?)),
+        saved => Ok(saved),
+    }
+}
+
 /// How a reply of an auditor whose transactions are split is told.
 pub fn isolated_of(alloc: Global, reply: Reply) -> Result<Reply, NoMemory>
     ensures told { IfOk result (λ answer. answer ≡ isolated_of reply) }
@@ -141,6 +183,7 @@ pub fn isolated_of(alloc: Global, reply: Reply) -> Result<Reply, NoMemory>
                 remaining,
             })
         }
+        Reply::Saved(saved) => Ok(Reply::Saved(given_of(alloc, saved)?)),
         reply => Ok(reply),
     }
 }

@@ -1,6 +1,6 @@
 //! Histories with their verdicts by some order, and by snapshot isolation.
 use order_check::{Kind, Parts, brute};
-use snapshot_histories::{Event, event_of, is_splittable, split_fragment};
+use snapshot_histories::{Event, event_of, has_room_to_split, is_splittable, split_fragment};
 use std::alloc::Global;
 use std::process::Abort;
 use std::test::Fail;
@@ -125,6 +125,7 @@ fn split_session(
     };
     assert!(rt; check_fragment(&fragment).is_ok());
     assert!(rt; is_splittable(&fragment));
+    assert!(rt; has_room_to_split(&fragment));
     Ok(split_fragment(alloc, &fragment)?.txns)
 }
 

@@ -1,7 +1,6 @@
 //! The known relation, plainly: a table of pairs that grows until no rule gives another.
 use crate::closure::{Pair, Relation};
 use order_check::Parts;
-use refutation::{is_overwritten, is_silent, reads_of};
 use std::alloc::Global;
 use txn::Source::{self, By, Init};
 use txn::{Choice, NoMemory, TxnId};
@@ -28,13 +27,6 @@ fn ids_of(alloc: Global, parts: &Parts) -> Result<Vec<TxnId>, NoMemory> {
     Ok(ids)
 }
 
-fn writes(parts: &Parts, id: TxnId, key: u64) -> bool {
-    match parts.remaining_at(id) {
-        Some(txn) => txn.writes.as_slice().contains(&key),
-        None => false,
-    }
-}
-
 /// The source is what stands before all that remains.
 fn is_of_base(parts: &Parts, key: u64, source: Source) -> bool {
     match source {
@@ -55,7 +47,7 @@ fn note_writer(
 ) -> Result<(), NoMemory> {
     match source {
         By(writer) if writer == other => facts.plain.push((writer, reader))?,
-        By(writer) if other != reader && writes(parts, writer, key) => {
+        By(writer) if other != reader && parts.writes(writer, key) => {
             facts.choices.push(Choice {
                 reader,
                 key,
@@ -77,12 +69,12 @@ fn note_reads(
     ids: &[TxnId],
     reader: TxnId,
 ) -> Result<(), NoMemory> {
-    for (key, source) in reads_of(parts, reader) {
-        if is_silent(parts, *key, *source) || is_overwritten(parts, *key, *source) {
+    for (key, source) in parts.reads_of(reader) {
+        if parts.is_silent(*key, *source) || parts.is_overwritten(*key, *source) {
             facts.bad = true;
         }
         for other in ids {
-            if writes(parts, *other, *key) {
+            if parts.writes(*other, *key) {
                 note_writer(facts, parts, reader, *key, *source, *other)?;
             }
         }

@@ -4,24 +4,16 @@ use Rattle.std.specs.FinMap.{FinMap, get}
 use Rattle.std.proofs.Math.ListN.{get_or-eq_default}
 use Rattle.std.proofs.lemmas.Bool.{cases_lt}
 use Rattle.std.proofs.lemmas.List.Sums.{length-filter}
+use Rattle.list_lemmas.proofs.Ends.{length_taken}
 use Rattle.txn.specs.declared.transactions.TxnId.{TxnId}
-use Rattle.txn.specs.declared.transactions.Txn.{Txn}
-use Rattle.txn.specs.History.{ids_from, in_session, session_of}
+use Rattle.txn.specs.History.{in_session, session_of}
+use Rattle.txn.proofs.Sessions.{length_ids_from}
 use Rattle.order_check.specs.declared.remainder.Parts.{Parts}
 use Rattle.order_check.specs.Based.{mark_of, remaining_ids, remaining_of}
 use Rattle.order_check.specs.Cutting.{CanBeApplied}
 use Rattle.order_check.specs.Good.{IsGood}
 use Rattle.order_check.specs.Settled.{IsCutOf, count_in, or_else}
 use Rattle.truncate.specs.TakenOut.{AreCutBelow, AreRaisedBelow}
-
-length_taken : {X : Type 0} (n : ℕ) (xs : List X) → length (take n xs) ≤ length xs
-length_taken zero xs = omega arith
-length_taken (suc n) [] = omega arith
-length_taken (suc n) (x ∷ xs) = let rest = length_taken n xs in omega (arith, rest)
-
-length_ids : (s first : ℕ) (txns : List Txn) → length (ids_from s first txns) ≡ length txns
-length_ids s first [] = refl
-length_ids s first (txn ∷ txns) = ap suc (length_ids s (first + 1) txns)
 
 drop_none : {X : Type 0} (n : ℕ) (xs : List X) → length xs ≡ 0 → drop n xs ≡ xs
 drop_none zero xs e = refl
@@ -34,7 +26,7 @@ few_gone parts gone last can s =
     let n = count_in gone s in
     let taken : n ≡ length (take n (remaining_ids parts s)) = sym (length-filter (in_session s) gone) ∙ ap length (can.front s) in
     let few = length_taken n (remaining_ids parts s) in
-    let ids = length_ids s (mark_of parts s) (remaining_of parts s) in
+    let ids = length_ids_from s (mark_of parts s) (remaining_of parts s) in
     omega (arith, taken, few, ids)
 
 -- so the marks stay below 2^48

@@ -1,3 +1,2 @@
 mod Applied
 mod Overruling
-mod Taken

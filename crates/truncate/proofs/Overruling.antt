@@ -1,5 +1,5 @@
 -- Last writers that are overruled, entry after entry.
-use Rattle.std.proofs.Common.{◌≡◌, ℕ, ◌+◌, ◌<◌, ◌≤◌, ◌&&◌, Bool, true, false, T, cond, nat_eq, nat_lt, List, [], ◌∷◌, ◌++◌, length, get_or, take, Some, None, Option, refl, sym, subst, ap, ◌∙◌, arith, suc, zero}
+use Rattle.std.proofs.Common.{◌≡◌, ℕ, ◌+◌, ◌<◌, ◌≤◌, Bool, true, false, T, cond, nat_eq, nat_lt, List, [], ◌∷◌, ◌++◌, length, get_or, take, Some, None, Option, refl, sym, subst, ap, ◌∙◌, arith, suc, zero}
 use Rattle.std.specs.Ordering.{nat_cmp, is_lt, eq_by_cmp}
 use Rattle.std.specs.FinMap.{FinMap, entries, entries_sorted, find, get, get-entries, get-insert, insert, is_sorted}
 use Rattle.std.specs.FinMap.Entries.{below_all, find-append}
@@ -7,13 +7,10 @@ use Rattle.std.proofs.lemmas.Bool.{ltb-true, ne_eqb}
 use Rattle.std.proofs.lemmas.Bool.Decides.{nat_tests}
 use Rattle.std.proofs.lemmas.Cmp.{nat_cmp_total}
 use Rattle.std.proofs.lemmas.List.{take_more, take_all}
+use Rattle.std.proofs.Math.Facts.{and_yes}
 use Rattle.txn.specs.declared.transactions.TxnId.{TxnId}
 use Rattle.order_check.specs.Settled.{or_else}
 use Rattle.truncate.specs.Overruled.{AreOverruled}
-
-both_parts : (a b : Bool) → T (a && b) → T a × T b
-both_parts true b h = (tt, h)
-both_parts false b h = absurd h
 
 -- a lower key isn't at a higher one
 not_at : (x y : ℕ) → T (is_lt (nat_cmp x y)) → eq_by_cmp nat_cmp y x ≡ false
@@ -31,24 +28,21 @@ not_at x y h = ties ∙ ne_eqb y x (λ same. let below = ltb-true x y (from_T (n
 
 lower : (x : ℕ) (es : List (ℕ × TxnId)) → T (below_all nat_cmp x es) → (i : ℕ) (d : ℕ × TxnId) → i < length es → T (is_lt (nat_cmp x (get_or es i d).0))
 lower x [] h i d within = absurd (omega arith)
-lower x (e ∷ es) h zero d within = (both_parts (is_lt (nat_cmp x e.0)) (below_all nat_cmp x es) h).0
-lower x (e ∷ es) h (suc i) d within = lower x es (both_parts (is_lt (nat_cmp x e.0)) (below_all nat_cmp x es) h).1 i d (omega arith)
+lower x (e ∷ es) h zero d within = (and_yes (is_lt (nat_cmp x e.0)) (below_all nat_cmp x es) h).0
+lower x (e ∷ es) h (suc i) d within = lower x es (and_yes (is_lt (nat_cmp x e.0)) (below_all nat_cmp x es) h).1 i d (omega arith)
 
 -- the key of an entry is not among those before it
 none_before : (es : List (ℕ × TxnId)) → T (is_sorted nat_cmp es) → (i : ℕ) (d : ℕ × TxnId) → i < length es → find nat_cmp (get_or es i d).0 (take i es) ≡ None
 none_before [] sorted i d within = absurd (omega arith)
 none_before (e ∷ es) sorted zero d within = refl
 none_before (e ∷ es) sorted (suc i) d within =
-    let parts = both_parts (below_all nat_cmp e.0 es) (is_sorted nat_cmp es) sorted in
+    let parts = and_yes (below_all nat_cmp e.0 es) (is_sorted nat_cmp es) sorted in
     let key = (get_or es i d).0 in
     ap (λ b. cond b (Some e.1) (find nat_cmp key (take i es))) (not_at e.0 key (lower e.0 es parts.0 i d (omega arith))) ∙ none_before es parts.1 i d (omega arith)
 
 cond_else : (b : Bool) (x : TxnId) (f g : Option TxnId) → cond b (Some x) (or_else f g) ≡ or_else (cond b (Some x) f) g
 cond_else true x f g = refl
 cond_else false x f g = refl
-
-pub overruled_none : (es : List (ℕ × TxnId)) (old : FinMap nat_cmp TxnId) → AreOverruled (take 0 es) old old
-overruled_none es old key = refl
 
 pub overruled_next : (others old new : FinMap nat_cmp TxnId) (es : List (ℕ × TxnId)) (i : ℕ) (d : ℕ × TxnId) → es ≡ entries others → i < length es → AreOverruled (take i es) old new → AreOverruled (take (i + 1) es) old (insert new (get_or es i d).0 (get_or es i d).1)
 overruled_next others old new es i d same within so_far key =

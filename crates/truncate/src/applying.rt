@@ -50,6 +50,7 @@ pub fn apply(
 {
     let writers = overruled(alloc, &parts.base.last, last)?;
     take_out(alloc, parts, gone, writers);
+    // Laws that the proof cites. They do nothing when they run.
     cut_keeps_good();
     settled_stays_settled();
     cut_keeps_stands_for();

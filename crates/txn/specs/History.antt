@@ -1,5 +1,5 @@
 -- Whole histories, with nothing forgotten.
-use Rattle.std.specs.Prelude.{◌≡◌, ℕ, ◌+◌, Bool, true, false, List, [], ◌∷◌, ◌++◌, slice_get, slice_index_or, Option, All, Contains, nat_eq, IsSome, IsSomeAnd}
+use Rattle.std.specs.Prelude.{◌≡◌, ℕ, ◌+◌, Bool, true, false, List, [], ◌∷◌, ◌++◌, slice_get, slice_index_or, Option, Some, None, All, Contains, nat_eq, IsSome, IsSomeAnd}
 use Rattle.std.specs.List.{list_any}
 use Rattle.std.specs.Option.{option_map_or}
 use Rattle.txn.specs.declared.transactions.TxnId.{TxnId}
@@ -23,6 +23,15 @@ abbrev pub Received : History → TxnId → Type 0
 Received history id = IsSome (txn_at history id)
 
 -- The words below speak of any way to look a transaction up: in a whole history, or in what remains of one.
+
+-- what a transaction reads, and which keys it writes, where there is one
+abbrev pub reads_in : Option Txn → List (ℕ × Source)
+reads_in None = []
+reads_in (Some txn) = txn.reads
+
+abbrev pub writes_in : Option Txn → List ℕ
+writes_in None = []
+writes_in (Some txn) = txn.writes
 
 -- the transaction with this id reads the key from the source
 abbrev pub Reads : (TxnId → Option Txn) → TxnId → ℕ → Source → Type 0

@@ -16,7 +16,7 @@ const WORKERS: [u64; 4] = [1, 2, 4, 16];
 
 /// The budget and the depth of a search.
 #[derive(Clone, Copy)]
-struct Effort {
+struct Bounds {
     budget: u64,
     depth: u64,
 }
@@ -43,12 +43,12 @@ fn compare<R: Threads + Sync>(
     rt: &R,
     alloc: Global,
     problem: &Problem,
-    effort: Effort,
+    bounds: Bounds,
     times: u64,
 ) -> Result<(u64, &'static str), NoMemory>
-    requires { (1 ≤ effort.budget) × (effort.budget ≤ 4096) × (effort.depth ≤ 6) }
+    requires { (1 ≤ bounds.budget) × (bounds.budget ≤ 4096) × (bounds.depth ≤ 6) }
 {
-    let single = Single.solve(alloc, problem, effort.budget, effort.depth, 1);
+    let single = Single.solve(alloc, problem, bounds.budget, bounds.depth, 1);
     let said = if has_split(&single) {
         "no, by a split"
     } else {
@@ -59,7 +59,7 @@ fn compare<R: Threads + Sync>(
     let mut others = 0u64;
     for workers in WORKERS {
         for _ in 0..times {
-            let answer = shared.solve(alloc, problem, effort.budget, effort.depth, workers);
+            let answer = shared.solve(alloc, problem, bounds.budget, bounds.depth, workers);
             if format!(in alloc; "{answer:?}")? != single {
                 others = others.saturating_add(1);
             }
@@ -75,9 +75,9 @@ fn a_worked_refutation_is_the_same_with_all_numbers_of_workers(
     let parts = real_split(rt.alloc())?;
     let problem = problem_of(&rt, rt.alloc(), &parts)?;
     for depth in 0..7u64 {
-        let effort = Effort { budget: 32, depth };
+        let bounds = Bounds { budget: 32, depth };
         assert_eq!(&rt;
-            compare(&rt, rt.alloc(), &problem, effort, 10)?,
+            compare(&rt, rt.alloc(), &problem, bounds, 10)?,
             (0, "no, by a split")
         );
     }
@@ -125,12 +125,12 @@ fn generated_histories_have_one_answer(rt: HostRuntime) -> Result<(), Fail> {
         if problem.open_choices() > 6 {
             tally.deep = tally.deep.saturating_add(1);
         }
-        let effort = Effort {
+        let bounds = Bounds {
             budget: if round % 3 == 0 { 24 } else { 4096 },
             depth: round % 7,
         };
         let times = if round % 10 == 0 { 10 } else { 1 };
-        let (others, said) = compare(&rt, rt.alloc(), &problem, effort, times)?;
+        let (others, said) = compare(&rt, rt.alloc(), &problem, bounds, times)?;
         tally.count(others, said);
     }
     let wanted = Tally {

@@ -193,11 +193,12 @@ def _two(part: Part) -> None:
         raise part.unexpected("2, the version of the script")
 
 
-OPENS = (OPEN, (*OPEN, _two))
+OPENS = (OPEN, (*OPEN, _two), (*OPEN, _two, _word("snapshot")))
+MARKS = (_each("the marks", NUMBER), _each("which sessions are closed", _flag))
 IDS = _each("the order", _row("a transaction: [session,number]", (SESSION, NUMBER)))
 LAST = _row("a last writer: [key,session,number]", (KEY, SESSION, NUMBER))
 FORMS: Mapping[str, Sequence[Sequence[Form]]] = {
-    "open": (*OPENS, (*OPEN, _two, _word("snapshot"))),
+    "open": OPENS,
     "resume": OPENS,
     "offer": ((SESSION, FIRST, TRANSACTIONS),),
     "join": ((SESSION, TRANSACTIONS), (SESSION, FIRST, TRANSACTIONS)),
@@ -207,7 +208,7 @@ FORMS: Mapping[str, Sequence[Sequence[Form]]] = {
     "search": ROUND,
     **{name: ((),) for name in ("begin", "skip", "truncate", "rebuild", "show", "resumed")},
     "collect": ((), (_word("wait"),)),
-    "marks": ((_each("the marks", NUMBER), _each("which sessions are closed", _flag)),),
+    "marks": (MARKS, (*MARKS, _each("in which a begin is gone", _flag))),
     "last": ((_each("the last writers", LAST),),),
 }
 ANSWERS: Mapping[str, Form] = {"order": IDS, "refuted": _each("the refutation", _any)}

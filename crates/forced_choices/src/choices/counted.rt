@@ -132,6 +132,7 @@ fn count_open_of_read(
     if are_decided(graph, mask, placed) {
         return Ok(());
     }
+    // For the proof alone: no two keys have one node.
     graph.one_key_each();
     let row = open_columns(alloc, graph, mask, placed)?;
     push_open_within(

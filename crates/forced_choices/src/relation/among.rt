@@ -62,6 +62,7 @@ fn is_linked_with(alloc: Global, graph: &Graph, row: &[u64], id: TxnId) -> Resul
     requires columns { (j : ℕ) → HasBit row.now j → (other : TxnId) × IsAt graph.now.nodes j other }
     ensures { IfOk result (λ linked. IsTrue linked ↔ IsLinkedWith graph.now row.now id) }
 {
+    // For the proof alone: no two keys have one node.
     graph.one_key_each();
     let column = column_of(graph, id);
     let after = graph.row_at(column);

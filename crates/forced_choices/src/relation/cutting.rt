@@ -1,6 +1,7 @@
 // What a cut leaves of the relation's arcs and log, where nothing that stays is known to come before what goes. A read from a writer that
 // goes is one of the base then: the side that its choice forced is an arc of the base.
 ghost use Rattle.std.specs.Prelude.{◌≡◌, ◌↔◌, ◌++◌, ◌∷◌, [], true, All, Contains, map, filter, IfOk, IfSome, OnOk};
+ghost use Rattle.list_lemmas.specs.Members.{In};
 ghost use Rattle.txn.specs.declared.transactions.TxnId.{TxnId};
 ghost use Rattle.txn.specs.declared.choices.Arc.{Arc};
 ghost use Rattle.txn.specs.declared.choices.ForceStep.{ForceStep};
@@ -9,7 +10,6 @@ ghost use Rattle.order_check.specs.Based.{Remains};
 ghost use Rattle.known_graph.specs.Drops.{arc_stays};
 ghost use Rattle.known_graph.specs.Graphs.{HasNode};
 ghost use Rattle.known_graph.specs.Reach.{Reaches};
-ghost use Rattle.forced_choices.specs.Ascending.{In};
 ghost use Rattle.forced_choices.specs.LeftByCut.{AllRemain, IsLeft, base_key, is_of_base, log_left, renamed, renamed_step, steps_left};
 ghost use Rattle.forced_choices.specs.Listing.{reads_of};
 ghost use Rattle.forced_choices.specs.SaturatedState.{choice_remains};

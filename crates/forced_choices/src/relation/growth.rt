@@ -1,5 +1,6 @@
 // A relation that goes on with more transactions.
 ghost use Rattle.std.specs.Prelude.{◌≡◌, ◌∷◌, [], ◌++◌, List, All, IfOk, OnOk};
+ghost use Rattle.list_lemmas.specs.Members.{In};
 ghost use Rattle.txn.specs.declared.transactions.TxnId.{TxnId};
 ghost use Rattle.txn.specs.declared.choices.Arc.{Arc};
 ghost use Rattle.txn.specs.declared.choices.ForceStep.{ForceStep};
@@ -8,7 +9,6 @@ ghost use Rattle.order_check.specs.Based.{Remains};
 ghost use Rattle.order_check.specs.Cycles.{AreNew, sides_after};
 ghost use Rattle.order_check.specs.Good.{IsGood};
 ghost use Rattle.known_graph.specs.Graphs.{HasNode, last_mark};
-ghost use Rattle.forced_choices.specs.Ascending.{In};
 ghost use Rattle.forced_choices.specs.Between.{IsBetween};
 ghost use Rattle.forced_choices.specs.Growth.{GoesOn, NodesStay};
 ghost use Rattle.forced_choices.specs.Kept.{IsKept};

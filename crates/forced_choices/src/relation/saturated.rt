@@ -331,6 +331,7 @@ impl Saturated {
         ensures logged { OnOk result (LogsOnAfterCut self.new.parts self.old.log self.new.log) }
         ensures err { OnErr result (self.new ≡ self.old) }
     {
+        // Laws that the proof cites. They do nothing when they run.
         cut_leaves_the_rest();
         cut_moves_base();
         cut_keeps_known();

@@ -40,6 +40,7 @@ fn new_sources(alloc: Global, graph: &Graph, from: TxnId, to: TxnId) -> Result<V
     ensures { IfOk result (λ row. (i : ℕ) (a b : TxnId) → IsAt graph.now.nodes i a → (¬ HasBit row.items i)
         → Reaches (graph.now.arcs ++ Taken from to ∷ []) a b → Reaches graph.now.arcs a b) }
 {
+    // For the proof alone: no two keys have one node.
     graph.one_key_each();
     let row = Vec::from_slice(alloc, graph.row_of_sources(from))?;
     let mut more = with_bit(row, column_of(graph, from))?;
@@ -54,6 +55,7 @@ fn new_targets(alloc: Global, graph: &Graph, from: TxnId, to: TxnId) -> Result<V
     ensures { IfOk result (λ row. (j : ℕ) (a b : TxnId) → IsAt graph.now.nodes j b → (¬ HasBit row.items j)
         → Reaches (graph.now.arcs ++ Taken from to ∷ []) a b → Reaches graph.now.arcs a b) }
 {
+    // For the proof alone: no two keys have one node.
     graph.one_key_each();
     let row = Vec::from_slice(alloc, graph.row(to))?;
     let mut more = with_bit(row, column_of(graph, to))?;

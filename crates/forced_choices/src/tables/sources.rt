@@ -1,11 +1,11 @@
 // Loose reads whose writer has come since, which go to the others.
 ghost use Rattle.std.specs.Prelude.{◌≡◌, ◌++◌, ℕ, true, not, List, All, filter, OnOk};
+ghost use Rattle.list_lemmas.specs.Members.{In};
 ghost use Rattle.txn.specs.declared.transactions.TxnId.{TxnId};
 ghost use Rattle.order_check.specs.Based.{Remains};
 ghost use Rattle.order_check.specs.Known.{ReadsKey};
 ghost use Rattle.known_graph.specs.Bits.{HasBit};
 ghost use Rattle.known_graph.specs.Graphs.{HasNode};
-ghost use Rattle.forced_choices.specs.Ascending.{In};
 ghost use Rattle.forced_choices.specs.ByKeys.{AreIndexed};
 ghost use Rattle.forced_choices.specs.KeptTables.{AreReadsOf, IsAmong, WereReadsOf, has_come};
 ghost use Rattle.forced_choices.specs.Masks.{mask_of};

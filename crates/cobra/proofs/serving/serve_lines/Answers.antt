@@ -1,10 +1,11 @@
 use Rattle.std.proofs.Common.{◌≡◌, [], ◌++◌, take, Err, refl, ap, ◌∙◌, inr, arith}
 use Rattle.std.proofs.KnownBytes.{Appends-nil, Appends-trans, Appends-kept}
 use Rattle.std.proofs.lemmas.Result.{err_from_is_err_and}
+use Rattle.list_lemmas.proofs.Options.{if_some_from}
 use Rattle.byte_lines.specs.declared.failures.Failure.{Failure}
 use Rattle.byte_lines.specs.declared.failures.Failure.TheVariants.{Device, NoMemory}
 use Rattle.cobra.specs.Outputs.{IsOutput, StopsForMemory, StopsReading, StopsWriting}
-use Rattle.cobra.proofs.ServedLines.{if_told, where_told, is_device, is_memory, serving_first, serving_read, serving_on, stops_for_memory, stops_for_memory_at_line, stops_reading, stops_writing, ends_whole}
+use Rattle.cobra.proofs.ServedLines.{where_told, is_device, is_memory, serving_first, serving_read, serving_on, stops_for_memory, stops_for_memory_at_line, stops_reading, stops_writing, ends_whole}
 use Rattle.cobra.proofs.serving.serve_lines.Goals as goal
 
 pub loop-next-init : goal.loop-next-init
@@ -93,7 +94,7 @@ pub returns-in-End-clause-at_end : goal.returns-in-End-clause-at_end
 returns-in-End-clause-at_end g c =
     let line = c.in_ok-next.ensures.line in
     let next = rw c.in-End.is at (c.in_ok-next.ensures.next c.loop-next.invariant.fresh) in
-    if_told _ _ (λ input told.
+    if_some_from _ _ (λ input told.
     let front = c.loop-next.invariant.told input told in
     (ends_whole input c.loop-next.reader c.next_line.new.self _ (g.R.ByteSource.remaining c.next_line.new.source) front.0 c.loop-next.script.stage line.0 front.2 line.1 next).0)
 

@@ -1,4 +1,5 @@
 use Rattle.std.proofs.Common.{◌<◌, List, Option, length, get_or, take, refl, sym, subst, ◌∙◌}
+use Rattle.list_lemmas.proofs.Members.{in_place}
 use Rattle.txn.specs.declared.transactions.TxnId.{TxnId}
 use Rattle.known_graph.specs.Graphs.{HasKey}
 use Rattle.forced_choices.specs.declared.tables.reads.Placed.{Placed}
@@ -7,7 +8,7 @@ use Rattle.forced_choices.specs.Masks.{choices_in}
 use Rattle.forced_choices.specs.Tables.{IsLookup, IsPlaced, choices_at}
 use Rattle.forced_choices.proofs.Distinct.{take_whole}
 use Rattle.forced_choices.proofs.Forced.{looked_both, looked_none}
-use Rattle.forced_choices.proofs.Members.{In, in_place}
+use Rattle.forced_choices.proofs.Members.{In}
 use Rattle.forced_choices.proofs.TableReads.{no_read, at_more}
 use Rattle.forced_choices.proofs.saturation.look_at_all.Goals as goal
 

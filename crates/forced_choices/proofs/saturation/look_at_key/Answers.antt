@@ -1,4 +1,5 @@
 use Rattle.std.proofs.Common.{◌≡◌, ◌≢◌, ◌⊎◌, ◌++◌, ◌<◌, ◌∙◌, ℕ, List, Option, length, get_or, take, refl, sym, ap, subst, subst₂}
+use Rattle.list_lemmas.proofs.Members.{in_place}
 use Rattle.txn.specs.declared.transactions.TxnId.{TxnId}
 use Rattle.known_graph.specs.Bits.{HasBit}
 use Rattle.known_graph.specs.Graphs.{IsAt}
@@ -12,7 +13,7 @@ use Rattle.forced_choices.specs.WriterPlaces.{places_at}
 use Rattle.forced_choices.proofs.Distinct.{take_whole}
 use Rattle.forced_choices.proofs.Forced.{looked_both}
 use Rattle.forced_choices.proofs.KeysLooked.{all_in, looked_more}
-use Rattle.forced_choices.proofs.Members.{In, in_place}
+use Rattle.forced_choices.proofs.Members.{In}
 use Rattle.forced_choices.proofs.TableReads.{looked_since, no_read}
 use Rattle.forced_choices.proofs.saturation.look_at_key.Goals as goal
 

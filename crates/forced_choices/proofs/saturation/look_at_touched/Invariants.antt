@@ -1,8 +1,8 @@
 use Rattle.std.proofs.Common.{◌≡◌, ◌<◌, ◌⊎◌, ℕ, List, length, get_or}
 use Rattle.std.specs.Map.{keys_of}
+use Rattle.list_lemmas.specs.Members.{In}
 use Rattle.txn.specs.declared.choices.Choice.{Choice}
 use Rattle.known_graph.specs.Graphs.{last_mark}
-use Rattle.forced_choices.specs.Ascending.{In}
 use Rattle.forced_choices.specs.Forcing.{stage_of, HasLooked}
 use Rattle.forced_choices.specs.Masks.{choices_in}
 use Rattle.forced_choices.proofs.TableReads.{no_read}

@@ -1,7 +1,7 @@
 use Rattle.std.proofs.Common.{ap, inl, inr, ◌∙◌}
 use Rattle.std.proofs.lemmas.Bool.{false≢true}
 use Rattle.slab.proofs.SlabLemmas.{Contains-cons, Contains-cons_cases, Contains-entries}
-use Rattle.known_graph.proofs.Ids.{same_id-from}
+use Rattle.txn.proofs.Ids.{same_id_from}
 use Rattle.known_graph.proofs.nodes.key_among.Goals as goal
 
 pub loop-key-init : goal.loop-key-init
@@ -19,7 +19,7 @@ loop-key-preserved c =
       tt,
       tt,
       λ key found. elim (Contains-cons_cases _ _ _ (rw at at (c.loop-key.invariant.2 key found))) [
-        | inl same ↦ absurd (false≢true (c.if-eq.ensures ∙ same_id-from c.in-Some.node.now c.args.id (ap (λ e. e.1) same)))
+        | inl same ↦ absurd (false≢true (c.if-eq.ensures ∙ same_id_from c.in-Some.node.now c.args.id (ap (λ e. e.1) same)))
         | inr rest ↦ rest
       ],
       λ key there. c.loop-key.invariant.3 key (rw at (Contains-cons _ _ _ there)),

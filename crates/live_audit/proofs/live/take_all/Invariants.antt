@@ -9,11 +9,11 @@ invariant-loop g l = record {
   moved : HasMoved l.initial.running.core l.initial.side.pass.1 l.initial.side.sender.sent l.running.core l.side.pass.1 l.side.sender.sent;
   between : IsBetweenRounds l.running.core l.side.sender.sent l.side.seat.published;
   ended : AreEnded l.running.ended l.side.pass.1;
-  effort : IsEffort l.running.core.search.budget l.running.core.search.depth l.workers;
+  effort : IsEffort l.running.core.search.budget l.running.core.search.depth l.means.effort.workers;
   turns : Turns l.initial.running.unasked l.initial.side.pass.1 l.initial.side.sender.sent l.running.unasked l.side.pass.1 l.side.sender.sent;
   desk : l.side.pass.0 ≡ l.initial.side.pass.0;
   ring : l.side.sender.ring ≡ l.initial.side.sender.ring;
   word : l.side.seat.word ≡ l.initial.side.seat.word;
-  its_desk : l.side.pass.0 ≡ l.desk.0;
-  its_word : l.side.seat.word ≡ l.latest;
+  its_desk : l.side.pass.0 ≡ l.means.desk.now.0;
+  its_word : l.side.seat.word ≡ l.means.latest.now;
 }

@@ -2,14 +2,13 @@ use Rattle.std.proofs.Common.{ap, ◌∙◌, arith}
 use Rattle.serde_json.specs.View.{items_view}
 use Rattle.log_text.specs.Refutations.{reader_in}
 use Rattle.log_text.proofs.Atoms.{reader_takes_few}
-use Rattle.log_text.proofs.FormsRead.{are_read_deeper}
-use Rattle.log_text.proofs.TokensRead.{few_then, few_not}
+use Rattle.log_text.proofs.TokensRead.{few_then, few_not, deeper_items}
 use Rattle.log_text.proofs.tree_tokens.read_reader.Goals as goal
 
 pub returns-in-Some : goal.returns-in-Some
 returns-in-Some c =
-    are_read_deeper reader_in 0 2 _ _ _ (omega arith)
+    deeper_items reader_in 0 2 _ _ _ (omega arith)
     (few_then reader_in 3 0 _ _ _ _ reader_takes_few (rw c.in-Some.is at c.in_ok-values.ensures) (c.reader_in.ensures ∙ ap (λ vs. reader_in (items_view vs)) c.as_slice.ensures.value))
 
 pub returns-in-None : goal.returns-in-None
-returns-in-None c = are_read_deeper reader_in 0 2 _ _ _ (omega arith) (few_not reader_in 3 0 _ _ reader_takes_few (rw c.in-None.is at c.in_ok-values.ensures))
+returns-in-None c = deeper_items reader_in 0 2 _ _ _ (omega arith) (few_not reader_in 3 0 _ _ reader_takes_few (rw c.in-None.is at c.in_ok-values.ensures))

@@ -3,6 +3,7 @@ use Rattle.std.proofs.Common.{◌∙◌, ◌+◌, subst₂, drop, cond, Option, 
 use Rattle.std.specs.Ordering.{eq_by_cmp}
 use Rattle.std.specs.Cmp.{Equal-is}
 use Rattle.std.proofs.lemmas.Bool.{ne_eqb}
+use Rattle.txn.proofs.Ids.{same_id_is}
 use Rattle.order_check.specs.StandsFor.{IsOpenSession}
 use Rattle.std.proofs.lemmas.Option.{same_Some}
 use Rattle.std.proofs.lemmas.List.{drop_all}
@@ -24,7 +25,7 @@ use Rattle.order_check.specs.Based.{Remains, received_count}
 use Rattle.order_check.specs.Known.{WritesKey, by_session, by_read}
 use Rattle.order_check.specs.Settled.{IsBefore, IsPast, InFront, IsLastIn}
 use Rattle.order_check.specs.Rows.{id, fresh, first_cut, cut_gone, cut_writers, cut_rest}
-use Rattle.order_check.proofs.EachRemaining.{same_id_is, each_remains, each_read_at}
+use Rattle.order_check.proofs.EachRemaining.{each_remains, each_read_at}
 use Rattle.order_check.proofs.KnownPairs.{Pairs, Covers, known_has, has, same_pair}
 use Rattle.order_check.proofs.Fresh.{no_base, fresh_last, comes}
 use Rattle.order_check.proofs.facts.row_first_cut.Goals as goal

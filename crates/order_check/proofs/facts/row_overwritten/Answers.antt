@@ -7,6 +7,7 @@ use Rattle.std.proofs.lemmas.Option.{same_Some}
 use Rattle.std.proofs.lemmas.List.{drop_all}
 use Rattle.txn.specs.History.{session_of}
 use Rattle.txn.specs.Transactions.{Rises, id_below}
+use Rattle.txn.proofs.Ids.{same_id_is}
 use Rattle.order_check.specs.Based.{mark_of}
 use Rattle.order_check.specs.Settled.{or_else, count_in}
 use Rattle.std.specs.FinMap.{nat_cmp-IsAntisymmetric, get, insert, empty, get-insert, get-empty}
@@ -20,7 +21,7 @@ use Rattle.order_check.specs.Based.{Remains, received_count}
 use Rattle.order_check.specs.Known.{WritesKey, by_session, by_read}
 use Rattle.order_check.specs.Settled.{IsBefore, IsPast, InFront, IsLastIn}
 use Rattle.order_check.specs.Rows.{id, fresh, overwritten, overwritten_read, overwritten_gone, overwritten_writers, overwritten_rest, gone_read}
-use Rattle.order_check.proofs.EachRemaining.{same_id_is, each_remains, each_read_at, apart_by_test}
+use Rattle.order_check.proofs.EachRemaining.{each_remains, each_read_at, apart_by_test}
 use Rattle.order_check.proofs.KnownPairs.{Pairs, Covers, known_has, has}
 use Rattle.order_check.proofs.Fresh.{no_base, fresh_last, comes}
 use Rattle.order_check.proofs.facts.row_overwritten.Goals as goal

@@ -3,6 +3,7 @@ use Rattle.std.proofs.lemmas.Bool.{false≢true, or_cases, eqb-true, ltb-true}
 use Rattle.txn.specs.declared.transactions.TxnId.{TxnId}
 use Rattle.txn.specs.declared.transactions.Source.TheVariants.{Init, By}
 use Rattle.txn.specs.Transactions.{same_id, IsFence}
+use Rattle.txn.proofs.Ids.{same_id_is}
 use Rattle.order_check.specs.declared.remainder.Parts.{Parts}
 use Rattle.order_check.specs.Based.{Remains, received_count, remaining_at}
 use Rattle.order_check.specs.Known.{WritesKey, by_session, by_read, through}
@@ -10,7 +11,7 @@ use Rattle.order_check.specs.Settled.{IsSettled, IsBefore, IsPast, InFront, IsLa
 use Rattle.order_check.specs.StandsFor.{IsOpenSession}
 use Rattle.order_check.specs.Rows.{id, fresh, three_fences}
 use Rattle.order_check.proofs.CutCounts.{fronts_remain}
-use Rattle.order_check.proofs.EachRemaining.{same_id_is, each_remains, each_read_at}
+use Rattle.order_check.proofs.EachRemaining.{each_remains, each_read_at}
 use Rattle.order_check.proofs.KnownPairs.{Pairs, Covers, known_has, has}
 use Rattle.order_check.proofs.Fresh.{no_base, fresh_last, comes}
 use Rattle.order_check.proofs.facts.row_three_fences.Goals as goal

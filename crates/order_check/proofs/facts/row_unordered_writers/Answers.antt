@@ -2,11 +2,12 @@ use Rattle.std.proofs.Common.{◌≡◌, ◌⊎◌, true, ◌||◌, [], ◌∷�
 use Rattle.std.proofs.lemmas.Bool.{false≢true, or_cases}
 use Rattle.txn.specs.declared.transactions.TxnId.{TxnId}
 use Rattle.txn.specs.Transactions.{same_id}
+use Rattle.txn.proofs.Ids.{same_id_is}
 use Rattle.order_check.specs.declared.remainder.Parts.{Parts}
 use Rattle.order_check.specs.Known.{by_session, by_read, through}
 use Rattle.order_check.specs.Settled.{IsBefore, IsLastIn}
 use Rattle.order_check.specs.Rows.{id, fresh, unordered_writers}
-use Rattle.order_check.proofs.EachRemaining.{same_id_is, apart_by_test, each_writer_at}
+use Rattle.order_check.proofs.EachRemaining.{apart_by_test, each_writer_at}
 use Rattle.order_check.proofs.KnownPairs.{Pairs, Covers, known_has, has}
 use Rattle.order_check.proofs.Fresh.{no_base, fresh_last}
 use Rattle.order_check.proofs.facts.row_unordered_writers.Goals as goal

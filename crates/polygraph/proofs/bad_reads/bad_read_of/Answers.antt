@@ -1,7 +1,7 @@
 use Rattle.std.proofs.Common.{length, ◌<◌, List, ℕ, subst}
 use Rattle.txn.specs.declared.transactions.Source.{Source}
+use Rattle.txn.specs.History.{reads_in}
 use Rattle.order_check.specs.Based.{remaining_at}
-use Rattle.refutation.specs.Reading.{reads_in}
 use Rattle.polygraph.proofs.NoBadReads.{reads_next}
 use Rattle.polygraph.proofs.bad_reads.bad_read_of.Goals as goal
 

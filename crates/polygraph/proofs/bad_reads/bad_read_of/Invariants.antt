@@ -1,6 +1,6 @@
 use Rattle.std.proofs.Common.{take}
+use Rattle.txn.specs.History.{reads_in}
 use Rattle.order_check.specs.Based.{remaining_at}
-use Rattle.refutation.specs.Reading.{reads_in}
 use Rattle.polygraph.specs.Reading.{AreGoodReads}
 use Rattle.polygraph.proofs.bad_reads.bad_read_of.Given as goal
 

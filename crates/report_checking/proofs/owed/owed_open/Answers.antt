@@ -66,6 +66,9 @@ returns-in-Resume-clause-owed c = rw c.in-Resume.is (tt, out_of_place c.args.eng
 pub returns-in-Marks-clause-owed : goal.returns-in-Marks-clause-owed
 returns-in-Marks-clause-owed c = rw c.in-Marks.is (tt, out_of_place c.args.engine.now)
 
+pub returns-in-MarksBegun-clause-owed : goal.returns-in-MarksBegun-clause-owed
+returns-in-MarksBegun-clause-owed c = rw c.in-MarksBegun.is (tt, out_of_place c.args.engine.now)
+
 pub returns-in-Last-clause-owed : goal.returns-in-Last-clause-owed
 returns-in-Last-clause-owed c = rw c.in-Last.is (tt, out_of_place c.args.engine.now)
 
@@ -127,6 +130,9 @@ returns-in-Resume-clause-right c = rw c.in-Resume.is (λ report new earned shows
 
 pub returns-in-Marks-clause-right : goal.returns-in-Marks-clause-right
 returns-in-Marks-clause-right c = rw c.in-Marks.is (λ report new earned shows. absurd earned)
+
+pub returns-in-MarksBegun-clause-right : goal.returns-in-MarksBegun-clause-right
+returns-in-MarksBegun-clause-right c = rw c.in-MarksBegun.is (λ report new earned shows. absurd earned)
 
 pub returns-in-Last-clause-right : goal.returns-in-Last-clause-right
 returns-in-Last-clause-right c = rw c.in-Last.is (λ report new earned shows. absurd earned)
@@ -193,6 +199,9 @@ returns-in-Resume-clause-alone c = rw c.in-Resume.is (λ answer told. inr (inr (
 
 pub returns-in-Marks-clause-alone : goal.returns-in-Marks-clause-alone
 returns-in-Marks-clause-alone c = rw c.in-Marks.is (λ answer told. inr (inr (sym told)))
+
+pub returns-in-MarksBegun-clause-alone : goal.returns-in-MarksBegun-clause-alone
+returns-in-MarksBegun-clause-alone c = rw c.in-MarksBegun.is (λ answer told. inr (inr (sym told)))
 
 pub returns-in-Last-clause-alone : goal.returns-in-Last-clause-alone
 returns-in-Last-clause-alone c = rw c.in-Last.is (λ answer told. inr (inr (sym told)))

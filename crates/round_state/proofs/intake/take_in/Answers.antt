@@ -1,10 +1,11 @@
 use Rattle.std.proofs.Common.{◌≡◌, ◌∙◌, refl, sym, ap, subst}
+use Rattle.txn.proofs.Sessions.{cut_back_to}
 use Rattle.order_check.specs.declared.remainder.Parts.{Parts}
 use Rattle.order_check.specs.StandsFor.{with_fragment}
 use Rattle.pending_reads.specs.Waiting.{AreNew}
 use Rattle.round_state.specs.Awaiting.{awaited_from}
 use Rattle.round_state.proofs.Indexed.{awaited_new}
-use Rattle.round_state.proofs.TakenIn.{cut_back_to, parts_along, tracked_along, tracked_index, tracked_with}
+use Rattle.round_state.proofs.TakenIn.{parts_along, tracked_along, tracked_index, tracked_with}
 use Rattle.round_state.proofs.intake.take_in.Goals as goal
 
 pub returns-in_err-append_at-clause-tracked : goal.returns-in_err-append_at-clause-tracked

@@ -1,14 +1,14 @@
-use Rattle.std.proofs.Common.{◌≡◌, ◌≢◌, ◌∙◌, ◌++◌, ◌∷◌, [], ◌+◌, ◌-◌, ◌≤◌, ℕ, List, get_or, take, refl, sym, ap, subst, arith}
+use Rattle.std.proofs.Common.{◌≡◌, ◌≢◌, ◌∙◌, ◌+◌, ◌-◌, List, take, refl, sym, subst, arith}
 use Rattle.std.proofs.lemmas.Bool.{false≢true}
 use Rattle.std.proofs.lemmas.List.Elements.{Contains-get_or}
 use Rattle.std.proofs.Math.Seq.{take-length}
+use Rattle.list_lemmas.proofs.Ends.{push_not_nil}
 use Rattle.txn.specs.declared.transactions.TxnId.{TxnId}
 use Rattle.txn.specs.declared.choices.Arc.{Arc}
-use Rattle.txn.specs.Arcs.{start_of, end_of}
 use Rattle.session_clocks.specs.Paths.{Leads, IsPathOf}
 use Rattle.session_clocks.specs.Reach.{IsThere}
 use Rattle.session_clocks.specs.Trees.{IsAlong, IsBefore, LeadsOn}
-use Rattle.session_clocks.proofs.FoundPaths.{on_without, on_after, on_none, push_some, path_to_goal, leads_walked, same_id_is, other_id_is}
+use Rattle.session_clocks.proofs.FoundPaths.{on_without, on_after, on_none, path_to_goal, leads_walked, same_id_is, other_id_is}
 use Rattle.session_clocks.proofs.paths.walk.Goals as goal
 use Rattle.session_clocks.proofs.paths.walk.Goals.{else-loop-place-test, then-loop-place-test+then-is_before}
 
@@ -56,7 +56,7 @@ returns-then-eq c = λ gone received first last all.
     c.in_ok-push.ensures.items c.in_ok-push_along.ensures c.start-in-loop-place.ensures c.end-here.ensures (Contains-get_or c.args.tree.now place _ (omega arith))
     (subst (λ (id : TxnId). IsAlong c.loop-place.here id) (c.start.ensures ∙ sym c.start-in-loop-place.ensures) along) (was.there gone received first all) (all place _ (omega arith)).0 (was.leads gone received first all) in
     subst (λ (path : List Arc). IsPathOf gone received c.args.tree.now c.args.start path c.args.goal) (sym c.new.ensures) (record {
-      some = λ none. push_some c.push_along.new.path.items _ (sym c.in_ok-push.ensures.items ∙ none);
+      some = λ none. push_not_nil c.push_along.new.path.items _ (sym c.in_ok-push.ensures.items ∙ none);
       leads = subst (λ (id : TxnId). Leads gone received c.args.tree.now c.args.start c.push.new.self.items id) same leads;
     })
 

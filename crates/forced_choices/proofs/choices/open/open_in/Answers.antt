@@ -1,4 +1,5 @@
 use Rattle.std.proofs.Common.{◌∙◌, ◌<◌, ◌≤◌, ◌++◌, [], List, length, get_or, take, refl, sym, ap, subst}
+use Rattle.list_lemmas.proofs.Members.{in_place}
 use Rattle.txn.specs.declared.transactions.TxnId.{TxnId}
 use Rattle.txn.specs.declared.choices.Choice.{Choice}
 use Rattle.forced_choices.specs.declared.tables.reads.Placed.{Placed}
@@ -8,7 +9,7 @@ use Rattle.forced_choices.specs.Tables.{IsPlaced, choices_at}
 use Rattle.forced_choices.specs.Undecided.{AreFound}
 use Rattle.forced_choices.proofs.Distinct.{take_whole}
 use Rattle.forced_choices.proofs.OpenReads.{found_none}
-use Rattle.forced_choices.proofs.Members.{In, in_place}
+use Rattle.forced_choices.proofs.Members.{In}
 use Rattle.forced_choices.proofs.TableReads.{no_read, at_more}
 use Rattle.forced_choices.proofs.choices.open.open_in.Goals as goal
 

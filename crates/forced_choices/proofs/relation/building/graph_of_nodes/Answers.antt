@@ -1,9 +1,10 @@
 use Rattle.std.proofs.Common.{◌≡◌, ℕ, ◌+◌, ◌<◌, ◌⊎◌, List, [], length, get_or, take, ◌∙◌, ap, inl, inr, subst, Option}
 use Rattle.std.specs.Prelude.{Contains, ◌↔◌}
+use Rattle.list_lemmas.proofs.Members.{in_from_contains, contains_from_in}
 use Rattle.txn.specs.declared.transactions.TxnId.{TxnId}
 use Rattle.known_graph.specs.Graphs.{GraphState, HasKey, HasNode}
 use Rattle.forced_choices.specs.Between.{AreDistinct}
-use Rattle.forced_choices.proofs.Members.{In, in_from_contains, contains_from_in}
+use Rattle.forced_choices.proofs.Members.{In}
 use Rattle.forced_choices.proofs.Distinct.{in_take, in_take_more, take_more_in, take_whole}
 use Rattle.forced_choices.proofs.relation.building.graph_of_nodes.Goals as goal
 

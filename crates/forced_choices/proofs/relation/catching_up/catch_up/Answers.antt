@@ -1,5 +1,6 @@
 use Rattle.std.proofs.Common.{◌≡◌, ◌∙◌, List, Option, Result, Ok, Err, get_or, sym, subst}
 use Rattle.std.specs.Prelude.{OnErr}
+use Rattle.list_lemmas.proofs.Members.{in_place}
 use Rattle.txn.specs.declared.transactions.TxnId.{TxnId}
 use Rattle.txn.specs.declared.choices.Arc.{Arc}
 use Rattle.forced_choices.specs.declared.tables.kept.KeptTable.{KeptTable}
@@ -8,7 +9,7 @@ use Rattle.forced_choices.specs.KeptTables.{IsKeptTable}
 use Rattle.forced_choices.proofs.CatchingUp.{low_numbers}
 use Rattle.forced_choices.proofs.CaughtUp.{catches_by, goes_on_then, nodes_then, table_then, were_then, writers_then}
 use Rattle.forced_choices.proofs.KeptTables.{kept_lookup}
-use Rattle.forced_choices.proofs.Members.{In, in_place}
+use Rattle.forced_choices.proofs.Members.{In}
 use Rattle.forced_choices.proofs.relation.catching_up.catch_up.Goals as goal
 
 pub ids_of-requires : goal.ids_of-requires

@@ -1,10 +1,11 @@
 use Rattle.std.proofs.Common.{◌↔◌, ◌∙◌, List, get_or, sym, subst}
 use Rattle.std.specs.Prelude.{Contains}
+use Rattle.list_lemmas.proofs.Members.{in_place}
 use Rattle.txn.specs.declared.choices.Arc.{Arc}
 use Rattle.known_graph.specs.Graphs.{HasKey}
 use Rattle.known_graph.specs.Reach.{Reaches}
 use Rattle.forced_choices.proofs.LeftByCut.{renamed_ends, same_reached}
-use Rattle.forced_choices.proofs.Members.{In, in_place}
+use Rattle.forced_choices.proofs.Members.{In}
 use Rattle.forced_choices.proofs.relation.cutting.drop_gone.Goals as goal
 
 pub swap_arcs-requires-clause-starts : goal.swap_arcs-requires-clause-starts

@@ -1,12 +1,13 @@
 use Rattle.std.proofs.Common.{◌≡◌, ◌⊎◌, ◌↔◌, List, ℕ, get_or, inl, inr, sym, subst, Option}
 use Rattle.std.specs.Prelude.{Contains}
+use Rattle.list_lemmas.proofs.Members.{in_from_contains, contains_from_in, in_place}
 use Rattle.txn.specs.declared.transactions.TxnId.{TxnId}
 use Rattle.known_graph.specs.Bits.{HasBit}
 use Rattle.known_graph.specs.Graphs.{GraphState, IsAt, HasNode}
 use Rattle.known_graph.specs.Reach.{Reaches}
 use Rattle.forced_choices.specs.Picked.{AreColumnsOf}
 use Rattle.forced_choices.proofs.Distinct.{in_take_more, take_whole}
-use Rattle.forced_choices.proofs.Members.{In, in_from_contains, in_place, contains_from_in}
+use Rattle.forced_choices.proofs.Members.{In}
 use Rattle.forced_choices.proofs.relation.cutting.leads_not_back.Goals as goal
 
 abbrev none : TxnId

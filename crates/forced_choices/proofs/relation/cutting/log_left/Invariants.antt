@@ -1,6 +1,6 @@
 use Rattle.std.proofs.Common.{◌≡◌, take}
+use Rattle.list_lemmas.specs.Members.{In}
 use Rattle.txn.specs.declared.choices.ForceStep.{ForceStep}
-use Rattle.forced_choices.specs.Ascending.{In}
 use Rattle.forced_choices.specs.LeftByCut.{AllRemain, log_left, steps_left}
 use Rattle.forced_choices.proofs.relation.cutting.log_left.Given as goal
 

@@ -1,7 +1,7 @@
 use Rattle.std.proofs.Common.{◌≡◌, take}
+use Rattle.list_lemmas.specs.Members.{In}
 use Rattle.txn.specs.declared.transactions.TxnId.{TxnId}
 use Rattle.known_graph.specs.Graphs.{HasNode}
-use Rattle.forced_choices.specs.Ascending.{In}
 use Rattle.forced_choices.specs.Growth.{NodesStay}
 use Rattle.forced_choices.proofs.relation.growth.add_nodes.Given as goal
 

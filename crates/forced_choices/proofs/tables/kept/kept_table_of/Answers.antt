@@ -1,6 +1,7 @@
 use Rattle.std.proofs.Common.{◌≡◌, ◌++◌, ◌∙◌, List, [], get_or, sym, ap, subst}
 use Rattle.std.specs.Prelude.{Vec}
 use Rattle.std.specs.declared.alloc.Global.{Global}
+use Rattle.list_lemmas.proofs.Members.{in_place}
 use Rattle.txn.specs.declared.transactions.TxnId.{TxnId}
 use Rattle.forced_choices.specs.declared.tables.reads.Placed.{Placed}
 use Rattle.forced_choices.specs.declared.tables.kept.Loose.{Loose}
@@ -10,7 +11,7 @@ use Rattle.forced_choices.specs.Listing.{all_ids}
 use Rattle.forced_choices.proofs.KeptReads.{reads_of_none}
 use Rattle.forced_choices.proofs.KeptTables.{writers_stay}
 use Rattle.forced_choices.proofs.ListedIds.{listed_remains, remaining_listed}
-use Rattle.forced_choices.proofs.Members.{In, in_place}
+use Rattle.forced_choices.proofs.Members.{In}
 use Rattle.forced_choices.proofs.tables.kept.kept_table_of.Goals as goal
 
 pub add_writers-requires-clause-nodes : goal.add_writers-requires-clause-nodes

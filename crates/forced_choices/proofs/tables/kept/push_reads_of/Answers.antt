@@ -1,5 +1,6 @@
 use Rattle.std.proofs.Common.{◌++◌, ◌∷◌, ◌<◌, ◌≤◌, ℕ, List, [], length, get_or, take, sym, subst, append-nil}
 use Rattle.std.proofs.lemmas.List.{take_more}
+use Rattle.list_lemmas.proofs.Members.{in_place}
 use Rattle.txn.specs.declared.transactions.Source.{Source}
 use Rattle.txn.specs.declared.transactions.Source.TheVariants.{Init}
 use Rattle.order_check.specs.Based.{remaining_at}
@@ -8,7 +9,7 @@ use Rattle.forced_choices.specs.Listing.{reads_of}
 use Rattle.forced_choices.proofs.Distinct.{take_whole}
 use Rattle.forced_choices.proofs.KeptReads.{behind_more, reads_begin, reads_end}
 use Rattle.forced_choices.proofs.ListedChoices.{in_reads}
-use Rattle.forced_choices.proofs.Members.{In, in_place}
+use Rattle.forced_choices.proofs.Members.{In}
 use Rattle.forced_choices.proofs.tables.kept.push_reads_of.Goals as goal
 
 abbrev none : ℕ × Source

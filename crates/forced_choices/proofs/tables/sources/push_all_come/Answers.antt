@@ -1,10 +1,11 @@
 use Rattle.std.proofs.Common.{◌≡◌, ◌⊎◌, List, get_or, inl, inr, sym, subst, take, true}
+use Rattle.list_lemmas.proofs.Members.{in_place}
 use Rattle.txn.specs.declared.transactions.Source.TheVariants.{Init}
 use Rattle.forced_choices.specs.declared.tables.kept.Loose.{Loose}
 use Rattle.forced_choices.specs.KeptTables.{IsAmong, has_come}
 use Rattle.forced_choices.proofs.Distinct.{in_take_more, take_whole}
 use Rattle.forced_choices.proofs.KeptReads.{behind_more}
-use Rattle.forced_choices.proofs.Members.{In, in_place}
+use Rattle.forced_choices.proofs.Members.{In}
 use Rattle.forced_choices.proofs.ReadsMoved.{among_behind}
 use Rattle.forced_choices.proofs.tables.sources.push_all_come.Goals as goal
 

@@ -1,8 +1,8 @@
 use Rattle.std.proofs.Common.{◌≡◌, ◌++◌, List, take, true}
 use Rattle.std.specs.Prelude.{All}
+use Rattle.list_lemmas.specs.Members.{In}
 use Rattle.forced_choices.specs.declared.tables.kept.Loose.{Loose}
 use Rattle.forced_choices.specs.declared.tables.reads.Placed.{Placed}
-use Rattle.forced_choices.specs.Ascending.{In}
 use Rattle.forced_choices.specs.KeptTables.{IsAmong, has_come}
 use Rattle.forced_choices.specs.Tables.{IsPlaced}
 use Rattle.forced_choices.proofs.tables.sources.push_all_come.Given as goal

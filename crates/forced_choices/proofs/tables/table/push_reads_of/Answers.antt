@@ -1,5 +1,6 @@
 use Rattle.std.proofs.Common.{◌++◌, ◌∙◌, ◌<◌, ◌≤◌, ℕ, List, [], length, get_or, take, refl, sym, ap, subst, append_assoc}
 use Rattle.std.specs.List.{flat_map}
+use Rattle.list_lemmas.proofs.Members.{in_place}
 use Rattle.txn.specs.declared.transactions.Source.{Source}
 use Rattle.txn.specs.declared.transactions.Source.TheVariants.{Init}
 use Rattle.txn.specs.declared.choices.Choice.{Choice}
@@ -7,7 +8,7 @@ use Rattle.order_check.specs.Based.{remaining_at}
 use Rattle.forced_choices.specs.Listing.{reads_of, choices_of_read}
 use Rattle.forced_choices.specs.Tables.{AreReads}
 use Rattle.forced_choices.proofs.Distinct.{take_whole}
-use Rattle.forced_choices.proofs.Members.{In, in_place}
+use Rattle.forced_choices.proofs.Members.{In}
 use Rattle.forced_choices.proofs.ListedChoices.{in_reads}
 use Rattle.forced_choices.proofs.SettledReads.{reads_more}
 use Rattle.forced_choices.proofs.TableReads.{reads_same}

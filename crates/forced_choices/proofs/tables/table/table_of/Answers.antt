@@ -1,4 +1,5 @@
 use Rattle.std.proofs.Common.{List, length, get_or, subst, ◌∙◌}
+use Rattle.list_lemmas.proofs.Members.{in_place}
 use Rattle.txn.specs.declared.transactions.TxnId.{TxnId}
 use Rattle.forced_choices.specs.declared.tables.reads.Placed.{Placed}
 use Rattle.forced_choices.specs.ByKeys.{AreIndexed, AreRows, IsRead}
@@ -8,7 +9,7 @@ use Rattle.forced_choices.specs.Tables.{AreReads}
 use Rattle.forced_choices.specs.WriterPlaces.{ArePlaces, HasPlace}
 use Rattle.forced_choices.proofs.AskedKeys.{columns_asked, places_asked, read_has_place, rows_asked}
 use Rattle.forced_choices.proofs.ListedIds.{listed_remains}
-use Rattle.forced_choices.proofs.Members.{In, in_place}
+use Rattle.forced_choices.proofs.Members.{In}
 use Rattle.forced_choices.proofs.tables.table.table_of.Goals as goal
 
 pub by_key_of-requires : goal.by_key_of-requires

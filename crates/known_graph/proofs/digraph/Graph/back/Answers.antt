@@ -1,10 +1,11 @@
 use Rattle.std.proofs.Common.{◌≡◌, ◌∷◌, ◌∙◌, ap, sym, subst, length, arith, All}
 use Rattle.std.specs.Prelude.{reverse}
 use Rattle.std.proofs.lemmas.List.{with_items_is}
+use Rattle.list_lemmas.proofs.Ends.{reverse_push}
 use Rattle.known_graph.specs.Marks.{IsTrailOf}
 use Rattle.known_graph.specs.Reach.{Reaches}
 use Rattle.known_graph.specs.SavedWords.{IsWithin}
-use Rattle.known_graph.proofs.Marked.{IsTrailOf-back, AreRowsOf-back, IsKept-back, reverse-push}
+use Rattle.known_graph.proofs.Marked.{IsTrailOf-back, AreRowsOf-back, IsKept-back}
 use Rattle.known_graph.proofs.digraph.Graph.back.Goals as goal
 
 pub put_back-requires-clause-within : goal.put_back-requires-clause-within
@@ -12,7 +13,7 @@ put_back-requires-clause-within c = subst (λ rows. All (IsWithin rows) c.self.i
 
 pub put_back-requires-clause-some : goal.put_back-requires-clause-some
 put_back-requires-clause-some c =
-    let marks : reverse c.self.inside.trail.marks.items ≡ c.in-Some.mark ∷ reverse c.pop.new.self.items = ap (λ ms. reverse ms) c.in-Some.ensures.items ∙ reverse-push c.pop.new.self.items c.in-Some.mark in
+    let marks : reverse c.self.inside.trail.marks.items ≡ c.in-Some.mark ∷ reverse c.pop.new.self.items = ap (λ ms. reverse ms) c.in-Some.ensures.items ∙ reverse_push c.pop.new.self.items c.in-Some.mark in
     let onto_trail = subst (λ ms. IsTrailOf c.self.inside.nodes.slots Reaches (λ mark. mark.onto) c.self.inside.arcs.items c.self.inside.onto.items c.self.inside.trail.onto.items ms) marks c.self.invariant.marked.forwards in
     onto_trail.marked.1
 
@@ -21,13 +22,13 @@ put_back-requires-2-clause-within c = subst (λ rows. All (IsWithin rows) c.self
 
 pub put_back-requires-2-clause-some : goal.put_back-requires-2-clause-some
 put_back-requires-2-clause-some c =
-    let marks : reverse c.self.inside.trail.marks.items ≡ c.in-Some.mark ∷ reverse c.pop.new.self.items = ap (λ ms. reverse ms) c.in-Some.ensures.items ∙ reverse-push c.pop.new.self.items c.in-Some.mark in
+    let marks : reverse c.self.inside.trail.marks.items ≡ c.in-Some.mark ∷ reverse c.pop.new.self.items = ap (λ ms. reverse ms) c.in-Some.ensures.items ∙ reverse_push c.pop.new.self.items c.in-Some.mark in
     let from_trail = subst (λ ms. IsTrailOf c.self.inside.nodes.slots (λ arcs a b. Reaches arcs b a) (λ mark. mark.from) c.self.inside.arcs.items c.self.inside.from.items c.self.inside.trail.from.items ms) marks c.self.invariant.marked.backwards in
     from_trail.marked.1
 
 pub invariant_of-self : goal.invariant_of-self
 invariant_of-self c =
-    let marks : reverse c.self.inside.trail.marks.items ≡ c.in-Some.mark ∷ reverse c.pop.new.self.items = ap (λ ms. reverse ms) c.in-Some.ensures.items ∙ reverse-push c.pop.new.self.items c.in-Some.mark in
+    let marks : reverse c.self.inside.trail.marks.items ≡ c.in-Some.mark ∷ reverse c.pop.new.self.items = ap (λ ms. reverse ms) c.in-Some.ensures.items ∙ reverse_push c.pop.new.self.items c.in-Some.mark in
     let onto_trail = subst (λ ms. IsTrailOf c.self.inside.nodes.slots Reaches (λ mark. mark.onto) c.self.inside.arcs.items c.self.inside.onto.items c.self.inside.trail.onto.items ms) marks c.self.invariant.marked.forwards in
     let from_trail = subst (λ ms. IsTrailOf c.self.inside.nodes.slots (λ arcs a b. Reaches arcs b a) (λ mark. mark.from) c.self.inside.arcs.items c.self.inside.from.items c.self.inside.trail.from.items ms) marks c.self.invariant.marked.backwards in
     let graph = c.self.inside in

@@ -1,9 +1,10 @@
 use Rattle.std.proofs.Common.{arith, length, ◌≡◌, ◌↔◌, false, ap, ◌∙◌, filter, subst}
+use Rattle.list_lemmas.proofs.Filters.{filter_contains}
 use Rattle.txn.specs.Arcs.{start_of, end_of}
 use Rattle.std.proofs.lemmas.List.{with_items_is}
 use Rattle.known_graph.specs.Drops.{has_id, arc_stays}
 use Rattle.known_graph.specs.Graphs.{GraphState, IsAt}
-use Rattle.known_graph.proofs.Dropped.{IsKept-left, Contains-from_filter, Reaches-left, Reaches-before, Reaches-stays, stay, is_not_gone, not_gone}
+use Rattle.known_graph.proofs.Dropped.{IsKept-left, Reaches-left, Reaches-before, Reaches-stays, stay, is_not_gone, not_gone}
 use Rattle.known_graph.proofs.Marked.{IsTrail-none}
 use Rattle.known_graph.proofs.digraph.Graph.drop_nodes.Goals as goal
 
@@ -49,7 +50,7 @@ returns-clause-nodes c = λ id. (
 pub returns-clause-among : goal.returns-clause-among
 returns-clause-among c = λ arc there.
     let gone = c.args.gone.now in
-    let was = Contains-from_filter (arc_stays gone) c.args.self.now.arcs arc (rw (left c) at there) in
+    let was = filter_contains (arc_stays gone) c.args.self.now.arcs arc (rw (left c) at there) in
     let stays = stay gone (start_of arc) (end_of arc) was.1 in
     (was.0, stays.0, stays.1)
 

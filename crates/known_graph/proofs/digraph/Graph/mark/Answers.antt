@@ -1,9 +1,10 @@
 use Rattle.std.proofs.Common.{◌≡◌, ◌∷◌, ◌∙◌, ap, sym, subst}
 use Rattle.std.specs.Prelude.{reverse}
+use Rattle.list_lemmas.proofs.Ends.{reverse_push}
 use Rattle.known_graph.specs.declared.trail.Mark.{Mark}
 use Rattle.known_graph.specs.Marks.{IsTrailOf}
 use Rattle.known_graph.specs.Reach.{Reaches}
-use Rattle.known_graph.proofs.Marked.{IsTrailOf-mark, reverse-push}
+use Rattle.known_graph.proofs.Marked.{IsTrailOf-mark}
 use Rattle.known_graph.proofs.digraph.Graph.mark.Goals as goal
 
 pub invariant_of-self-2 : goal.invariant_of-self-2
@@ -13,7 +14,7 @@ invariant_of-self-2 c =
     let nodes = graph.nodes.slots in
     let arcs = graph.arcs.items in
     let mark : Mark = record { arcs = c.len.result; onto = c.len-2.result; from = c.len-3.result } in
-    let marks : reverse c.push.new.self.items ≡ mark ∷ reverse trail.marks.items = ap (λ ms. reverse ms) c.in_ok-push.ensures.items ∙ reverse-push trail.marks.items mark in
+    let marks : reverse c.push.new.self.items ≡ mark ∷ reverse trail.marks.items = ap (λ ms. reverse ms) c.in_ok-push.ensures.items ∙ reverse_push trail.marks.items mark in
     record {
       kept = c.self.invariant.kept;
       marked = record {

@@ -3,10 +3,11 @@ use Rattle.std.specs.Prelude.{Contains}
 use Rattle.std.specs.Option.{IsSome}
 use Rattle.std.proofs.lemmas.Result.{err_from_is_err_and}
 use Rattle.std.specs.BTreeMap.{UpdatesBy}
+use Rattle.std.proofs.lemmas.Map.Steps.{set_value_same}
 use Rattle.txn.specs.declared.transactions.TxnId.{TxnId}
+use Rattle.txn.proofs.Ids.{id_cmp}
 use Rattle.pending_reads.specs.Waiting.{waiting_for, ChangesOnly, IsKept}
-use Rattle.pending_reads.proofs.Ids.{id_cmp}
-use Rattle.pending_reads.proofs.Changes.{Adds, adds, waiting_found, changes_only, kept_add, set_value-found}
+use Rattle.pending_reads.proofs.Changes.{Adds, adds, waiting_found, changes_only, kept_add}
 use Rattle.pending_reads.proofs.index.PendingReads.add.Goals as goal
 
 -- the writer's list, where there was one, has one more read
@@ -30,7 +31,7 @@ same_pushed : (c : goal.After-from_residual) → (c.get_mut.follows.lender c.pus
 same_pushed c =
     let at = c.in-Some.ensures.value in
     let same = c.in_err-push.ensures.err.1 in
-    (c.get_mut.follows.holds c.push.new.self).0 ∙ set_value-found _ c.self.inside.awaited.entries c.push.new.self (sym at ∙ ap Some (sym same))
+    (c.get_mut.follows.holds c.push.new.self).0 ∙ set_value_same _ c.self.inside.awaited.entries c.push.new.self (sym at ∙ ap Some (sym same))
 
 pub invariant_of-self : goal.invariant_of-self
 invariant_of-self c = subst IsKept (sym (same_pushed c)) c.self.invariant

@@ -1,9 +1,10 @@
 use Rattle.std.proofs.Common.{◌≡◌, ◌∷◌, ◌∙◌, ap, sym, subst, length, arith, All}
 use Rattle.std.specs.Prelude.{reverse}
 use Rattle.std.proofs.lemmas.List.{with_items_is}
+use Rattle.list_lemmas.proofs.Ends.{reverse_push}
 use Rattle.session_clocks.specs.Marks.{IsTrailOf, SayFirsts, SayCounts}
 use Rattle.session_clocks.specs.SavedNumbers.{IsWithin}
-use Rattle.session_clocks.proofs.Marked.{IsTrailOf-back, said_back, IsKept-back, reverse-push, respects-firsts, respects-counts}
+use Rattle.session_clocks.proofs.Marked.{IsTrailOf-back, said_back, IsKept-back, respects-firsts, respects-counts}
 use Rattle.session_clocks.proofs.graph.Graph.back.Goals as goal
 
 pub put_back-requires-clause-within : goal.put_back-requires-clause-within
@@ -12,7 +13,7 @@ put_back-requires-clause-within c = subst (λ lines. All (IsWithin lines) c.self
 pub put_back-requires-clause-some : goal.put_back-requires-clause-some
 put_back-requires-clause-some c =
     let graph = c.self.inside in
-    let marks : reverse graph.trail.marks.items ≡ c.in-Some.mark ∷ reverse c.pop.new.self.items = ap (λ ms. reverse ms) c.in-Some.ensures.items ∙ reverse-push c.pop.new.self.items c.in-Some.mark in
+    let marks : reverse graph.trail.marks.items ≡ c.in-Some.mark ∷ reverse c.pop.new.self.items = ap (λ ms. reverse ms) c.in-Some.ensures.items ∙ reverse_push c.pop.new.self.items c.in-Some.mark in
     let trail = subst (λ ms. IsTrailOf (SayFirsts graph.gone.items graph.received.items) (λ mark. mark.first) graph.arcs.items graph.first.items graph.trail.first.items ms) marks c.self.invariant.marked.firsts in
     trail.marked.1
 
@@ -22,14 +23,14 @@ put_back-requires-2-clause-within c = subst (λ lines. All (IsWithin lines) c.se
 pub put_back-requires-2-clause-some : goal.put_back-requires-2-clause-some
 put_back-requires-2-clause-some c =
     let graph = c.self.inside in
-    let marks : reverse graph.trail.marks.items ≡ c.in-Some.mark ∷ reverse c.pop.new.self.items = ap (λ ms. reverse ms) c.in-Some.ensures.items ∙ reverse-push c.pop.new.self.items c.in-Some.mark in
+    let marks : reverse graph.trail.marks.items ≡ c.in-Some.mark ∷ reverse c.pop.new.self.items = ap (λ ms. reverse ms) c.in-Some.ensures.items ∙ reverse_push c.pop.new.self.items c.in-Some.mark in
     let trail = subst (λ ms. IsTrailOf (SayCounts graph.gone.items graph.received.items) (λ mark. mark.count) graph.arcs.items graph.count.items graph.trail.count.items ms) marks c.self.invariant.marked.counts in
     trail.marked.1
 
 pub invariant_of-self : goal.invariant_of-self
 invariant_of-self c =
     let graph = c.self.inside in
-    let marks : reverse graph.trail.marks.items ≡ c.in-Some.mark ∷ reverse c.pop.new.self.items = ap (λ ms. reverse ms) c.in-Some.ensures.items ∙ reverse-push c.pop.new.self.items c.in-Some.mark in
+    let marks : reverse graph.trail.marks.items ≡ c.in-Some.mark ∷ reverse c.pop.new.self.items = ap (λ ms. reverse ms) c.in-Some.ensures.items ∙ reverse_push c.pop.new.self.items c.in-Some.mark in
     let gone = graph.gone.items in
     let received = graph.received.items in
     let arcs = graph.arcs.items in

@@ -1,8 +1,9 @@
 use Rattle.std.proofs.Common.{◌≡◌, ◌∷◌, ◌∙◌, ap, sym, subst}
 use Rattle.std.specs.Prelude.{reverse}
+use Rattle.list_lemmas.proofs.Ends.{reverse_push}
 use Rattle.session_clocks.specs.declared.trail.Mark.{Mark}
 use Rattle.session_clocks.specs.Marks.{IsTrailOf, SayFirsts, SayCounts}
-use Rattle.session_clocks.proofs.Marked.{IsTrailOf-mark, reverse-push, respects-firsts, respects-counts}
+use Rattle.session_clocks.proofs.Marked.{IsTrailOf-mark, respects-firsts, respects-counts}
 use Rattle.session_clocks.proofs.graph.Graph.mark.Goals as goal
 
 pub invariant_of-self-2 : goal.invariant_of-self-2
@@ -14,7 +15,7 @@ invariant_of-self-2 c =
     let received = graph.received.items in
     let arcs = graph.arcs.items in
     let mark : Mark = record { arcs = c.len.result; first = c.len-2.result; count = c.len-3.result } in
-    let marks : reverse c.push.new.self.items ≡ mark ∷ reverse trail.marks.items = ap (λ ms. reverse ms) c.in_ok-push.ensures.items ∙ reverse-push trail.marks.items mark in
+    let marks : reverse c.push.new.self.items ≡ mark ∷ reverse trail.marks.items = ap (λ ms. reverse ms) c.in_ok-push.ensures.items ∙ reverse_push trail.marks.items mark in
     record {
       kept = kept;
       marked = record {

@@ -2,6 +2,7 @@ use Rattle.std.proofs.Common.{◌≡◌, ◌<◌, ◌∙◌, List, Option, lengt
 use Rattle.std.specs.Prelude.{IfSome}
 use Rattle.txn.specs.declared.transactions.Txn.{Txn}
 use Rattle.txn.specs.declared.choices.ForceStep.{ForceStep}
+use Rattle.txn.proofs.Sessions.{cut_back_to}
 use Rattle.order_check.specs.declared.remainder.Parts.{Parts}
 use Rattle.order_check.specs.Based.{received_count}
 use Rattle.order_check.specs.StandsFor.{with_fragment}
@@ -9,7 +10,7 @@ use Rattle.forced_choices.specs.Kept.{IsKept}
 use Rattle.forced_choices.specs.KeptTables.{IsKeptTable}
 use Rattle.forced_choices.specs.SaturatedState.{SaturatedState}
 use Rattle.forced_choices.specs.declared.tables.kept.KeptTable.{KeptTable}
-use Rattle.forced_choices.proofs.CutBack.{cut_back_to, if_none}
+use Rattle.forced_choices.proofs.CutBack.{if_none}
 use Rattle.forced_choices.proofs.Grown.{kept_more_nodes}
 use Rattle.forced_choices.proofs.relation.saturated.Saturated.add_all.Goals as goal
 use Rattle.forced_choices.proofs.relation.saturated.Saturated.add_all.Goals.{in-Some, in-None+in_ok-kept-in-None}

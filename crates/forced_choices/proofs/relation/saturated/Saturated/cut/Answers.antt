@@ -1,5 +1,6 @@
 use Rattle.std.proofs.Common.{◌≡◌, ◌∙◌, List, Option, get_or, inl, sym, ap, subst}
 use Rattle.std.specs.Prelude.{IfSome, filter}
+use Rattle.list_lemmas.proofs.Members.{contains_from_in, in_place}
 use Rattle.txn.specs.declared.choices.Choice.{Choice}
 use Rattle.txn.specs.declared.choices.Side.{Side}
 use Rattle.txn.specs.declared.choices.ForceStep.{ForceStep}
@@ -13,7 +14,6 @@ use Rattle.forced_choices.specs.SaturatedState.{SaturatedState, choice_remains, 
 use Rattle.forced_choices.proofs.Grown.{reached_remain}
 use Rattle.forced_choices.proofs.LeftByCut.{Drops, cuts_of, kept_left, sides_left}
 use Rattle.forced_choices.proofs.Linked.{reaches_by}
-use Rattle.forced_choices.proofs.Members.{contains_from_in, in_place}
 use Rattle.forced_choices.proofs.relation.saturated.Saturated.cut.Goals as goal
 
 pub left_by_cut-requires-clause-there : goal.left_by_cut-requires-clause-there

@@ -1,13 +1,14 @@
 use Rattle.std.proofs.Common.{◌≡◌, [], ◌∷◌, Bool, List, zero, suc, get_or, arith, sym, subst, true}
 use Rattle.std.specs.Prelude.{◌↔◌, Contains}
 use Rattle.std.specs.List.{AllPairs}
+use Rattle.list_lemmas.proofs.Members.{in_from_contains, contains_from_in, in_place}
 use Rattle.txn.specs.declared.transactions.TxnId.{TxnId}
 use Rattle.txn.specs.Transactions.{id_below}
 use Rattle.order_check.specs.Based.{Remains}
 use Rattle.order_check.specs.Known.{Known}
 use Rattle.forced_choices.specs.Listing.{all_ids}
 use Rattle.forced_choices.specs.SaturatedState.{SaturatedState}
-use Rattle.forced_choices.proofs.Members.{Ascends, in_from_contains, contains_from_in, in_place}
+use Rattle.forced_choices.proofs.Members.{Ascends}
 use Rattle.forced_choices.proofs.ListedIds.{listed_ascend, listed_remains, remaining_listed}
 use Rattle.forced_choices.proofs.KnownRemain.{known_listed}
 use Rattle.forced_choices.proofs.relation.saturated.Saturated.ids.Goals as goal

@@ -1,0 +1,81 @@
+use Rattle.std.proofs.Common.{◌∙◌, ℕ, [], List, get_or, take, refl, sym, subst, subst₂, arith, All}
+use Rattle.std.proofs.lemmas.List.{get_or-take, length-take}
+use Rattle.std.proofs.lemmas.List.Elements.{All-nil, All-more, All-weaker}
+use Rattle.txn.specs.declared.transactions.TxnId.{TxnId}
+use Rattle.session_clocks.specs.Reach.{IsThere}
+use Rattle.clock_choices.specs.declared.reads.Read.{Read}
+use Rattle.clock_choices.specs.Forcing.{Forces, unforced, IsGrowth}
+use Rattle.clock_choices.specs.Index.{IsRunThere, reads_of, runs_of}
+use Rattle.clock_choices.specs.Stages.{IsReadSettled, IsTxnSettled}
+use Rattle.clock_choices.proofs.Growths.{growth_none, growth_both, forces_both}
+use Rattle.clock_choices.proofs.Settled.{txn_settled, txn_stays}
+use Rattle.clock_choices.proofs.saturating.settle_batch.Goals as goal
+
+pub loop-id-init : goal.loop-id-init
+loop-id-init c =
+    let graph = c.args.graph.now in
+    record {
+      gone = refl;
+      received = refl;
+      mark = refl;
+      growth = subst (λ (due : List TxnId). IsGrowth graph.gone graph.received graph.arcs [] graph.arcs due) (sym c.in_ok-due.ensures) (growth_none graph.gone graph.received graph.arcs []);
+      forces = λ parts are reads. unforced;
+      settled = λ parts are reads. All-nil (IsTxnSettled parts graph.gone graph.received graph.arcs c.in_ok-due.due);
+    }
+
+pub settle_reads-requires : goal.settle_reads-requires
+settle_reads-requires c =
+    let was = c.loop-id.invariant in
+    let ids = c.args.ids.now in
+    let id = get_or ids c.loop-id.id-index _ in
+    rw c.reads_of.ensures record {
+      runs = λ key. subst₂ (λ (gone received : List ℕ). All (IsRunThere gone received) (runs_of c.args.writers.now key)) (sym was.gone) (sym was.received) (c.requires.runs key);
+      readers = subst₂ (λ (gone received : List ℕ). All (λ (read : Read). IsThere gone received read.reader) (reads_of c.args.reads.now id)) (sym was.gone) (sym was.received) (c.requires.readers id);
+    }
+
+pub loop-id-preserved : goal.loop-id-preserved
+loop-id-preserved c =
+    let was = c.loop-id.invariant in
+    let start = c.args.graph.now in
+    let mid = c.loop-id.graph in
+    let new = c.settle_reads.new.graph in
+    let due = c.loop-id.due in
+    let then = c.settle_reads.new.due in
+    let ids = c.args.ids.now in
+    let index = c.loop-id.id-index in
+    let none : TxnId = _ in
+    let id = get_or ids index none in
+    let some = reads_of c.args.reads.now id in
+    let growth : IsGrowth start.gone start.received mid.arcs due new.arcs then =
+    subst₂ (λ (gone received : List ℕ). IsGrowth gone received mid.arcs due new.arcs then) was.gone was.received c.in_ok-settle_reads.ensures.growth in
+    let forces = rw c.reads_of.ensures at c.in_ok-settle_reads.ensures.forces in
+    let settled = rw c.reads_of.ensures at c.in_ok-settle_reads.ensures.settled in
+    record {
+      gone = c.settle_reads.ensures.gone ∙ was.gone;
+      received = c.settle_reads.ensures.received ∙ was.received;
+      mark = c.settle_reads.ensures.mark ∙ was.mark;
+      growth = growth_both start.gone start.received start.arcs mid.arcs new.arcs [] due then was.growth growth;
+      forces = λ parts are reads. forces_both start.gone start.received parts start.arcs c.args.steps.now.items mid.arcs c.loop-id.steps.items new.arcs c.settle_reads.new.steps.items (was.forces parts are reads)
+          (subst₂ (λ (gone received : List ℕ). Forces parts gone received mid.arcs c.loop-id.steps.items new.arcs c.settle_reads.new.steps.items) was.gone was.received (forces parts are (reads id).each));
+      settled = λ parts are reads. All-more (IsTxnSettled parts start.gone start.received new.arcs then) ids index none c.loop-id-test.true
+          (All-weaker (IsTxnSettled parts start.gone start.received mid.arcs due) (IsTxnSettled parts start.gone start.received new.arcs then) (λ other is. txn_stays start.gone start.received mid.arcs new.arcs due then growth parts other is) (take index ids) (was.settled parts are reads))
+          (txn_settled parts start.gone start.received new.arcs then id some (reads id)
+          (subst₂ (λ (gone received : List ℕ). All (IsReadSettled parts gone received new.arcs then) some) was.gone was.received (settled parts are)));
+    }
+
+pub returns : goal.returns
+returns c =
+    let was = c.loop-id.invariant in
+    let graph = c.args.graph.now in
+    let ids = c.args.ids.now in
+    let index = c.loop-id.id-index in
+    let len = length-take index ids in
+    rw c.into_ids.ensures record {
+      gone = was.gone;
+      received = was.received;
+      mark = was.mark;
+      growth = was.growth;
+      forces = was.forces;
+      settled = λ parts are reads k d within. subst (λ (id : TxnId). IsTxnSettled parts graph.gone graph.received c.loop-id.graph.arcs c.loop-id.due id) (get_or-take index ids k d (omega (arith, within, c.loop-id-test.false)))
+          (was.settled parts are reads k d (omega (arith, within, len, c.loop-id-test.false)));
+    }

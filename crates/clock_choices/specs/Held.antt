@@ -1,0 +1,21 @@
+-- For private clauses: what the relation of parts holds.
+use Rattle.std.specs.Prelude.{◌≡◌, ℕ, List, [], length}
+use Rattle.txn.specs.declared.choices.Arc.{Arc}
+use Rattle.order_check.specs.declared.remainder.Parts.{Parts}
+use Rattle.session_clocks.specs.Reach.{Reaches}
+use Rattle.clock_choices.specs.declared.steps.Forced.{Forced}
+use Rattle.clock_choices.specs.Closed.{AreKnown, IsClosed, IsPlain}
+use Rattle.clock_choices.specs.Logging.{IsLogged}
+use Rattle.clock_choices.specs.Over.{IsOver}
+use Rattle.clock_choices.specs.Steps.{sides_of}
+
+-- a graph over what remains of the parts, whose arcs are known, lead to all that is there from the start and along the sides of the steps,
+-- and leave nothing to force; each of the steps was forced
+pub record IsHeld (parts : Parts) (gone received : List ℕ) (arcs : List Arc) (steps : List Forced) : Type 0 where
+  pub sessions : length gone ≡ length parts.remain
+  pub width : length received ≡ length gone
+  pub over : IsOver parts gone received
+  pub known : AreKnown parts [] arcs
+  pub plain : IsPlain parts (sides_of steps) (Reaches gone received arcs)
+  pub closed : IsClosed parts (Reaches gone received arcs)
+  pub logged : IsLogged parts gone received arcs steps

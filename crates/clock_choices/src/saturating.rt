@@ -1,0 +1,135 @@
+// The reads of those that are due are settled, and then of those that this makes due, until none is.
+ghost use Rattle.std.specs.Prelude.{◌≡◌, ℕ, [], All, Contains, IfOk, OnOk};
+ghost use Rattle.txn.specs.declared.transactions.TxnId.{TxnId};
+ghost use Rattle.order_check.specs.declared.remainder.Parts.{Parts};
+ghost use Rattle.session_clocks.specs.Graphs.{HasNode, last_mark};
+ghost use Rattle.session_clocks.specs.Reach.{Reaches};
+ghost use Rattle.clock_choices.specs.Forcing.{Forces, IsGrowth};
+ghost use Rattle.clock_choices.specs.Index.{AreReadsOf, AreRunsOf, IsRead, IsRunThere, reads_of, runs_of};
+ghost use Rattle.clock_choices.specs.Closed.{IsClosed};
+ghost use Rattle.clock_choices.specs.Pending.{IsClosedBut};
+ghost use Rattle.clock_choices.specs.Stages.{IsReadSettled, IsTxnSettled};
+
+use crate::due::Due;
+use crate::index::{is_in_runs, reads_of, runs_of};
+use crate::reads::Read;
+use crate::runs::Run;
+use crate::settling::settle_read;
+use crate::steps::Forced;
+use session_clocks::Graph;
+use std::alloc::{AllocError, Global};
+use std::collections::BTreeMap;
+use txn::{NoMemory, TxnId};
+
+/// Settles a read, if its source writes the key and remains, and notes whoever has to be looked at again.
+fn settle_due(
+    alloc: Global,
+    writers: &BTreeMap<u64, Vec<Run>>,
+    graph: &mut Graph,
+    steps: &mut Vec<Forced>,
+    due: &mut Due,
+    read: Read,
+) -> Result<(), NoMemory>
+    requires runs { All (IsRunThere graph.old.gone graph.old.received) (runs_of writers.now read.key) }
+    requires reader { HasNode graph.old read.reader }
+    ensures gone { graph.new.gone ≡ graph.old.gone }
+    ensures received { graph.new.received ≡ graph.old.received }
+    ensures mark { last_mark graph.new ≡ last_mark graph.old }
+    ensures growth { OnOk result (IsGrowth graph.old.gone graph.old.received graph.old.arcs due.old graph.new.arcs due.new) }
+    ensures forces { OnOk result ((parts : Parts) → AreRunsOf parts read.key (runs_of writers.now read.key) → IsRead parts read
+        → Forces parts graph.old.gone graph.old.received graph.old.arcs steps.old.items graph.new.arcs steps.new.items) }
+    ensures settled { OnOk result ((parts : Parts) → AreRunsOf parts read.key (runs_of writers.now read.key)
+        → IsReadSettled parts graph.old.gone graph.old.received graph.new.arcs due.new read) }
+{
+    let runs = runs_of(writers, read.key);
+    if !is_in_runs(runs, read.writer) {
+        return Ok(());
+    }
+    let mut told = Vec::new(alloc);
+    settle_read(alloc, graph, steps, &mut told, read, runs)?;
+    due.note_all(&told)
+}
+
+/// The same of reads, one after another.
+fn settle_reads(
+    alloc: Global,
+    writers: &BTreeMap<u64, Vec<Run>>,
+    graph: &mut Graph,
+    steps: &mut Vec<Forced>,
+    due: &mut Due,
+    reads: &[Read],
+) -> Result<(), NoMemory>
+    requires runs { (key : ℕ) → All (IsRunThere graph.old.gone graph.old.received) (runs_of writers.now key) }
+    requires readers { All (λ read. HasNode graph.old read.reader) reads.now }
+    ensures gone { graph.new.gone ≡ graph.old.gone }
+    ensures received { graph.new.received ≡ graph.old.received }
+    ensures mark { last_mark graph.new ≡ last_mark graph.old }
+    ensures growth { OnOk result (IsGrowth graph.old.gone graph.old.received graph.old.arcs due.old graph.new.arcs due.new) }
+    ensures forces { OnOk result ((parts : Parts) → ((key : ℕ) → AreRunsOf parts key (runs_of writers.now key)) → All (IsRead parts) reads.now
+        → Forces parts graph.old.gone graph.old.received graph.old.arcs steps.old.items graph.new.arcs steps.new.items) }
+    ensures settled { OnOk result ((parts : Parts) → ((key : ℕ) → AreRunsOf parts key (runs_of writers.now key))
+        → All (λ read. IsReadSettled parts graph.old.gone graph.old.received graph.new.arcs due.new read) reads.now) }
+{
+    for read in reads {
+        settle_due(alloc, writers, graph, steps, due, *read)?;
+    }
+    Ok(())
+}
+
+/// The same of the reads in which these transactions take part; those that are due then.
+fn settle_batch(
+    alloc: Global,
+    writers: &BTreeMap<u64, Vec<Run>>,
+    reads: &[BTreeMap<u64, Vec<Read>>],
+    graph: &mut Graph,
+    steps: &mut Vec<Forced>,
+    ids: &[TxnId],
+) -> Result<Vec<TxnId>, NoMemory>
+    requires runs { (key : ℕ) → All (IsRunThere graph.old.gone graph.old.received) (runs_of writers.now key) }
+    requires readers { (id : TxnId) → All (λ read. HasNode graph.old read.reader) (reads_of reads.now id) }
+    ensures gone { graph.new.gone ≡ graph.old.gone }
+    ensures received { graph.new.received ≡ graph.old.received }
+    ensures mark { last_mark graph.new ≡ last_mark graph.old }
+    ensures growth { IfOk result (λ then. IsGrowth graph.old.gone graph.old.received graph.old.arcs [] graph.new.arcs then.items) }
+    ensures forces { OnOk result ((parts : Parts) → ((key : ℕ) → AreRunsOf parts key (runs_of writers.now key)) → ((id : TxnId) → AreReadsOf parts id (reads_of reads.now id))
+        → Forces parts graph.old.gone graph.old.received graph.old.arcs steps.old.items graph.new.arcs steps.new.items) }
+    ensures settled { IfOk result (λ then. (parts : Parts) → ((key : ℕ) → AreRunsOf parts key (runs_of writers.now key)) → ((id : TxnId) → AreReadsOf parts id (reads_of reads.now id))
+        → All (IsTxnSettled parts graph.old.gone graph.old.received graph.new.arcs then.items) ids.now) }
+{
+    let mut due = Due::new(alloc, graph.gone(), graph.received())?;
+    for id in ids {
+        settle_reads(alloc, writers, graph, steps, &mut due, reads_of(reads, *id))?;
+    }
+    Ok(due.into_ids())
+}
+
+/// Settles the reads of those that are due, and of whoever that tells, until none is due. Each turn but the last forces a side that
+/// wasn't there, of which there are at most as many as pairs of transactions.
+pub(crate) fn saturate(
+    alloc: Global,
+    writers: &BTreeMap<u64, Vec<Run>>,
+    reads: &[BTreeMap<u64, Vec<Read>>],
+    graph: &mut Graph,
+    steps: &mut Vec<Forced>,
+    due: Vec<TxnId>,
+) -> Result<(), NoMemory>
+    requires runs { (key : ℕ) → All (IsRunThere graph.old.gone graph.old.received) (runs_of writers.now key) }
+    requires readers { (id : TxnId) → All (λ read. HasNode graph.old read.reader) (reads_of reads.now id) }
+    ensures gone { graph.new.gone ≡ graph.old.gone }
+    ensures received { graph.new.received ≡ graph.old.received }
+    ensures mark { last_mark graph.new ≡ last_mark graph.old }
+    ensures forces { OnOk result ((parts : Parts) → ((key : ℕ) → AreRunsOf parts key (runs_of writers.now key)) → ((id : TxnId) → AreReadsOf parts id (reads_of reads.now id))
+        → Forces parts graph.old.gone graph.old.received graph.old.arcs steps.old.items graph.new.arcs steps.new.items) }
+    ensures closed { OnOk result ((parts : Parts) → ((key : ℕ) → AreRunsOf parts key (runs_of writers.now key)) → ((id : TxnId) → AreReadsOf parts id (reads_of reads.now id))
+        → IsClosedBut parts (Reaches graph.old.gone graph.old.received graph.old.arcs) (λ id. Contains due.items id)
+        → IsClosed parts (Reaches graph.old.gone graph.old.received graph.new.arcs)) }
+{
+    let mut batch = due;
+    for _turn in 0..u64::MAX {
+        if batch.is_empty() {
+            return Ok(());
+        }
+        batch = settle_batch(alloc, writers, reads, graph, steps, &batch)?;
+    }
+    Err(AllocError)
+}
