@@ -15,7 +15,7 @@ pub mod rules;
 pub mod since;
 pub mod touched;
 
-use crate::saturation::looking::{Trail, look_at_read};
+use crate::saturation::looking::{Trail, propagate_read};
 use crate::saturation::since::{Delta, are_settled_since};
 use crate::saturation::touched::{Touched, spans_of, untouched};
 use crate::tables::table::Lookup;
@@ -25,7 +25,7 @@ use std::mem;
 use txn::{ForceStep, NoMemory};
 
 /// Takes each side that is left, read by read.
-fn look_at_all(
+fn propagate_all(
     alloc: Global,
     lookup: &Lookup,
     graph: &mut Graph,
@@ -40,13 +40,13 @@ fn look_at_all(
 {
     let reads = lookup.table.reads.as_slice();
     for placed in reads {
-        look_at_read(alloc, lookup, graph, trail, *placed)?;
+        propagate_read(alloc, lookup, graph, trail, *placed)?;
     }
     Ok(())
 }
 
 /// Takes each side that is left of the choices of those reads of a key that were touched.
-fn look_at_key(
+fn propagate_key(
     alloc: Global,
     lookup: &Lookup,
     graph: &mut Graph,
@@ -72,14 +72,14 @@ fn look_at_key(
         if are_settled_since(graph, delta, mask, placed) {
             continue;
         }
-        look_at_read(alloc, lookup, graph, trail, placed)?;
+        propagate_read(alloc, lookup, graph, trail, placed)?;
     }
     Ok(())
 }
 
 /// Takes each side that is left of the choices of those reads that were touched, key by key. Where none of a key's writers and readers
 /// is reached by more, none of its reads was touched.
-fn look_at_touched(
+fn propagate_touched(
     alloc: Global,
     lookup: &Lookup,
     graph: &mut Graph,
@@ -100,7 +100,7 @@ fn look_at_touched(
         if !words_meet(row.as_slice(), &touched.targets) {
             continue;
         }
-        look_at_key(alloc, lookup, graph, trail, &delta, *key)?;
+        propagate_key(alloc, lookup, graph, trail, &delta, *key)?;
     }
     Ok(())
 }
@@ -113,7 +113,7 @@ pub struct Due {
 }
 
 /// Takes each side that is left of the choices of the reads that are due.
-fn look_at_due(
+fn propagate_due(
     alloc: Global,
     lookup: &Lookup,
     graph: &mut Graph,
@@ -129,9 +129,9 @@ fn look_at_due(
     ensures mark { last_mark graph.new ≡ last_mark graph.old }
 {
     if due.all {
-        look_at_all(alloc, lookup, graph, trail)
+        propagate_all(alloc, lookup, graph, trail)
     } else {
-        look_at_touched(alloc, lookup, graph, trail, &due.since)
+        propagate_touched(alloc, lookup, graph, trail, &due.since)
     }
 }
 
@@ -158,7 +158,7 @@ pub fn saturate(
     let mut goes_on = true;
     while goes_on {
         let before = trail.steps.len();
-        look_at_due(alloc, lookup, graph, &mut trail, &due)?;
+        propagate_due(alloc, lookup, graph, &mut trail, &due)?;
         due = Due {
             all: false,
             since: mem::replace(&mut trail.touched, untouched(alloc)),

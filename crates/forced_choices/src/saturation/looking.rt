@@ -49,10 +49,10 @@ fn step_of(alloc: Global, rule: Rule, path: &[Arc]) -> Result<ForceStep, NoMemor
 }
 
 /// Takes a side that is left.
-fn fire(alloc: Global, graph: &mut Graph, trail: &mut Trail, rule: Rule) -> Result<(), NoMemory>
+fn force(alloc: Global, graph: &mut Graph, trail: &mut Trail, rule: Rule) -> Result<(), NoMemory>
     requires left { IsLeft graph.old.arcs rule }
     requires on { IsOn graph.old rule }
-    ensures fires { OnOk result ((step : ForceStep) × IsStepOf graph.old.arcs rule step
+    ensures forces { OnOk result ((step : ForceStep) × IsStepOf graph.old.arcs rule step
         × (graph.new.arcs ≡ graph.old.arcs ++ taken_arc rule ∷ []) × (trail.new.steps.items ≡ trail.old.steps.items ++ step ∷ [])) }
     ensures noted { OnOk result (AreNoted graph.old.nodes graph.old.arcs trail.old.touched graph.new.arcs trail.new.touched) }
     ensures nodes { OnOk result (graph.new.nodes ≡ graph.old.nodes) }
@@ -70,7 +70,7 @@ fn fire(alloc: Global, graph: &mut Graph, trail: &mut Trail, rule: Rule) -> Resu
 }
 
 /// Takes the side if it is left.
-fn look_at_side(
+fn propagate_side(
     alloc: Global,
     graph: &mut Graph,
     trail: &mut Trail,
@@ -83,13 +83,13 @@ fn look_at_side(
     ensures mark { last_mark graph.new ≡ last_mark graph.old }
 {
     if is_left(graph, rule) {
-        fire(alloc, graph, trail, rule)?;
+        force(alloc, graph, trail, rule)?;
     }
     Ok(())
 }
 
 /// Takes each side of the choice that is left.
-fn look_at_choice(
+fn propagate_choice(
     alloc: Global,
     graph: &mut Graph,
     trail: &mut Trail,
@@ -105,17 +105,17 @@ fn look_at_choice(
         choice,
         side: Side::Second,
     };
-    look_at_side(alloc, graph, trail, second)?;
+    propagate_side(alloc, graph, trail, second)?;
     let first = Rule {
         choice,
         side: Side::First,
     };
-    look_at_side(alloc, graph, trail, first)?;
+    propagate_side(alloc, graph, trail, first)?;
     Ok(())
 }
 
 /// Takes each side that is left of the choices of a read, of which only those with a column in the row may have one.
-fn look_at_columns(
+fn propagate_columns(
     alloc: Global,
     lookup: &Lookup,
     graph: &mut Graph,
@@ -138,13 +138,13 @@ fn look_at_columns(
         let Some(choice) = lookup.choice_at(read, row, *place) else {
             continue;
         };
-        look_at_choice(alloc, graph, trail, choice)?;
+        propagate_choice(alloc, graph, trail, choice)?;
     }
     Ok(())
 }
 
 /// Takes each side that is left of the choices of a read.
-pub fn look_at_read(
+pub fn propagate_read(
     alloc: Global,
     lookup: &Lookup,
     graph: &mut Graph,
@@ -165,5 +165,5 @@ pub fn look_at_read(
         return Ok(());
     }
     let row = columns_left(alloc, graph, mask, placed)?;
-    look_at_columns(alloc, lookup, graph, trail, placed.read, row.as_slice())
+    propagate_columns(alloc, lookup, graph, trail, placed.read, row.as_slice())
 }

@@ -12,8 +12,8 @@ use Rattle.forced_choices.proofs.Keeping.{on_side}
 use Rattle.forced_choices.proofs.Members.{In}
 use Rattle.forced_choices.proofs.PlacesOfWriters.{choices_at_places, choices_places_more, place_within}
 use Rattle.forced_choices.proofs.SettledReads.{looked_and_there, none_there, third_parts}
-use Rattle.forced_choices.proofs.saturation.looking.look_at_columns.Goals as goal
-use Rattle.forced_choices.proofs.saturation.looking.look_at_columns.Goals.{In-Some}
+use Rattle.forced_choices.proofs.saturation.looking.propagate_columns.Goals as goal
+use Rattle.forced_choices.proofs.saturation.looking.propagate_columns.Goals.{In-Some}
 
 abbrev no_id : TxnId
 no_id = record { session = 0; number = 0 }
@@ -29,9 +29,9 @@ is_choice c =
     let facts = third_parts parts c.args.read other c.in-Some.choice (subst (λ xs. In xs c.in-Some.choice) (sym c.in-Some.ensures.1) (inl refl)) in
     subst (λ choice. IsChoice parts choice) (sym facts.0) (c.requires.choices other facts.1)
 
-pub look_at_choice-requires : goal.look_at_choice-requires
-look_at_choice-requires c = λ side.
-    on_side c.args.lookup.now.parts.now c.loop-place.graph c.in-Some.choice side (λ id remains. subst (λ nodes. HasKey nodes id) (sym c.loop-place.invariant.nodes) (c.requires.nodes id remains)) (is_choice (goal.at.look_at_choice-requires c).In-Some)
+pub propagate_choice-requires : goal.propagate_choice-requires
+propagate_choice-requires c = λ side.
+    on_side c.args.lookup.now.parts.now c.loop-place.graph c.in-Some.choice side (λ id remains. subst (λ nodes. HasKey nodes id) (sym c.loop-place.invariant.nodes) (c.requires.nodes id remains)) (is_choice (goal.at.propagate_choice-requires c).In-Some)
 
 pub loop-place-preserved : goal.loop-place-preserved
 loop-place-preserved c =
@@ -44,13 +44,13 @@ loop-place-preserved c =
     let before = choices_in parts (those_at ids (take k places)) c.args.read in
     let start = stage_of c.args.graph.now c.args.trail.now in
     let middle = stage_of c.loop-place.graph c.loop-place.trail in
-    let then = stage_of c.look_at_choice.new.graph c.look_at_choice.new.trail in
-    let one = subst (λ (nodes : List (Option TxnId)). HasLooked parts nodes middle then (choice ∷ [])) c.loop-place.invariant.nodes (c.in_ok-look_at_choice.ensures.looked parts (is_choice (goal.at.loop-place-preserved c).In-Some)) in
+    let then = stage_of c.propagate_choice.new.graph c.propagate_choice.new.trail in
+    let one = subst (λ (nodes : List (Option TxnId)). HasLooked parts nodes middle then (choice ∷ [])) c.loop-place.invariant.nodes (c.in_ok-propagate_choice.ensures.looked parts (is_choice (goal.at.loop-place-preserved c).In-Some)) in
     let both = looked_both parts nodes start middle then before (choice ∷ []) c.loop-place.invariant.looked one in
     record {
       looked = subst (λ xs. HasLooked parts nodes start then xs) (ap (λ xs. before ++ xs) (sym c.in-Some.ensures.1) ∙ sym (choices_places_more parts ids places c.args.read k 0 c.loop-place-test.true)) both;
-      nodes = c.in_ok-look_at_choice.ensures.nodes ∙ c.loop-place.invariant.nodes;
-      mark = c.look_at_choice.ensures.mark ∙ c.loop-place.invariant.mark;
+      nodes = c.in_ok-propagate_choice.ensures.nodes ∙ c.loop-place.invariant.nodes;
+      mark = c.propagate_choice.ensures.mark ∙ c.loop-place.invariant.mark;
     }
 
 pub loop-place-preserved-in_default : goal.loop-place-preserved-in_default

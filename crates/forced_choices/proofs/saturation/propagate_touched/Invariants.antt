@@ -6,7 +6,7 @@ use Rattle.known_graph.specs.Graphs.{last_mark}
 use Rattle.forced_choices.specs.Forcing.{stage_of, HasLooked}
 use Rattle.forced_choices.specs.Masks.{choices_in}
 use Rattle.forced_choices.proofs.TableReads.{no_read}
-use Rattle.forced_choices.proofs.saturation.look_at_touched.Given as goal
+use Rattle.forced_choices.proofs.saturation.propagate_touched.Given as goal
 
 -- each read was looked at, or its key is left
 abbrev pub invariant-loop-key : goal.invariant-loop-key

@@ -3,7 +3,7 @@ use Rattle.known_graph.specs.Graphs.{last_mark}
 use Rattle.forced_choices.specs.Forcing.{stage_of, HasLooked}
 use Rattle.forced_choices.specs.Masks.{choices_in}
 use Rattle.forced_choices.specs.WriterPlaces.{those_at}
-use Rattle.forced_choices.proofs.saturation.looking.look_at_columns.Given as goal
+use Rattle.forced_choices.proofs.saturation.looking.propagate_columns.Given as goal
 
 abbrev pub invariant-loop-place : goal.invariant-loop-place
 invariant-loop-place l = record {

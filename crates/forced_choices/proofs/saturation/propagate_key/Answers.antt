@@ -15,7 +15,7 @@ use Rattle.forced_choices.proofs.Forced.{looked_both}
 use Rattle.forced_choices.proofs.KeysLooked.{all_in, looked_more}
 use Rattle.forced_choices.proofs.Members.{In}
 use Rattle.forced_choices.proofs.TableReads.{looked_since, no_read}
-use Rattle.forced_choices.proofs.saturation.look_at_key.Goals as goal
+use Rattle.forced_choices.proofs.saturation.propagate_key.Goals as goal
 
 -- where the columns are settled
 pub loop-place-preserved-then-are_settled_since : goal.loop-place-preserved-then-are_settled_since
@@ -47,8 +47,8 @@ loop-place-preserved-then-are_settled_since c =
       mark = c.loop-place.invariant.mark;
     }
 
-pub look_at_read-requires-clause-read : goal.look_at_read-requires-clause-read
-look_at_read-requires-clause-read c =
+pub propagate_read-requires-clause-read : goal.propagate_read-requires-clause-read
+propagate_read-requires-clause-read c =
     let table = c.args.lookup.now.table.now in
     let reads = c.as_slice-reads.result.now in
     let place = get_or c.of_key-place-items.result.now c.loop-place.place-index 0 in
@@ -65,15 +65,15 @@ loop-place-preserved c =
     let places = c.of_key-place-items.result.now in
     let k = c.loop-place.place-index in
     let middle = stage_of c.loop-place.graph c.loop-place.trail in
-    let then = stage_of c.look_at_read.new.graph c.look_at_read.new.trail in
+    let then = stage_of c.propagate_read.new.graph c.propagate_read.new.trail in
     let own = choices_in parts ids (get_or reads (get_or places k 0) no_read).read in
-    let here = subst (λ (nodes : List (Option TxnId)). HasLooked parts nodes middle then own) c.loop-place.invariant.nodes c.in_ok-look_at_read.ensures.looked in
+    let here = subst (λ (nodes : List (Option TxnId)). HasLooked parts nodes middle then own) c.loop-place.invariant.nodes c.in_ok-propagate_read.ensures.looked in
     record {
       looked = λ start before looked settled.
           let front = before ++ choices_at parts ids (reads_at reads (take k places)) in
           looked_more parts nodes start then ids reads places k before c.loop-place-test.true (looked_both parts nodes start middle then front own (c.loop-place.invariant.looked start before looked settled) here);
-      nodes = c.in_ok-look_at_read.ensures.nodes ∙ c.loop-place.invariant.nodes;
-      mark = c.look_at_read.ensures.mark ∙ c.loop-place.invariant.mark;
+      nodes = c.in_ok-propagate_read.ensures.nodes ∙ c.loop-place.invariant.nodes;
+      mark = c.propagate_read.ensures.mark ∙ c.loop-place.invariant.mark;
     }
 
 pub returns-clause-looked : goal.returns-clause-looked

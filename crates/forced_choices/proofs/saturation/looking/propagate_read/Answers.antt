@@ -4,7 +4,7 @@ use Rattle.forced_choices.specs.ByKeys.{IsRead}
 use Rattle.forced_choices.specs.Forcing.{stage_of}
 use Rattle.forced_choices.specs.Masks.{AreSettledBut, choices_in}
 use Rattle.forced_choices.proofs.SettledReads.{settled_by_mask, settled_all, looked_all_there, third_is_choice}
-use Rattle.forced_choices.proofs.saturation.looking.look_at_read.Goals as goal
+use Rattle.forced_choices.proofs.saturation.looking.propagate_read.Goals as goal
 
 pub returns-then-are_settled-clause-looked : goal.returns-then-are_settled-clause-looked
 returns-then-are_settled-clause-looked c =
@@ -16,11 +16,11 @@ returns-then-are_settled-clause-looked c =
     let there = settled_all (IsRead table.reads.items) parts nodes arcs table.ids.items table.writers (dense c.mask-mask.result.now) read c.requires.table.writers c.requires.read c.mask-mask.ensures (c.are_settled.ensures c.if-are_settled.true) in
     looked_all_there parts nodes (stage_of c.args.graph.now c.args.trail.now) (choices_in parts table.ids.items read) there
 
-pub look_at_columns-requires-clause-choices : goal.look_at_columns-requires-clause-choices
-look_at_columns-requires-clause-choices c = λ other is. third_is_choice c.args.lookup.now.parts.now c.args.placed.read other c.requires.placed.reads c.requires.placed.written is
+pub propagate_columns-requires-clause-choices : goal.propagate_columns-requires-clause-choices
+propagate_columns-requires-clause-choices c = λ other is. third_is_choice c.args.lookup.now.parts.now c.args.placed.read other c.requires.placed.reads c.requires.placed.written is
 
-pub look_at_columns-requires-clause-settled : goal.look_at_columns-requires-clause-settled
-look_at_columns-requires-clause-settled c =
+pub propagate_columns-requires-clause-settled : goal.propagate_columns-requires-clause-settled
+propagate_columns-requires-clause-settled c =
     let parts = c.args.lookup.now.parts.now in
     let arcs = c.args.graph.now.arcs in
     let table = c.args.lookup.now.table.now in

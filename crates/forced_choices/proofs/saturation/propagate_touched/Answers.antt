@@ -22,7 +22,7 @@ use Rattle.forced_choices.proofs.KeysLooked.{all_done, key_untouched, looked_or_
 use Rattle.forced_choices.proofs.Members.{In}
 use Rattle.forced_choices.proofs.SettledReads.{looked_and_there}
 use Rattle.forced_choices.proofs.TableReads.{no_read}
-use Rattle.forced_choices.proofs.saturation.look_at_touched.Goals as goal
+use Rattle.forced_choices.proofs.saturation.propagate_touched.Goals as goal
 
 pub loop-key-init : goal.loop-key-init
 loop-key-init c =
@@ -37,11 +37,11 @@ loop-key-init c =
       mark = refl;
     }
 
-pub look_at_key-requires-clause-nodes : goal.look_at_key-requires-clause-nodes
-look_at_key-requires-clause-nodes c = λ id remains. subst (λ nodes. HasKey nodes id) (sym c.loop-key.invariant.nodes) (c.requires.nodes id remains)
+pub propagate_key-requires-clause-nodes : goal.propagate_key-requires-clause-nodes
+propagate_key-requires-clause-nodes c = λ id remains. subst (λ nodes. HasKey nodes id) (sym c.loop-key.invariant.nodes) (c.requires.nodes id remains)
 
-pub look_at_key-requires-clause-table : goal.look_at_key-requires-clause-table
-look_at_key-requires-clause-table c = subst (λ (nodes : List (Option TxnId)). IsLookup c.args.lookup.now.parts.now nodes c.args.lookup.now.table.now) (sym c.loop-key.invariant.nodes) c.requires.table
+pub propagate_key-requires-clause-table : goal.propagate_key-requires-clause-table
+propagate_key-requires-clause-table c = subst (λ (nodes : List (Option TxnId)). IsLookup c.args.lookup.now.parts.now nodes c.args.lookup.now.table.now) (sym c.loop-key.invariant.nodes) c.requires.table
 
 pub loop-key-preserved : goal.loop-key-preserved
 loop-key-preserved c =
@@ -49,17 +49,17 @@ loop-key-preserved c =
     let table = c.args.lookup.now.table.now in
     let start = stage_of c.args.graph.now c.args.trail.now in
     let middle = stage_of c.loop-key.graph c.loop-key.trail in
-    let then = stage_of c.look_at_key.new.graph c.look_at_key.new.trail in
+    let then = stage_of c.propagate_key.new.graph c.propagate_key.new.trail in
     let done = c.loop-key.invariant.done in
     let own = choices_at parts table.ids.items (reads_at table.reads.items (places_at table.by_key.reads.lists c.in-Some.key.now)) in
-    let here = subst (λ (nodes : List (Option TxnId)). (start : Stage) (before : List Choice) → HasLooked parts nodes start middle before → AreAllSettledUnless parts nodes start.arcs c.args.touched.now → HasLooked parts nodes start then (before ++ own)) c.loop-key.invariant.nodes c.in_ok-look_at_key.ensures.looked in
+    let here = subst (λ (nodes : List (Option TxnId)). (start : Stage) (before : List Choice) → HasLooked parts nodes start middle before → AreAllSettledUnless parts nodes start.arcs c.args.touched.now → HasLooked parts nodes start then (before ++ own)) c.loop-key.invariant.nodes c.in_ok-propagate_key.ensures.looked in
     let left = rest_more deref_pair c.loop-key.key-iterator c.next.new.self c.next.result (c.in-Some.key, c.in-Some.row) c.in-Some.is c.next.ensures.steps in
     record {
       done = done ++ own;
       looked = here start done c.loop-key.invariant.looked c.requires.settled;
       each = λ k within. looked_or_left parts table done c.loop-key.key-iterator c.next.new.self (c.in-Some.key.now, c.in-Some.row.now) k c.requires.table.indexed left within (c.loop-key.invariant.each k within);
-      nodes = c.in_ok-look_at_key.ensures.nodes ∙ c.loop-key.invariant.nodes;
-      mark = c.look_at_key.ensures.mark ∙ c.loop-key.invariant.mark;
+      nodes = c.in_ok-propagate_key.ensures.nodes ∙ c.loop-key.invariant.nodes;
+      mark = c.propagate_key.ensures.mark ∙ c.loop-key.invariant.mark;
     }
 
 -- where nobody of the key's row is reached by more

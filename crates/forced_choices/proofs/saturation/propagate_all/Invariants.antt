@@ -2,7 +2,7 @@ use Rattle.std.proofs.Common.{◌≡◌, take}
 use Rattle.known_graph.specs.Graphs.{last_mark}
 use Rattle.forced_choices.specs.Forcing.{stage_of, HasLooked}
 use Rattle.forced_choices.specs.Tables.{choices_at}
-use Rattle.forced_choices.proofs.saturation.look_at_all.Given as goal
+use Rattle.forced_choices.proofs.saturation.propagate_all.Given as goal
 
 abbrev pub invariant-loop-placed : goal.invariant-loop-placed
 invariant-loop-placed l = record {

@@ -4,7 +4,7 @@ use Rattle.known_graph.specs.Graphs.{last_mark}
 use Rattle.forced_choices.specs.ByKeys.{reads_at}
 use Rattle.forced_choices.specs.Forcing.{Stage, stage_of, HasLooked, AreAllSettledUnless}
 use Rattle.forced_choices.specs.Tables.{choices_at}
-use Rattle.forced_choices.proofs.saturation.look_at_key.Given as goal
+use Rattle.forced_choices.proofs.saturation.propagate_key.Given as goal
 
 abbrev pub invariant-loop-place : goal.invariant-loop-place
 invariant-loop-place l = record {
