@@ -11,7 +11,7 @@ from zanteyard import FENCE, AbortedError, Auditor, NameTakenError, OutcomeUnkno
 from zanteyard.program._auditor import PROGRAM
 from zanteyard.trial.postgres_server import PostgresServer, program
 
-from .waiting import wait_until
+from .waiting import SOON, wait_until
 
 try:
     import psycopg2
@@ -345,6 +345,7 @@ class Postgres(unittest.TestCase):
         # About a name that isn't among the last ones, nobody knows.
         self.assertEqual(asked(*how, ticket=never, seconds=60.0)[0], "unknown")
 
+    @mock.patch("zanteyard.session._transaction.LEAST", SOON)  # a tenth of a second is too short on a busy machine
     def test_the_answer_to_a_fence_is_lost(self):
         a = self.sessions(store=Lossy)[0]
         a.fence()
@@ -352,7 +353,7 @@ class Postgres(unittest.TestCase):
 
     def test_a_violation_names_what_was_run(self):
         self.assertEqual(self.count_at_once("read committed"), "violated")
-        told = list(words(smaller(self.auditor.history)))
+        told = list(words(smaller(self.auditor.history, seconds=SOON)))
         self.assertEqual(told[2], "0.1 read x from 0.0, wrote x")
         self.assertEqual(told[3], "    read x: SELECT value, run, session, number FROM zanteyard WHERE key = 'x'")
         self.assertTrue(told[4].startswith("    wrote x: INSERT INTO zanteyard VALUES ('x', '2', 'run', 0, 1) ON CONFLICT"), told[4])
