@@ -8,7 +8,7 @@ import hashlib
 import json
 import os
 from dataclasses import dataclass, field
-from typing import Any, Dict, List, Mapping, Optional, Sequence, Tuple
+from typing import Any, Dict, List, Mapping, NamedTuple, Optional, Sequence, Tuple
 
 from ..core._private_files import private
 from ..core._records import AuditId
@@ -19,8 +19,7 @@ PART, REST = "this part of the file", "the rest of the file"
 VERSION = 1
 
 
-@dataclass(frozen=True)
-class NamedTransaction:
+class NamedTransaction(NamedTuple):
     """A transaction's name. `texts` are the reads and writes in the script's form, a write as
     [key], each with its text in the original file."""
 
@@ -73,10 +72,7 @@ def write_names(names: ScriptNames, script: str) -> str:
         "has_pauses": names.has_pauses,
         "keys": [[number, key] for number, key in sorted(names.keys.items())],
         "absent": [[*id, name] for id, name in sorted(names.absent.items())],
-        "transactions": [
-            [[named.name, named.outcome, named.texts, named.where] for named in session]
-            for session in names.transactions
-        ],
+        "transactions": names.transactions,
     }
     text = json.dumps(whole, separators=(",", ":"))  # `dump` to a file takes five times as long
     with open(script + NAMES, "w", encoding="utf-8", opener=private) as file:

@@ -9,11 +9,11 @@ result.
 from __future__ import annotations
 
 import re
-from typing import Dict, Iterator, List, Match, Optional, Pattern, Tuple, Union
+from typing import Dict, Iterator, List, Match, Optional, Pattern, Sequence, Tuple, Union
 
 from ..core.errors import ImportRefusedError
 from ._edn import CLOSING, EdnMap, EdnReader, Keyword
-from ._recording import APPEND, READ, READ_LIST, WRITE, Access, Value
+from ._recording import APPEND, READ, READ_LIST, READS, WRITE, Access, Value
 
 NAME = r"[A-Za-z][A-Za-z0-9_.*+!?-]*"
 NUMBER = r"(?:0|-?[1-9][0-9]{0,99})"
@@ -110,28 +110,33 @@ class EdnLines:
                 self._shapes.append(shape)
 
 
+def asked_for(micros: Sequence[Access]) -> str:
+    """The value of the plain line that asked for these micro-operations."""
+    texts = [f"[:r {it.key} nil]" if it.kind in READS else it.text for it in micros]
+    return f"[{' '.join(texts)}]"
+
+
 class PlainMicros:
     """The micro-operations of plain lines. A read of nil has no value, even of a list."""
 
     def __init__(self, is_of_lists: bool) -> None:
         write, read = ("append", r"\[[^\[\]]*\]") if is_of_lists else ("w", SCALAR)
         self._read, self._write = (READ_LIST, APPEND) if is_of_lists else (READ, WRITE)
-        self._word = write
         self._pattern = re.compile(
-            rf"\[:(?:r ({SCALAR}) (nil|{read})|{write} ({SCALAR}) ({SCALAR}))\]"
+            rf"(\[:(?:r ({SCALAR}) (nil|{read})|{write} ({SCALAR}) ({SCALAR}))\])"
         )
+        asked = rf"\[:(?:r {SCALAR} nil|{write} {SCALAR} {SCALAR})\]"
+        self._asked = re.compile(rf"\[{asked}(?: {asked})*\]")
         self._longest: Dict[str, Tuple[str, Tuple[str, ...]]] = {}  # by key, the longest list
 
     def of(self, value: str) -> Optional[List[Access]]:
         """The contents of a plain line's value; None unless they are certain."""
         accesses: List[Access] = []
         texts: List[str] = []
-        for key, found, written_key, written in self._pattern.findall(value):
+        for text, key, found, written_key, written in self._pattern.findall(value):
             if written:
-                text = f"[:{self._word} {written_key} {written}]"
                 accesses.append(Access(self._write, written_key, written, text))
             else:
-                text = f"[:r {key} {found}]"
                 its: Value = found
                 if found == "nil":
                     its = None
@@ -142,6 +147,10 @@ class PlainMicros:
                 accesses.append(Access(self._read, key, its, text))
             texts.append(text)
         return accesses if f"[{' '.join(texts)}]" == value else None
+
+    def can_wait(self, value: str) -> bool:
+        """Whether it is certain that `of` can read the value, and that its reads found nothing."""
+        return self._asked.fullmatch(value) is not None
 
     def _elements(self, key: str, text: str) -> Optional[Tuple[str, ...]]:
         """The elements of a list of that key. Most lists are a prefix of the longest one, or extend

@@ -3,6 +3,7 @@ micro-operations on registers or on lists."""
 
 from __future__ import annotations
 
+import re
 from dataclasses import replace
 from typing import (
     Any,
@@ -10,7 +11,6 @@ from typing import (
     Dict,
     Iterator,
     List,
-    Match,
     NamedTuple,
     Optional,
     Sequence,
@@ -19,7 +19,7 @@ from typing import (
 
 from ..core.errors import ImportRefusedError
 from ._edn import EdnMap, EdnReader, Keyword
-from ._edn_lines import GROUPS, EdnLines, PlainMicros
+from ._edn_lines import GROUPS, EdnLines, PlainMicros, asked_for
 from ._json import JsonReader
 from ._recording import (
     ABORTED,
@@ -28,6 +28,7 @@ from ._recording import (
     NEVER,
     READ,
     READ_LIST,
+    READS,
     UNKNOWN,
     WRITE,
     Access,
@@ -38,7 +39,6 @@ from ._recording import (
     token,
 )
 
-READS = (READ, READ_LIST)
 OUTCOMES = {"ok": COMMITTED, "fail": ABORTED, "info": UNKNOWN}
 
 
@@ -52,6 +52,7 @@ class Operation(NamedTuple):
     time: Optional[int]
     part: str  # of the store, if the history is of independent ones
     micros: Sequence[Access]  # a read that found nothing has no value, also of a list
+    unread: str = ""  # in place of `micros`: a plain line's value, whose reads found nothing
 
 
 def read_jepsen(
@@ -66,7 +67,7 @@ def read_jepsen(
     does in one part has then no order with what it does in another. Operations of the functions
     `left_out` are skipped, and counted. Raises ImportRefusedError."""
     operations = _Operations(text, is_of_lists, is_independent, left_out)
-    recording = _Pairs().recording(operations.all(), form)
+    recording = _Pairs(operations.plain).recording(operations.all(), form)
     return replace(recording, left_out=tuple(sorted(operations.left_out.items())))
 
 
@@ -90,7 +91,7 @@ class _Operations:
         self.left_out = dict.fromkeys(left_out, 0)  # how many, by function
         self._is_of_lists = is_of_lists
         self._is_json = _is_json(text)
-        self._plain = PlainMicros(is_of_lists)
+        self.plain = PlainMicros(is_of_lists)
         self._kinds = (
             {"r": READ_LIST, "append": APPEND} if is_of_lists else {"r": READ, "w": WRITE}
         )
@@ -98,9 +99,10 @@ class _Operations:
     def all(self) -> Iterator[Operation]:
         """The operations in the file's order."""
         for line, found in self._maps():
-            if isinstance(found, Match):
+            if isinstance(found, re.Match):
                 type, process, index, time, part, value = found.group(*GROUPS)
-                micros = self._plain.of(value)
+                can_wait = type == "invoke" and self.plain.can_wait(value)
+                micros = () if can_wait else self.plain.of(value)
                 if micros is not None:
                     yield Operation(
                         line,
@@ -110,6 +112,7 @@ class _Operations:
                         int(time) if time else None,
                         part,
                         micros,
+                        value if can_wait else "",
                     )
                     continue
                 (found,) = EdnReader(self._text, found.start(), line).form()
@@ -206,9 +209,11 @@ def _elements(value: Any, line: int) -> Optional[Tuple[str, ...]]:
 
 
 class _Pairs:
-    """Matches invocations with their completions."""
+    """Matches invocations with their completions. What a plain line asked for is read only if its
+    completion doesn't say the same."""
 
-    def __init__(self) -> None:
+    def __init__(self, plain: PlainMicros) -> None:
+        self._plain = plain
         self._attempts: List[Attempt] = []  # without names
         self._open: Dict[str, Tuple[int, Operation, int]] = {}  # of each process
         self._unused = 0
@@ -229,7 +234,7 @@ class _Pairs:
                 self._complete(operation, place)
         for process in [*self._open]:
             _, invoked, _ = self._open[process]
-            self._complete(invoked._replace(type="info"), NEVER)
+            self._complete(invoked._replace(type="info", unread=""), NEVER)
         if not self._attempts:
             raise ImportRefusedError(max(1, last_line), "the file has no client operation")
         return Recording(
@@ -242,7 +247,7 @@ class _Pairs:
         lines = {attempt.line for attempt in self._attempts}
         for attempt in self._attempts:
             if len(lines) == len(self._attempts):
-                yield attempt._replace(name=f"line {attempt.line}")
+                yield Attempt(f"line {attempt.line}", *attempt[1:])
             else:
                 yield attempt._replace(where=f"line {attempt.line}, {attempt.where}")
 
@@ -264,12 +269,20 @@ class _Pairs:
             )
         at, invoked, began = self._open.pop(operation.process)
         outcome = OUTCOMES[operation.type]
-        if outcome == COMMITTED or operation.micros:
+        is_checked = outcome == COMMITTED or len(operation.micros) > 0
+        if invoked.unread and not (
+            outcome == COMMITTED
+            and invoked.part == operation.part
+            and invoked.unread == asked_for(operation.micros)
+        ):
+            invoked = invoked._replace(micros=self._plain.of(invoked.unread) or (), unread="")
+        if is_checked and not invoked.unread:
             _check_same(invoked, operation)
         done = operation if outcome == COMMITTED else invoked
         if outcome == COMMITTED:
             accesses = tuple([
-                it._replace(value=()) if it.value is None and it.kind == READ_LIST else it
+                Access(READ_LIST, it.key, (), it.text) if it.value is None and it.kind == READ_LIST
+                else it
                 for it in done.micros
             ])
         else:

@@ -12,6 +12,7 @@ from ._edn import Keyword
 
 COMMITTED, ABORTED, UNKNOWN = "committed", "aborted", "unknown"
 READ, WRITE, APPEND, READ_LIST = "read", "write", "append", "read-list"
+READS = (READ, READ_LIST)
 NEVER = 1 << 62  # the place of an end that isn't in the file
 
 Value = Union[None, str, Tuple[str, ...]]

@@ -4,7 +4,6 @@ sessions, with which numbers, and their names."""
 from __future__ import annotations
 
 import json
-from dataclasses import replace
 from typing import Any, Dict, Iterator, List, Optional, Set, Tuple
 
 from ..core._own_keys import FORM
@@ -313,7 +312,7 @@ class _ScriptMaker:
         if not written or len(written) > LONGEST:
             return [[], []], named
         texts = sorted((self._key(key), text) for key, text in written.items())
-        named = replace(named, texts=tuple(([key], text) for key, text in texts))
+        named = named._replace(texts=tuple(([key], text) for key, text in texts))
         return [[], [key for key, _ in texts], ABORTED], named
 
     def _fence(self, fence: Fence) -> List[Any]:

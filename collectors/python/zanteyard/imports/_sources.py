@@ -54,7 +54,7 @@ class Chain:
     def __init__(self) -> None:
         self.elements: Tuple[str, ...] = ()
         self.last: Dict[int, Origin] = {0: None}  # the last one's writer, by their number
-        self.owners: Set[Origin] = set()
+        self.starts: Dict[int, int] = {}  # by owner, the number of elements before its own
 
     def common(self, front: Tuple[str, ...]) -> int:
         """The number of elements that the list has in common with this one: all of either, if they
@@ -66,9 +66,9 @@ class Chain:
 
     def add(self, elements: Tuple[str, ...], owner: int) -> None:
         """Adds elements after the last one."""
+        self.starts[owner] = len(self.elements)
         self.elements += elements
         self.last[len(self.elements)] = owner
-        self.owners.add(owner)
 
 
 class Sources:
@@ -184,7 +184,9 @@ class Sources:
             return
         front = value[:size]
         chain = self._chains.setdefault(access.key, Chain())
-        known = 0 if at in chain.owners else chain.common(front)  # it can't read its own there
+        known = chain.common(front)
+        if known > chain.starts.get(at, known):  # it can't read its own there
+            known = 0
         if known == size:
             self._read(at, access, chain.last[size])
             return
@@ -213,7 +215,7 @@ class Sources:
     ) -> Iterator[Tuple[Origin, Tuple[str, ...]]]:
         """The writers of a list's elements from that place on, in order, each with its elements; a
         Stub if whole transactions can't have appended the list."""
-        seen: Set[Origin] = {*chain.owners} if known else set()
+        seen: Set[Origin] = {*chain.starts} if known else set()
         place = known
         while place < len(front):
             origin = self._writer(at, access, front[place])
