@@ -477,7 +477,9 @@ class Recorded(unittest.TestCase):
 
     def told(self, *words):
         out, err = (running := self.begin(*words)).communicate(timeout=600)
-        self.assertEqual((running.returncode, err), (0, ""), out)
+        self.assertEqual(running.returncode, 0, out + err)
+        for line in err.splitlines():  # on a slow machine
+            self.assertRegex(line, r"^(recording|cobra_audit judges|the peer judges) .*, \d+ s$")
         self.assertEqual(os.listdir(f"{self.folder}/tmp"), [])
         return out.splitlines()
 
@@ -485,11 +487,11 @@ class Recorded(unittest.TestCase):
         if not (os.path.isfile(PROGRAM) and HAS_COMPILER and HAS_CLASP):
             self.skipTest("cobra_audit is not built, or a C++ compiler or clasp is not installed")
         names = ("BlindW-RW", "list-append")
-        lines = self.told("--workload", *names, "--transactions", "480", "--every", "160",
+        lines = self.told("--workload", *names, "--transactions", "240", "--every", "80",
                           "--sessions", "8", "--keep", f"{self.folder}/kept")
         rows = [[cell.strip() for cell in line[1:-1].split("|")] for line in lines[2:]]
         self.assertEqual([row[:4] for row in rows], [
-            [name, level, "480", way]
+            [name, level, "240", way]
             for name, levels in zip(names, (["serializable"], ["serializable", "snapshot"]))
             for level in levels for way in ("rounds", "at once")
         ])
@@ -499,10 +501,10 @@ class Recorded(unittest.TestCase):
                 self.assertEqual(verdict, row[9].split(":")[0])
                 if row[1] == "serializable":
                     self.assertEqual(verdict, "serial")
-        again = self.told("--judge", *sorted(glob.glob(f"{self.folder}/kept/*")))
+        again = self.told("--judge", *sorted(glob.glob(f"{self.folder}/kept/*-serializable-*")))
         whole = [[cell.strip() for cell in line[1:-1].split("|")] for line in again[2:]]
-        verdicts = lambda rows: {(*row[:4], row[6], row[9]) for row in rows}
-        self.assertEqual(verdicts(whole), verdicts(rows))
+        verdicts = lambda rows: [(*row[:4], row[6], row[9]) for row in rows]
+        self.assertEqual(verdicts(whole), verdicts(rows[:4]))
 
     def test_what_is_recorded(self):
         """Each session's share, in its order; and fences between which all have met."""
