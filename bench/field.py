@@ -110,17 +110,37 @@ class Judged:
 
 class Measured:
     """A program that reads a script and is given at most some seconds. `used` is the processor time
-    of it and its children, and `mib` the peak memory of the largest, once it has ended."""
+    of it and its children, once it has ended. Its input doesn't end before `end_input`."""
 
     def __init__(self, call: Sequence[str], path: str, seconds: float) -> None:
-        self.used = self.mib = 0.0
+        self.used, self.mib = 0.0, 0.0
         self.is_late, self.status = False, 0
-        with open(path, "rb") as file:
-            self.process = subprocess.Popen(
-                call, stdin=file, stdout=subprocess.PIPE, start_new_session=True
-            )
+        self.process = subprocess.Popen(
+            call, stdin=subprocess.PIPE, stdout=subprocess.PIPE, start_new_session=True
+        )
+        self.feeder = threading.Thread(target=self.feed, args=(path,), daemon=True)
         self.timer = threading.Timer(seconds, self.be_late)
         self.timer.daemon = True
+
+    def feed(self, path: str) -> None:
+        assert self.process.stdin is not None
+        with contextlib.suppress(OSError, ValueError), open(path, "rb") as file:
+            shutil.copyfileobj(file, self.process.stdin)
+            self.process.stdin.flush()
+
+    def end_input(self) -> None:
+        self.feeder.join()
+        assert self.process.stdin is not None
+        with contextlib.suppress(OSError):
+            self.process.stdin.close()
+
+    def note_peak(self) -> None:
+        """Notes the peak memory of the running program. What the kernel says of it afterwards would
+        also count the process that started it."""
+        with contextlib.suppress(OSError):
+            with open(f"/proc/{self.process.pid}/status", encoding="ascii") as status:
+                found = re.search(r"VmHWM:\s*(\d+)", status.read())
+                self.mib = int(found[1]) / 1024 if found else 0.0
 
     def be_late(self) -> None:
         self.is_late = True
@@ -133,12 +153,14 @@ class Measured:
 
     def __enter__(self) -> Measured:
         self.timer.start()
+        self.feeder.start()
         return self
 
     def __exit__(self, *_: object) -> None:
         self.timer.cancel()
         self.timer.join()
         self.kill()
+        self.end_input()
         self.wait()
 
     def lines(self) -> Iterator[bytes]:
@@ -152,7 +174,7 @@ class Measured:
         self.process.stdout.close()
         _, status, usage = os.wait4(self.process.pid, 0)
         self.process.returncode = self.status = os.waitstatus_to_exitcode(status)
-        self.used, self.mib = usage.ru_utime + usage.ru_stime, usage.ru_maxrss / 1024
+        self.used = usage.ru_utime + usage.ru_stime
 
     def told(self, verdict: str, found: str = "", at: int = 0) -> Judged:
         if self.is_late:
@@ -168,17 +190,18 @@ class Auditor:
 
     def judge(self, path: str) -> Judged:
         """Judges the script, up to the first round that isn't serial or pending."""
-        verdict, found, at = "undecided", "no round", 0
+        verdict, found, at = "", "", 0
+        with open(path, "rb") as file:
+            count = sum(1 for _ in file)
         with Measured([self.program], path, self.seconds) as running:
             for at, line in enumerate(running.lines(), 1):
-                if line.startswith((b'["ok"', b'["cut"')) or b'"NoCut"' in line:
-                    continue
-                verdict, found = self.reply(json.loads(line), at)
-                if verdict not in ("serial", "pending"):
+                if not (line.startswith((b'["ok"', b'["cut"')) or b'"NoCut"' in line):
+                    verdict, found = self.reply(json.loads(line), at)
+                if at == count or verdict not in ("", "serial", "pending"):
                     break
-            else:  # it ends by itself at the end of the script
-                running.timer.cancel()
-                running.wait()
+            running.note_peak()
+        if not verdict:
+            verdict, found = "undecided", f"it ended with status {running.status}"
         judged = running.told(verdict, found, at)
         if verdict in DECIDED and running.status not in (0, -signal.SIGKILL):
             return running.told("undecided", f"it ended with status {running.status}")
@@ -219,12 +242,14 @@ class Peer:
     def judge(self, path: str) -> Judged:
         call, told = [self.program, str(max(1, int(self.seconds)))], b""
         with Measured(call, path, 1.1 * self.seconds + 10) as running:
+            running.end_input()
             told = b"".join(running.lines())
             running.timer.cancel()
             running.wait()
         if not told:
             return running.told("undecided", f"the peer ended with status {running.status}")
         reply = json.loads(told)
+        running.mib = reply["peak_kib"] / 1024
         return running.told(reply["verdict"], reply["found"])
 
 

@@ -22,6 +22,7 @@
 #include <cstring>
 #include <map>
 #include <string>
+#include <sys/resource.h>
 #include <sys/wait.h>
 #include <unistd.h>
 #include <unordered_map>
@@ -473,6 +474,20 @@ static string solved(FILE *problem, const char *seconds) {
     return "undecided: clasp has failed";
 }
 
+// The peak memory of this process or of a solver, in KiB. What getrusage says of this process would also
+// count the one that started it.
+static long peak() {
+    rusage children;
+    getrusage(RUSAGE_CHILDREN, &children);
+    long own = 0;
+    if (FILE *status = fopen("/proc/self/status", "r")) {
+        char line[256];
+        while (fgets(line, sizeof line, status)) sscanf(line, "VmHWM: %ld", &own);
+        fclose(status);
+    }
+    return std::max(own, children.ru_maxrss);
+}
+
 static double milliseconds() {
     using namespace std::chrono;
     return duration<double, std::milli>(steady_clock::now().time_since_epoch()).count();
@@ -501,9 +516,9 @@ static void judge(const Script &script, double read_in, const char *seconds) {
     const size_t colon = verdict.find(": ");
     const string why = colon == string::npos ? judge.found : verdict.substr(colon + 2);
     printf("{\"verdict\":\"%s\",\"found\":\"%s\",\"transactions\":%u,\"sessions\":%u,\"open\":%zu,"
-           "\"read_ms\":%.1f,\"known_ms\":%.1f,\"solver_ms\":%.1f}\n",
+           "\"read_ms\":%.1f,\"known_ms\":%.1f,\"solver_ms\":%.1f,\"peak_kib\":%ld}\n",
            verdict.substr(0, colon).c_str(), why.c_str(), judge.order.count, judge.order.sessions, judge.open,
-           read_in, middle - begin, milliseconds() - middle);
+           read_in, middle - begin, milliseconds() - middle, peak());
     fflush(stdout);
 }
 

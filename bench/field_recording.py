@@ -3,8 +3,8 @@
 Each client has a connection, and one statement a read or write. An attempt that the server aborts
 is repeated until it commits. Each row has the name of its last writer next to the value: that is
 how a read tells whom it read from. Every `every` transactions the clients meet, as
-docs/COLLECTORS.md has it: each makes a fence; when all have, each reads what it had written without
-reading it, and makes a second fence.
+docs/COLLECTORS.md has it: each makes a fence; when all have, each makes a second one, and reads what
+it had written without reading it; when all have, they go on.
 """
 from __future__ import annotations
 
@@ -166,13 +166,14 @@ class Client:
         with fences:
             self.run(fence, True)
         meeting.wait()
+        with fences:
+            self.run(fence, True)
         keys, self.blind = sorted(self.blind), set()
         for first in range(0, len(keys), MOST):
             its = keys[first : first + MOST]
             self.run(lambda attempt: sweep(its, attempt), True)
-        with fences:
-            self.run(fence, True)
         self.records.append(None)
+        meeting.wait()  # before somebody overwrites what others have to read
 
 
 def client_process(task: Dict[str, Any], shared: Any, failures: Any) -> None:
