@@ -3,8 +3,8 @@
 Each client has a connection, and one statement a read or write. An attempt that the server aborts
 is repeated until it commits. Each row has the name of its last writer next to the value: that is
 how a read tells whom it read from. Every `every` transactions the clients meet, as
-docs/COLLECTORS.md has it: each makes a fence; when all have, each makes a second one, and reads what
-it had written without reading it; when all have, they go on.
+docs/COLLECTORS.md has it: each makes a fence; when all have, each makes a second one, and reads
+what it had written without reading it; when all have, they go on.
 """
 from __future__ import annotations
 
