@@ -409,7 +409,7 @@ class Scripts:
             elif dice.random() < (self.joins / 9 if self.is_open else self.joins):
                 line = self.join(model)
                 remaining += len(line[-1])
-            elif self.is_open and dice.random() < 0.3:
+            elif self.is_open and dice.random() < (0.03 if model.is_isolated else 0.3):
                 line = forged(dice, model)
             else:
                 line = self.other()

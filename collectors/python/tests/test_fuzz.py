@@ -271,6 +271,9 @@ LIES = {
     "the first version has what was aborted": ("", as_version(rb"", b",2"), always),
     "any other version is the second": ("grammar", as_version(rb",(?:0|1|3|4|256)", b",2"), always),
     "the second version is the first": ("scripts", as_version(rb",2", b""), always),
+    "snapshot isolation isn't asked for": ("scripts", read_as(b',"snapshot"]', b"]"), always),
+    "a begin is told as a commit": ("scripts", same, replaced(b'"begin"', b'"commit"')),
+    "what has begun isn't told": ("scripts", same, replaced(b"true]]", b"false]]")),
     "minus zero is zero": ("grammar", read_as(b"-0", b"0"), always),
     "a float is a number": ("grammar", read_as(b"5.0", b"5"), always),
     "a byte order mark is skipped": ("grammar", read_as(b"\xef\xbb\xbf", b""), always),
@@ -369,8 +372,6 @@ def worked():
         if name.endswith(".jsonl"):
             with open(os.path.join(WORKED, name), "rb") as file:
                 lines = judge.lines_of(file.read())
-            if not judge.is_known(lines):
-                continue
             with open(os.path.join(WORKED, name[:-5] + "replies"), "rb") as file:
                 yield list(zip(lines, judge.lines_of(file.read())))
 
