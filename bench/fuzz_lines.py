@@ -6,14 +6,14 @@ model for what has been taken in so far; within a chunk it assumes that everythi
 """
 from collections import defaultdict
 
-from judge import (ABORTED, ISOLATED, LONGEST, NUMBERS, WHOLE, command_of, decode, effect_of, encode,
-                   is_aborted)
+from judge import (ABORTED, ISOLATED, LONGEST, NUMBERS, WHOLE, command_of, decode, effect_of,
+                   encode, is_aborted)
 from plain_snapshots import split_command
 from plain_verdicts import is_fence
 
 EDGES = (0, 1, 2, 3, 5, 6, 7, 8, 15, 16, 17, 63, 64, 65, 127, 128, 129, 255, 256, 257, 2048, 2049,
-         4095, 4096, 4097, 2**47 - 1, 2**47, 2**31 - 1, 2**31, 2**32 - 1, 2**32, 2**32 + 1, NUMBERS - 257, NUMBERS - 256, NUMBERS - 1,
-         NUMBERS, NUMBERS + 1, 2**53, 2**53 + 1, 2**63 - 1, 2**63, WHOLE - 1, WHOLE, WHOLE + 1)
+         4095, 4096, 4097, 2**31 - 1, 2**31, 2**32 - 1, 2**32, 2**32 + 1, 2**47 - 1, 2**47,
+         NUMBERS - 257, NUMBERS - 256, NUMBERS - 1, NUMBERS, NUMBERS + 1, 2**53, 2**53 + 1, 2**63 - 1, 2**63, WHOLE - 1, WHOLE, WHOLE + 1)
 NO_NUMBERS = ("-0", "-1", "-5", "00", "01", "007", "+1", "5.0", "0.0", "5e0", "5E0", "5e-1", "1e1",
               "1e999", "0x5", "0b1", "5.", ".5", "5_0", "5n", "NaN", "Infinity", "-Infinity", "-",
               "1" * 400, "-" + "9" * 30, "0." + "3" * 60, "18446744073709551616.0", "1e", "--1",
@@ -284,7 +284,7 @@ class Store:
         """What the session's next transaction sees, if it writes these keys: perhaps what was there
         when it began, long ago, unless one of the keys was written since."""
         seen = self.begun.pop(session, self.last)
-        if self.dice.random() < self.stays:  # the one after it begins now, and commits some time later
+        if self.dice.random() < self.stays:  # the one after it begins now, and commits later
             self.begun[session] = None
         is_late = any(seen.get(key) != self.last.get(key) for key in writes)
         return self.last if is_late and self.dice.random() > self.lies else seen

@@ -210,7 +210,7 @@ FORMS = {
     ("answer", 3): is_answer,
 }
 BEGINNING = ("open", "resume")  # the words that are allowed while no auditor is open
-HANDED = ("marks", "last", "resumed")  # and those that are allowed only in a hand-over, in addition to offer
+HANDED = ("marks", "last", "resumed")  # those that are allowed only in a hand-over, as is offer
 
 
 def command_of(line):
@@ -384,7 +384,8 @@ class SplitHandOver(HandOver):
             return REFUSALS[14]
         return super().last([
             (key, session, 2 * number + 1) if key < STARS
-            else (0 if key == STARS else key, session, 2 * number) for key, session, number in writers])
+            else (0 if key == STARS else key, session, 2 * number)
+            for key, session, number in writers])
 
     def offer(self, session, first, told):
         if first + len(told) > ISOLATED.numbers or not all(

@@ -1,10 +1,10 @@
 """Snapshot isolation in plain Python: its definition, over begins and commits; and the two
 transactions that an auditor of orders has in place of each.
 
-Written only from docs/FORMATS.md and docs/DEFINITIONS.md, never from the auditor's code. A *half* is
-one of the two: a begin has twice its transaction's number, and its commit one more. A `Whole` is
-about transactions as they were offered. Functions named `split_` take lines, and `told_` what an
-auditor of halves replies.
+Written only from docs/FORMATS.md and docs/DEFINITIONS.md, never from the auditor's code. A *half*
+is one of the two: a begin has twice its transaction's number, and its commit one more. A `Whole` is
+about transactions as they were offered. What is `split` is given to an auditor of halves, and what
+it replies is `told` of transactions as they were offered.
 """
 from dataclasses import dataclass, field
 
@@ -26,7 +26,8 @@ class Whole(Parts):
 
     def open_keys(self, front):
         """What is written by transactions that have begun and not committed there."""
-        return {key for txns, at in zip(self.remaining, front) if at % 2 for key in txns[at // 2][1]}
+        return {key for txns, at in zip(self.remaining, front) if at % 2
+                for key in txns[at // 2][1]}
 
     def then(self, front, last, session):
         """The last writers after the session's next event; None if it can't come next: a
@@ -77,7 +78,8 @@ def has_events(whole, most):
         for session in range(len(end)):
             then = whole.then(front, last, session) if front[session] < end[session] else None
             if then is not None:
-                waiting.append((front[:session] + (front[session] + 1,) + front[session + 1:], then))
+                further = front[session] + 1
+                waiting.append((front[:session] + (further,) + front[session + 1:], then))
     return False
 
 
@@ -157,7 +159,8 @@ def told_last(last):
 
 
 def whole_txns(first, halves):
-    """What was split into these. A first commit alone has no reads; a last begin alone is left out."""
+    """What was split into these. A first commit alone has no reads, and a last begin alone is left
+    out."""
     txns = [[[], halves[0][1]]] if first % 2 and halves else []
     halves = halves[first % 2:]
     for (reads, _), (_, writes) in zip(halves[::2], halves[1::2]):
@@ -185,7 +188,8 @@ def told_part(part):
         return part
     if part and type(part[0]) is int:
         return [*event(*part[:2]), plain(part[2]), *event(*part[3:5]), *event(*part[5:])]
-    return [[arc[0], *map(plain, arc[1:-4]), *event(*arc[-4:-2]), *event(*arc[-2:])] for arc in part]
+    return [[arc[0], *map(plain, arc[1:-4]), *event(*arc[-4:-2]), *event(*arc[-2:])]
+            for arc in part]
 
 
 def half_report(report, received):

@@ -293,7 +293,7 @@ class ByTheAuditor(unittest.TestCase):
                 [("serial", [3, 2, 1])] * 2,
             )
             self.assertEqual(run.history.marks, [2, 1, 0])
-            self.assertEqual(run.history.history[2], [Logged((), ("key 9",))])
+            self.assertEqual([its.did for its in run.history.history[2]], [((), ("key 9",))])
 
     def test_half_the_room_suffices_for_half_as_many(self):
         lines = [["open", 1, 4096], *too_many()[:-1], ["show"], ROUND]

@@ -12,8 +12,9 @@ def fragments(
     offers: Iterable[Tuple[int, Optional[int], Any]], longest: int = LONGEST
 ) -> List[Fragment]:
     """For each session in `offers`: (session, first number, transactions), with at most `longest`
-    of these. Transactions without a number are left out. After a gap in a session's numbers a new fragment begins, which the auditor
-    refuses: accepting it could make a serial run look violated."""
+    of these. Transactions without a number are left out. After a gap in a session's numbers a new
+    fragment begins, which the auditor refuses: accepting it could make a serial run look
+    violated."""
     cut: List[Fragment] = []
     last: Dict[int, Tuple[int, int, List[Any]]] = {}
     for session, number, logged in offers:
