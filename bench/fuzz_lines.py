@@ -542,7 +542,7 @@ class Mutated:
             store.execute()
             session = dice.choice([at for at, its in enumerate(store.waiting) if its])
             *txns, last = store.waiting[session][:4]
-            if model.version == 1 and dice.random() < 0.1:  # which only version 2 would accept
+            if model.version == 1 and dice.random() < 0.3:  # which only version 2 would accept
                 last = [*last, ABORTED]
             return ["offer", session, store.first[session], [*txns, last]]
         if turn < 0.8:

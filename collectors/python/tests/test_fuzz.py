@@ -25,7 +25,8 @@ from plain_verdicts import Wrong  # noqa: E402
 
 LINES, SECONDS = 300000, 60.0  # tried at most; bench/fuzz.py tries more
 SEED = 3
-FOUND = 1500  # lines within which each lie is found
+FOUND = 1500  # lines within which each lie about replies is found
+SCRIPTS = 4  # times as many for lies about lines: some need a script of a certain version
 LEFT = 3  # lines, at most, to which a lie's script is reduced
 
 
@@ -410,7 +411,7 @@ class Fuzz(unittest.TestCase):
     def test_lies_about_lines_are_found(self):
         for name, (only, given, answer) in LIES.items():
             if given is not same:
-                run = fuzz.Run(SEED, FOUND, only=only)
+                run = fuzz.Run(SEED, SCRIPTS * FOUND, only=only)
                 with self.subTest(lie=name), self.assertRaises(fuzz.Difference):
                     fuzz.fuzz(lambda: Liar(given, answer), run)
 
