@@ -9,6 +9,7 @@ from collections import Counter
 from concurrent.futures import ThreadPoolExecutor
 
 from zanteyard.program._auditor import PROGRAM
+from zanteyard.program._binaries import checker_path
 from zanteyard.promises._kinds import SNAPSHOT
 from zanteyard.promises._rewriting import Rewriting
 
@@ -24,6 +25,14 @@ def replies_to(lines):
     text = "".join(json.dumps(line) + "\n" for line in lines)
     run = subprocess.run([PROGRAM], input=text, stdout=subprocess.PIPE, text=True, check=True)
     return [*map(json.loads, run.stdout.splitlines())]
+
+
+def check(lines, replies):
+    """What `cobra_check` says of them in the end."""
+    turns = "".join(json.dumps(each) + "\n" for both in zip(lines, replies) for each in both)
+    turns = turns.replace(", ", ",")
+    run = subprocess.run([checker_path()], input=turns, stdout=subprocess.PIPE, text=True)
+    return run.stdout.splitlines()[-1]
 
 
 def rewritten_replies(lines):
@@ -155,6 +164,8 @@ class ByTheProgram(unittest.TestCase):
         replies = replies_to([[*opening, "snapshot"], *rest])
         with self.subTest(seed=seed):
             self.assertEqual(replies, [*rewritten_replies([opening, *rest])])
+            lines = [[*opening, "snapshot"], *rest]
+            self.assertEqual(check(lines, replies).split(":")[0], "right")
             report, cut = replies[-4], replies[-3]
             is_kept = has_events(history)
             owed = "violated" if not is_kept else "pending" if is_pending(history) else "serial"

@@ -1,0 +1,4 @@
+pub mod Arity
+pub mod Depths
+pub mod Lists
+pub mod Reported
