@@ -26,6 +26,8 @@ from zanteyard.program import _binaries
 from zanteyard.program._binaries import ProgramOrigin, find_program, program_path
 from zanteyard.core._version import VERSION
 
+from .overlapping import overlapping
+
 TOP = os.path.normpath(os.path.join(os.path.dirname(os.path.abspath(__file__)), "../../.."))
 WORKED = os.path.join(TOP, "crates/cobra_examples/data")
 
@@ -267,7 +269,7 @@ class Commands(unittest.TestCase):
             (1, "violated", (*skewed, "--seconds", "120")),  # the violation ends it
             (0, "serial", ("--workload", "counter", "--seconds", "2")),
         ):
-            with self.subTest(kind=kind):
+            with self.subTest(kind=kind), overlapping(4, tempfile.mkdtemp(dir=self.folder)):
                 status, out, err = run(*few, *more)
                 self.assertEqual(status, wanted, out + err)
                 self.assertRegex(out, f"(?m)^[a-z]+ at [a-z ]+: {kind}")

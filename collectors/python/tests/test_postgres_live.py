@@ -29,7 +29,7 @@ OVERLAPPING = (
     *(("skew", "repeatable read", by_processes) for by_processes in (False, True)),
 )
 OVERLAPPED, RATE = 3.0, 250.0  # seconds, and transactions per second, so that a round may cover everything
-PATIENCE = 120  # seconds to find a fault: a run ends with the first one
+PATIENCE = 120  # seconds to find a fault, which is in its clients' first transactions: a run ends with the first one
 LATE = 200.0  # seconds for a program, on a busy machine
 
 
@@ -42,14 +42,17 @@ class PostgresLive(unittest.TestCase):
         cls.cluster.__enter__()
         cls.addClassCleanup(cls.cluster.__exit__)
 
-    def outcome(self, seconds, *words):
+    def outcome(self, seconds, *words, by=()):
         """The verdict, and after how many cuts; the run has a schema of its own."""
-        call = [sys.executable, f"{TOP}/examples/postgres_live.py", "--dsn", self.cluster.dsn, "--unaudited", "0"]
+        call = [sys.executable, *by, f"{TOP}/examples/postgres_live.py", "--dsn", self.cluster.dsn]
+        environment = {**os.environ, "COBRA_AUDIT": os.path.abspath(PROGRAM)}
+        if by:
+            environment["PYTHONPATH"] = f"{TOP}/collectors/python"
         with tempfile.TemporaryDirectory() as folder:
             ran = subprocess.run(
-                [*call, "--seconds", str(seconds), *words],
+                [*call, "--unaudited", "0", "--rather-wait", "--seconds", str(seconds), *words],
                 cwd=folder,
-                env={**os.environ, "COBRA_AUDIT": os.path.abspath(PROGRAM)},
+                env=environment,
                 stdout=subprocess.PIPE,
                 stderr=subprocess.STDOUT,
                 text=True,
@@ -63,7 +66,7 @@ class PostgresLive(unittest.TestCase):
     def serial_with_cuts(self, *words):
         """On a busy machine it runs longer, until there is a cut."""
         for seconds in (1.5, 6, 24, 96):
-            kind, cuts = self.outcome(seconds, "--rather-wait", "--every", "128", *words)
+            kind, cuts = self.outcome(seconds, "--every", "128", *words)
             self.assertEqual(kind, "serial")
             if cuts:
                 return
@@ -79,7 +82,7 @@ class PostgresLive(unittest.TestCase):
 
     def test_who_only_writes_is_serial_at_the_lowest_level(self):
         words = ("--level", "committed", "--workload", "blind", "--processes")
-        self.assertEqual(self.outcome(6, "--rather-wait", *words)[0], "serial")
+        self.assertEqual(self.outcome(6, *words)[0], "serial")
 
     def test_each_round_is_right_of_the_whole_history(self):
         """A round is being searched at any moment while transactions are taken in. Each report is
@@ -149,8 +152,9 @@ class PostgresLive(unittest.TestCase):
             ("committed", "counter"),
         ):
             with self.subTest(level=level, workload=workload, more=more):
-                words = ("--level", level, "--workload", workload, *more)
-                self.assertEqual(self.outcome(PATIENCE, *words)[0], "violated")
+                words = ("--level", level, "--workload", workload, "--clients", "4", *more)
+                kind, _ = self.outcome(PATIENCE, *words, by=("-m", "tests.overlapping", "4"))
+                self.assertEqual(kind, "violated")
 
 
 if __name__ == "__main__":

@@ -204,19 +204,20 @@ class Each:
         ended = subprocess.run([sys.executable, *words], text=True, timeout=300, **more)
         return ended.returncode, ended.stdout
 
-    def audit(self, *words):
-        few = ("--unaudited", "0", "--clients", "3", "--rate", "150")
-        return self.command("-m", "zanteyard", "audit", *self.command_words, *few, *words)
+    def audit(self, *words, by=("zanteyard",)):
+        few = ("--unaudited", "0", "--clients", "3", "--rate", "150", "--rather-wait")
+        return self.command("-m", *by, "audit", *self.command_words, *few, *words)
 
     def test_the_command(self):
         """As with PostgreSQL: a violation ends it, and otherwise it goes on."""
         level, workload = self.audited
-        status, told = self.audit("--level", level, "--workload", workload, "--seconds", "120", "--html", "page.html")
+        words = ("--level", level, "--workload", workload, "--seconds", "120", "--html", "page.html")
+        status, told = self.audit(*words, by=("tests.overlapping", "3", "zanteyard"))
         self.assertEqual(status, 1, told)
         self.assertIn(f"{workload} at ", told)
         self.assertIn(" can come first", told)
         self.assertIn("(page: page.html)", told)
-        status, told = self.audit("--workload", workload, "--seconds", "3", "--processes", "--rather-wait")
+        status, told = self.audit("--workload", workload, "--seconds", "3", "--processes")
         self.assertEqual(status, 0, told)
 
     def test_nothing_is_left_where_it_is_killed(self):

@@ -123,7 +123,7 @@ alone : {X : Type 0} (n : ℕ) (ys : List (ℕ × X)) (l : ℕ × X) → T (is_s
 alone n [] l rising is zero_key = refl
 alone n (y ∷ []) l rising is zero_key = refl
 alone {X} n (y ∷ z ∷ rest) l rising is zero_key =
-    let above : y.0 < l.0 = last_above y.0 (take (suc n) (z ∷ rest)) l (below_take y.0 (suc n) (z ∷ rest) (first (below_all nat_cmp y.0 (z ∷ rest)) (is_sorted nat_cmp (z ∷ rest)) rising)) is in
+    let above : y.0 < l.0 = last_above y.0 (take (suc n) (z ∷ rest)) l (below_take y.0 (suc n) (z ∷ rest) (and_yes (below_all nat_cmp y.0 (z ∷ rest)) (is_sorted nat_cmp (z ∷ rest)) rising).0) is in
     absurd (omega (arith, above, zero_key))
 
 pub none_behind_zero : {X : Type 0} (es : List (ℕ × X)) (key n k : ℕ) (l : ℕ × X) → T (is_sorted nat_cmp es) → IsLast (take (suc (suc n)) (from_key key es)) l → l.0 ≡ 0 → from_key (k + 1) es ≡ from_key (l.0 + 1) es
