@@ -1,5 +1,5 @@
 -- How deep reports by halves nest: less deep than may be read.
-use Rattle.std.proofs.Common.{◌≡◌, ℕ, ◌≤◌, List, Bool, true, false, cond, Option, Some, None, refl, arith}
+use Rattle.std.proofs.Common.{◌≡◌, ℕ, ◌+◌, ◌≤◌, List, Bool, true, false, cond, Option, Some, None, refl, arith}
 use Rattle.serde_json.specs.Data.{Data, null, array, Items, no_items, item, depth, items_depth}
 use Rattle.serde_json.specs.Find.{as_array, as_str}
 use Rattle.event_reports.specs.Halved.{or_null, word_or_null, whole, half_of, key_of, reader_of, event_in, choice_in, arc_in, over, each, event_at, choice_at, arc_at, cycle_in, cycle_at, part_named, node_in, node_at, events_in, tree_in, shown_by, report_in, halved}

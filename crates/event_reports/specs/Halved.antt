@@ -1,6 +1,6 @@
 -- A report of begins and commits, as an auditor has it whose transactions are split: the numbers of halves in place of those of events, and the
 -- stars that commits have read in place of their keys. What has no such form is null, and is read as nothing.
-use Rattle.std.specs.Prelude.{ℕ, ◌+◌, ◌*◌, ◌^◌, List, [], ◌∷◌, Option, Some, None, bytes_eq, codes, nat_lt, option_and_then, if◌then◌else◌}
+use Rattle.std.specs.Prelude.{ℕ, ◌+◌, ◌*◌, ◌^◌, List, [], ◌∷◌, ◌++◌, Option, Some, None, bytes_eq, codes, nat_lt, option_and_then, if◌then◌else◌}
 use Rattle.serde_json.specs.Data.{Data, null, number, unsigned, string, array, Items, no_items, item}
 use Rattle.serde_json.specs.Find.{as_array, as_number, as_str, as_u64}
 use Rattle.serde_json.specs.View.{items_of}
@@ -54,10 +54,17 @@ abbrev pub event_in : Items → Data
 event_in (item s (item n (item w no_items))) = listed (number_at s ∷ half_at n w ∷ [])
 event_in items = null
 
+-- the sessions and the numbers of two halves
+abbrev pub ends : Data → Data → Data → Data → Data → Data → List Data
+ends fs fn fw ts tn tw = number_at fs ∷ half_at fn fw ∷ number_at ts ∷ half_at tn tw ∷ []
+
+-- those of a reader, and the key that it has read
+abbrev pub reading : Data → Data → Data → Data → List Data
+reading s n w key = number_at s ∷ half_at n w ∷ key_at key w ∷ []
+
 -- a choice: the reader, the key, the writer, the other writer
 abbrev pub choice_in : Items → Data
-choice_in (item rs (item rn (item rw (item key (item ws (item wn (item ww (item os (item on (item ow no_items)))))))))) =
-    listed (number_at rs ∷ half_at rn rw ∷ key_at key rw ∷ number_at ws ∷ half_at wn ww ∷ number_at os ∷ half_at on ow ∷ [])
+choice_in (item rs (item rn (item rw (item key (item ws (item wn (item ww (item os (item on (item ow no_items)))))))))) = listed (reading rs rn rw key ++ ends ws wn ww os on ow)
 choice_in items = null
 
 -- which end of an arc has read its key: the start where the base was read, and else the end
@@ -71,9 +78,9 @@ reader_of name from to = reader_named (as_str name) from to
 -- an arc: its word, its key where it has one, its start and its end
 abbrev pub arc_in : Items → Data
 arc_in (item name (item fs (item fn (item fw (item ts (item tn (item tw no_items))))))) =
-    listed (word_at name ∷ number_at fs ∷ half_at fn fw ∷ number_at ts ∷ half_at tn tw ∷ [])
+    listed (word_at name ∷ ends fs fn fw ts tn tw)
 arc_in (item name (item key (item fs (item fn (item fw (item ts (item tn (item tw no_items)))))))) =
-    listed (word_at name ∷ key_at key (reader_of name fw tw) ∷ number_at fs ∷ half_at fn fw ∷ number_at ts ∷ half_at tn tw ∷ [])
+    listed (word_at name ∷ key_at key (reader_of name fw tw) ∷ ends fs fn fw ts tn tw)
 arc_in items = null
 
 -- of an array's items
@@ -109,7 +116,7 @@ part_named (Some name) part = if bytes_eq name (codes "split") then choice_at pa
 abbrev pub node_in : Items → Data
 node_in (item name (item part no_items)) = listed (word_at name ∷ part_named (as_str name) part ∷ [])
 node_in (item name (item choice (item side (item cycle no_items)))) = listed (word_at name ∷ choice_at choice ∷ number_at side ∷ cycle_at cycle ∷ [])
-node_in (item name (item s (item n (item w (item key no_items))))) = listed (word_at name ∷ number_at s ∷ half_at n w ∷ key_at key w ∷ [])
+node_in (item name (item s (item n (item w (item key no_items))))) = listed (word_at name ∷ reading s n w key)
 node_in items = null
 
 abbrev pub node_at : Data → Data

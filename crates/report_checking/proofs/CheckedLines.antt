@@ -58,8 +58,8 @@ isolated_opened old engine sessions limit none holds numbers =
 
 -- A search goes on.
 on_in : (opening : Opening) (waits searched : Bool) (state : State) → waits ≡ false → searched ≡ true → OwesIn opening searched state (Collect waits) told.Searching searched state
-on_in (Ordered version) waits searched state none yes = inl (none, yes, refl, refl, refl)
-on_in Isolated waits searched state none yes = inr (tt, inl (none, yes, refl, refl, refl))
+on_in (Ordered version) waits searched state none goes = inl (none, goes, refl, refl, refl)
+on_in Isolated waits searched state none goes = inr (tt, inl (none, goes, refl, refl, refl))
 
 pub goes_on : (old : Option OpenScript) (command : Command) → MayGoOn old command → LeadsScript old old (λ before after. Owes before command told.Searching after)
 goes_on (Some script) (Collect waits) may (Some before) holds =

@@ -20,6 +20,7 @@ use Rattle.log_text.specs.declared.names.Names.TheVariants.{Ids, Events}
 use Rattle.log_text.specs.declared.versions.Opening.TheVariants.{Isolated}
 use Rattle.round_state.specs.EngineState.{EngineState}
 use Rattle.round_state.specs.Legal.{State, Legal, TellsOf, IsTrueOf, whole_after, asked_after}
+use Rattle.round_state.specs.Opening.{fresh_state}
 use Rattle.round_state.specs.Runs.{Holds, StepsLegally}
 use Rattle.round_state.specs.Solving.{IsReportOn}
 use Rattle.round_state.specs.Steps.{StepsTo, IsFinished, IsHeldAfter}
@@ -32,7 +33,7 @@ use Rattle.snapshot_histories.specs.Laws.{SplitDoublesCounts, SplitKeepsVerdict}
 use Rattle.snapshot_histories.specs.Logged.{split_logged}
 use Rattle.snapshot_histories.specs.Split.{split_history, HistoryCanBeSplit}
 use Rattle.snapshot_scripts.specs.Isolated.{halved, isolated_of}
-use Rattle.snapshot_scripts.specs.Legal.{IsIsolationOf, TellsIsolationOf, IsTrueIsolation, LegalIsolation, split_state, HoldsSplit, SplitStepsAreLegal}
+use Rattle.snapshot_scripts.specs.Legal.{IsIsolationOf, TellsIsolationOf, IsTrueIsolation, LegalIsolation, split_state, HoldsSplit, FreshEnginesAreSplit, SplitStepsAreLegal}
 use Rattle.snapshot_scripts.specs.Splitting.{CanBeAsked, IsAskedFault, split_command}
 use Rattle.snapshot_scripts.specs.Steps.{split_step, CanBeMade}
 use Rattle.cobra.specs.Scripts.{IsTakenIn}
@@ -50,6 +51,11 @@ pub record Laws : Type 0 where
   pub steps : SplitStepsAreLegal
   pub doubles : SplitDoublesCounts
   pub keeps : SplitKeepsVerdict
+
+-- a fresh engine
+pub fresh_split : FreshEnginesAreSplit → (engine : EngineState) (sessions limit : ℕ) → Holds engine (fresh_state sessions limit) → HoldsSplit engine (fresh_state sessions limit)
+fresh_split law engine sessions limit holds =
+    subst (λ (e : EngineState). HoldsSplit e (fresh_state sessions limit)) holds.same (law sessions limit (subst (λ (e : EngineState). Holds e (fresh_state sessions limit)) (sym holds.same) holds))
 
 -- ---- steps
 
@@ -323,7 +329,7 @@ kind_told (told.Show marks received closed last remaining) is = tt
 kind_told (told.Saved given) is = tt
 kind_told inner is = is
 
-pub isolated_by : Laws → (old new : EngineState) (searched now : Bool) (asked split : Command) (given : Owed) → CanBeAsked asked × (split ≡ split_command asked) → IsOwedBy (λ answer. Leads old new (λ before after. OwesBeside Two searched before split answer now after)) given
+isolated_by : Laws → (old new : EngineState) (searched now : Bool) (asked split : Command) (given : Owed) → CanBeAsked asked × (split ≡ split_command asked) → IsOwedBy (λ answer. Leads old new (λ before after. OwesBeside Two searched before split answer now after)) given
     → IsOwedBy (λ answer. LeadsSplit old new (λ before after. OwesIsolated searched before asked answer now after)) (isolated_owed given)
 isolated_by laws old new searched now asked split (owed.Reply inner) can owes = (
   kind_told inner owes.0,
@@ -332,6 +338,11 @@ isolated_by laws old new searched now asked split (owed.Reply inner) can owes = 
       (it.0, inr (can.0, it.1), it.2),
 )
 isolated_by laws old new searched now asked split (owed.Nothing why) can owes = tt
+
+pub owed_told : Laws → (old new : EngineState) (searched now : Bool) (asked split : Command) (inner given : Owed) → CanBeAsked asked × (split ≡ split_command asked) → IsOwedBy (λ answer. Leads old new (λ before after. OwesBeside Two searched before split answer now after)) inner → given ≡ isolated_owed inner
+    → IsOwedBy (λ answer. LeadsSplit old new (λ before after. OwesIsolated searched before asked answer now after)) given
+owed_told laws old new searched now asked split inner given can owes is =
+    subst (λ (o : Owed). IsOwedBy (λ answer. LeadsSplit old new (λ before after. OwesIsolated searched before asked answer now after)) o) (sym is) (isolated_by laws old new searched now asked split inner can owes)
 
 -- or the command is refused before it is split
 pub faulty_by : (old : EngineState) (searched : Bool) (asked : Command) (refusal : Refusal) → IsAskedFault asked refusal → IsOwedBy (λ answer. LeadsSplit old old (λ before after. OwesIsolated searched before asked answer searched after)) (owed.Reply (told.No refusal))
@@ -344,10 +355,15 @@ given_text text (owed.Reply inner) (inl none) = inl (ap isolated_of none)
 given_text text (owed.Reply inner) (inr same) = inr same
 given_text text (owed.Nothing why) owes = owes
 
-pub isolated_right : (searched : Bool) (old : EngineState) (asked split : Command) (stored : List ℕ) (given : Owed) → split ≡ split_command asked → OfRight Events (EarnsBeside searched old split) stored (λ text. OwesText Events text given)
+isolated_right : (searched : Bool) (old : EngineState) (asked split : Command) (stored : List ℕ) (given : Owed) → split ≡ split_command asked → OfRight Events (EarnsBeside searched old split) stored (λ text. OwesText Events text given)
     → OfRight Events (EarnsIn Isolated searched old asked) stored (λ text. OwesText Ids text (isolated_owed given))
 isolated_right searched old asked split stored given is right report new earned shows =
     given_text (text_of (isolated_of (report_of report))) given (right report new (subst (λ (c : Command). EarnsBeside searched old c report new) (sym is) earned.1) shows)
+
+pub right_told : (searched : Bool) (old : EngineState) (asked split : Command) (stored : List ℕ) (inner given : Owed) → split ≡ split_command asked → OfRight Events (EarnsBeside searched old split) stored (λ text. OwesText Events text inner) → given ≡ isolated_owed inner
+    → OfRight Events (EarnsIn Isolated searched old asked) stored (λ text. OwesText Ids text given)
+right_told searched old asked split stored inner given is right same =
+    subst (λ (o : Owed). OfRight Events (EarnsIn Isolated searched old asked) stored (λ text. OwesText Ids text o)) (sym same) (isolated_right searched old asked split stored inner is right)
 
 pub faulty_right : (searched : Bool) (old : EngineState) (asked : Command) (refusal : Refusal) (stored : List ℕ) → IsAskedFault asked refusal → OfRight Events (EarnsIn Isolated searched old asked) stored (λ text. OwesText Ids text (owed.Reply (told.No refusal)))
 faulty_right searched old asked refusal stored fault report new earned shows = absurd (no_asked_fault asked refusal earned.0 fault)
@@ -374,8 +390,12 @@ alone_asked : (searched : Bool) (old : EngineState) (asked : Command) (given : O
 alone_asked searched old asked (owed.Reply inner) can alone = λ answer gives. alone_reply searched old asked inner answer can alone gives
 alone_asked searched old asked (owed.Nothing why) can alone = λ answer gives. alone_nothing searched old asked why answer can alone gives
 
-pub isolated_alone : (searched : Bool) (old : EngineState) (asked split : Command) (given : Owed) → CanBeAsked asked × (split ≡ split_command asked) → IsAlone (GivesBeside Two searched old split) given → IsAlone (GivesIsolated searched old asked) (isolated_owed given)
+isolated_alone : (searched : Bool) (old : EngineState) (asked split : Command) (given : Owed) → CanBeAsked asked × (split ≡ split_command asked) → IsAlone (GivesBeside Two searched old split) given → IsAlone (GivesIsolated searched old asked) (isolated_owed given)
 isolated_alone searched old asked split given can alone = alone_asked searched old asked given can.0 (subst (λ (c : Command). IsAlone (GivesBeside Two searched old c) given) can.1 alone)
+
+pub alone_told : (searched : Bool) (old : EngineState) (asked split : Command) (inner given : Owed) → CanBeAsked asked × (split ≡ split_command asked) → IsAlone (GivesBeside Two searched old split) inner → given ≡ isolated_owed inner → IsAlone (GivesIsolated searched old asked) given
+alone_told searched old asked split inner given can alone is =
+    subst (λ (o : Owed). IsAlone (GivesIsolated searched old asked) o) (sym is) (isolated_alone searched old asked split inner can alone)
 
 alone_fault : (searched : Bool) (old : EngineState) (asked : Command) (refusal : Refusal) (answer : Reply) → IsAskedFault asked refusal → GivesIsolated searched old asked answer → AloneOf (told.No refusal) answer
 alone_fault searched old asked refusal answer fault (inl other) = inr (inr (ap told.No (same_asked_fault asked refusal other.0 fault other.1) ∙ sym other.2))

@@ -2,7 +2,7 @@
 ghost use Rattle.std.specs.Prelude.{◌≡◌, false, IfOk};
 ghost use Rattle.log_text.specs.Replies.{HasKindOfOrder};
 ghost use Rattle.round_state.specs.declared.steps.Step.TheVariants as step;
-ghost use Rattle.log_text.specs.declared.names.Names.TheVariants as names;
+ghost use Rattle.log_text.specs.declared.names.Names.TheVariants as named;
 ghost use Rattle.log_text.specs.declared.versions.Opening.TheVariants as openings;
 ghost use Rattle.report_checking.specs.Isolation.{OwesIsolated, names_of};
 ghost use Rattle.report_checking.specs.OwedLines.{OwesIn};
@@ -165,7 +165,7 @@ impl OpenScript {
     ) -> Result<Owed, NoMemory>
         ensures owed { IfOk result (IsOwedBy (λ answer. LeadsSplit self.old.engine self.new.engine (λ before after. OwesIsolated self.old.searched before command answer self.new.searched after))) }
         ensures opening { self.new.opening ≡ self.old.opening }
-        ensures right { IfOk result (λ owed. OfRight names.Events (EarnsIn openings.Isolated self.old.searched self.old.engine command) stored.now (λ text. OwesText names.Ids text owed)) }
+        ensures right { IfOk result (λ owed. OfRight named.Events (EarnsIn openings.Isolated self.old.searched self.old.engine command) stored.now (λ text. OwesText named.Ids text owed)) }
         ensures alone { IfOk result (IsAlone (GivesIsolated self.old.searched self.old.engine command)) }
     {
         // Laws that the proof cites. They do nothing when they run.
@@ -190,7 +190,7 @@ impl OpenScript {
     ) -> Result<Owed, NoMemory>
         ensures owed { IfOk result (IsOwedBy (λ answer. LeadsIn self.old.opening self.old.engine self.new.engine (λ before after. OwesIn self.old.opening self.old.searched before command answer self.new.searched after))) }
         ensures opening { self.new.opening ≡ self.old.opening }
-        ensures right { IfOk result (λ owed. OfRight (names_of self.old.opening) (EarnsIn self.old.opening self.old.searched self.old.engine command) stored.now (λ text. OwesText names.Ids text owed)) }
+        ensures right { IfOk result (λ owed. OfRight (names_of self.old.opening) (EarnsIn self.old.opening self.old.searched self.old.engine command) stored.now (λ text. OwesText named.Ids text owed)) }
         ensures alone { IfOk result (IsAlone (GivesIn self.old.opening self.old.searched self.old.engine command)) }
     {
         match self.opening {

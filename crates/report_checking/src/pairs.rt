@@ -3,7 +3,7 @@ ghost use Rattle.log_text.specs.declared.replies.Reply.TheVariants as told;
 ghost use Rattle.log_text.specs.Replies.{text_of, HasKindOfOrder};
 ghost use Rattle.txn.specs.declared.refusals.Refusal.TheVariants as refusals;
 ghost use Rattle.report_checking.specs.Checking.{TakesMemory};
-ghost use Rattle.log_text.specs.declared.names.Names.TheVariants as names;
+ghost use Rattle.log_text.specs.declared.names.Names.TheVariants as named;
 ghost use Rattle.report_checking.specs.OwedLines.{Owes};
 ghost use Rattle.report_checking.specs.Telling.{IsWhatOf};
 ghost use Rattle.report_checking.specs.Reading.{LeadsScript, MayGoOn, script_left, IsOwedBy, IsOfKind, Finds, FindsFor, IsFoundBy, IsFoundOf, EarnsScript, OfRight, OwesText, names_in, IsFair, IsFairTo, GivesScript, IsAlone, IsOtherwise, IsOtherwiseTo, has_brace};
@@ -94,7 +94,7 @@ impl Replay {
     /// What is owed to a command.
     fn owed(&mut self, alloc: Global, command: Command, stored: &[u8]) -> Result<Owed, NoMemory>
         ensures owed { IfOk result (IsOwedBy (λ answer. LeadsScript self.old.script self.new.script (λ before after. Owes before command answer after))) }
-        ensures right { IfOk result (λ owed. OfRight (names_in self.old.script) (EarnsScript self.old.script command) stored.now (λ text. OwesText names.Ids text owed)) }
+        ensures right { IfOk result (λ owed. OfRight (names_in self.old.script) (EarnsScript self.old.script command) stored.now (λ text. OwesText named.Ids text owed)) }
         ensures alone { IfOk result (IsAlone (GivesScript self.old.script command)) }
     {
         if let Some(script) = &mut self.script {

@@ -92,7 +92,10 @@ impl Replayed {
         if limit < 1 || limit > ISOLATED_LIMIT {
             return Err(Refusal::TooLong);
         }
-        Replayed::open(alloc, sessions, 2 * limit)
+        match Replayed::open(alloc, sessions, 2 * limit) {
+            Ok(engine) => Ok(engine),
+            Err(refusal) => Err(refusal),
+        }
     }
 
     pub(crate) fn engine(&self) -> &Engine
