@@ -161,8 +161,9 @@ class Difference(Exception):
         self.script, self.why = script, why
 
 
-def try_script(generator, dice, start, table, most):
-    """Gives a script of about this many lines to a program. Raises Difference."""
+def try_script(generator, dice, start, table, most, is_whole=True):
+    """Gives a script of about this many lines to a program. Some whole ones are followed by another
+    one, which goes on with what it keeps. Raises Difference."""
     model, program, given = Model(), start(), []
     try:
         while len(given) < most and not generator.is_over(model):
@@ -173,6 +174,8 @@ def try_script(generator, dice, start, table, most):
         table.scripts += 1
     finally:
         program.stop()
+    if is_whole and model.parts and isinstance(generator, Scripts) and dice.random() < 0.2:
+        try_script(generator.resumed(model), dice, start, table, most // 2, False)
 
 
 def judge_chunk(model, chunk, told, given, table):

@@ -26,7 +26,7 @@ from collections import Counter
 HERE = os.path.dirname(os.path.abspath(__file__))
 sys.path.insert(0, HERE)
 from fuzz_lines import Bytes, NO_TEXT  # noqa: E402
-from judge import REFUSALS, Model, command_of, is_known  # noqa: E402
+from judge import REFUSALS, Model, command_of  # noqa: E402
 from plain_verdicts import Wrong  # noqa: E402
 
 DATA = os.path.join(HERE, "../crates/cobra_examples/data")
@@ -38,15 +38,20 @@ def path_of():
     return PROGRAM or os.environ.get("COBRA_CHECK") or "crates/cobra_check/out/cobra_check"
 
 
+def is_checked(line):
+    """Whether the program checks scripts with this line."""
+    return not line.startswith(b'["resume"') and not line.endswith(b',"snapshot"]')
+
+
 def worked():
-    """The worked scripts that begin with an opening, and their replies."""
+    """The worked scripts that are checked, and their replies."""
     for name in sorted(os.listdir(DATA)):
         if name.endswith(".jsonl"):
             with open(os.path.join(DATA, name), "rb") as file:
                 lines = file.read().removesuffix(b"\n").split(b"\n")
             with open(os.path.join(DATA, name[:-5] + "replies"), "rb") as file:
                 replies = file.read().removesuffix(b"\n").split(b"\n")
-            if is_known(lines) and not any(line.startswith(b'["resume"') for line in lines):
+            if all(map(is_checked, lines)):
                 yield lines, replies
 
 

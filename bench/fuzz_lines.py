@@ -6,12 +6,15 @@ model for what has been taken in so far; within a chunk it assumes that everythi
 """
 from collections import defaultdict
 
-from judge import ABORTED, LONGEST, NUMBERS, WHOLE, command_of, effect_of, encode, is_aborted
+from judge import (ABORTED, ISOLATED, LONGEST, NUMBERS, WHOLE, command_of, decode, effect_of,
+                   encode, is_aborted)
+from plain_snapshots import split_command
 from plain_verdicts import is_fence
 
-EDGES = (0, 1, 2, 3, 5, 6, 7, 8, 15, 16, 17, 63, 64, 65, 127, 128, 255, 256, 257, 4095, 4096, 4097,
-         2**31 - 1, 2**31, 2**32 - 1, 2**32, 2**32 + 1, NUMBERS - 257, NUMBERS - 256, NUMBERS - 1,
-         NUMBERS, NUMBERS + 1, 2**53, 2**53 + 1, 2**63 - 1, 2**63, WHOLE - 1, WHOLE, WHOLE + 1)
+EDGES = (0, 1, 2, 3, 5, 6, 7, 8, 15, 16, 17, 63, 64, 65, 127, 128, 129, 255, 256, 257, 2048, 2049,
+         4095, 4096, 4097, 2**31 - 1, 2**31, 2**32 - 1, 2**32, 2**32 + 1, 2**47 - 1, 2**47,
+         NUMBERS - 257, NUMBERS - 256, NUMBERS - 1, NUMBERS, NUMBERS + 1, 2**53, 2**53 + 1,
+         2**63 - 1, 2**63, WHOLE - 1, WHOLE, WHOLE + 1)
 NO_NUMBERS = ("-0", "-1", "-5", "00", "01", "007", "+1", "5.0", "0.0", "5e0", "5E0", "5e-1", "1e1",
               "1e999", "0x5", "0b1", "5.", ".5", "5_0", "5n", "NaN", "Infinity", "-Infinity", "-",
               "1" * 400, "-" + "9" * 30, "0." + "3" * 60, "18446744073709551616.0", "1e", "--1",
@@ -28,7 +31,7 @@ NO_TEXT = (b"\xff", b"\xfe\xff", b"\xc3", b"\xc0\x80", b"\xed\xa0\x80", b"\xf4\x
            b"\x1b", b"\x7f", b"\xef\xbb", b"\xf0\x9f\x98")
 WORDS = ("open", "offer", "join", "close", "begin", "finish", "round", "search", "collect",
          "wait", "skip", "truncate", "rebuild", "show", "resume", "marks", "last", "resumed",
-         "save", "remain", "answer", "order", "refuted", ABORTED)
+         "save", "remain", "answer", "order", "refuted", ABORTED, "snapshot", "commit")
 BUDGETS = (1, 1, 1, 2, 2, 3, 4, 5, 7, 8, 15, 16, 31, 32, 33, 64, 64, 128, 256)
 
 
@@ -36,6 +39,8 @@ class Raw(str):
     """A piece of a line that is written unchanged."""
 
 
+SNAPSHOT = "snapshot"  # in place of a script's version: one of version 2 that asks for this
+MORE = {1: [], 2: [2], SNAPSHOT: [2, SNAPSHOT]}  # in openings
 VERSIONS = (2, 2, 2, 1, 0, 3, 4, 256, WHOLE, "2", "", None, True, [], [2], Raw("2.0"), Raw("-2"),
             Raw("02"), Raw("2e0"), Raw('"\\u0032"'))
 OUTCOMES = (*[ABORTED] * 4, "Aborted", "abort", "aborted ", "committed", "", None, False, 0, 2, [],
@@ -59,13 +64,13 @@ def effort(dice):
 
 def save(dice, sessions):
     """A request for the parts of the saved state."""
-    return ["save", *dice.choice((["marks"], ["last", dice.choice((0, 0, 1, 5, WHOLE - 1))],
+    return ["save", *dice.choice((["marks"], ["last", dice.choice((0, 0, 1, 5, 2**63, WHOLE - 1))],
                                   ["remain", dice.randrange(sessions + 1), dice.randrange(9)]))]
 
 
 def opening(word, sessions, limit, version):
     """A line with which a script of this version begins."""
-    return [word, sessions, limit, *([2] if version == 2 else [])]
+    return [word, sessions, limit, *MORE[version]]
 
 
 def versioned(dice, line):
@@ -74,6 +79,8 @@ def versioned(dice, line):
     line = copied(line)
     if line[0] in ("open", "resume"):
         line = line[:3] if dice.random() < 0.8 else line
+        if dice.random() < 0.2:
+            line = [*line[:3], 2, dice.choice((SNAPSHOT, SNAPSHOT, SNAPSHOT[:-1], "serializable"))]
         holder, more = line, dice.choice(VERSIONS)
     elif line[0] in ("offer", "join") and type(line[-1]) is list and line[-1]:
         holder, more = dice.choice(line[-1]), dice.choice(OUTCOMES)
@@ -93,8 +100,11 @@ def handing(dice, handed, sessions, limit, version):
     if handed is None or dice.random() < 0.02:
         return opening("resume", sessions, limit, version)
     if handed.parts is None:
-        return ["marks", [dice.choice((0, 0, 1, 3)) for _ in range(handed.sessions)],
-                [dice.random() < 0.1 for _ in range(handed.sessions)]]
+        flags = [[dice.random() < 0.1 for _ in range(handed.sessions)]
+                 for _ in range(handed.marks_parts - 1)]
+        return ["marks", [dice.choice((0, 0, 1, 3)) for _ in range(handed.sessions)], *flags]
+    if handed.marks_parts == 3:
+        return handing_halves(dice, handed)
     turn, gone = dice.random(), handed.parts.gone
     session = dice.choice([at for at, mark in enumerate(gone) if mark] or [0])
     if turn < 0.3:
@@ -106,6 +116,47 @@ def handing(dice, handed, sessions, limit, version):
         txn = dice.choice(([[], [5]], [[[5, "init"]], [6]], [[], []], [[[6, session, 99]], [5]]))
         return ["offer", session, handed.parts.received()[session], [txn] * dice.randrange(3)]
     return ["resumed"]
+
+
+def handing_halves(dice, handed):
+    """The same in a script that asks for snapshot isolation, after its marks. The stars of what has
+    begun usually have their writers."""
+    parts, turn = handed.parts, dice.random()
+    session = dice.randrange(handed.sessions)
+    mark, received = parts.gone[session], parts.received()[session]
+    if turn < 0.4 and mark:
+        keys = {dice.choice((0, 5, 6)) for _ in range(2)} | {5 if mark % 2 else 7}
+        last = [[key, session, (mark - 1) // 2] for key in keys if dice.random() < 0.9]
+        if mark % 2:
+            last = [[key + 2**63 if dice.random() < 0.9 else key, *writer] for key, *writer in last]
+        taken = dict(handed.writers)
+        return ["last", sorted(it for it in last if it[0] not in taken or dice.random() < 0.1)]
+    if turn < 0.8:
+        txn = dice.choice(([[], [5]], [[[5, "init"]], [6]], [[], []], [[[6, session, 99]], [5]],
+                           [[[0, "init"]], [0]], [[[5, session, max(received // 2 - 1, 0)]], []]))
+        return ["offer", session, received // 2, [txn] * dice.choice((0, 1, 1, 2))]
+    return ["resumed"]
+
+
+def saved(model):
+    """The lines by which another run goes on with what the model keeps."""
+    version = SNAPSHOT if model.is_isolated else model.version
+
+    def ask(*wanted):
+        return decode(model.owed(["save", *wanted]).decode())
+
+    lines, key = [ask("marks")], 0
+    sessions = len(lines[0][1])
+    while key < WHOLE and ask("last", key)[1]:
+        lines.append(ask("last", key))
+        key = lines[-1][1][-1][0] + 1
+    for session in range(sessions):
+        first = 0
+        while ask("remain", session, first)[3]:
+            lines.append(ask("remain", session, first))
+            first = lines[-1][2] + len(lines[-1][3])
+    limit = model.limit // (2 if version == SNAPSHOT else 1)
+    return [opening("resume", sessions, limit, version), *lines, ["resumed"]]
 
 
 def join(dice, parts, last_fence):
@@ -178,16 +229,25 @@ class Store:
             self.keys, self.lies = [1, 2, 3, 4][:dice.choice((2, 3, 4))], 0.5
         self.aborts = 0.0  # attempts; a lie may be a read of what one of them wrote
         self.last, self.writers = {}, defaultdict(list)
+        self.begun = {}  # by session, what a transaction that has begun sees; None for serial ones
+        self.is_isolated = False
         self.waiting = [[] for _ in range(sessions)]  # the first has the number `first`
         self.first = [0] * sessions
+
+    def fit(self, version):
+        """Runs what fits scripts of this version."""
+        self.is_isolated = version == SNAPSHOT
+        if self.is_isolated:
+            self.keys[-1] = min(self.keys[-1], ISOLATED.keys - 1)
+            self.stays = self.dice.choice((0.0, 0.1, 0.5))
+            self.meets = self.dice.choice((0.1, 0.3)) if self.sessions < 7 else 0.0
 
     def execute(self):
         """Runs one more transaction, which waits in its session; or a meeting, at which each
         session runs two fences."""
         dice = self.dice
         if dice.random() < self.meets:
-            for session in [*range(self.sessions)] * 2:
-                self.log(session, [0], [0])
+            self.meet()
         elif self.torn:
             keys = sorted(dice.sample(self.keys, dice.choice((1, 2, 2, 3)) % len(self.keys) + 1))
             is_reader = dice.random() < 0.5
@@ -197,21 +257,55 @@ class Store:
             writes = {key for key in keys if dice.random() < 0.6}
             if dice.random() < self.blind:
                 writes.add(dice.choice(self.keys))
-            self.log(dice.randrange(self.sessions), keys, sorted(writes))
+            session = dice.randrange(self.sessions)
+            seen = self.snapshot(session, writes) if self.is_isolated else self.last
+            self.log(session, keys, sorted(writes), seen)
 
-    def log(self, session, keys, writes):
+    def meet(self):
+        """Each session that isn't in a transaction runs two fences; so perhaps all but one, which
+        is known to have begun before them, and to commit after them."""
+        dice, seen = self.dice, dict(self.last)
+        if len(self.begun) == self.sessions:
+            self.begun.clear()
+        sessions = [at for at in range(self.sessions) if at not in self.begun]
+        keys = dice.sample(self.keys, 2) if len(self.keys) > 1 and len(sessions) > 1 else None
+        if not self.is_isolated or not keys or dice.random() < 0.5:
+            for session in sessions * 2:
+                self.log(session, [0], [0])
+            return
+        late, other, *_ = dice.sample(sessions, len(sessions))
+        self.log(other, keys[:1], keys[:1])
+        for session in sessions * 2:
+            if session != late:
+                self.log(session, [0], [0])
+        self.log(other, keys[1:], [])
+        self.log(late, sorted(keys), keys[1:], seen)
+
+    def snapshot(self, session, writes):
+        """What the session's next transaction sees, if it writes these keys: perhaps what was there
+        when it began, long ago, unless one of the keys was written since."""
+        seen = self.begun.pop(session, self.last)
+        if self.dice.random() < self.stays:  # the one after it begins now, and commits later
+            self.begun[session] = None
+        is_late = any(seen.get(key) != self.last.get(key) for key in writes)
+        return self.last if is_late and self.dice.random() > self.lies else seen
+
+    def log(self, session, keys, writes, seen=None):
         """Logs a transaction of the session, which reads and writes these keys."""
         me = session, self.first[session] + len(self.waiting[session])
-        reads = [[key, *self.source(key, me)] for key in keys]
+        seen = self.last if seen is None else seen
+        reads = [[key, *self.source(key, me, seen)] for key in keys]
         is_lost = self.dice.random() < self.aborts
         for key in writes:
             self.writers[key].append(me)
             if not is_lost:
                 self.last[key] = me
         self.waiting[session].append([reads, writes, *([ABORTED] if is_lost else [])])
+        if session in self.begun and self.begun[session] is None:
+            self.begun[session] = dict(self.last)
 
-    def source(self, key, me):
-        dice, found = self.dice, self.last.get(key)
+    def source(self, key, me, seen):
+        dice, found = self.dice, seen.get(key)
         if dice.random() < self.lies and self.writers[key]:
             found = dice.choice((None, dice.choice(self.writers[key])))
         if dice.random() < self.ahead:
@@ -221,7 +315,7 @@ class Store:
     def go_on(self, model):
         """Follows the model: what was taken in no longer waits. Sessions may have joined; or
         another number of them was opened, perhaps in version 1, where aborted attempts are idle."""
-        received = model.parts.received()
+        received = model.kept().received()
         if model.version == 1 and self.aborts:
             self.aborts = 0.0
             self.waiting = [[[[], []] if is_aborted(txn) else txn for txn in its]
@@ -256,16 +350,28 @@ class Scripts:
         self.most = dice.choice((8, 12, 16, 30))  # what remains is at most a little more
         if self.store.torn:
             self.most = dice.choice((12, 16))
-        self.version = dice.choice((1, 2))
-        if self.version == 2:
+        self.version = dice.choice((1, 2, SNAPSHOT))
+        self.store.fit(self.version)
+        if self.version == SNAPSHOT:
+            self.limit, self.most = min(self.limit, ISOLATED.limit), self.most // 2 + 2
+        if self.version != 1:
             self.store.aborts = dice.choice((0.0, 0.1, 0.3))
         self.is_open, self.odd = False, dice.choice((0.0, 0.0, 0.05, 0.2))
         self.full = 0  # consecutive chunks that began with that much
         self.joins = dice.choice((0.0, 0.05, 0.2)) if self.store.meets else 0.0
         self.resumes = dice.random() < 0.25
+        self.handed = []  # lines that another run has given out, to begin with
+
+    def resumed(self, model):
+        """The same, with what the model keeps, in a script of its own."""
+        self.handed, self.full = saved(model), 0
+        return self
 
     def opening(self, model):
-        """The next line of a script's beginning."""
+        """The next lines of a script's beginning."""
+        if self.handed:
+            lines, self.handed = self.handed, []
+            return [(f"script: saved {line[0]}", compact(line)) for line in lines]
         line = opening("open", self.sessions, self.limit, self.version)
         if self.resumes:
             line = handing(self.dice, model.handed, self.sessions, self.limit, self.version)
@@ -294,7 +400,7 @@ class Scripts:
         self.sessions = store.sessions
         self.is_open = model.snapshot is not None
         sent, lines = [0] * self.sessions, []
-        remaining = sum(map(len, model.parts.remaining))
+        remaining = sum(map(len, model.kept().remaining))
         most = min(self.most, self.limit)
         self.full = self.full + 1 if remaining >= most else 0
         for _ in range(dice.choice((8, 30))):
@@ -304,12 +410,12 @@ class Scripts:
             elif dice.random() < (self.joins / 9 if self.is_open else self.joins):
                 line = self.join(model)
                 remaining += len(line[-1])
-            elif self.is_open and dice.random() < 0.3:
+            elif self.is_open and dice.random() < (0.03 if model.is_isolated else 0.3):
                 line = forged(dice, model)
             else:
                 line = self.other()
             lines.append(self.told(line))
-        if remaining >= most:
+        if remaining >= most or dice.random() < 0.3:
             lines += [("script: round", compact(["round", 64, 0, 1])),
                       ("script: truncate", compact(["truncate"]))]
         return lines
@@ -333,9 +439,12 @@ class Scripts:
     def join(self, model):
         """A session joins with a fence; the store has run the fence if the line is likely to be
         accepted."""
-        line = join(self.dice, model.parts, self.store.last.get(0))
+        line = join(self.dice, model.kept(), self.store.last.get(0))
         me = line[1], line[2] if len(line) == 4 else 0
-        if not self.is_open and not model.joining_fault(*me, list(map(effect_of, line[-1]))):
+        asked = split_command(line) if model.is_isolated else line
+        first = asked[2] if len(line) == 4 else 0
+        effects = list(map(effect_of, asked[-1]))
+        if not self.is_open and not model.joining_fault(line[1], first, effects):
             self.store.last[0] = me
             self.store.writers[0].append(me)
         return line
@@ -412,8 +521,9 @@ class Mutated:
         self.sessions = dice.choice((1, 2, 3, 64))
         self.limit = dice.choice((1, 5, 10, 16))
         self.store = Store(dice, self.sessions)
-        self.version = dice.choice((1, 2))
-        self.store.aborts = 0.3 if self.version == 2 else 0.0
+        self.version = dice.choice((1, 2, SNAPSHOT))
+        self.store.fit(self.version)
+        self.store.aborts = 0.0 if self.version == 1 else 0.3
         self.count = dice.choice((16, 100))
 
     def is_over(self, _):
@@ -432,7 +542,7 @@ class Mutated:
             store.execute()
             session = dice.choice([at for at, its in enumerate(store.waiting) if its])
             *txns, last = store.waiting[session][:4]
-            if model.version == 1 and dice.random() < 0.1:  # which only version 2 would accept
+            if model.version == 1 and dice.random() < 0.3:  # which only version 2 would accept
                 last = [*last, ABORTED]
             return ["offer", session, store.first[session], [*txns, last]]
         if turn < 0.8:
@@ -440,7 +550,7 @@ class Mutated:
         if turn < 0.81:
             return ["close", dice.randrange(self.sessions)]
         if turn < 0.83:
-            return join(dice, model.parts, store.last.get(0))
+            return join(dice, model.kept(), store.last.get(0))
         if turn < 0.84:
             return forged(dice, model)
         if turn < 0.85:

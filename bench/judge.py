@@ -13,8 +13,11 @@ import json
 import os
 import subprocess
 import sys
+from dataclasses import dataclass
 
 from plain_proofs import check_order, check_tree
+from plain_snapshots import (STARS, check_events, half_report, has_events, is_proper, split,
+                             split_command, told_reply, whole_of)
 from plain_verdicts import INIT, Parts, Relation, Wrong, cut_of, has_order, is_fence, may_be_spent
 
 LONGEST = 8388608  # bytes of a line, without its LF
@@ -82,8 +85,9 @@ def is_offer(parts):
 
 
 def is_opening(parts):
-    """Two numbers, followed by the version if that is 2; version 1 isn't stated."""
-    return are_wholes(parts) and parts[2:] in ([], [2])
+    """Two numbers, followed by the version if that is 2, and then perhaps by a promise; version 1
+    isn't stated."""
+    return are_wholes(parts[:3]) and parts[2:] in ([], [2], [2, "snapshot"])
 
 
 def is_nothing(parts):
@@ -97,9 +101,10 @@ def is_save(parts):
 
 
 def is_marks(parts):
-    marks, flags = parts
+    marks, *flags = parts
     return (type(marks) is list and are_wholes(marks)
-            and type(flags) is list and all(type(flag) is bool for flag in flags))
+            and all(type(its) is list and all(type(flag) is bool for flag in its)
+                    for its in flags))
 
 
 def is_writer(it):
@@ -174,6 +179,7 @@ def is_last(parts):
 FORMS = {
     ("open", 3): is_opening,
     ("open", 4): is_opening,
+    ("open", 5): is_opening,
     ("offer", 4): is_offer,
     ("join", 3): lambda parts: is_offer([parts[0], 0, parts[1]]),
     ("join", 4): is_offer,
@@ -196,13 +202,15 @@ FORMS = {
     ("save", 4): is_save,
     ("resume", 3): is_opening,
     ("resume", 4): is_opening,
+    ("resume", 5): is_opening,
     ("marks", 3): is_marks,
+    ("marks", 4): is_marks,
     ("last", 2): is_last,
     ("resumed", 1): is_nothing,
     ("answer", 3): is_answer,
 }
 BEGINNING = ("open", "resume")  # the words that are allowed while no auditor is open
-HANDED = ("marks", "last", "resumed")  # and those that are allowed only in a hand-over, in addition to offer
+HANDED = ("marks", "last", "resumed")  # those that are allowed only in a hand-over, as is offer
 
 
 def command_of(line):
@@ -239,28 +247,48 @@ def rises(items):
     return all(one < other for one, other in zip(items, items[1:]))
 
 
-def txn_fault(me, txn):
+@dataclass(frozen=True)
+class Bounds:
+    """How many transactions a fragment has at most, and what keys and numbers are below."""
+
+    txns: int = 256
+    numbers: int = NUMBERS
+    keys: int = WHOLE
+    limit: int = 4096  # of what remains
+
+
+ORDERED, ISOLATED = Bounds(), Bounds(128, NUMBERS // 2, STARS, 2048)
+
+
+def is_low(txn, bounds):
+    """Whether its keys, and the numbers of the sources of its reads, are below these."""
+    reads, writes = txn
+    return all(key < bounds.keys for key in writes) and all(
+        key < bounds.keys and source[1] < bounds.numbers for key, source in reads)
+
+
+def txn_fault(me, txn, bounds=ORDERED):
     """The number of the refusal of a malformed transaction; else None."""
     reads, writes = txn
-    if not rises(reads) or not rises(writes):
+    if not rises(reads) or not rises(writes) or not is_low(txn, bounds):
         return 3
     for _, source in reads:
-        if source != INIT and (source == me or source[0] > 63 or source[1] >= NUMBERS):
+        if source != INIT and (source == me or source[0] > 63):
             return 3
     touches = (writes and writes[0] == 0) or (reads and reads[0][0] == 0)
     return 4 if touches and not is_fence(txn) else None
 
 
-def fragment_fault(session, first, txns):
+def fragment_fault(session, first, txns, bounds=ORDERED):
     """The number of the refusal of a fragment that is wrong by itself; else None."""
     if session > 63:
         return 2
-    if not 1 <= len(txns) <= 256 or first + len(txns) > NUMBERS:
+    if not 1 <= len(txns) <= bounds.txns or first + len(txns) > bounds.numbers:
         return 9
     if any(len(reads) > 256 or len(writes) > 256 for reads, writes in txns):
         return 9
     for place, txn in enumerate(txns):
-        fault = txn_fault((session, first + place), txn)
+        fault = txn_fault((session, first + place), txn, bounds)
         if fault:
             return fault
     return None
@@ -288,6 +316,8 @@ def place_fault(parts, session, first):
 class HandOver:
     """Parts that are handed over in place of an opening."""
 
+    marks_parts = 2  # of a line of marks
+
     def __init__(self, sessions, limit):
         self.sessions, self.limit = sessions, limit
         self.parts, self.writers = None, []
@@ -299,6 +329,8 @@ class HandOver:
         if word == "offer" and self.parts and not tells_aborted(command):
             return self.offer(*told)
         if word not in HANDED or (self.parts is None) != (word == "marks"):
+            return REFUSALS[1]
+        if word == "marks" and len(told) != self.marks_parts:
             return REFUSALS[1]
         return getattr(self, word)(*told)
 
@@ -334,9 +366,44 @@ class HandOver:
                 and not any(txn_fault(me, parts.get(me)) for me in parts.ids()))
 
 
+class SplitHandOver(HandOver):
+    """The same of a script that asks for snapshot isolation: its parts are of halves."""
+
+    marks_parts = 3
+
+    def __init__(self, sessions, limit):
+        super().__init__(sessions, 2 * limit)
+
+    def marks(self, marks, closed, begun):
+        if len(begun) != len(marks) or any(mark > ISOLATED.numbers for mark in marks):
+            return REFUSALS[14]
+        return super().marks([2 * mark + flag for mark, flag in zip(marks, begun)], closed)
+
+    def last(self, writers):
+        if any(number >= ISOLATED.numbers for _, _, number in writers):
+            return REFUSALS[14]
+        return super().last([
+            (key, session, 2 * number + 1) if key < STARS
+            else (0 if key == STARS else key, session, 2 * number)
+            for key, session, number in writers])
+
+    def offer(self, session, first, told):
+        if first + len(told) > ISOLATED.numbers or not all(
+                is_low(txn_of(txn), ISOLATED) for txn in told):
+            return REFUSALS[14]
+        received, halves = self.parts.received(), split(session, first, told)
+        if session < len(received) and received[session] == 2 * first + 1:
+            return super().offer(session, 2 * first + 1, halves[1:])
+        return super().offer(session, 2 * first, halves)
+
+
 class Model:
     """The auditor as the documents define it: `judge` takes a line and the reply to it. The result
-    of its search is judged, too: that a budget is used up, and that it answers the same again."""
+    of its search is judged, too: that a budget is used up, and that it answers the same again.
+
+    If the script asks for snapshot isolation, its parts, cuts and searches are of halves
+    (`plain_snapshots.py`). Its reports are judged by the definition, too, which is tried over the
+    whole history as it was offered."""
 
     judges_search = True
 
@@ -344,6 +411,8 @@ class Model:
         self.parts = self.limit = self.snapshot = self.held = self.handed = None
         self.search = None  # the arguments of the open round's running search
         self.version = 1  # the version of the script's opening, for what may be offered
+        self.is_isolated = False  # whether the script asks for snapshot isolation
+        self.whole = self.asked = None  # if it does, what was offered, if known; of the open round
         self.rounds = 0
         self.told = {}  # for what remains now: by budget and depth, the report without its number
         self.shown = {"order": [], "refuted": [["cycle", []]]}  # what reports have shown last
@@ -370,36 +439,88 @@ class Model:
             return REFUSALS[1]
         if self.version == 1 and tells_aborted(command):
             return REFUSALS[1]
+        if self.is_isolated:
+            return self.isolated(command)
+        return self.ordered(command)
+
+    def ordered(self, command):
+        """The same of a command that may stand there, as an auditor of orders replies."""
         if command[0] in ("round", "finish", "collect"):
             return self.refused_round(command[0])
         if command[0] == "search":
             return self.begin_search(*command[1:])
         return getattr(self, command[0])(*command[1:])
 
-    def open(self, sessions, limit, version=1):
-        refused = self.refused_opening(sessions, limit)
+    def isolated(self, command):
+        """The same in a script that asks for snapshot isolation."""
+        word, *its = command
+        if word in ("offer", "join"):
+            session, first, txns = its if len(its) == 3 else (its[0], 0, its[1])
+            fault = fragment_fault(session, first, list(map(txn_of, txns)), ISOLATED)
+            if fault:
+                return REFUSALS[fault]
+        elif word == "answer":
+            return REFUSALS[1]
+        owed = self.ordered(split_command(command))
+        if owed is None:
+            return None
+        if self.whole and owed == OK:
+            self.keep_whole(word, its)
+        return text(told_reply(decode(owed.decode())))
+
+    def keep_whole(self, word, its):
+        """What was offered, for ever."""
+        if word == "begin":
+            self.asked = self.whole.copy()
+        elif word in ("offer", "join"):
+            session, whole = its[0], self.whole
+            if session == len(whole.gone):
+                whole.gone.append(0)
+                whole.remaining.append([])
+                whole.begun.append(False)
+            whole.remaining[session] += map(effect_of, its[-1])
+
+    def text_of(self, *report):
+        """The bytes of a report about what the auditor keeps."""
+        return text(told_reply(report) if self.is_isolated else report)
+
+    def kept(self):
+        """The parts by transactions as they were offered."""
+        return whole_of(self.parts) if self.is_isolated else self.parts
+
+    def open(self, sessions, limit, version=1, promise=None):
+        refused = self.refused_opening(sessions, limit, promise)
         if refused:
             return refused
-        self.limit, self.version, self.handed = limit, version, None
+        self.limit, self.version, self.handed = limit * (2 if promise else 1), version, None
         self.parts = Parts([0] * sessions, [[] for _ in range(sessions)], [False] * sessions)
+        self.begins(promise is not None)
         return OK
 
-    def resume(self, sessions, limit, version=1):
-        refused = self.refused_opening(sessions, limit)
+    def begins(self, is_isolated):
+        self.is_isolated = is_isolated
+        self.whole = whole_of(self.parts) if is_isolated and is_proper(self.parts) else None
+
+    def resume(self, sessions, limit, version=1, promise=None):
+        refused = self.refused_opening(sessions, limit, promise)
         if refused:
             return refused
-        self.version, self.handed = version, HandOver(sessions, limit)
+        handed = SplitHandOver if promise else HandOver
+        self.version, self.handed = version, handed(sessions, limit)
         return OK
 
-    def refused_opening(self, sessions, limit):
+    def refused_opening(self, sessions, limit, promise):
         if not 1 <= sessions <= 64:
             return REFUSALS[2]
-        return None if 1 <= limit <= 4096 else REFUSALS[9]
+        most = (ISOLATED if promise else ORDERED).limit
+        return None if 1 <= limit <= most else REFUSALS[9]
 
     def hand_over(self, command):
         owed = self.handed.owed(command)
         if command == ["resumed"] and owed == OK:
-            self.parts, self.limit, self.handed = self.handed.parts, self.handed.limit, None
+            handed, self.handed = self.handed, None
+            self.parts, self.limit = handed.parts, handed.limit
+            self.begins(isinstance(handed, SplitHandOver))
         return owed
 
     def offer(self, session, first, told):
@@ -558,10 +679,13 @@ class Model:
     def judge_report(self, command, reply):
         """Judges a report on the open round, or on everything that was taken in."""
         budget, depth = self.search[:2] if command[0] == "collect" else command[1:3]
+        whole = self.asked if self.snapshot else self.whole
         parts, self.snapshot = self.snapshot or self.parts, None
         self.search = None
         self.rounds += 1
-        report = report_of(reply)
+        report = told = report_of(reply)
+        if self.is_isolated:
+            report = half_report(report, parts.received())
         self.check_front(parts, report)
         relation = Relation(parts)
         if report[2] == "spent":
@@ -569,12 +693,16 @@ class Model:
                 raise Wrong("the budget can't be used up here")
         elif report[2] == "violated":
             check_tree(parts, report[4])
-            self.shown["refuted"] = report[4]
+            self.shown["refuted"] = told[4]
         else:
             check_order(parts, report[4])
-            self.shown["order"] = report[4]
+            self.shown["order"] = told[4]
             self.held = cut_of(parts, relation)
+            if self.is_isolated and is_proper(parts):
+                check_events(whole_of(parts), told[4])
         check_by_trial(parts, report[2])
+        if whole:
+            check_kind(report[2], has_events(whole, FARTHEST))
         if command[0] == "round" and self.judges_search:  # the same, whatever the workers
             if self.told.setdefault((budget, depth, *command[4:]), report[2:]) != report[2:]:
                 raise Wrong("another answer than before to the same question")
@@ -608,8 +736,12 @@ def check_by_trial(parts, kind):
     """Checks a small remainder's verdict by trying all orders."""
     if kind == "spent" or sum(map(len, parts.remaining)) > 12:
         return
-    found = has_order(parts, FARTHEST)
-    if found is not None and found != (kind != "violated"):
+    check_kind(kind, has_order(parts, FARTHEST))
+
+
+def check_kind(kind, found):
+    """Checks a verdict by what trying all orders has found, if it has."""
+    if kind != "spent" and found is not None and found != (kind != "violated"):
         raise Wrong("by trial of all orders it is the other way")
 
 
@@ -617,11 +749,6 @@ def lines_of(script):
     """The lines of a script; a last piece without LF is one unless it is empty."""
     lines = script.split(b"\n")
     return lines if lines[-1] else lines[:-1]
-
-
-def is_known(lines):
-    """Whether the model knows scripts like this: not if it asks for snapshot isolation."""
-    return not any(line.endswith(b',"snapshot"]') for line in lines)
 
 
 def first_difference(script, replies):

@@ -38,7 +38,7 @@ from collections import Counter
 
 HERE = os.path.dirname(os.path.abspath(__file__))
 sys.path[:0] = [HERE, os.path.join(HERE, "../collectors/python")]
-from judge import Model, command_of, first_difference, is_known, told_txn  # noqa: E402
+from judge import Model, command_of, first_difference, told_txn  # noqa: E402
 from plain_verdicts import Wrong  # noqa: E402
 
 SHIM = r"""
@@ -320,8 +320,6 @@ def runs(data):
             continue
         name = name[:-len(".jsonl")]
         lines, replies = (lines_of(f"{data}/{name}.{end}") for end in ("jsonl", "replies"))
-        if not is_known(lines):
-            continue
         yield Audit(f"cobra_audit, {name}", lines, [reply + b"\n" for reply in replies])
         if name in STEPS:
             yield Audit(f"cobra_audit, {name} by steps", by_steps(lines))

@@ -77,14 +77,15 @@ class Program:
         parts, model.snapshot, model.search = model.snapshot or model.parts, None, None
         self.rounds += 1
         if self.reports.get(self.rounds) == "spent":
-            return text(["report", self.rounds, "spent", parts.received()])
+            return model.text_of("report", self.rounds, "spent", parts.received())
         is_yes = has_order(parts, MOST)
         assert is_yes is not None
         if not is_yes:
-            return text(["report", self.rounds, "violated", parts.received(), [["cycle", []]]])
+            return model.text_of("report", self.rounds, "violated", parts.received(),
+                                 [["cycle", []]])
         model.held = cut_of(parts, Relation(parts))
         kind = "pending" if parts.has_pending() else "serial"
-        return text(["report", self.rounds, kind, parts.received(), parts.ids()])
+        return model.text_of("report", self.rounds, kind, parts.received(), parts.ids())
 
 
 if __name__ == "__main__":

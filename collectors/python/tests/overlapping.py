@@ -1,6 +1,8 @@
-"""Audits whose clients overlap: in its first transaction, each has read its keys before any of them
-writes. If the store has the fault that the workload shows, it shows, however slow or busy the
-machine is. This runs the command `zanteyard`, or a program with a function main, in that way:
+"""Clients that overlap for certain. If the store has the fault that they show, it shows, however
+slow or busy the machine is.
+
+This runs the command `zanteyard`, or a program with a function main, for an audit with a workload.
+In its first transaction, each client has read its keys before any of them writes:
 
     python3 -m tests.overlapping CLIENTS zanteyard|PROGRAM [WORD ...]
 
@@ -40,6 +42,14 @@ def skew(transaction, client):
     both = number_at(transaction, "left 0") + number_at(transaction, "right 0")
     meet(client)
     transaction.put(("left 0", "right 0")[client % 2], str(both + 1))
+
+
+def skewed(one, other):
+    """Runs a transaction of each of two sessions; each writes what the other one has read."""
+    with one.transaction() as first, other.transaction() as second:
+        for transaction, side in ((first, "this side"), (second, "that side")):
+            transaction.get("this side"), transaction.get("that side")
+            transaction.put(side, "1")
 
 
 def beginning_with(first, later):

@@ -45,11 +45,12 @@ class Plain(Model):
         front = ["report", self.rounds]
         if solved is None:
             kind = "violated" if left else "spent"
-            return text([*front, kind, parts.received(), *([refutation(parts)] if left else [])])
+            return self.text_of(*front, kind, parts.received(),
+                                *([refutation(parts)] if left else []))
         self.held = cut_of(parts, relation)
         places = sorted(range(len(solved.ids)), key=lambda at: bin(solved.before[at]).count("1"))
         kind = "pending" if parts.has_pending() else "serial"
-        return text([*front, kind, parts.received(), [solved.ids[at] for at in places]])
+        return self.text_of(*front, kind, parts.received(), [solved.ids[at] for at in places])
 
 
 def refutation(parts):

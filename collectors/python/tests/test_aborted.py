@@ -27,6 +27,7 @@ from zanteyard.stores.sqlite import prepare as prepare_sqlite
 
 from .test_memory import add_one, put, read
 from .test_restarting import WithJournal
+from .waiting import SOON
 
 UNDONE = Logged((), (), "aborted", tried_reads=[("y", "init")], tried_writes=["x", "y"])
 OLD = """#!/bin/sh
@@ -144,7 +145,7 @@ class Told(WithFolder):
         anomaly = find_anomaly(self.HISTORY)
         self.assertEqual((anomaly.name, anomaly.sentence), ("dirty read", self.SAID))
         self.assertEqual(anomaly.transactions, ((0, 1), (1, 0)))
-        small = smaller(self.HISTORY)
+        small = smaller(self.HISTORY, seconds=SOON)
         self.assertEqual(
             [*words(small)], ["0.1 wrote x, aborted", "    wrote x: UPDATE x", "1.0 read x from 0.1"]
         )
@@ -162,7 +163,7 @@ class Told(WithFolder):
     def test_it_is_no_reason_where_nobody_has_read_it(self):
         """An attempt that nobody read from isn't mentioned, since it plays no part."""
         history = [[UNDONE, Logged([("x", "init")], ["x"])], [Logged([("x", "init")], ["x"])]]
-        small = smaller(history)
+        small = smaller(history, seconds=SOON)
         self.assertEqual(find_anomaly(small).name, "lost update")
         self.assertNotIn("aborted", "\n".join(words(small)))
 
@@ -228,7 +229,7 @@ class Found(WithFolder):
                 self.dirty_read(self.sessions(auditor, "dirty-read"))
                 self.assertEqual(auditor.round().kind, "violated")
                 self.assertEqual(
-                    reasons(smaller(auditor.history)), ["of x, 2.0 read what 1.0 wrote, which had aborted"]
+                    reasons(smaller(auditor.history, seconds=SOON)), ["of x, 2.0 read what 1.0 wrote, which had aborted"]
                 )
             self.assertIn(["offer", 1, 0, [[[[1, 0, 0]], [1, 2], "aborted"]]], self.lines())
 
@@ -237,7 +238,7 @@ class Found(WithFolder):
         with LiveAuditor(self.auditor()) as live:
             self.dirty_read([live.session(store.connect()) for _ in range(3)])
         self.assertEqual(live.outcome.kind, "violated")
-        told = reasons(smaller(live.auditor.history))
+        told = reasons(smaller(live.auditor.history, seconds=SOON))
         self.assertEqual(len(told), 1)
         self.assertRegex(told[0], "^of x, .* read what .* wrote, which had aborted$")
 
@@ -391,7 +392,7 @@ class Kept(WithJournal):
             auditor.offer(1, numbers[1], Logged([("new", (0, 5))], ()))
             self.assertEqual(auditor.round().kind, "violated")
             history, name = from_start(auditor)
-            told = reasons(smaller(history), name)
+            told = reasons(smaller(history, seconds=SOON), name)
         self.assertEqual(told, ["of new, 1.2 read what 0.5 wrote, which had aborted"])
 
     def test_a_journal_of_an_earlier_version_is_gone_on_with(self):

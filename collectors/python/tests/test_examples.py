@@ -30,10 +30,10 @@ class Examples(unittest.TestCase):
         os.makedirs(f"{self.folder}/work")
         os.makedirs(f"{self.folder}/tmp", mode=0o711)
 
-    def begin(self, name, *arguments, **more):
+    def begin(self, name, *arguments, by=(), **more):
         """Starts it in a folder of its own, with servers in another one."""
         return subprocess.Popen(
-            [sys.executable, f"{EXAMPLES}/{name}", *arguments],
+            [sys.executable, *by, f"{EXAMPLES}/{name}", *arguments],
             cwd=f"{self.folder}/work",
             env={**os.environ, "TMPDIR": f"{self.folder}/tmp", "COBRA_AUDIT": PROGRAM, **more},
             stdout=subprocess.PIPE,
@@ -117,8 +117,10 @@ class Examples(unittest.TestCase):
         for name in ("violation.jsonl", "violation.dot"):
             os.symlink("/dev/full", f"{self.folder}/work/{name}")
         status, lines, _ = self.told(
-            *("postgres_live.py", "--level", "committed", "--workload", "counter"),
-            *("--seconds", "120", "--unaudited", "0", "--every", "256", "--rather-wait"),
+            *("postgres_live.py", "--level", "committed", "--workload", "counter", "--clients", "4"),
+            *("--seconds", "120", "--unaudited", "0", "--rather-wait"),
+            by=("-m", "tests.overlapping", "4"),
+            PYTHONPATH=f"{TOP}/collectors/python",
         )
         text = "\n".join(lines)
         self.assertEqual(status, 1, text)

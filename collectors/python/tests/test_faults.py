@@ -50,7 +50,7 @@ SOON = 120.0  # seconds, on a busy machine
 PACE = 0.02  # seconds between two transactions, if the auditor is to keep up with them
 
 CLIENT = """
-import sys, time
+import os, sys, time
 from contextlib import suppress
 sys.path.insert(0, sys.argv[1])
 import logging; logging.getLogger("zanteyard").setLevel(logging.CRITICAL)
@@ -61,9 +61,8 @@ from tests.test_faults import add_one
 with AuditClient(sys.argv[2]) as audit:
     session = audit.session(PostgresStore(sys.argv[3]))
     print("begun", flush=True)
-    ends = time.monotonic() + float(sys.argv[4])
     with Lateness() as lateness:
-        while time.monotonic() < ends:
+        while not os.path.exists(sys.argv[4]):
             with suppress(AbortedError):
                 session.run(add_one, attempts=1)
                 print("+", end="", flush=True)
@@ -290,7 +289,15 @@ class Faults(unittest.TestCase):
         application = Application(sessions)
         self.addCleanup(application.end)
         self.wait_for(lambda: stuck.running is not None)
-        stuck.run(lambda t: t.get("y"))  # over another connection
+
+        def goes_on():
+            """Over another connection, which a busy machine may not open at the first try."""
+            with suppress(psycopg2.OperationalError):
+                stuck.run(lambda t: t.get("y"))
+                return True
+            return False
+
+        self.wait_for(goes_on)
         self.assertLess(stuck.longest, 2 * BOUND + application.lateness.allowed_beside_others)
         self.go_on(pid)
         self.ended(application, "the server of one connection stands still", None)
@@ -424,18 +431,24 @@ class Faults(unittest.TestCase):
 
     # clients in processes of their own
 
-    def processes(self, seconds, pace=0.0):
-        folder = tempfile.TemporaryDirectory()
-        self.addCleanup(folder.cleanup)
-        self.server = AuditServer(self.live, f"{folder.name}/audit")
+    def processes(self, pace=0.0):
+        """Three clients, each of which has committed something."""
+        folder = self.folder()
+        self.server = AuditServer(self.live, f"{folder}/audit")
         self.addCleanup(self.server.close)
-        begun = [self.client(folder.name, self.server.path, seconds, pace) for _ in range(3)]
-        self.wait_for(lambda: all("begun" in self.told_by(process) for process in begun))
+        begun = [self.client(folder, self.server.path, pace) for _ in range(3)]
+        self.go_on_all(begun)
         return begun
 
-    def client(self, folder, path, seconds, pace=0.0):
+    def folder(self):
+        folder = tempfile.TemporaryDirectory()
+        self.addCleanup(folder.cleanup)
+        self.ends = f"{folder.name}/ends"  # clients run until it exists
+        return folder.name
+
+    def client(self, folder, path, pace=0.0):
         """Reports in a file what it does, so that the report survives a kill."""
-        call = [sys.executable, "-c", CLIENT, PLACE, path, self.cluster.dsn, str(seconds), str(pace)]
+        call = [sys.executable, "-c", CLIENT, PLACE, path, self.cluster.dsn, self.ends, str(pace)]
         with tempfile.NamedTemporaryFile(dir=folder, delete=False) as file:
             process = subprocess.Popen(call, stdout=file)
         process.told = file.name
@@ -448,7 +461,13 @@ class Faults(unittest.TestCase):
         with open(process.told, encoding="ascii") as file:
             return file.read()
 
+    def go_on_all(self, processes):
+        """Waits until each has reported a few more commits."""
+        wanted = {process: self.told_by(process).count("+") + 10 for process in processes}
+        self.wait_for(lambda: all(self.told_by(it).count("+") >= count for it, count in wanted.items()))
+
     def all_ended(self, processes, fault, kind="incomplete"):
+        self.end_all()
         ends = [self.end_of(process) for process in processes]
         self.server.close()
         outcome = self.live.stop()
@@ -465,6 +484,10 @@ class Faults(unittest.TestCase):
         self.row(fault, "nothing", outcome, why, longest)
         return outcome
 
+    def end_all(self):
+        with open(self.ends, "wb"):
+            pass
+
     def end_of(self, process):
         """How many commits it reported, how long it waited at most, and how long it might have; or
         None for these if it was killed."""
@@ -474,26 +497,28 @@ class Faults(unittest.TestCase):
 
     def test_no_fault_in_processes(self):
         self.audit()
-        self.all_ended(self.processes(2, PACE), "none, in processes", "serial")
+        begun = self.processes(PACE)
+        self.wait_for(self.is_audited)
+        self.all_ended(begun, "none, in processes", "serial")
 
     def test_a_clients_process_is_killed(self):
         """The audit goes on: its last transactions are in its notes."""
         self.audit()
-        killed, *others = self.processes(4, PACE)
-        self.wait_for(lambda: "+" in self.told_by(killed))
+        killed, *others = self.processes(PACE)
         killed.kill()
         self.assertIsNone(self.end_of(killed)[1])  # it was killed while it ran
+        self.go_on_all(others)
         self.all_ended([killed, *others], "a client's process is killed", "serial")
 
     def test_a_clients_process_stands_still(self):
         """No meeting is possible until there is no room. The process isn't audited until it answers
         again."""
         self.audit()
-        hung, *others = self.processes(8)
-        self.wait_for(lambda: all("+" in self.told_by(it) for it in (hung, *others)))
+        hung, *others = self.processes()
         os.kill(hung.pid, signal.SIGSTOP)
         time.sleep(4.0)
         os.kill(hung.pid, signal.SIGCONT)
+        self.go_on_all([hung, *others])
         # whether there was no room meanwhile depends on how much the others did
         self.all_ended([hung, *others], "a client's process stands still for 4 s", kind=None)
 
@@ -508,19 +533,19 @@ with AuditorApart(4) as auditor, LiveAuditor(auditor, tell=lambda line: None) as
         print("begun", flush=True)
         time.sleep(100)
 """
-        folder = tempfile.TemporaryDirectory()
-        self.addCleanup(folder.cleanup)
-        path = f"{folder.name}/audit"
+        folder = self.folder()
+        path = f"{folder}/audit"
         call = [sys.executable, "-c", program, PLACE, path]
         server = subprocess.Popen(call, stdout=subprocess.PIPE, text=True)
         self.addCleanup(server.stdout.close)
         self.addCleanup(server.wait)
         self.addCleanup(server.kill)
         self.assertEqual(server.stdout.readline(), "begun\n")
-        client = self.client(folder.name, path, 3)
-        self.wait_for(lambda: "begun" in self.told_by(client))
-        time.sleep(1.0)
+        client = self.client(folder, path)
+        self.go_on_all([client])
         server.kill()
+        self.go_on_all([client])
+        self.end_all()
         count, longest = self.end_of(client)
         self.assertEqual(self.counted(), count)
         self.assertLess(*longest)

@@ -308,7 +308,7 @@ class Harmless(WithProgram):
         self.assertRegex(str(live.stop().failure), "no session is free for a client")
 
     def test_a_client_elsewhere_for_whom_none_is_left_goes_on_unaudited(self):
-        live, store = self.live(1, every=1000, policy=Policy(1.0, True, 0.01)), MemoryStore()
+        live, store = self.live(1, every=1000, policy=Policy(30.0, True, 0.01)), MemoryStore()
         with tempfile.TemporaryDirectory() as folder:
             server = AuditServer(live, os.path.join(folder, "audit"))
             with AuditClient(server.path) as client:

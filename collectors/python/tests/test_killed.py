@@ -22,6 +22,7 @@ from zanteyard.program._auditor import PROGRAM
 from zanteyard.trial.postgres_server import PostgresServer, program
 from zanteyard.trial.workloads import Nothing
 
+from .overlapping import skewed
 from .plain_sql import run_sql
 
 try:
@@ -280,12 +281,15 @@ class KilledOverPostgres(Killed):
                 self.assertEqual(len(last), 4 + is_there, last)
 
     def test_a_fault_is_found(self):
+        """If these clients don't run into it, two others do for certain."""
         for level, workload in (("repeatable read", "skew"), ("read committed", "counter")):
             with self.subTest(level=level):
                 self.setUp()
                 self.level = level
                 self.audit()
                 stays = [self.client(pause=0.0, workload=workload) for _ in range(2)]
+                stores = [PostgresStore(self.dsn, level) for _ in range(2)]
+                pair = [self.live.session(store) for store in stores]
                 self.begun(*stays)
                 until = time.monotonic() + SOON
                 while not self.live.is_over and time.monotonic() < until:
@@ -294,6 +298,9 @@ class KilledOverPostgres(Killed):
                     time.sleep(0.3)
                     doomed.kill()
                     doomed.wait(SOON)
+                    skewed(*pair)
+                for store in stores:
+                    store.close()
                 self.ended("violated")
 
 
@@ -322,7 +329,7 @@ class AskedOfPostgres(unittest.TestCase):
         self.assertIsNotNone(self.store.life[1])
 
     def alone(self, key, number):
-        self.store.begin_alone(5.0)
+        self.store.begin_alone(SOON)
         self.store.exchange(key, "", ("run", 1, number))
 
     def asked(self, key, number, seconds=SOON):
@@ -346,7 +353,7 @@ class AskedOfPostgres(unittest.TestCase):
         self.assertEqual(self.asked(self.FLAG, 3), ("committed", ()))
         self.alone(self.FLAG, 4)
         self.assertEqual(self.asked(self.FLAG, 4), ("committed", (("run", 1, 3),)))
-        self.store.begin_alone(5.0)
+        self.store.begin_alone(SOON)
         with self.assertRaises(psycopg2.Error):  # it fails after its beginning
             self.store.ask(postgres_store.OVERWRITE.replace("{value}", "(1 / (now.number - 4))::text"), ("run", 1, 5, self.FLAG))
         self.assertEqual(self.asked(self.FLAG, 5), ("aborted", None))
@@ -363,11 +370,11 @@ class AskedOfPostgres(unittest.TestCase):
                     self.setUp()
                     names = [(key, "", ("run", 2, number)) for number in range(before + behind)]
                     for name in names[:before]:
-                        other.begin_alone(5.0), other.exchange(*name)
+                        other.begin_alone(SOON), other.exchange(*name)
                     self.alone(key, 3)
                     ticket = self.store.ticket((key, "run", 1, 3))
                     for name in names[before:]:
-                        other.begin_alone(5.0), other.exchange(*name)
+                        other.begin_alone(SOON), other.exchange(*name)
                     self.store.close()
                     last = (names[before - 1][2],) if before else None if behind else ()
                     found = ("unknown", None) if behind > most else ("committed", None if behind == most else last)
@@ -375,7 +382,7 @@ class AskedOfPostgres(unittest.TestCase):
 
     def test_a_name_of_two_lines(self):
         for number in (3, 4):
-            self.store.begin_alone(5.0)
+            self.store.begin_alone(SOON)
             self.store.exchange(self.FLAG, "", ("run\nof two", 1, number))
         ticket = self.store.ticket((self.FLAG, "run\nof two", 1, 4))
         self.assertEqual(find_out(("postgres", *self.how), ticket, SOON), ("unknown", None))
@@ -386,14 +393,14 @@ class AskedOfPostgres(unittest.TestCase):
         for key, found in ((FENCE, "unknown"), (MARK, "unknown"), (self.FLAG, "aborted")):
             with self.subTest(key=key):
                 self.setUp()
-                other.begin_alone(5.0), other.exchange(key, "", ("run", 2, 0))
-                self.store.begin_alone(5.0)
+                other.begin_alone(SOON), other.exchange(key, "", ("run", 2, 0))
+                self.store.begin_alone(SOON)
                 ticket = self.store.ticket((key, "run", 1, 3))
                 self.store.close()
                 self.assertEqual(find_out(("postgres", *self.how), ticket, SOON), (found, None))
 
     def test_where_there_was_no_row_another_statement_may_be_on_its_way(self):
-        self.store.begin_alone(5.0)
+        self.store.begin_alone(SOON)
         self.store.ask(postgres_store.OVERWRITE.replace("{value}", postgres_store.KEPT), ("run", 1, 3, self.FLAG))
         self.assertEqual(self.asked(self.FLAG, 3), ("unknown", None))
 

@@ -17,6 +17,7 @@ from zanteyard.live._fragments import fragments
 from zanteyard.stores.memory import MemoryStore
 
 from .killing import PLAIN
+from .waiting import SOON
 
 
 def add_one(key):
@@ -467,7 +468,7 @@ class MadeUp(unittest.TestCase):
     @unittest.skipUnless(os.path.isfile(PROGRAM), f"{PROGRAM} is not built")
     def test_what_remains_is_violated_without_the_cut(self):
         history, called = from_start(self.cut_auditor())
-        small = smaller(history)
+        small = smaller(history, seconds=SOON)
         self.assertEqual(audited(small)[0].kind, "violated")
         self.assertTrue(reasons(small, called)[-1].endswith(" can come first"))
 

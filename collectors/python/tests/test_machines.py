@@ -9,10 +9,12 @@ import time
 import unittest
 from unittest import mock
 
+from zanteyard import AuditClient
 from zanteyard.core._commit_status import find_out
 from zanteyard.remote._live_state import StateFile
 
 from .machines import SOON, Machines, PostgresStore
+from .overlapping import skewed
 from .test_restarting_processes import child_of
 
 # Seconds between transactions, so that no more arrive than one audit holds while a killed client
@@ -147,8 +149,11 @@ class Faults(Machines):
     silence = Machines.soon_silent
 
     def test_a_fault_is_found_though_the_auditor_and_a_client_are_killed(self):
+        """If these clients don't run into it, two others do for certain."""
         self.daemon()
-        doomed = self.client(pause=PAUSE, workload="skew")
+        doomed, others = self.client(pause=PAUSE, workload="skew"), AuditClient(self.redis.dsn, "bank")
+        self.addCleanup(others.leave)
+        pair = [others.session(PostgresStore(self.cluster.dsn, self.level)) for _ in range(2)]
         self.begun(doomed)
         for _ in range(2):  # clients that come when the fault is found aren't admitted
             self.client(pause=PAUSE, workload="skew")
@@ -157,6 +162,7 @@ class Faults(Machines):
         time.sleep(0.2)
         doomed.kill()
         self.daemon()
+        skewed(*pair)
         self.wait_for(lambda: self.daemons[-1].poll() is not None)
         self.ended(1, is_left=False)  # a client that leaves now waits for nobody's answer
         self.assertTrue(os.path.exists(f"{self.folder}/audit/violation.txt"))
@@ -182,7 +188,7 @@ class Asked(Machines):
                 asks = store.asks()
                 self.assertEqual(find_out(asks, ticket, 0.4, is_dead=False)[0], "unknown")
                 store.commit() if commits else store.rollback()
-                self.assertEqual(find_out(asks, ticket, 0.4, is_dead=False)[0], "committed" if commits else "aborted")
+                self.assertEqual(find_out(asks, ticket, SOON, is_dead=False)[0], "committed" if commits else "aborted")
                 elsewhere = (*ticket[:3], "another life", *ticket[4:])
                 self.assertEqual(find_out(asks, elsewhere, 0.4, is_dead=False)[0], "unknown")
                 alone = (None, *ticket[1:3], "another life", *ticket[4:])

@@ -7,6 +7,8 @@ from zanteyard import AbortedError, Auditor, ProgramEndedError, FullError, Outco
 from zanteyard.program._auditor import PROGRAM
 from zanteyard.stores.memory import MemoryStore
 
+from .waiting import SOON
+
 
 class WithAuditor(unittest.TestCase):
     def setUp(self):
@@ -263,7 +265,7 @@ class Telling(WithAuditor):
         one.commit(), other.commit()
         c.run(read("y", "x"))
         self.assertEqual(self.kind(), "violated")
-        small = smaller(self.auditor.history)
+        small = smaller(self.auditor.history, seconds=SOON)
         self.assertEqual(
             list(words(small)),
             ["0.0 wrote x", "0.1 read x from 0.0, wrote x", "1.0 read x from 0.0, wrote x"],

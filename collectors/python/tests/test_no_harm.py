@@ -535,7 +535,7 @@ class Standing(NoHarm):
         os.kill(auditor.program.process.pid, signal.SIGSTOP)
         client = threading.Thread(target=lambda: [session.run(add_one("x")) for _ in range(100)])
         client.start()
-        self.wait_for(lambda: session.begun >= 10)
+        self.wait_for(lambda: live._backlog.is_over_full)  # from here on it waits
         time.sleep(1.0)
         self.assertTrue(client.is_alive())
         self.assertLess(session.begun, 50)

@@ -7,11 +7,12 @@ import time
 import unittest
 from unittest import mock
 
-from zanteyard import FENCE, AbortedError, Auditor, NameTakenError, OutcomeUnknownError, Session, smaller, words
+from zanteyard import FENCE, RATHER_WAIT, AbortedError, Auditor, NameTakenError, OutcomeUnknownError, Session
+from zanteyard import smaller, words
 from zanteyard.program._auditor import PROGRAM
 from zanteyard.trial.postgres_server import PostgresServer, program
 
-from .waiting import wait_until
+from .waiting import SOON, wait_until
 
 try:
     import psycopg2
@@ -44,7 +45,7 @@ class Postgres(unittest.TestCase):
         cls.addClassCleanup(cluster.__exit__)
 
     def setUp(self):
-        self.auditor = Auditor(sessions=3, limit=8)
+        self.auditor = Auditor(sessions=3, limit=8, policy=RATHER_WAIT)
         self.addCleanup(self.auditor.end)
         self.admin = psycopg2.connect(self.dsn)
         self.admin.autocommit = True
@@ -172,7 +173,7 @@ class Postgres(unittest.TestCase):
         for level in ("serializable", "repeatable read", "read committed"):
             for name, deed in deeds.items():
                 with self.subTest(level=level, deed=name):
-                    auditor = Auditor(6, 4096)
+                    auditor = Auditor(6, 4096, policy=RATHER_WAIT)
                     self.addCleanup(auditor.end)
                     self.all_at_once(auditor, level, deed)
                     done = [it for txns in auditor.history for it in txns if it.outcome == "committed"]
@@ -181,7 +182,7 @@ class Postgres(unittest.TestCase):
                     self.assertEqual(auditor.round().kind, "serial")
 
     def test_what_clients_do_at_their_level_stays_at_it(self):
-        auditor = Auditor(6, 4096)
+        auditor = Auditor(6, 4096, policy=RATHER_WAIT)
         self.addCleanup(auditor.end)
         all_have_read = threading.Barrier(6, timeout=60)
 
@@ -196,7 +197,7 @@ class Postgres(unittest.TestCase):
 
     def test_a_name_that_the_table_knows_is_refused_at_the_start(self):
         for attempt in range(2):
-            auditor = Auditor(3, 8)
+            auditor = Auditor(3, 8, policy=RATHER_WAIT)
             self.addCleanup(auditor.end)
             a, b = (Session(auditor, it, PostgresStore(self.dsn), "monday") for it in range(2))
             for session in (a, b):
@@ -274,7 +275,7 @@ class Postgres(unittest.TestCase):
             self.assertEqual((outcome.kind, outcome.audited, outcome.handed_in), ("incomplete", 0, 1))
             self.assertIn("can't find out in time", str(outcome))
             auditor.start_anew()  # as a LiveAuditor does
-            session.claim_at = 0.0
+            session.claim_at, session.wait = 0.0, SOON
             session.place.begun = 0
             session.run(lambda t: t.get("x"))
             self.assertEqual((auditor.outcome().kind, session.is_claimed), ("serial", True))
@@ -306,7 +307,7 @@ class Postgres(unittest.TestCase):
         session.run(lambda t: t.get("x"))
         other.commit()
         other.close()
-        session.claim_at = 0.0
+        session.claim_at, session.wait = 0.0, SOON
         session.run(lambda t: t.get("x"))
         self.assertIsInstance(session.unclaimed, NameTakenError)
         self.assertEqual((auditor.outcome().kind, auditor.handed_in), ("incomplete", 2))
@@ -345,6 +346,7 @@ class Postgres(unittest.TestCase):
         # About a name that isn't among the last ones, nobody knows.
         self.assertEqual(asked(*how, ticket=never, seconds=60.0)[0], "unknown")
 
+    @mock.patch("zanteyard.session._transaction.LEAST", SOON)  # a tenth of a second is too short on a busy machine
     def test_the_answer_to_a_fence_is_lost(self):
         a = self.sessions(store=Lossy)[0]
         a.fence()
@@ -352,7 +354,7 @@ class Postgres(unittest.TestCase):
 
     def test_a_violation_names_what_was_run(self):
         self.assertEqual(self.count_at_once("read committed"), "violated")
-        told = list(words(smaller(self.auditor.history)))
+        told = list(words(smaller(self.auditor.history, seconds=SOON)))
         self.assertEqual(told[2], "0.1 read x from 0.0, wrote x")
         self.assertEqual(told[3], "    read x: SELECT value, run, session, number FROM zanteyard WHERE key = 'x'")
         self.assertTrue(told[4].startswith("    wrote x: INSERT INTO zanteyard VALUES ('x', '2', 'run', 0, 1) ON CONFLICT"), told[4])

@@ -2,16 +2,20 @@
 serializable are reported."""
 import os
 import random
+import tempfile
 import threading
 import unittest
 
-from zanteyard import Auditor, AuditorApart, LiveAuditor, Session
+from zanteyard import RATHER_WAIT, Auditor, AuditorApart, LiveAuditor, Session
 from zanteyard.explain._shrinking import from_start, smaller
 from zanteyard.explain._standing import standing
 from zanteyard.program._auditor import PROGRAM
 from zanteyard.promises._kinds import SERIALIZABLE, SNAPSHOT
 from zanteyard.trial.postgres_server import PostgresServer, program
 from zanteyard.trial.workloads import EVERY_WORKLOAD, Clients
+
+from .overlapping import overlapping
+from .waiting import SOON
 
 try:
     import psycopg2
@@ -21,6 +25,7 @@ except ImportError:
     psycopg2 = None
 
 RUNS, CLIENTS, SECONDS = 20, 4, 0.4
+RATE = 300.0  # transactions per second beside an audit
 MOST = 400  # transactions of a run
 EXPLAINED = 2  # of the runs that aren't serializable
 
@@ -83,7 +88,8 @@ class OfRepeatableRead(unittest.TestCase):
         stores = [PostgresStore(self.server.dsn, "repeatable read") for _ in range(CLIENTS)]
         sessions = [Session(recorder, at, store, recorder.run_name) for at, store in enumerate(stores)]
         is_over = lambda: len(recorder.entries) >= MOST
-        clients = Clients(sessions, EVERY_WORKLOAD[workload], SECONDS, is_over)
+        with tempfile.TemporaryDirectory() as folder, overlapping(CLIENTS, folder):
+            clients = Clients(sessions, EVERY_WORKLOAD[workload], SECONDS, is_over)
         self.assertEqual(clients.failures, [])
         for store in stores:
             store.close()
@@ -107,17 +113,19 @@ class OfRepeatableRead(unittest.TestCase):
                     violated.append(history)
         self.assertGreaterEqual(len(violated), EXPLAINED)
         for history in violated[:EXPLAINED]:
-            found = standing(smaller(history, PROGRAM, 20.0), PROGRAM, seconds=20.0)
+            found = standing(smaller(history, PROGRAM, SOON), PROGRAM, seconds=SOON)
             self.assertIn(SNAPSHOT, found.kept)
             self.assertIn(SERIALIZABLE, found.broken)
 
-    def live(self, kinds, seconds, every=100):
-        """The outcome of clients of these stores with a live audit for snapshot isolation."""
+    def live(self, kinds, cuts, every=100):
+        """The outcome of clients of these stores with a live audit for snapshot isolation, which
+        ends after so many cuts."""
         with AuditorApart(len(kinds), program=PROGRAM, promise="snapshot") as auditor:
-            live = LiveAuditor(auditor, every=every)
+            live = LiveAuditor(auditor, every=every, policy=RATHER_WAIT, patience=SOON)
             stores = [kind(self.server.dsn, "repeatable read") for kind in kinds]
             sessions = [live.session(store) for store in stores]
-            clients = Clients(sessions, EVERY_WORKLOAD["skew"], seconds, lambda: live.is_over)
+            is_over = lambda: live.is_over or live.cuts >= cuts
+            clients = Clients(sessions, EVERY_WORKLOAD["skew"], SOON, is_over, RATE)
             self.assertEqual(clients.failures, [])
             outcome = live.stop()
             for store in stores:
@@ -127,12 +135,12 @@ class OfRepeatableRead(unittest.TestCase):
             return outcome, live
 
     def test_clients_that_run(self):
-        outcome, live = self.live([PostgresStore] * 3, 3.0)
+        outcome, live = self.live([PostgresStore] * 3, 3)
         self.assertEqual(outcome.whole.kind, "serial", outcome)
-        self.assertGreater(live.cuts, 0)
+        self.assertGreaterEqual(live.cuts, 3)
 
     def test_a_stale_snapshot_is_found(self):
-        outcome, _ = self.live([PostgresStore, PostgresStore, Stale], 60.0)
+        outcome, _ = self.live([PostgresStore, PostgresStore, Stale], float("inf"))
         self.assertTrue(outcome.is_violated, outcome)
 
 

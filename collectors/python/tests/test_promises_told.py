@@ -10,7 +10,7 @@ import tempfile
 import threading
 import unittest
 
-from zanteyard import AbortedError, Auditor, AuditorApart, LiveAuditor, Logged
+from zanteyard import RATHER_WAIT, AbortedError, Auditor, AuditorApart, LiveAuditor, Logged
 from zanteyard.cli._main import main
 from zanteyard.explain._explanation import Explanation
 from zanteyard.explain._reasons import explain_history
@@ -25,6 +25,7 @@ from zanteyard.stores.memory import MemoryStore
 from zanteyard.trial import postgres_server
 
 from .killing import PLAIN
+from .waiting import SOON, wait_until
 
 TOP = os.path.normpath(os.path.join(os.path.dirname(os.path.abspath(__file__)), "../../.."))
 WORKED = os.path.join(TOP, "examples/promises")
@@ -233,26 +234,31 @@ class Told(unittest.TestCase):
 @unittest.skipUnless(os.path.isfile(PROGRAM), f"{PROGRAM} is not built")
 class Live(unittest.TestCase):
     def audited(self, fault, promise, kind=Auditor, count=120):
-        """Clients that each read two keys and write one of them, over a store in memory."""
-        store = MemoryStore(fault, takes=0.001)
+        """Clients that each read two keys and write one of them, over a store in memory, until
+        something is forgotten; before that, each reads three keys before any of them writes one."""
+        store, have_read = MemoryStore(fault, takes=0.001), threading.Barrier(3, timeout=SOON)
         with kind(3, promise=promise) as auditor:
-            live = LiveAuditor(auditor, every=40, seconds=0.5)
+            live = LiveAuditor(auditor, every=40, seconds=0.5, policy=RATHER_WAIT, patience=SOON)
             sessions = [live.session(store.connect()) for _ in range(3)]
+
+            def run(session, keys, wait=bool):
+                def work(it):
+                    for key in keys:
+                        it.get(f"k{key}")
+                    wait()
+                    it.put(f"k{keys[0]}", "1")
+
+                with contextlib.suppress(AbortedError):
+                    session.run(work, attempts=1)
 
             def client(session, seed):
                 rng = random.Random(seed)
+                run(session, [(seed + more) % 3 for more in range(3)], have_read.wait)
                 for _ in range(count):
-                    first, second = rng.sample(range(5), 2)
-
-                    def work(it, keys=(first, second)):
-                        for key in keys:
-                            it.get(f"k{key}")
-                        it.put(f"k{keys[0]}", "1")
-
+                    run(session, rng.sample(range(5), 2))
                     if live.is_over:
                         return
-                    with contextlib.suppress(AbortedError):
-                        session.run(work)
+                wait_until(lambda: live.is_over or live.cuts or run(session, rng.sample(range(5), 2)))
 
             threads = [
                 threading.Thread(target=client, args=each) for each in zip(sessions, range(3))

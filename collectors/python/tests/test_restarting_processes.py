@@ -4,13 +4,15 @@ import random
 import signal
 import time
 import unittest
+from contextlib import suppress
 
-from zanteyard import AuditorApart, LiveAuditor, Logged
+from zanteyard import RATHER_WAIT, AuditorApart, LiveAuditor, Logged
 from zanteyard.core._window import Coverage
 from zanteyard.core.errors import JournalInUseError
 from zanteyard.stores.memory import MemoryStore
 
 from .test_restarting import PROGRAM, WithJournal, log_with
+from .waiting import wait_until
 
 FEEDER = os.path.join(os.path.dirname(os.path.abspath(__file__)), "journal_feeder.py")
 ONE = Logged((), ("x",))
@@ -102,25 +104,33 @@ class Apart(WithJournal):
     def test_live(self):
         """One audit, of everything that clients did, whatever is killed."""
         auditor, store = self.auditor(), MemoryStore()
+
+        def program():
+            with suppress(OSError, AssertionError):
+                return child_of(auditor.process.pid, 0.1)
+
+        def add_ones(times=5):
+            for session in sessions * times:
+                session.run(lambda t: t.put("x", (t.get("x") or 0) + 1))
+
+        def until_told(words, count):
+            has_come = lambda: sum(words in it for it in self.told) >= count or add_ones(1)
+            self.assertTrue(wait_until(has_come, pause=0.05), self.told)
+
         with auditor:
-            with LiveAuditor(auditor, every=30, seconds=0.2) as live:
+            with LiveAuditor(auditor, every=30, seconds=0.2, policy=RATHER_WAIT) as live:
                 sessions = [live.session(store.connect()) for _ in range(2)]
-                for at in range(90):
-                    sessions[at % 2].run(lambda t: t.put("x", (t.get("x") or 0) + 1))
-                    if at % 30 == 9:
-                        os.kill(child_of(auditor.process.pid), signal.SIGKILL)
-                    if at % 30 == 29:
-                        auditor.process.kill()
-                    if at % 10 == 9:
-                        time.sleep(0.2)
+                for count in range(1, 4):
+                    add_ones()
+                    os.kill(wait_until(program), signal.SIGKILL)
+                    until_told("cobra_audit ended with status -9; starting another one", count)
+                    add_ones()
+                    auditor.process.kill()
+                    until_told("can't reach", count)
                 outcome = live.stop()
             self.assertEqual(outcome.kind, "serial", str(outcome))
             self.assertEqual(outcome.earlier, ())
             self.assertEqual(outcome.audited, outcome.handed_in)
-            self.assertGreaterEqual(outcome.audited, 90)
-            told = "\n".join(self.told)
-            self.assertIn("cobra_audit ended with status -9; starting another one", told)
-            self.assertIn("can't reach", told)
 
     def test_another_audit(self):
         """Its journal replaces the last one's."""

@@ -140,7 +140,7 @@ class Shrinking(unittest.TestCase):
         other = Logged((("y", "init"),), ("y",))
         history = [[Logged((), ("x",)), aborted, other, lost], [aborted, lost], [aborted]]
         self.assertEqual(
-            smaller(history),
+            smaller(history, seconds=60.0),
             [[Logged((), ("x",)), Logged((), ()), Logged((), ()), lost], [Logged((), ()), lost], []],
         )
 

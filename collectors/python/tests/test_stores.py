@@ -48,6 +48,7 @@ except ImportError:
 
 PLACE = os.path.join(os.path.dirname(os.path.abspath(__file__)), "..")
 NAME = ("run", 0, 0)
+LONG, SOON = 300.0, 120.0  # seconds that a wait would take, and within which it has to end, on a busy machine
 
 
 def lacking(**wanted):
@@ -466,7 +467,7 @@ class MariaDB(Each, unittest.TestCase):
 
     def test_what_a_meeting_reads_was_committed(self):
         level = "read uncommitted"
-        one, other = self.made(level, **self.waiting), self.made(level, **self.waiting)
+        one, other = self.made(level, lock_wait=int(LONG)), self.made(level, lock_wait=int(LONG))
         one.begin(), one.exchange("x", "1", NAME)
         other.begin()
         self.assertEqual(other.read("x")[0], "1")
@@ -475,20 +476,20 @@ class MariaDB(Each, unittest.TestCase):
             other.begin_alone(0.2)
             began = time.monotonic()
             self.assertRaises(AbortedError, read)
-            self.assertLess(time.monotonic() - began, 10.0)
+            self.assertLess(time.monotonic() - began, SOON)
         one.rollback()
-        other.begin_alone(5.0)
+        other.begin_alone(SOON)
         self.assertIsNone(other.read("x"))
 
     def test_who_hangs_up_waits_no_longer(self):
-        one, other = self.made(**self.waiting), self.made(**self.waiting)
+        one, other = self.made(), self.made(lock_wait=int(LONG))
         one.begin(), one.write("x", "1", NAME)
-        other.begin_alone(20.0)
+        other.begin_alone(LONG)
         hangs_up = threading.Thread(target=lambda: self.begin_to_wait() and other.hang_up())
         hangs_up.start()
         began = time.monotonic()
         self.assertRaises(OutcomeUnknownError, other.exchange, "x", "2", NAME)
-        self.assertLess(time.monotonic() - began, 10.0)
+        self.assertLess(time.monotonic() - began, SOON)
         hangs_up.join()
         one.rollback()  # now the server may go on with it, or notice that nobody waits
         outcome = other.outcome_within(60.0)
@@ -530,7 +531,7 @@ class MariaDB(Each, unittest.TestCase):
         """The server doesn't end it. The client stops waiting for it, and finds out later."""
         store = mariadb_store.MariaDBStore({**self.server.dsn, "read_timeout": 70})
         self.addCleanup(store.close)
-        store.begin_alone(5.0), store.exchange("x", "1", NAME)
+        store.begin_alone(SOON), store.exchange("x", "1", NAME)
         asked = (lambda: store.claim("monday", "token", 0.5), lambda: store.exchange("x", "2", NAME))
         for number, call in enumerate(asked):
             store.begin_alone(0.5)
@@ -857,7 +858,7 @@ class Redis(Each, unittest.TestCase):
                     a.run_alone(lambda t: t.get("x"), 0.3)
                 with self.assertRaises((AbortedError, OutcomeUnknownError, redis.RedisError)):
                     b.run_alone(lambda t: t.exchange("x", "2"), 0.3)
-                self.assertLess(time.monotonic() - began, 15.0)
+                self.assertLess(time.monotonic() - began, SOON)
             finally:
                 os.kill(server.process.pid, signal.SIGCONT)
             self.assertEqual(auditor.round().kind, "serial")
@@ -972,16 +973,16 @@ class SQLite(Each, unittest.TestCase):
     def test_what_a_meeting_asks_ends_in_time(self):
         for level in self.levels[:3]:
             with self.subTest(level=level):
-                one, other = self.made(level), self.made(level, patience=20.0)
+                one, other = self.made(level), self.made(level, patience=LONG)
                 one.begin(), one.exchange("x", "1", NAME)
                 other.begin_alone(0.2)
                 began = time.monotonic()
                 self.assertRaises(AbortedError, other.exchange, "y", "1", NAME)
                 if level == "read uncommitted":
                     self.assertRaises(AbortedError, other.read, "x")  # it wasn't committed
-                self.assertLess(time.monotonic() - began, 10.0)
+                self.assertLess(time.monotonic() - began, SOON)
                 one.rollback()
-                other.begin_alone(5.0)
+                other.begin_alone(SOON)
                 self.assertIsNone(other.read("x"))
 
     def test_who_cant_begin_takes_no_number(self):
@@ -997,7 +998,7 @@ class SQLite(Each, unittest.TestCase):
     def test_what_has_changed_since_it_was_read_cant_be_overwritten(self):
         """In WAL mode (BUSY_SNAPSHOT) waiting is useless, so nobody waits. With a rollback journal
         the other one can't commit."""
-        auditor, (a, b) = self.sessions(self.made("deferred", patience=20.0), self.made("deferred"))
+        auditor, (a, b) = self.sessions(self.made("deferred", patience=LONG), self.made("deferred"))
         transaction = a.begin()
         transaction.get("x")
         with contextlib.suppress(AbortedError):
@@ -1006,14 +1007,14 @@ class SQLite(Each, unittest.TestCase):
         began = time.monotonic()
         if self.journal == "wal":
             self.assertRaises(AbortedError, transaction.commit)
-            self.assertLess(time.monotonic() - began, 10.0)
+            self.assertLess(time.monotonic() - began, SOON)
         else:
             transaction.commit()
         self.assertEqual(self.value("x"), "2" if self.journal == "wal" else "1")
         self.assertEqual(auditor.round().kind, "serial")
 
     def test_two_that_both_want_to_write_dont_wait_for_each_other(self):
-        one, other = (self.made("deferred", patience=20.0) for _ in range(2))
+        one, other = (self.made("deferred", patience=LONG) for _ in range(2))
         for store in (one, other):
             store.begin(), store.read("x")
         one.write("x", "1", NAME)
@@ -1024,7 +1025,7 @@ class SQLite(Each, unittest.TestCase):
             self.addCleanup(ending.join)  # a connection that is closed while it is used crashes
             self.assertTrue(eventually(lambda: self.is_pending()))
         self.assertRaises(AbortedError, other.write, "x", "2", NAME)
-        self.assertLess(time.monotonic() - began, 15.0)
+        self.assertLess(time.monotonic() - began, SOON)
         other.rollback()
         if self.journal == "delete":
             ending.join()

@@ -97,13 +97,14 @@ class OnATerminal(unittest.TestCase):
         self.assertEqual(running.wait(SECONDS), 1)
 
     def test_that_it_is_at_work(self):
-        """Commands that count nothing; a slow file or program has each of them wait."""
+        """Commands that count nothing; a file or program has each of them wait until it is shown."""
         folder = tempfile.mkdtemp()
         self.addCleanup(shutil.rmtree, folder)
         history, script, slow = (f"{folder}/{name}" for name in ("history", "script", "slow"))
         os.mkfifo(history)
         with open(slow, "w", encoding="utf-8", opener=as_program) as file:
-            file.write(f'#!/bin/sh\nsleep 2\nexec {os.path.abspath(PROGRAM)} "$@"\n')
+            waits = f"while [ ! -e {folder}/shown ]; do sleep 0.05; done"
+            file.write(f'#!/bin/sh\n{waits}\nexec {os.path.abspath(PROGRAM)} "$@"\n')
         for words, shown, goes_on, wanted in (
             (("import", "csv", history, "-o", script), "(importing, ", "session,number,operation,key,value\na,0,write,x,1\n", f"{script}: "),
             (("levels", "-"), "(checking, ", LOST, "serializab"),
@@ -112,6 +113,7 @@ class OnATerminal(unittest.TestCase):
             with self.subTest(words=words):
                 running = self.begin(*words, COBRA_AUDIT=slow)
                 before = self.read(shown)
+                open(f"{folder}/shown", "wb").close()
                 if words[0] == "import":
                     with open(history, "w", encoding="utf-8") as file:
                         file.write(goes_on)
@@ -122,6 +124,7 @@ class OnATerminal(unittest.TestCase):
                 self.assertIn(wanted, text)
                 self.assertNotIn(shown, text.rsplit("\r\x1b[K", 1)[1])
                 running.wait(SECONDS)
+                os.remove(f"{folder}/shown")
 
 
 def as_program(path, flags):

@@ -84,7 +84,11 @@ func TestMeet(t *testing.T) {
 		{"one is busy for too long", []*fake{{number: 1}, {number: 2, busy: 1 << 30}}, 1, ErrBusy},
 		{"one makes none", []*fake{{number: 1}, {number: 2, err: bad}}, 1, bad},
 	} {
-		room := NewRoom(time.Second)
+		bound := time.Minute
+		if x.want == ErrBusy {
+			bound = time.Second
+		}
+		room := NewRoom(bound)
 		for _, m := range x.members {
 			room.Enter(m)
 		}

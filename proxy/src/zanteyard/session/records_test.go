@@ -244,10 +244,11 @@ func TestUnclear(t *testing.T) {
 	}
 }
 
-// TestBegan: a transaction that is sent before the previous one is answered began no later than it was sent, and no
-// earlier than the first of them was sent.
+// TestBegan: a transaction that is sent before the previous one is answered began long before that answer, which takes
+// two seconds, and no earlier than the first of them was sent.
 func TestBegan(t *testing.T) {
 	needServer(t)
+	sql(t, fill)
 	p := through(t, "postgres", nil)
 	p.warm("SELECT v FROM t WHERE id = 1", "UPDATE t SET v = 1 WHERE id = 1")
 	for _, x := range []struct {
@@ -255,15 +256,16 @@ func TestBegan(t *testing.T) {
 		send  []byte
 		times int
 	}{
-		{"three queries at once", append(append(query("SELECT v, pg_sleep(0.1) FROM t WHERE id = 1").send,
+		{"three queries at once", append(append(query("SELECT v, pg_sleep(2) FROM t WHERE id = 1").send,
 			query("UPDATE t SET v = 1 WHERE id = 1").send...), query("SELECT v FROM t WHERE id = 1").send...), 3},
-		{"three transactions in one", query("BEGIN; UPDATE t SET v = 1 WHERE id = 1; SELECT pg_sleep(0.1); COMMIT; " +
+		{"three transactions in one", query("BEGIN; UPDATE t SET v = 1 WHERE id = 1; SELECT pg_sleep(2); COMMIT; " +
 			"UPDATE t SET v = 1 WHERE id = 1; BEGIN; UPDATE t SET v = 1 WHERE id = 1; COMMIT").send, 1},
 	} {
 		before := time.Now()
 		p.send(x.send)
-		sent := time.Now()
-		for i := 0; i < x.times; i++ {
+		p.until('Z')
+		answered := time.Now()
+		for i := 1; i < x.times; i++ {
 			p.until('Z')
 		}
 		its := p.sink.take()
@@ -271,8 +273,8 @@ func TestBegan(t *testing.T) {
 			t.Errorf("%s: %d transactions were told", x.name, len(its))
 		}
 		for i, it := range its {
-			if it.Began.Before(before) || it.Began.After(sent.Add(50*time.Millisecond)) {
-				t.Errorf("%s: number %d began %v after all were sent", x.name, i, it.Began.Sub(sent))
+			if it.Began.Before(before) || it.Began.After(answered.Add(-500*time.Millisecond)) {
+				t.Errorf("%s: number %d began %v after they were sent", x.name, i, it.Began.Sub(before))
 			}
 		}
 	}
