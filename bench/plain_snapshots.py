@@ -255,8 +255,12 @@ def whole_of(parts):
 
 
 def is_proper(parts):
-    """Whether each commit whose begin is gone can read the stars that its begin wrote, as in parts
-    that a run gives out."""
+    """Whether each commit whose begin is gone can read the stars that its begin wrote, and none is
+    read by its own begin, as in parts that a run gives out."""
+    for session, halves in enumerate(parts.remaining):
+        for number, (reads, _) in enumerate(halves, parts.gone[session]):
+            if any(source == (session, number + 1) for _, source in reads):
+                return False
     for session, (mark, halves) in enumerate(zip(parts.gone, parts.remaining)):
         if mark % 2 and not (halves and all(
                 parts.base.get(key) == source for key, source in halves[0][0])):

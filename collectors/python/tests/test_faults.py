@@ -289,7 +289,15 @@ class Faults(unittest.TestCase):
         application = Application(sessions)
         self.addCleanup(application.end)
         self.wait_for(lambda: stuck.running is not None)
-        stuck.run(lambda t: t.get("y"))  # over another connection
+
+        def goes_on():
+            """Over another connection, which a busy machine may not open at the first try."""
+            with suppress(psycopg2.OperationalError):
+                stuck.run(lambda t: t.get("y"))
+                return True
+            return False
+
+        self.wait_for(goes_on)
         self.assertLess(stuck.longest, 2 * BOUND + application.lateness.allowed_beside_others)
         self.go_on(pid)
         self.ended(application, "the server of one connection stands still", None)

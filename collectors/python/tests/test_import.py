@@ -21,8 +21,8 @@ from zanteyard.imports._recording import ABORTED, COMMITTED, UNKNOWN
 from zanteyard.explain._script_times import read_times
 from zanteyard.explain._scripts import ScriptRun
 from zanteyard.imports._sources import Sources
+from zanteyard.promises._asking import Asking
 from zanteyard.promises._kinds import STRICT
-from zanteyard.promises._rewriting import Rewriting
 
 from . import plain_readers, recordings
 from .recordings import attempts_of, judged, judged_script, nobodys, seeded
@@ -367,11 +367,11 @@ class Edn(unittest.TestCase):
 
 
 def in_time(imported):
-    """The lines of the script, rewritten so that some order explains them exactly if some order
-    that respects time does."""
+    """The lines of the script, with what is added so that some order explains them exactly if some
+    order that respects time does."""
     lines = [*map(json.loads, imported.lines)]
-    rewriting = Rewriting(STRICT, imported.times.timeline(lines))
-    return [json.dumps(each) for line in lines for each in rewriting.asked(line)]
+    asking = Asking(STRICT, imported.times.timeline(lines))
+    return [json.dumps(each) for line in lines for each in asking.asked(line)]
 
 
 class Strict(unittest.TestCase):

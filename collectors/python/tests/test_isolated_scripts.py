@@ -1,18 +1,20 @@
 """Scripts that request snapshot isolation themselves: the program's replies are compared with the
-definition, tried over all orders, and with those of the rewriting in this package."""
+definition, tried over all orders, and with the plain model of bench/judge.py."""
 import json
 import os
 import random
 import subprocess
+import sys
 import unittest
 from collections import Counter
 from concurrent.futures import ThreadPoolExecutor
 
 from zanteyard.program._auditor import PROGRAM
-from zanteyard.promises._kinds import SNAPSHOT
-from zanteyard.promises._rewriting import Rewriting
 
 from .plain_promises import COMMITTED, did, generated, has_events, ids_of, is_pending, script_of
+
+sys.path.append(os.path.join(os.path.dirname(os.path.abspath(__file__)), "../../../bench"))
+import judge  # noqa: E402
 
 HISTORIES = int(os.environ.get("ZANTEYARD_HISTORIES", "500"))
 ROUND = ["round", 4096, 0, 1]
@@ -26,14 +28,10 @@ def replies_to(lines):
     return [*map(json.loads, run.stdout.splitlines())]
 
 
-def rewritten_replies(lines):
-    """The replies to a script about serializability, in which the package splits transactions."""
-    rewriting = Rewriting(SNAPSHOT)
-    asked = [rewriting.asked(line) for line in lines]
-    replies = iter(replies_to([each for one in asked for each in one]))
-    for line, one in zip(lines, asked):
-        told = rewriting.told(line, [next(replies) for _ in one])
-        yield told[:4] if told[0] == "cut" else told  # only the rewriting has a fifth part
+def model_says(lines, replies):
+    """What is wrong with the replies; None if nothing is."""
+    script, told = (b"".join(judge.text(it) + b"\n" for it in its) for its in (lines, replies))
+    return judge.first_difference(script, told)
 
 
 class Asked:
@@ -152,9 +150,10 @@ class ByTheProgram(unittest.TestCase):
         opening, *offers = script_of(history)
         ends = [["close", session] for session in range(len(history))]
         rest = [*offers, *ends, ROUND, ["truncate"], ["show"], ROUND]
-        replies = replies_to([[*opening, "snapshot"], *rest])
+        lines = [[*opening, "snapshot"], *rest]
+        replies = replies_to(lines)
         with self.subTest(seed=seed):
-            self.assertEqual(replies, [*rewritten_replies([opening, *rest])])
+            self.assertIsNone(model_says(lines, replies))
             report, cut = replies[-4], replies[-3]
             is_kept = has_events(history)
             owed = "violated" if not is_kept else "pending" if is_pending(history) else "serial"

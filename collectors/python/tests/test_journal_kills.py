@@ -69,22 +69,26 @@ def shuffled(entries, dice):
 
 class Killing(threading.Thread):
     """Kills the process `pid()` repeatedly, until the context ends; at most twice while `done()`
-    doesn't change, since after eight programs that die over one line the audit ends."""
+    doesn't change, and at most five times while `rounds()` doesn't, since after eight programs that
+    die over one line or one round the audit ends."""
 
-    def __init__(self, pid, done, dice, pause=(0.05, 0.5)):
+    def __init__(self, pid, done, rounds, dice, pause=(0.05, 0.5)):
         super().__init__(daemon=True)
-        self.pid, self.done, self.dice, self.pause = pid, done, dice, pause
+        self.pid, self.done, self.rounds, self.dice, self.pause = pid, done, rounds, dice, pause
         self.kills, self.has_ended = 0, threading.Event()
 
     def run(self):
-        done, idle = None, 0
+        done, rounds, idle, over_one_round = None, None, 0, 0
         while not self.has_ended.wait(self.dice.uniform(*self.pause)):
             now = self.done()
             done, idle = now, idle + 1 if now == done else 0
-            if idle < 2:
+            now = self.rounds()
+            rounds, over_one_round = now, over_one_round if now == rounds else 0
+            if idle < 2 and over_one_round < 5:
                 try:
                     os.kill(self.pid(), signal.SIGKILL)
                     self.kills += 1
+                    over_one_round += 1
                 except (OSError, AssertionError, AttributeError, ValueError):
                     pass  # it is being started
 
@@ -111,7 +115,7 @@ class Live(WithJournal):
         log = Log(dice, fault, connect=store.connect)
         log.sessions = [live.session(store.connect()) for _ in range(3)]
         until, when = time.monotonic() + ENOUGH, random.Random(f"{seed} when")
-        with Killing(lambda: auditor.program.process.pid, lambda: len(heard.replies), when, (0.02, 0.2)) as killing:
+        with Killing(lambda: auditor.program.process.pid, lambda: len(heard.replies), lambda: len(heard.told), when, (0.02, 0.2)) as killing:
             while time.monotonic() < until and not live.is_over:
                 if live.handed_in >= most and (fault is None or live.handed_in > MANY) and killing.kills >= least:
                     break
@@ -159,7 +163,8 @@ class Live(WithJournal):
 
         deeds = [*((offers, session) for session in range(3)), (rounds, None), (rounds, None)]
         threads = [threading.Thread(target=run, args=each) for each in deeds]
-        with Killing(lambda: auditor.program.process.pid, lambda: len(heard.replies), random.Random(SEED), (0.005, 0.05)) as killing:
+        dice, program_id = random.Random(SEED), lambda: auditor.program.process.pid
+        with Killing(program_id, lambda: len(heard.replies), lambda: len(heard.told), dice, (0.005, 0.05)) as killing:
             for thread in threads:
                 thread.start()
             for thread in threads:
@@ -326,7 +331,7 @@ class Postgres(Fed):
                 last, rounds = auditor.last_round, []
                 auditor.last_round = lambda *asked: rounds.append(last(*asked)) or rounds[-1]
                 with AuditServer(live, os.path.join(self.folder, f"audit {wanted}")) as server:
-                    with Killing(lambda: child_of(auditor.process.pid, 0.5), lambda: live.taken_in + live.rounds, dice, (0.2, 1.0)) as killing:
+                    with Killing(lambda: child_of(auditor.process.pid, 0.5), lambda: live.taken_in + live.rounds, lambda: live.rounds, dice, (0.2, 1.0)) as killing:
                         pair = Lockstep(live, lambda level=level: PostgresStore(self.dsn, level), killing, self.have_begun)
                         # a violation ends the run
                         seconds = 4.0 * TIMES if wanted == "serial" else 3 * ENOUGH

@@ -1,5 +1,4 @@
-"""Promises other than serializability, checked by rewriting the auditor's input, and compared with
-their definitions by trying all orders."""
+"""Promises other than serializability, compared with their definitions by trying all orders."""
 import json
 import os
 import re
@@ -11,11 +10,10 @@ from zanteyard.core._records import ABORTED, Logged
 from zanteyard.core.errors import CantBeAskedError, ScriptMistakeError
 from zanteyard.explain._scripts import ScriptRun
 from zanteyard.explain._script_times import ScriptTimes, read_times
-from zanteyard.explain._shrinking import audited
+from zanteyard.explain._shrinking import audited, in_halves
 from zanteyard.program._auditor import PROGRAM
-from zanteyard.promises._kinds import ALL, ASKED, IMPLIED, SERIALIZABLE, SNAPSHOT, STRICT, weaker
-from zanteyard.promises._rewriting import Rewriting
-from zanteyard.promises._split import KEYS, split_transactions
+from zanteyard.promises._asking import KEYS, Asking
+from zanteyard.promises._kinds import ALL, ASKED, IMPLIED, PREFIX, SERIALIZABLE, SNAPSHOT, STRICT, weaker
 from zanteyard.promises._times import TIME_KEYS, Timeline
 
 from .plain_promises import COMMITTED, DEFINITIONS, generated, has_order, ids_of, is_pending, script_of
@@ -74,79 +72,66 @@ def read_back(lines):
     return sessions
 
 
-class Rules(unittest.TestCase):
-    """The rules of the split, as the crate `snapshot_histories` states them."""
+def plainly(logged):
+    """The same in the form of the plain definitions."""
+    def one(its):
+        reads, writes = its.did
+        outcome = ABORTED if its.is_undone else COMMITTED
+        return [(key, None if at == "init" else at) for key, at in reads], set(writes), outcome
 
-    def test_halves(self):
-        """Worked by hand from specs/Split.antt."""
-        star = KEYS + 5
-        rows = (
-            ("a read of the initial state", [[[5, "init"]], []], [[[5, "init"]], []], [[], []]),
-            ("a read", [[[5, 2, 7]], []], [[[5, 2, 15]], []], [[], []]),
-            ("a write", [[], [5]], [[], [star]], [[[star, 3, 8]], [5]]),
-            (
-                "both",
-                [[[4, "init"], [5, 0, 0]], [5, 6]],
-                [[[4, "init"], [5, 0, 1]], [star, star + 1]],
-                [[[star, 3, 8], [star + 1, 3, 8]], [5, 6]],
-            ),
-            ("a fence", [[[0, 1, 2]], [0]], [[[0, 1, 5]], [0]], [[[0, 3, 8]], [0]]),
-            ("the first fence", [[[0, "init"]], [0]], [[[0, "init"]], [0]], [[[0, 3, 8]], [0]]),
-            ("nothing", [[], []], [[], []], [[], []]),
-            (
-                "an attempt that aborted",
-                [[[5, 0, 0]], [5], ABORTED],
-                [[[5, 0, 1]], [star], ABORTED],
-                [[[star, 3, 8]], [5], ABORTED],
-            ),
-        )
-        for shows, transaction, begin, commit in rows:
-            with self.subTest(shows=shows):
-                self.assertEqual([*split_transactions(3, 4, [transaction])], [begin, commit])
+    return [[*map(one, its)] for its in logged]
+
+
+class Rules(unittest.TestCase):
+    """What the auditor is given."""
 
     def test_lines(self):
-        rewriting = Rewriting(SNAPSHOT)
-        self.assertEqual(rewriting.asked(["open", 2, 16, 2]), [["open", 2, 32, 2]])
-        self.assertEqual(rewriting.asked(["open", 2, 4000]), [["open", 2, 4096]])
-        self.assertTrue(rewriting.has_less_room)
-        ((word, session, first, halves),) = rewriting.asked(["offer", 1, 3, [[[], [5]], [[], []]]])
-        self.assertEqual((word, session, first, len(halves)), ("offer", 1, 6, 4))
-        fence = [[[0, 0, 1]], [0]]
-        self.assertEqual(rewriting.asked(["join", 2, [fence]])[0][:2], ["join", 2])
-        self.assertEqual(rewriting.asked(["join", 2, 5, [fence]])[0][:3], ["join", 2, 10])
-        many = rewriting.asked(["offer", 0, 2, [[[], []]] * 200])
-        self.assertEqual([(line[2], len(line[3])) for line in many], [(4, 256), (260, 144)])
-        for line in (["round", 1, 0, 1], ["offer", 0, 0, "x"], ["offer", 0, 0, [[[[5]], []]]], []):
-            self.assertEqual(rewriting.asked(line), [line])  # the auditor judges it
-        for line in (
-            ["resume", 2, 16], ["save", "marks"], ["answer", "order", []],
-            ["offer", 0, 0, [[[], [KEYS]]]], ["offer", 0, 0, [[[[5, 0, 0]], []]]],
-            ["offer", 0, 0, [[[[5, 0, 1 << 47]], []]]],
+        """Of a script that asks for serializability, if it is asked about snapshot isolation."""
+        asking, form = Asking(SNAPSHOT), [2, "snapshot"]
+        offer, fence = ["offer", 1, 3, [[[], [5]], [[], []]]], [[[0, 0, 1]], [0]]
+        many, longer = [[[], []]] * 200, ["offer", 0, 2, [[[], []]] * 257]
+        for line, *asked in (
+            (["open", 2, 16, 2], ["open", 2, 16, *form]),
+            (["open", 2, 4000], ["open", 2, 2048, *form]),
+            (["offer", 0, 2, many], ["offer", 0, 2, many[:128]], ["offer", 0, 130, many[128:]]),
+            (["join", 2, many], ["join", 2, many[:128]], ["offer", 2, 128, many[128:]]),
+            *((line, line) for line in (
+                offer, ["join", 2, 5, [fence]], ["save", "marks"], ["round", 1, 0, 1], longer,
+                ["open", 2, 4097, *form], ["open", 2, 8, 3], ["offer", 0, 0, "x"],
+                ["offer", 0, 0, [[[[5]], []]]], [],
+            )),
         ):
+            with self.subTest(line=line[:3]):
+                self.assertEqual(asking.asked(line), asked)
+        self.assertEqual(asking.asked(["answer", "order", []]), [["answer", "order", []]])  # its own
+        for line in (["resume", 2, 16], ["answer", "order", []]):
             with self.subTest(line=line), self.assertRaises(CantBeAskedError):
-                rewriting.asked(line)
+                Asking(SNAPSHOT).asked(line)
+        with self.assertRaises(CantBeAskedError):
+            Asking(SERIALIZABLE).asked(["resume", 2, 16, *form])
+        self.assertEqual(Asking(STRICT).asked(["open", 2, 8, *form]), [["open", 2, 8, 2]])
 
-    def test_split_histories_have_an_order_where_snapshot_isolation_is_kept(self):
-        """Without the auditor: tests the split itself, and the times."""
+    def test_there_is_an_order_where_the_promise_is_kept(self):
+        """Without the auditor: tests the halves of prefix consistency, and the times."""
         kinds = Counter()
         for seed in range(HISTORIES):
             history, times = generated(seed)
             counted = asked_times(history, times)
-            lines = [*script_of(history)]
             live = {id: counted[id] for id in counted if history[id[0]][id[1]][2] != ABORTED}
-            for promise in ALL:
-                if not promise.keeps_sessions or (promise.name == "prefix" and has_fence(history)):
-                    continue
-                rewriting = Rewriting(promise, Timeline(live))
-                asked = [each for line in lines for each in rewriting.asked(line)]
-                is_kept = DEFINITIONS[promise.name](history, counted)
-                with self.subTest(seed=seed, promise=promise.name):
-                    self.assertEqual(has_order(read_back(asked)), is_kept)
-                kinds[promise.name, is_kept] += 1
-        for promise in ALL:
-            if promise.keeps_sessions:
-                for is_kept in (False, True):
-                    self.assertGreater(kinds[promise.name, is_kept], HISTORIES // 50)
+            asking = Asking(STRICT, Timeline(live))
+            asked = [each for line in script_of(history) for each in asking.asked(line)]
+            told = {"strict": has_order(read_back(asked))}
+            if not has_fence(history):
+                told["prefix"] = has_order(plainly(in_halves(as_logged(history, times))))
+            for name, is_kept in told.items():
+                with self.subTest(seed=seed, promise=name):
+                    self.assertEqual(is_kept, DEFINITIONS[name](history, counted))
+                kinds[name, is_kept] += 1
+        for name in ("strict", "prefix"):
+            for is_kept in (False, True):
+                self.assertGreater(kinds[name, is_kept], HISTORIES // 50)
+        with self.assertRaisesRegex(CantBeAskedError, "fences"):
+            in_halves([[Logged([(FENCE, "init")], [FENCE])]])
 
     def test_what_implies_what(self):
         """And nothing else: for each other pair, some history keeps only the one."""
@@ -252,21 +237,63 @@ class ByTheAuditor(unittest.TestCase):
         opened = ["open", 2, 4096]
         rows = (
             (SNAPSHOT, [["resume", 1, 4]], "continues another one"),
-            (SNAPSHOT, [["open", 2, 8, 2, "snapshot"]], "ask by --promise snapshot"),
-            (SERIALIZABLE, [["open", 2, 8, 2, "snapshot"]], "ask by --promise snapshot"),
-            (SNAPSHOT, [opened, ["save", "marks"]], "split in two"),
+            (SERIALIZABLE, [["resume", 2, 8, 2, "snapshot"]], "continues another one"),
             (SNAPSHOT, [opened, ["begin"], ["answer", "order", []]], "from elsewhere"),
             (SNAPSHOT, [opened, ["offer", 0, 0, [[[], [KEYS]]]]], "below 9223372036854775808"),
+            (None, [["open", 2, 2049, 2, "snapshot"]], "2,048 remain"),
             (SNAPSHOT, [opened, *too_many()], "at most 2,048"),
             (STRICT, [opened, ["offer", 0, 0, [[[], [TIME_KEYS]]]]], "below 4611686018427387904"),
         )
         for promise, lines, words in rows:
             with self.subTest(words=words), self.assertRaisesRegex(ScriptMistakeError, words):
-                kind_told([*lines, ROUND], promise, {} if promise.is_timed else None)
+                kind_told([*lines, ROUND], promise, {} if promise == STRICT else None)
         with self.assertRaisesRegex(CantBeAskedError, "SCRIPT.times"):
             ScriptRun(PROGRAM, promise=STRICT)
         with self.assertRaisesRegex(CantBeAskedError, "1.7 has times, and isn't in the script"):
             kind_told([opened, ROUND], STRICT, {(1, 7): (0, 1)})
+
+    def test_a_script_may_ask_by_itself(self):
+        """It is asked about its own promise, unless another one is given."""
+        lost = [["offer", at, 0, [[[[5, "init"]], [5]]]] for at in range(2)]
+        skew = [["offer", at, 0, [[[[5 + at, "init"]], [6 - at]]]] for at in range(2)]
+        own, plain = ["open", 2, 8, 2, "snapshot"], ["open", 2, 8]
+        for opened, promise, offers, kind in (
+            (own, None, lost, "violated"), (own, None, skew, "serial"), (own, SNAPSHOT, skew, "serial"),
+            (own, SERIALIZABLE, skew, "violated"), (plain, None, skew, "violated"),
+            (plain, SNAPSHOT, skew, "serial"),
+        ):
+            with self.subTest(opened=opened, promise=promise, kind=kind):
+                self.assertEqual(kind_told([opened, *offers, ["save", "marks"], ROUND], promise).kind, kind)
+
+    def test_a_script_may_continue_one_about_snapshots(self):
+        """What its splitting adds is no key of the script's."""
+        fence, last = [[[0, 0, 1]], [0]], [[0, 0, 1], [5, 0, 0], [KEYS + 5, 0, 0], [KEYS + 9, 2, 0]]
+        lines = [
+            ["resume", 3, 16, 2, "snapshot"], ["marks", [2, 0, 0], [False] * 3, [False, False, True]],
+            ["last", last], ["offer", 0, 2, [[[[9, 2, 0]], [7]]]], ["offer", 1, 0, [fence]],
+            ["offer", 2, 0, [[[], [9]]]], ["resumed"], ROUND,
+        ]
+        with ScriptRun(PROGRAM) as run:
+            (verdict,) = run.verdicts(json.dumps(line).encode() for line in lines)
+            self.assertEqual((verdict.kind, verdict.counts), ("serial", [3, 1, 1]))
+            self.assertEqual(run.history.base, {FENCE: (0, 1), "key 5": (0, 0)})
+
+    def test_reads_are_forgotten_with_a_begin(self):
+        """At a cut behind which a transaction commits that has begun before it."""
+        fences = [[[0, "init"]], [0]], [[[0, 0, 1]], [0]]
+        lines = [
+            ["open", 3, 16], ["offer", 0, 0, [[[], [5]], fences[0]]],
+            ["offer", 1, 0, [fences[1], [[[5, 0, 0], [9, "init"]], []]]],
+            ["offer", 2, 0, [[[[5, "init"]], [9]]]], ["offer", 0, 2, [[[[9, 2, 0]], [7]]]], ROUND,
+            ["truncate"], ROUND,
+        ]
+        with ScriptRun(PROGRAM, promise=SNAPSHOT) as run:
+            self.assertEqual(
+                [(it.kind, it.counts) for it in run.verdicts(json.dumps(line).encode() for line in lines)],
+                [("serial", [3, 2, 1])] * 2,
+            )
+            self.assertEqual(run.history.marks, [2, 1, 0])
+            self.assertEqual([its.did for its in run.history.history[2]], [((), ("key 9",))])
 
     def test_half_the_room_suffices_for_half_as_many(self):
         lines = [["open", 1, 4096], *too_many()[:-1], ["show"], ROUND]

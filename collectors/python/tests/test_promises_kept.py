@@ -1,17 +1,16 @@
 """Audits for snapshot isolation with a journal: the history is kept as it was offered, with the
 promise."""
 import contextlib
+import json
 import os
 import random
 import unittest
 
 from zanteyard import Auditor, AuditorApart, Logged, NoCutError
+from zanteyard.core._own_keys import FENCE
 from zanteyard.core.errors import JournalError
 from zanteyard.journal import _entries
 from zanteyard.journal._file import Journal
-from zanteyard.promises._keeping import KeptRewriting
-from zanteyard.promises._kinds import SNAPSHOT
-
 from .killing import MOMENTS, PLAIN, Killer, Log, once
 from .test_restarting import PROGRAM, WithJournal, kinds, steps
 
@@ -104,44 +103,51 @@ class Killed(OfSnapshots):
 
     def test_what_has_begun(self):
         """A cut that forgets a begin and not the commit: the transaction remains, without its
-        reads."""
-        rewriting = KeptRewriting(SNAPSHOT)
-        begun = ["marks", [3, 2], [False, True]]
-        self.assertEqual(
-            rewriting.told(["save", "marks"], [begun]), ["marks", [1, 1], [False, True], [[0, 1]]]
-        )
-        star = 1 << 63
-        halves = [[[[5 + star, 0, 2]], [5]], [[[5, 0, 3], [6, "init"]], []], [[], []], [[[7, 1, 1]], [9 + star]]]
-        reply = ["offer", 0, 3, halves]
-        given = rewriting.told(["save", "remain", 0, 0], [reply])
-        self.assertEqual(given, ["offer", 0, 1, [[[], [5]], [[[5, 0, 1], [6, "init"]], []]]])
-        self.assertEqual(
-            rewriting.told(["save", "last", 0], [["last", [[0, 1, 0], [5, 1, 1], [5 + star, 1, 0]]]]),
-            ["last", [[5, 1, 0]]],
-        )
-        asked = [
-            *rewriting.asked(["resume", 2, 16, 2]),
-            *rewriting.asked(["marks", [1, 1], [False, True], [[0, 1]]]),
-            *rewriting.asked(["last", [[5, 1, 0]]]),
-            *rewriting.asked(given),
-            *rewriting.asked(["resumed"]),
-        ]
-        self.assertEqual(
-            asked,
-            [
-                ["resume", 2, 32, 2],
-                begun,
-                ["last", [[5, 1, 1]]],
-                ["last", [[5 + star, 0, 2]]],
-                ["offer", 0, 3, halves[:3]],
-                ["resumed"],
-            ],
-        )
-        self.assertEqual(rewriting.asked(["offer", 0, 3, [[[], []]]]), [["offer", 0, 6, [[[], []], [[], []]]]])
+        reads, also for who continues."""
+        late, fence = Logged([("x", "init")], ["y"]), [Logged([(FENCE, it)], [FENCE]) for it in ("init", (0, 1))]
+        with self.auditor() as auditor:
+            auditor.offer(0, 0, Logged((), ["x"]), fence[0], Logged([("y", (2, 0))], ["z"]))
+            auditor.offer(1, 0, fence[1], Logged([("x", (0, 0)), ("y", "init")], ()))
+            auditor.offer(2, 0, late)
+            self.assertEqual(auditor.round().kind, "serial")
+            auditor.truncate()
+            self.assertEqual(auditor.marks, [2, 1, 0])
+            self.assertEqual(plain(auditor)[2], [[[], [auditor.key_number("y")]]])
+            wanted = plain(auditor), auditor.marks, auditor.base
+        with self.resumed() as auditor:
+            self.assertEqual((plain(auditor), auditor.marks, auditor.base), wanted)
+            self.assertEqual(auditor.last_round().kind, "serial")
+            auditor.offer(1, 2, Logged([("x", "init")], ()))
+            self.assertEqual(auditor.last_round().kind, "violated")
 
-    def test_what_isnt_split(self):
-        with self.assertRaisesRegex(JournalError, "differs from what it was given"):
-            KeptRewriting(SNAPSHOT).told(["save", "remain", 0, 0], [["offer", 0, 0, [[[], []], [[], [5]]]]])
+    def test_journals_of_an_earlier_version(self):
+        """Its programs were asked about transactions in two: marks named what had begun, and a line
+        could have 256 transactions."""
+        head = _entries.Head(3, 4096, "run", promise="snapshot")
+        fence, idle = [[[0, 0, 1]], [0]], [[], []]
+        saved = [
+            ["resume", 3, 4096, 2], ["marks", [2, 0, 0], [False, False, True], [[2, 0]]],
+            ["last", [[0, 0, 1], [1, 0, 0]]], ["offer", 0, 2, [[[[2, 2, 0]], [3]]]],
+            ["offer", 1, 0, [fence]], ["offer", 2, 0, [[[], [2]]]], ["resumed"],
+        ]
+        lines = [["offer", 1, 1, [[[[1, 0, 0], [2, "init"]], []], *[idle] * 199]], ["close", 0]]
+        texts = [json.dumps(line).encode() for line in saved]
+        journal = Journal(self.path)
+        names = _entries.keys(0, [FENCE, "x", "y", "z"])
+        journal.begin_anew(
+            [*_entries.checkpoint(head, names, (), texts),
+             *(_entries.line(json.dumps(line).encode()) for line in lines)]
+        )
+        journal.close()
+        with self.resumed(promise="snapshot") as auditor:
+            self.assertEqual((auditor.received, auditor.marks), ([3, 201, 1], [2, 0, 0]))
+            self.assertEqual(auditor.closed, [True, False, True])
+            self.assertEqual(auditor.base, {FENCE: (0, 1), "x": (0, 0)})
+            self.assertEqual(plain(auditor)[2], [[[], [2]]])
+            self.assertEqual(auditor.limit, 2048)
+            self.assertEqual(auditor.last_round().kind, "serial")
+            auditor.offer(1, 201, Logged([("x", "init")], ()))
+            self.assertEqual(auditor.last_round().kind, "violated")
 
 
 class Promises(OfSnapshots):

@@ -16,9 +16,11 @@ from zanteyard.cli._statuses import STATUSES
 from zanteyard.core.errors import ScriptMistakeError
 from zanteyard.explain._scripts import ScriptRun
 from zanteyard.explain._shrinking import from_start, is_violated
+from zanteyard.promises._kinds import SERIALIZABLE, SNAPSHOT
 
 from .plain_auditor import Plain  # this import also makes bench importable
 from fuzz_lines import Scripts as Generator  # noqa: E402
+from plain_snapshots import is_proper  # noqa: E402
 
 TOP = os.path.normpath(os.path.join(os.path.dirname(os.path.abspath(__file__)), "../../.."))
 WORKED = os.path.join(TOP, "crates/cobra_examples/data")
@@ -82,10 +84,6 @@ def generated(seed):
     return lines, plain
 
 
-def asks_for_snapshots(lines):
-    return any(line.startswith((b'["open"', b'["resume"')) and b'"snapshot"' in line for line in lines)
-
-
 def is_refusal(reply):
     return reply[0] == "no" and reply[2] != "NoCut"
 
@@ -126,7 +124,7 @@ class Scripts(unittest.TestCase):
         words = set()
         for name, lines, replies in worked():
             kept = [(line, reply) for line, reply in zip(lines, replies) if not is_refusal(reply)]
-            if not kept or asks_for_snapshots(line for line, _ in kept):
+            if not kept:
                 continue
             words.update(json.loads(line)[0] for line, _ in kept)
             wanted = reports(reply for _, reply in kept)
@@ -148,8 +146,6 @@ class Scripts(unittest.TestCase):
             if not kinds or "spent" in kinds:
                 continue  # a spent round is repeated
             lines = [line for line, _ in kept]
-            if asks_for_snapshots(lines):
-                continue
             while not lines[-1].strip().startswith(ENDS):
                 lines.pop()  # so that no round is added at the end
             with self.subTest(script=name):
@@ -160,19 +156,6 @@ class Scripts(unittest.TestCase):
                     status, out = self.told(lines, "explain", "0.5")
                     self.assertEqual((status, "because" in out), (1, True), out)
 
-    def test_worked_scripts_that_ask_for_snapshots_themselves(self):
-        """`zanteyard check` has an option to ask for it, and its error says so."""
-        count = 0
-        for name, lines, replies in worked():
-            kept = [line for line, reply in zip(lines, replies) if not is_refusal(reply)]
-            if asks_for_snapshots(kept):
-                count += 1
-                with self.subTest(script=name):
-                    status, out, err = run("check", self.path(kept))
-                    self.assertEqual((status, out), (2, ""))
-                    self.assertIn('leave "snapshot" out of its first line', err)
-        self.assertGreater(count, 5)
-
     def test_generated_scripts(self):
         """The same history is kept as by the plain auditor; without its cut, that history is
         violated exactly if the last round is."""
@@ -182,6 +165,9 @@ class Scripts(unittest.TestCase):
             told = [json.loads(line)[0] for line in lines]
             if plain.parts is None or not {"join", "resume"} & {*told}:
                 continue
+            if plain.is_isolated and not is_proper(plain.parts):
+                continue  # parts of no run
+            kept, promise = plain.kept(), SNAPSHOT if plain.is_isolated else SERIALIZABLE
             with self.subTest(seed=seed):
                 ended = b'["collect","wait"]' if plain.search else b'["finish",4096,0,1]'
                 found, its = self.verdicts([*lines, *([ended] if plain.snapshot else []), ROUND.encode()])
@@ -189,12 +175,13 @@ class Scripts(unittest.TestCase):
                              for txns in its.history]
                 owed = [[[[(its.key_name(key), source if source[0] >= 0 else "init") for key, source in reads],
                           [*map(its.key_name, writes)]] for reads, writes in txns]
-                        for txns in plain.parts.remaining]
+                        for txns in kept.remaining]
                 self.assertEqual(remaining, owed)
-                self.assertEqual(its.marks, plain.parts.gone)
-                self.assertEqual(its.base, {its.key_name(key): it for key, it in plain.parts.base.items()})
+                self.assertEqual(its.marks, kept.gone)
+                self.assertEqual(its.base, {its.key_name(key): it for key, it in kept.base.items()})
                 if found[-1].kind != "spent":
-                    self.assertEqual(is_violated(from_start(its)[0]), found[-1].kind == "violated")
+                    is_broken = is_violated(from_start(its)[0], promise=promise)
+                    self.assertEqual(is_broken, found[-1].kind == "violated")
                     count += 1
                     kinds.add(found[-1].kind)
                     words.update(told)

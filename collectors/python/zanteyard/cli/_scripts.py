@@ -16,7 +16,7 @@ from ..explain._script_times import ScriptTimes, read_times
 from ..explain._scripts import MORE, ScriptRun, Verdict
 from ..imports._guess import FIRST, history_form
 from ..program._binaries import find_program
-from ..promises._kinds import ASKED
+from ..promises._kinds import ASKED, STRICT
 from ._progress import Progress
 from ._told import STATUSES, tell, tell_with_page
 
@@ -64,7 +64,7 @@ def _add_promise(command: argparse.ArgumentParser) -> None:
     command.add_argument(
         "--promise",
         choices=tuple(ASKED),
-        help="what the store promises (serializable, or strict if the script was imported with "
+        help="what the store promises (what the script asks for, or strict if it was imported with "
         "--strict); strict needs the times in SCRIPT.times (docs/PROMISES.md)",
     )
     command.add_argument(
@@ -119,8 +119,8 @@ def _run_of(asked: Any) -> ScriptRun:
     """Raises CantBeAskedError if the script can't be checked for the promise."""
     names = _names(asked.script)
     is_timed = names is not None and names.asks_time
-    promise = ASKED[asked.promise or ("strict" if is_timed else "serializable")]
-    if is_timed and not promise.is_timed and names is not None and names.has_pauses:
+    promise = ASKED[asked.promise] if asked.promise else STRICT if is_timed else None
+    if promise and is_timed and not promise.is_timed and names and names.has_pauses:
         raise CantBeAskedError(
             f"the script's fences enforce real-time order, which {promise.title} doesn't ask for: "
             "import it again without --strict"

@@ -21,7 +21,7 @@ from ..promises._kinds import (
     stronger,
     weaker,
 )
-from ..promises._rewriting import LIMIT, SESSIONS
+from ..promises._asking import LIMIT, SESSIONS
 from ._arcs import table
 from ._report import EXPLAINED, SHOWN
 from ._script_names import ScriptNames

@@ -34,7 +34,7 @@ def read_refutation(
     history: History,
     keys: Sequence[str],
     name: Naming,
-    moved: Callable[[ShownId], ShownId] = ShownId,
+    moved: Callable[[ShownId], Node] = ShownId,
     keeps_sessions: bool = True,
 ) -> Explanation:
     """The explanation in these items. `keys` are the names of keys by number, and `moved` gives the
@@ -59,7 +59,7 @@ class _Reading:
         history: History,
         keys: Sequence[str],
         name: Naming,
-        moved: Callable[[ShownId], ShownId],
+        moved: Callable[[ShownId], Node],
         keeps_sessions: bool,
     ) -> None:
         self.items, self.keeps_sessions = iter(items), keeps_sessions
@@ -201,9 +201,9 @@ class _Reading:
             if what != "node":
                 found.append(left.pop(0))
                 continue
-            id = self.moved(ShownId((left.pop(0), left.pop(0))))
+            node = self.moved(ShownId((left.pop(0), left.pop(0))))
             is_event = bool(left) and left[0] in EVENTS
-            found.append(Event(id, left.pop(0)) if is_event else id)
+            found.append(Event(node, left.pop(0)) if is_event else node)
         if left:
             raise ValueError(f"{parts}")
         return found

@@ -12,7 +12,7 @@ from ..core._own_keys import LONGEST
 from ..core._private_files import private
 from ..core._records import AuditId
 from ..core.errors import CantBeAskedError
-from ..promises._rewriting import is_of_transactions
+from ..promises._asking import is_of_transactions
 from ..promises._times import Span, Timeline, mistake_in
 
 TIMES = ".times"

@@ -22,9 +22,8 @@ from ..core.errors import (
 )
 from ..program._intake import EFFORTS, GUIDED, never_came
 from ..program._lines import TOO_OLD
-from ..program._rewritten_pipes import NO_ROOM
-from ..promises._kinds import SERIALIZABLE, Promise
-from ..promises._rewriting import ASKS_ITSELF, LIMIT, Rewriting
+from ..promises._asking import KEYS, Asking, asked_in, begun_in, most_remaining
+from ..promises._kinds import SERIALIZABLE, SNAPSHOT, Promise
 from ._line_forms import mistake_of
 from ._script_names import NamedTransaction, ScriptNames
 from ._script_times import ScriptTimes
@@ -33,7 +32,8 @@ from ._script_times import ScriptTimes
 WORKERS = max(1, min(16, os.cpu_count() or 1))
 MORE = tuple((nodes, 4, WORKERS) for nodes in (1 << 16, 1 << 20, 1 << 24))
 WAITS = (0.1, 0.5)  # seconds until a line that was answered NoMemory is sent again
-OPENS_FORM = re.compile(rb'\["(open|resume)",\d+,\d+,2\]$')  # opens a script of version 2
+SAVE_MARKS = b'["save","marks"]'
+OPENS_FORM = re.compile(rb'\["(open|resume)", ?\d+, ?\d+, ?2(, ?"snapshot")?\]$')  # of version 2
 MOST_OPEN = "a script has 1 to 64 sessions, and at most 4,096 transactions remain at a time"
 
 # What to do about a refusal, if its name doesn't say.
@@ -59,10 +59,16 @@ ADVICE: Mapping[str, str] = {
 
 
 BEGINS = 'a script begins with ["open",..], or by ["resume",..] up to ["resumed"]'
-HALF_THE_ROOM = (
-    f"under this promise each transaction takes the room of two, so at most {LIMIT // 2:,} remain "
-    "at a time: fences and `truncate` make room, or check a part of the history"
-)
+# The same under snapshot isolation.
+OF_SNAPSHOTS: Mapping[str, str] = {
+    "Backlog": "under this promise each transaction takes the room of two, so at most "
+    f"{most_remaining(SNAPSHOT):,} remain at a time: fences and `truncate` make room, or check a "
+    "part of the history",
+    "BadTxn": ADVICE["BadTxn"] + f"; keys are below {KEYS} under this promise, and numbers below "
+    f"{1 << 47}",
+    "TooLong": ADVICE["TooLong"] + f"; under snapshot isolation {most_remaining(SNAPSHOT):,} "
+    "remain, and a line has 128",
+}
 
 
 @dataclass(frozen=True)
@@ -194,12 +200,15 @@ class ScriptRun:
         program: str,
         most_nodes: int = MORE[1][0],
         names: Optional[ScriptNames] = None,
-        promise: Promise = SERIALIZABLE,
+        promise: Optional[Promise] = None,
         times: Optional[ScriptTimes] = None,
     ) -> None:
         """`most_nodes` is the largest budget with which a spent round is repeated. `names` are
         those of the script's transactions and keys, and `times` say when the transactions began and
-        ended. Raises CantBeAskedError if the promise needs times and there are none."""
+        ended. The promise is the one that the script asks for, unless one is given. Raises
+        CantBeAskedError if the promise needs times and there are none."""
+        self._is_given = promise is not None
+        promise = promise or SERIALIZABLE
         if promise.is_timed and times is None:
             raise CantBeAskedError(
                 f"{promise.title} needs the times at which transactions began and ended, and the "
@@ -207,7 +216,8 @@ class ScriptRun:
             )
         self.most_nodes, self.promise = most_nodes, promise
         self.history = ScriptHistory(names or ScriptNames(""), times=times or ScriptTimes())
-        self._rewriting = Rewriting(promise)
+        self._asking = Asking(promise)
+        self._given = b""  # the last line that the auditor was given
         self.verdict: Verdict | None = None  # the latest one
         self.no_cut_lines: List[int] = []  # lines of `truncate` that found nothing to forget
         self.is_resumed = False  # it began with an earlier run's state
@@ -230,7 +240,7 @@ class ScriptRun:
         if self.promise.is_timed:  # the order is known only when all times are
             lines = [*lines]
             timeline = self.history.times.timeline(map(_parts_of, lines))
-            self._rewriting = Rewriting(self.promise, timeline)
+            self._asking = Asking(self.promise, timeline)
         for number, line in enumerate(lines, 1):
             text = line.rstrip(b"\n")
             if text.strip():
@@ -257,14 +267,12 @@ class ScriptRun:
         if reply[0] == "no":  # a truncate that found nothing
             self.no_cut_lines.append(number)
         elif command[0] in ("open", "resume"):
-            if len(command) > 4:  # its reports name begins and commits
-                raise ScriptMistakeError(number, "", ASKS_ITSELF)
             self._is_open, self.is_resumed = command[0] == "open", command[0] == "resume"
             self.history.begin(command[1])
         elif command[0] == "marks":
             self.history.marks = [*command[1]]
         elif command[0] == "last":
-            self.history.forget((), command[1])
+            self.history.forget((), [its for its in command[1] if self._is_of_script(*its)])
         elif command[0] == "resumed":
             self._is_open = True
         elif command[0] == "offer":
@@ -280,7 +288,7 @@ class ScriptRun:
         elif command[0] == "skip":  # its round has no verdict
             self._round_is_open, self._search, self._has_more = False, [], True
         elif reply[0] == "cut":
-            self.history.forget(*reply[2:])
+            self.history.forget(reply[2], reply[3], self._begun())
         if reply[0] == "report":
             self._round_is_open = False
             if command[0] == "round":  # otherwise its report lacks what arrived while it was open
@@ -292,6 +300,15 @@ class ScriptRun:
             if command[0] == "round":
                 self.verdict = self._without_times(self.verdict)
             yield self.verdict
+
+    def _is_of_script(self, key: int, *_: int) -> bool:
+        """Whether it is a key of the script's transactions, not one that splitting them adds."""
+        return key < KEYS or not self.promise.asks_itself
+
+    def _begun(self) -> List[List[int]]:
+        """The transactions of which only the begin is forgotten."""
+        marks = self._told(SAVE_MARKS) if self.promise.asks_itself else None
+        return [*begun_in(marks)] if marks else []
 
     def _decided(self, nodes: int, reply: List[Any], number: int) -> Verdict:
         """The verdict. A round that was spent is repeated with larger budgets."""
@@ -323,7 +340,7 @@ class ScriptRun:
             reply = self._reply_to(text)
             if reply[0] != "no" or reply[2] == "NoCut":
                 return reply
-            if reply[2] == "BadLine" and OPENS_FORM.match(text) and not self._is_open:
+            if reply[2] == "BadLine" and OPENS_FORM.match(self._given) and not self._is_open:
                 raise ProgramTooOldError(f"{self.path} {TOO_OLD}")
             if reply[2] != "NoMemory":
                 raise ScriptMistakeError(number, reply[2], self._advice(reply[2], text))
@@ -334,8 +351,8 @@ class ScriptRun:
         raise ProgramEndedError(f"line {number} was refused memory, also when it was given again")
 
     def _advice(self, refusal: str, text: bytes) -> str:
-        if refusal == "Backlog" and self.promise.is_split:
-            return HALF_THE_ROOM
+        if self.promise.asks_itself and refusal in OF_SNAPSHOTS:
+            return OF_SNAPSHOTS[refusal]
         if refusal == "BadLine":
             return mistake_of(text) or self._misplaced(_parts_of(text)) or ADVICE[refusal]
         return ADVICE.get(refusal, "")
@@ -354,21 +371,21 @@ class ScriptRun:
         return ""
 
     def _reply_to(self, text: bytes) -> List[Any]:
-        """The reply in the script's own numbers."""
-        if self.promise == SERIALIZABLE:
+        """The reply to the line, or to the last one of those that are given in its place."""
+        if self._is_open and self.promise == SERIALIZABLE:
             return self._told(text)
         line = _parts_of(text)
-        rewritten = self._rewriting.asked(line)
-        if not self._rewriting.has_room(rewritten):
-            return self._rewriting.told(line, [NO_ROOM])
-        if rewritten == [line]:
-            return self._rewriting.told(line, [self._told(text)])
-        replies: List[List[Any]] = []
-        for each in rewritten:  # nothing is sent after one that is refused
-            replies.append(self._told_again(json.dumps(each).encode()))
-            if replies[-1][0] == "no":
+        asked = asked_in(line)
+        if asked and not self._is_given and not self._is_open:
+            self.promise, self._asking = asked, Asking(asked)
+        given = self._asking.asked(line)
+        if given == [line]:
+            return self._told(text)
+        for each in given:  # nothing is sent after one that is refused
+            reply = self._told_again(json.dumps(each).encode())
+            if reply[0] == "no":
                 break
-        return self._rewriting.told(line, replies)
+        return reply
 
     def _told_again(self, text: bytes) -> List[Any]:
         """The reply to one of several lines. If memory runs out, only this line is repeated."""
@@ -380,6 +397,7 @@ class ScriptRun:
         return self._told(text)
 
     def _told(self, text: bytes) -> List[Any]:
+        self._given = text
         pipes = self._program.stdin, self._program.stdout
         assert pipes[0] is not None and pipes[1] is not None
         try:

@@ -12,17 +12,18 @@ from typing import Any, Callable, Container, Dict, Iterable, Iterator, List, Map
 from typing import Optional, Sequence, Set, Tuple, cast
 
 from ..core._outcome import VIOLATED
-from ..core._own_keys import FENCE, FORM, LONGEST, PLAIN_FENCE, is_own
+from ..core._own_keys import FENCE, PLAIN_FENCE, is_own
 from ..core._records import AuditId, AuditNaming, History, Logged, Naming, Report, ShownId, Source
 from ..core.errors import CantBeAskedError
 from ..program._auditor import Auditor
 from ..program._binaries import PROGRAM
 from ..program._intake import GUIDED
 from ..program._lines import written
-from ..promises._kinds import SERIALIZABLE, STRICT, Promise
-from ..promises._rewriting import LIMIT, SESSIONS, Rewriting, ids_of
+from ..promises._asking import LIMIT, SESSIONS, Asking, form_of, ids_of, longest
+from ..promises._kinds import EVENTS, SERIALIZABLE, SNAPSHOT, Promise
 from ..promises._times import Timeline
 from ._anomalies import UNREPEATABLE, find_anomaly
+from ._arcs import Event, Node, transaction_of
 from ._words import name
 
 SECONDS = 5.0  # seconds for reducing a history
@@ -88,28 +89,52 @@ def each_apart(history: History) -> History:
     return [[apart(history[session][number])] for session, number in did] or [[]]
 
 
+def in_halves(history: History) -> History:
+    """Each transaction as two, one that does its reads and one that does its writes: some order
+    explains these exactly if the history keeps prefix consistency. Raises CantBeAskedError if there
+    are fences."""
+
+    def source_half(source: Source) -> Source:
+        return source if source == "init" else (source[0], 2 * source[1] + 1)
+
+    def halves(logged: Logged) -> Sequence[Logged]:
+        if FENCE in _keys_of(logged):
+            raise CantBeAskedError("fences can't be asked about with this promise")
+        reads, tried = (
+            [(key, source_half(source)) for key, source in its]
+            for its in (logged.reads, logged.tried_reads)
+        )
+        return (
+            logged._replace(reads=reads, writes=(), tried_reads=tried, tried_writes=()),
+            logged._replace(reads=(), tried_reads=()),
+        )
+
+    return [[half for logged in txns for half in halves(logged)] for txns in history]
+
+
 class Audited(NamedTuple):
     """A new auditor's report about a history, and a script that reproduces it. `keys` are the names
     of keys by the report's numbers. `ids` are the transactions, if they were renumbered, each in a
-    session of its own."""
+    session of its own; or they are `halved`."""
 
     report: Report
     script: str
     keys: Sequence[str]
     ids: Optional[Sequence[ShownId]] = None
+    is_halved: bool = False
 
-    def moved(self, id: ShownId) -> ShownId:
-        """The transaction of the history that the report means."""
+    def moved(self, id: ShownId) -> Node:
+        """The transaction of the history that the report means, or its begin or commit."""
+        if self.is_halved:
+            return Event(ShownId((id[0], id[1] // 2)), EVENTS[id[1] % 2])
         return id if self.ids is None else self.ids[id[0]]
 
 
 def audited(
     history: History, program: str = PROGRAM, promise: Promise = SERIALIZABLE
 ) -> Tuple[Report, str]:
-    """The report of a new auditor, and a script that reproduces it. For a promise about time, the
-    script contains what expresses the times, so the auditor itself reproduces the report; for one
-    about snapshots, `zanteyard check` has to be given the promise. Raises CantBeAskedError if the
-    history can't be checked for it."""
+    """The report of a new auditor, and the script that it was given. Raises CantBeAskedError if the
+    history can't be checked for the promise."""
     its = audited_apart(history, program, promise)
     return its.report, its.script
 
@@ -118,29 +143,32 @@ def audited_apart(
     history: History, program: str = PROGRAM, promise: Promise = SERIALIZABLE
 ) -> Audited:
     """The same, with what is needed to read the report."""
-    count = max(1, sum(map(len, history)))
-    limit = min(count, LIMIT)
-    timeline = timeline_of(history) if promise.is_timed else None
     ids = None if promise.keeps_sessions else apart_ids(history)
-    if not promise.keeps_sessions:
+    asking = Asking(promise, timeline_of(history) if promise.is_timed else None)
+    is_halved = promise.is_split and not promise.asks_itself
+    if ids is not None:
         history = each_apart(history)
-    with Auditor.asked(len(history), limit, program, Rewriting(promise, timeline)) as auditor:
-        more = [FORM] if any(logged.is_undone for txns in history for logged in txns) else []
-        script: List[Any] = [["open", len(history), limit, *more]]
-        fragments: List[Tuple[int, int, List[Logged]]] = []
+    elif is_halved:
+        history = in_halves(history)
+    count = max(1, sum(map(len, history)))
+    told = SNAPSHOT if promise.asks_itself else SERIALIZABLE
+    with Auditor(len(history), min(count, LIMIT), program, promise=told.name) as auditor:
+        is_plain = told == SERIALIZABLE and not any(
+            logged.is_undone for txns in history for logged in txns
+        )
+        form = [] if is_plain else form_of(promise)
+        script: List[Any] = [["open", len(history), auditor.limit, *form]]
         for session, txns in enumerate(history):
-            for first in range(0, len(txns), LONGEST):
-                fragment = txns[first : first + LONGEST]
-                fragments.append((session, first, fragment))
-                script.append(["offer", session, first, [*map(auditor.txn, fragment)]])
-        in_time = Rewriting(STRICT, timeline)
-        script = [each for line in script for each in in_time.asked(json.loads(written(line)))]
-        for at, number, offered in fragments:
-            auditor.offer(at, number, *offered)
+            for first in range(0, len(txns), longest(told)):
+                fragment = txns[first : first + longest(told)]
+                line = ["offer", session, first, [*map(auditor.txn, fragment)]]
+                script += asking.asked(json.loads(written(line)))
+        for line in script[1:]:
+            auditor.ask(line)
         report = auditor.last_round()
         script.append(["round", *auditor.effort, GUIDED])
         text = "".join(written(line) + "\n" for line in script)
-        return Audited(report, text, tuple(auditor.names), ids)
+        return Audited(report, text, tuple(auditor.names), ids, is_halved)
 
 
 def is_violated(
@@ -304,12 +332,14 @@ class Part:
             id: ShownId((at, number)) for at, ids in enumerate(old) for number, id in enumerate(ids)
         }
         history = [[self.moved(self.txns[id], new) for id in ids] for ids in old]
-        report = audited(history, program, self.promise)[0] if history else None
-        if report is None or report.kind != VIOLATED:
+        its = audited_apart(history, program, self.promise) if history else None
+        if its is None or its.report.kind != VIOLATED:
             return None
         if not self.promise.keeps_sessions:  # the report has other numbers
             return {*self.txns}
-        return {old[session][number] for session, number in named(report.certificate)}
+        ids = named(its.report.certificate)
+        whole = (transaction_of(its.moved(ShownId(id))) for id in ids)
+        return {old[session][number] for session, number in whole}
 
     @staticmethod
     def moved(logged: Logged, new: Mapping[Source, ShownId]) -> Logged:

@@ -15,7 +15,8 @@ from dataclasses import dataclass, field
 from typing import Any, Dict, Iterable, Iterator, List, NamedTuple, Optional, Sequence
 
 from ..core.errors import JournalDamagedError
-from ..promises._kinds import ASKED, SERIALIZABLE
+from ..promises._kinds import ASKED, SERIALIZABLE, SNAPSHOT
+from ._earlier import asking_itself
 from ._file import Journal
 from ._records import record, records
 
@@ -125,7 +126,9 @@ def kept_in(journal: Journal, has_names: bool = True) -> Kept:
                 kept.take(text[:1], text[1:])
         if not kept.is_whole:
             raise ValueError("the checkpoint is cut off")
-    except (ValueError, TypeError) as error:
+        if kept.head.promise == SNAPSHOT.name:
+            kept.lines, kept.saved = asking_itself(kept.lines, kept.saved)
+    except (ValueError, TypeError, LookupError) as error:
         message = f"{journal.path}: its records contradict one another, so none is used: {error}"
         raise JournalDamagedError(message) from error
     return kept

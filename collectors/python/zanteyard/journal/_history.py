@@ -8,6 +8,8 @@ from typing import Any, Dict, Iterable, List, Sequence
 
 from ..core._records import ABORTED, AuditId, History, Logged
 from ..core.errors import JournalDamagedError
+from ..promises._asking import KEYS, asked_in
+from ..promises._kinds import SNAPSHOT
 
 ScriptLine = List[Any]
 LAST = b'["last",'
@@ -24,14 +26,20 @@ class State:
     closed: List[bool] = field(default_factory=list)
     last: Dict[int, AuditId] = field(default_factory=dict)
     joined: List[AuditId] = field(default_factory=list)  # with which sessions returned
+    keys: int = 1 << 64  # those of transactions are below this
 
     def take(self, word: str, *parts: Any) -> None:
         if word == "resume":
             self.remaining = [[] for _ in range(parts[0])]
+            self.keys = KEYS if asked_in([word, *parts]) == SNAPSHOT else self.keys
         elif word == "marks":
             self.gone, self.closed = parts[:2]  # followed by what has begun
         elif word == "last":
-            self.last.update((key, AuditId((session, number))) for key, session, number in parts[0])
+            self.last.update(
+                (key, AuditId((session, number)))
+                for key, session, number in parts[0]
+                if key < self.keys
+            )
         elif word == "offer":
             self.remaining[parts[0]] += parts[2]
         elif word == "join":

@@ -138,7 +138,7 @@ class Audit:
             for _, session, number, logged in taken
             if number is not None
         ]
-        self._offer_all(fragments(offers), joining)
+        self._offer_all(fragments(offers, self._auditor.longest), joining)
         for came, session, number, _ in taken:
             if number is None:
                 if came >= self._backlog.reopened.get(session, 0.0):
@@ -210,16 +210,17 @@ class Audit:
 
     def _join(self, session: int, held: Sequence[HandedIn]) -> None:
         source = self._fence_of(session)
+        longest = self._auditor.longest
         try:
-            self._take(held[:LONGEST], (session,))
+            self._take(held[:longest], (session,))
         except NotAnchoredError as error:
             message = f"session {session} can't join: its client's fence read "
             message += f"from {source[0]}.{source[1]}" if source else (
                 "from none of this audit's fences"
             )
             raise AuditLostError(f"{message}, not from the last one") from error
-        for start in range(LONGEST, len(held), LONGEST):
-            self._take(held[start : start + LONGEST])
+        for start in range(longest, len(held), longest):
+            self._take(held[start : start + longest])
 
     def drop_held(self) -> None:
         """Drops what still waits to join. No audit wants it any more, so its senders needn't keep

@@ -4,20 +4,25 @@ from __future__ import annotations
 
 from typing import Any, Dict, Iterable, List, Optional, Tuple
 
+from ..core._own_keys import LONGEST
 from ..program._intake import Fragment
 
 
-def fragments(offers: Iterable[Tuple[int, Optional[int], Any]]) -> List[Fragment]:
-    """For each session in `offers`: (session, first number, transactions). Transactions without a
-    number are left out. After a gap in a session's numbers a new fragment begins, which the auditor
-    refuses: accepting it could make a serial run look violated."""
+def fragments(
+    offers: Iterable[Tuple[int, Optional[int], Any]], longest: int = LONGEST
+) -> List[Fragment]:
+    """For each session in `offers`: (session, first number, transactions), with at most `longest`
+    of these. Transactions without a number are left out. After a gap in a session's numbers a new
+    fragment begins, which the auditor refuses: accepting it could make a serial run look
+    violated."""
     cut: List[Fragment] = []
     last: Dict[int, Tuple[int, int, List[Any]]] = {}
     for session, number, logged in offers:
         if number is None:
             continue
         fragment = last.get(session)
-        if fragment is None or number != fragment[1] + len(fragment[2]):
+        is_next = fragment is not None and number == fragment[1] + len(fragment[2])
+        if fragment is None or not is_next or len(fragment[2]) == longest:
             fragment = last[session] = (session, number, [])
             cut.append(fragment)
         fragment[2].append(logged)

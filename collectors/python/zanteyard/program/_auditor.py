@@ -9,7 +9,7 @@ from dataclasses import asdict
 from typing import Any, Container, Dict, List, Optional, Sequence, Tuple, Union
 
 from ..core._outcome import RATHER_LOSE_THE_AUDIT, Policy
-from ..core._own_keys import FENCE, FORM
+from ..core._own_keys import FENCE
 from ..core._records import ABORTED, AuditId, Cut, Logged, Report
 from ..core._store_identity import checked
 from ..core._tenancy import Tenancy
@@ -23,13 +23,11 @@ from ..core.errors import (
     RefusedError,
 )
 from ..journal._entries import Head
-from ..promises._kinds import SERIALIZABLE
-from ..promises._rewriting import Rewriting
+from ..promises._asking import begun_in, form_of
 from ._binaries import PROGRAM as PROGRAM
 from ._intake import Fragment
 from ._lines import ENDED, TOO_OLD, written
 from ._pipes import Pipes
-from ._rewritten_pipes import RewrittenPipes, begun
 from ._resuming import Reopened, journaled, reopened
 from ._rounds import Rounds
 from ._supervised import SupervisedProgram
@@ -55,17 +53,6 @@ class Auditor(Rounds):
     "serializable" or "snapshot" (docs/PROMISES.md). With "snapshot" there is room for half as many
     transactions.
     """
-
-    rewriting: Optional[Rewriting] = None  # For a finished history, if another promise than
-    # serializability is checked
-
-    @classmethod
-    def asked(cls, sessions: int, limit: int, program: str, rewriting: Rewriting) -> Auditor:
-        """An auditor that checks the rewriting's promise."""
-        auditor = cls.__new__(cls)
-        auditor.rewriting = rewriting if rewriting.promise != SERIALIZABLE else None
-        Auditor.__init__(auditor, sessions, limit, program)
-        return auditor
 
     @classmethod
     def resumed(
@@ -122,17 +109,15 @@ class Auditor(Rounds):
         self._open()
 
     def _open(self) -> None:
-        """Raises ProgramTooOldError if the program can't read about aborted transactions."""
+        """Raises ProgramTooOldError if the program can't read such scripts."""
         try:
-            self.ask(["open", self.sessions, self.limit, FORM])
+            self.ask(["open", self.sessions, self.limit, *form_of(self.promise)])
         except BadLineError as error:
             raise ProgramTooOldError(f"{self.path} {TOO_OLD}") from error
 
     def _started(self, journal: Union[str, Reopened, None]) -> Union[Pipes, SupervisedProgram]:
-        if journal is None and self.rewriting is not None:
-            return RewrittenPipes(self.path, self.rewriting)
         if journal is None:
-            return begun(self.path, self.promise)
+            return Pipes(self.path)
         program = journaled(self.path, journal, self._head, self.names)
         program.keeping.is_of_sessions |= self.has_sessions
         program.keeping.store = self._store()
@@ -271,6 +256,7 @@ class Auditor(Rounds):
         self, fragments: Sequence[Fragment], joining: Container[int] = ()
     ) -> List[Fragment]:
         refused, wrong = [], None
+        full = set()  # sessions for which there was no room
         with self._between_rounds(bool(joining)):
             moved = [self._covered(fragment) for fragment in fragments]
             texts = [self._offer_of(fragment, fragment[0] in joining) for fragment in moved]
@@ -281,8 +267,9 @@ class Auditor(Rounds):
                 _, refusal = self._settled(text, reply)
                 if refusal is None:
                     self._keep_history(covered, fragment[0] in joining)
-                elif isinstance(refusal, FullError):
+                elif isinstance(refusal, FullError) or fragment[0] in full:
                     refused.append(fragment)
+                    full.add(fragment[0])
                 else:
                     wrong = wrong or refusal
             self._be_in_step()
@@ -361,20 +348,22 @@ class Auditor(Rounds):
             self._begin_to_ask()
             (reply,) = self._replies_to([text])
             reply, refusal = self._settled(text, reply)
-            cut = self._forget(*reply[1:]) if refusal is None else None
+            cut = self._forget(reply, self._begun()) if refusal is None else None
             self._be_in_step()
         if cut is None:
             assert refusal is not None
             raise refusal
         return cut
 
-    def _forget(
-        self,
-        fence: Sequence[int],
-        gone: Sequence[Any],
-        last: Sequence[Any],
-        begun: Sequence[Any] = (),
-    ) -> Cut:
+    def _begun(self) -> List[List[int]]:
+        """The transactions of which only the begin is forgotten."""
+        if not self.promise.asks_itself:
+            return []
+        (marks,) = self._replies_to([written(["save", "marks"])], is_kept=False)
+        return [*begun_in(marks)]
+
+    def _forget(self, reply: Sequence[Any], begun: Sequence[Sequence[int]]) -> Cut:
+        _, fence, gone, last = reply
         self.base.update(
             (self.names[key], AuditId((session, number))) for key, session, number in last
         )

@@ -3,9 +3,11 @@
 from __future__ import annotations
 
 import json
-from typing import Generator, List, Sequence
+from typing import Any, Generator, List, Sequence
 
 from ..core.errors import JournalError, ProgramEndedError, ZanteyardError
+from ..promises._asking import form_of
+from ..promises._kinds import SERIALIZABLE, Promise
 
 Answers = Generator[List[bytes], List[bytes], List[bytes]]  # yields lines, is sent their answers
 
@@ -19,7 +21,7 @@ NUMBERS = 1 << 48  # numbers are at most this
 TRIES = 3  # if a line is refused because memory ran out
 
 
-def saved_lines(limit: int) -> Answers:
+def saved_lines(limit: int, promise: Promise = SERIALIZABLE) -> Answers:
     """The lines that bring another program to this one's state. Raises JournalError if the program
     can't say. In each step all unfinished parts are requested at once, each from where it ended."""
     last: List[bytes] = []
@@ -37,7 +39,12 @@ def saved_lines(limit: int) -> Answers:
             ends_at[part] = _end_of(answer)
             if ends_at[part] == KEYS:
                 del ends_at[part]
-    return [b'["resume",%d,%d,2]' % (sessions, limit), marks, *last, *remaining, RESUMED]
+    opening = written(["resume", sessions, limit, *form_of(promise)])
+    return [opening, marks, *last, *remaining, RESUMED]
+
+
+def written(line: Sequence[Any]) -> bytes:
+    return json.dumps(line, separators=(",", ":")).encode()
 
 
 def _part(session: int, at: int) -> bytes:

@@ -17,12 +17,12 @@ from ..core._records import AuditId, AuditNaming, History, Logged, Pending, Repo
 from ..core._store_identity import AuditedStore, StoreIdentity
 from ..core._window import Coverage
 from ..core.errors import FullError, ProgramEndedError, ProgramLateError, RefusedError
+from ..promises._asking import LIMIT, longest, most_remaining
 from ..promises._kinds import ASKED, SERIALIZABLE
 from ._binaries import PROGRAM
 from ._resuming import Reopened
 
 
-LIMIT = 4096  # the most transactions that may remain
 # The efforts of a round: how many nodes its search may look at, the depth at which the search is
 # split, and how many workers share it. If one effort doesn't decide, the next one follows.
 EFFORTS = ((4096, 0, 1), (65536, 4, max(1, min(16, os.cpu_count() or 1))))
@@ -74,8 +74,7 @@ class Intake:
             raise ValueError(
                 f"{promise}: only finished histories can be checked for real-time order"
             )
-        if self.promise.is_split:
-            limit = min(limit, LIMIT // 2)  # each takes the room of two
+        limit = min(limit, most_remaining(self.promise))
         self.sessions, self.limit, self.path, self.script_path = sessions, limit, program, script
         self.journal = journal
         self.round_seconds = ROUND_SECONDS if round_seconds is None else round_seconds
@@ -236,9 +235,14 @@ class Intake:
 
     # what users call
 
+    @property
+    def longest(self) -> int:
+        """How many transactions can be offered together."""
+        return longest(self.promise)
+
     def offer(self, session: int, number: int, *logged: Any) -> None:
-        """Offers consecutive transactions, the first with this number. Raises FullError if there is
-        no room."""
+        """Offers consecutive transactions, at most 256, or 128 with the promise "snapshot"; the
+        first has this number. Raises FullError if there is no room."""
         if self.offer_all([(session, number, logged)]):
             raise FullError(f"no room for transaction {number} of session {session}")
 

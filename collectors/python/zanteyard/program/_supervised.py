@@ -33,7 +33,6 @@ from ._checkpoint import (
     why_not_resumed,
 )
 from ._pipes import Pipes
-from ._rewritten_pipes import begun
 
 Talk = Generator[List[bytes], List[bytes], None]  # yields lines, and is sent their answers
 
@@ -86,7 +85,7 @@ class SupervisedProgram:
             self._begin(self._resume(kept))
 
     def _program(self) -> Pipes:
-        return begun(self.path, self.keeping.promise, is_kept=True)
+        return Pipes(self.path)
 
     # the calls of Pipes
 
@@ -266,7 +265,7 @@ class SupervisedProgram:
 
     def _checkpoint(self, answer: Optional[bytes] = None) -> Talk:
         """Writes a checkpoint, then passes this answer on."""
-        saved = yield from saved_lines(self.keeping.limit)
+        saved = yield from saved_lines(self.keeping.limit, self.keeping.promise)
         is_last = self._round_at == self.keeping.changes  # nothing has come since that round
         self.keeping.note_checkpoint(saved)
         self._round_at = 0 if is_last else None

@@ -16,7 +16,7 @@ class Promise:
     name: str
     title: str
     is_split: bool = False  # a transaction's begin and commit are separate events
-    has_stars: bool = False  # of two writers of a key, one commits before the other begins
+    asks_itself: bool = False  # the auditor splits, if a script's first line asks for it
     is_timed: bool = False  # a transaction that ended before another one began comes before it
     keeps_sessions: bool = True
 
@@ -27,9 +27,9 @@ class Promise:
 
 SERIALIZABLE = Promise("serializable", "serializability")
 STRICT = Promise("strict", "strict serializability", is_timed=True)
-SNAPSHOT = Promise("snapshot", "snapshot isolation", is_split=True, has_stars=True)
+SNAPSHOT = Promise("snapshot", "snapshot isolation", is_split=True, asks_itself=True)
 STRONG_SNAPSHOT = Promise(
-    "strong-snapshot", "strong snapshot isolation", is_split=True, has_stars=True, is_timed=True
+    "strong-snapshot", "strong snapshot isolation", is_split=True, asks_itself=True, is_timed=True
 )
 PREFIX = Promise("prefix", "prefix consistency", is_split=True)
 SESSIONLESS = Promise(
@@ -39,7 +39,7 @@ GENERALIZED = Promise(
     "generalized",
     "generalized snapshot isolation",
     is_split=True,
-    has_stars=True,
+    asks_itself=True,
     keeps_sessions=False,
 )
 WITHOUT_SESSIONS: Mapping[Promise, Promise] = {SERIALIZABLE: SESSIONLESS, SNAPSHOT: GENERALIZED}

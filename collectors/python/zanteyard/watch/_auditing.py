@@ -19,15 +19,15 @@ from ..journal._file import Journal
 from ..journal._entries import Head
 from ..program._lines import refusal_of as refused, written
 from ..program._pipes import Pipes
-from ..program._rewritten_pipes import begun
 from ..program._searched_round import SearchedRound
 from ..program._supervised import SupervisedProgram
 from ..program._resuming import journaled
+from ..promises._asking import Asking, begun_in, most_remaining
 from ..promises._kinds import SERIALIZABLE, Promise
 from ._retained import OPEN
 
 SECONDS = 60.0  # seconds for the reply to a line
-ROUND = b'["round",'
+ROUND, TRUNCATE, CUT = b'["round",', b'["truncate"', b'["cut",'
 logger = logging.getLogger("zanteyard")
 
 Answered = Tuple[bytes, bytes]  # a line and its reply
@@ -78,8 +78,14 @@ class Auditing:
             if line.startswith(ROUND):
                 yield from self._answers(waiting)
                 yield line, self._searched(line)
-            else:
+            elif not self.promise.asks_itself:
                 waiting.append(line)
+            elif line.startswith(TRUNCATE):
+                yield from self._answers(waiting)
+                yield line, self._cut(line)
+            else:
+                asked = self._asking.asked(json.loads(line))
+                waiting += (written(each).encode() for each in asked)
         yield from self._answers(waiting)
 
     def ask(self, line: bytes) -> bytes:
@@ -95,12 +101,14 @@ class Auditing:
         self.end()
         self.audits += 1
         self._round = self._uncounted = 0
+        self._asking = Asking(self.promise)
         if self.journal is None:
-            self._program = begun(self.path, self.promise)
+            self._program = Pipes(self.path)
             return
         found = OPEN.match(line)
         assert found is not None
-        head = Head(int(found[1]), int(found[2]), self.run_name, self.audits)
+        limit = min(int(found[2]), most_remaining(self.promise))
+        head = Head(int(found[1]), limit, self.run_name, self.audits)
         head.promise = self.promise.name
         self._program = journaled(self.path, self.journal, lambda: head, [FENCE])
 
@@ -136,6 +144,15 @@ class Auditing:
             return self._refusal
         report[1] = self._round
         return written(report).encode()
+
+    def _cut(self, line: bytes) -> bytes:
+        """The reply to a truncate. A cut's has one more part: the transactions of which only the
+        begins are forgotten."""
+        ((_, answer),) = self._answers(deque([line]))
+        if not answer.startswith(CUT):
+            return answer
+        begun = begun_in(self._reply_to(["save", "marks"]))
+        return written([*json.loads(answer), [*begun]]).encode()
 
     def _reply_to(self, line: Sequence[Any]) -> List[Any]:
         """The reply to a line. Raises RefusedError."""

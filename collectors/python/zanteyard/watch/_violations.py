@@ -16,8 +16,8 @@ from ..explain._report import Story, story_lines, story_of
 from ..explain._shrinking import audited_apart, from_start, named, refuted, smaller
 from ..explain._standing import standing
 from ..explain._words import version
+from ..promises._asking import ids_of
 from ..promises._kinds import SERIALIZABLE, Promise
-from ..promises._rewriting import ids_of
 from ._described import Described, by_time, clock, lines_of
 from ._retained import Retained, Transaction
 from ._sql_anomalies import LostUpdate, both_replaced, lost_update
