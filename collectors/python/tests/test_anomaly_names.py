@@ -6,6 +6,7 @@ import os
 import random
 import unittest
 from concurrent.futures import ThreadPoolExecutor
+from dataclasses import replace
 
 from zanteyard import Logged
 from zanteyard.core.errors import ZanteyardError
@@ -133,8 +134,8 @@ class Rule(unittest.TestCase):
             ("write skew", SNAPSHOT, True),
         ):
             with self.subTest(called=called):
-                its = story_of([[Logged((), ())]], plain_name, Explanation("so"))
-                its = type(its)(**{**vars(story), "anomaly": Anomaly(called, "so", ())})
+                story = story_of([[Logged((), ())]], plain_name, Explanation("so"))
+                its = replace(story, anomaly=Anomaly(called, "so", ()))
                 told = "\n".join(story_lines(its.with_standing(Standing((), [kept]))))
                 self.assertIn("leaves snapshot isolation standing", told)
                 self.assertEqual(called in told, stays)

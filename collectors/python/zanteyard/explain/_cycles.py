@@ -58,12 +58,13 @@ def weakest(cycle: Sequence[Arc]) -> Sequence[Arc]:
 def steps_to(arc: Arc, wanted: int) -> int:
     """How many arcs, each of which follows from the next, lead from a forced arc to one that a
     cycle of this weakness rules out the opposite of; -1 if none does."""
-    steps, at = 0, [arc]
+    steps, at, seen = 0, [arc], {arc.ends}
     while at:
         if any(weakness(ruled_out(one)) == wanted for one in at):
             return steps
         found = {need.ends: need for one in at for need in one.needs if need.needs}
-        steps, at = steps + 1, [*found.values()]
+        steps, at = steps + 1, [need for ends, need in found.items() if ends not in seen]
+        seen |= {*found}
     return -1
 
 

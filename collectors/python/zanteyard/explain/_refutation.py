@@ -145,8 +145,8 @@ class _Reading:
         return min(around, self._swapped(around, at) or around, key=_length)
 
     def _swapped(self, around: Sequence[Arc], at: int) -> List[Arc]:
-        """The cycle that forced the arc at this place, of which the rest of this cycle rules out the
-        other side; empty if the two don't fit."""
+        """The cycle that forced the arc at this place, with the arc of the other side, which the
+        rest of this cycle rules out the opposite of; empty if the two don't fit."""
         last, rest = around[at], [*around[at + 1 :], *around[:at]]
         choice = last.choice
         assert choice is not None
@@ -158,15 +158,19 @@ class _Reading:
 
     def weakest_last(self, explanation: Explanation) -> Explanation:
         """The same, with the weakest cycle that it follows from as the last one, if that can be."""
-        if not explanation.arcs:
+        around = [*explanation.arcs]
+        needed = below(around)
+        if not around or len(needed) > MOST_ARCS:
             return explanation
-        around, wanted = [*explanation.arcs], weakness(weakest(explanation.arcs))
-        while weakness(around) < wanted:
+        wanted = weakness(weakest(around))
+        for swaps in range(len(needed)):
+            if weakness(around) >= wanted:
+                return self._ended(around) if swaps else explanation
             ways = (self._swapped(around, at) for at in places_to(around))
             around = next(filter(None, ways), [])
             if not around:
-                return explanation
-        return self._ended(around) if around != [*explanation.arcs] else explanation
+                break
+        return explanation
 
     # parts of items
 
