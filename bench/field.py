@@ -165,7 +165,8 @@ class Measured:
 
     def lines(self) -> Iterator[bytes]:
         assert self.process.stdout is not None
-        yield from self.process.stdout
+        for line in self.process.stdout:  # `yield from` would close it where the reader stops early
+            yield line
 
     def wait(self) -> None:
         if self.process.returncode is not None:

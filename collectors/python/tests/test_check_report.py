@@ -34,8 +34,8 @@ def asks_for_isolation(path):
 
 
 ALL = sorted(glob.glob(os.path.join(DATA, "*.jsonl")))
-ISOLATED = [path for path in ALL if asks_for_isolation(path)]
-SCRIPTS = [path for path in ALL if not resumes(path) and path not in ISOLATED]
+WHOLE = [path for path in ALL if not resumes(path)]
+SCRIPTS = [path for path in WHOLE if not asks_for_isolation(path)]
 
 
 def checked(script, replies):
@@ -51,6 +51,8 @@ def status_of(script, replies):
 
 def changes(reply):
     """The reply with each digit changed in turn, with a byte missing, and with a word changed."""
+    if b'"begin"' in reply:
+        yield reply.replace(b'"begin"', b'"commit"', 1)
     for at, byte in enumerate(reply):
         if 48 <= byte <= 57:
             yield reply[:at] + bytes([48 + (byte - 47) % 10]) + reply[at + 1:]
@@ -86,7 +88,8 @@ def has_certificate(changed, reply):
 @unittest.skipUnless(os.access(checker_path(), os.X_OK), "cobra_check isn't built")
 class StoredReplies(unittest.TestCase):
     def test_worked_replies_are_right(self):
-        for path in SCRIPTS:
+        self.assertLess(len(SCRIPTS), len(WHOLE))
+        for path in WHOLE:
             with self.subTest(os.path.basename(path)):
                 replies = lines_of(path[: -len("jsonl")] + "replies")
                 self.assertEqual(status_of(lines_of(path), replies), 0)
@@ -98,17 +101,6 @@ class StoredReplies(unittest.TestCase):
         self.assertIn(b"reply 2 wrong: its script resumes another, and what had gone before isn't",
                       ended.stdout)
         self.assertTrue(plainly_right(plain_checker(), script, replies))
-
-    def test_a_script_that_asks_for_snapshot_isolation_is_refused(self):
-        self.assertTrue(ISOLATED)
-        for path in ISOLATED:
-            with self.subTest(os.path.basename(path)):
-                ended = checked(lines_of(path), lines_of(path[: -len("jsonl")] + "replies"))
-                self.assertEqual(ended.returncode, 3)
-                self.assertIn(
-                    b"reply 1 wrong: its script asks for snapshot isolation, which isn't checked",
-                    ended.stdout,
-                )
 
     def test_a_cut_from_before_a_join_is_wrong(self):
         name = os.path.join(DATA, "join_drops_the_cut.")
@@ -122,7 +114,8 @@ class StoredReplies(unittest.TestCase):
         self.assertFalse(plainly_right(plain_checker(), script, replies))
 
     def test_changed_replies_are_wrong(self):
-        for name in ("three_rounds", "lost_update", "first_cut"):
+        isolated = ("isolation_cut", "isolation_lost_update", "isolation_uncommitted_read")
+        for name in ("three_rounds", "lost_update", "first_cut", *isolated):
             script = lines_of(os.path.join(DATA, name + ".jsonl"))
             replies = lines_of(os.path.join(DATA, name + ".replies"))
             for at, reply in enumerate(replies):

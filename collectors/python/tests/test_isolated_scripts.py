@@ -10,6 +10,7 @@ from collections import Counter
 from concurrent.futures import ThreadPoolExecutor
 
 from zanteyard.program._auditor import PROGRAM
+from zanteyard.program._binaries import checker_path
 
 from .plain_promises import COMMITTED, did, generated, has_events, ids_of, is_pending, script_of
 
@@ -32,6 +33,14 @@ def model_says(lines, replies):
     """What is wrong with the replies; None if nothing is."""
     script, told = (b"".join(judge.text(it) + b"\n" for it in its) for its in (lines, replies))
     return judge.first_difference(script, told)
+
+
+def check(lines, replies):
+    """What `cobra_check` says of them in the end."""
+    turns = "".join(json.dumps(each) + "\n" for both in zip(lines, replies) for each in both)
+    turns = turns.replace(", ", ",")
+    run = subprocess.run([checker_path()], input=turns, stdout=subprocess.PIPE, text=True)
+    return run.stdout.splitlines()[-1]
 
 
 class Asked:
@@ -154,6 +163,7 @@ class ByTheProgram(unittest.TestCase):
         replies = replies_to(lines)
         with self.subTest(seed=seed):
             self.assertIsNone(model_says(lines, replies))
+            self.assertEqual(check(lines, replies).split(":")[0], "right")
             report, cut = replies[-4], replies[-3]
             is_kept = has_events(history)
             owed = "violated" if not is_kept else "pending" if is_pending(history) else "serial"

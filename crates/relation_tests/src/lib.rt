@@ -4,6 +4,8 @@
 #[cfg(test)]
 mod arrivals;
 #[cfg(test)]
+mod clocks;
+#[cfg(test)]
 mod cuts;
 #[cfg(test)]
 mod fences;

@@ -65,7 +65,7 @@ fn is_cycle(arcs: &[Arc], standing: &Relation, side: Pair) -> bool {
 }
 
 /// Whether each step's cycle rules the other side out. The sides that were forced stand then.
-fn are_forced(facts: &Facts, standing: &mut Relation, log: &[ForceStep]) -> bool {
+pub fn are_forced(facts: &Facts, standing: &mut Relation, log: &[ForceStep]) -> bool {
     for step in log {
         let first = step.side == Side::First;
         let side = side_of(step.choice, !first);
@@ -128,7 +128,11 @@ fn cut_in(rt: &impl Abort, alloc: Global, problem: &Problem) -> Result<Option<Cu
 }
 
 /// The cut that is found, where an order explains the parts.
-fn cut_of(rt: &impl Abort, alloc: Global, saturated: &Saturated) -> Result<Option<Cut>, NoMemory>
+pub fn cut_of(
+    rt: &impl Abort,
+    alloc: Global,
+    saturated: &Saturated,
+) -> Result<Option<Cut>, NoMemory>
     ensures { IfOk result (λ found. IfSome found (λ cut. IsFound saturated.now.parts (Some cut))) }
 {
     match Problem::of(alloc, saturated) {
@@ -165,14 +169,14 @@ fn cuts(rt: &impl Abort, alloc: Global, saturated: &mut Saturated) -> Result<boo
 }
 
 /// What comes next of a session, at most so many transactions.
-fn next_of(
+pub fn next_of(
     alloc: Global,
     whole: &Parts,
-    saturated: &Saturated,
+    parts: &Parts,
     turn: Turn,
 ) -> Result<Fragment, NoMemory> {
     let (session, count) = turn;
-    let first = saturated.parts().received_count(session);
+    let first = parts.received_count(session);
     let mut txns = Vec::new(alloc);
     for ahead in 0..count {
         let number = first.wrapping_add(ahead);
@@ -195,7 +199,7 @@ fn give(
     saturated: &mut Saturated,
     turn: Turn,
 ) -> Result<(), NoMemory> {
-    let fragment = next_of(alloc, whole, saturated, turn)?;
+    let fragment = next_of(alloc, whole, saturated.parts(), turn)?;
     let (session, number) = (fragment.session, fragment.first);
     match fragment.txns.as_slice() {
         [] => Ok(()),
@@ -205,9 +209,9 @@ fn give(
 }
 
 /// A session, and how many transactions of it come together; or that one tries to cut.
-type Turn = (u8, u64);
+pub type Turn = (u8, u64);
 
-const CUT: Turn = (3, 0);
+pub const CUT: Turn = (3, 0);
 
 /// One by one in turn; one by one, session after session; whole sessions together; and several together.
 static ORDERS: [&[Turn]; 4] = [
@@ -265,7 +269,7 @@ static ORDERS: [&[Turn]; 4] = [
     ],
 ];
 
-fn orders() -> &'static [&'static [Turn]] {
+pub fn orders() -> &'static [&'static [Turn]] {
     &ORDERS
 }
 

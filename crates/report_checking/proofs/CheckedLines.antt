@@ -1,18 +1,25 @@
 -- What is found of stored replies, and of a script.
-use Rattle.std.proofs.Common.{◌≡◌, ◌≢◌, ℕ, ◌≤◌, List, [], ◌∷◌, ◌++◌, append_assoc, Option, Some, None, false, refl, ap, sym, ◌∙◌, subst, arith, inl, inr}
+use Rattle.std.proofs.Common.{◌≡◌, ◌≢◌, ℕ, ◌*◌, ◌≤◌, List, [], ◌∷◌, ◌++◌, append_assoc, Option, Some, None, Bool, true, false, refl, ap, sym, ◌∙◌, subst, arith, inl, inr}
 use Rattle.txn.specs.declared.refusals.Refusal.TheVariants.{BadLine}
 use Rattle.log_text.specs.declared.commands.Command.{Command}
-use Rattle.log_text.specs.declared.commands.Command.TheVariants.{Start, Collect}
+use Rattle.log_text.specs.declared.commands.Command.TheVariants.{Start, StartIsolated, Collect}
+use Rattle.log_text.specs.declared.versions.Opening.{Opening}
+use Rattle.log_text.specs.declared.versions.Opening.TheVariants.{Ordered, Isolated}
+use Rattle.log_text.specs.declared.versions.Version.{Version}
 use Rattle.log_text.specs.declared.replies.Reply.TheVariants as told
 use Rattle.byte_lines.specs.declared.lines.Next.{Next}
 use Rattle.byte_lines.specs.declared.lines.Next.TheVariants.{Line, TooLong, End}
 use Rattle.byte_lines.specs.LineReaders.{LineState, lines_ahead, IsNextOf}
 use Rattle.byte_lines.specs.Lines.{lines}
 use Rattle.round_state.specs.Opening.{IsSessions, IsLimit, fresh_state}
+use Rattle.round_state.specs.EngineState.{EngineState}
+use Rattle.round_state.specs.Legal.{State}
 use Rattle.round_state.specs.Runs.{Holds}
+use Rattle.snapshot_scripts.specs.Legal.{HoldsSplit}
 use Rattle.cobra.specs.Outputs.{Asks, IsTold}
+use Rattle.cobra.specs.Scripts.{IsIsolatedLimit}
 use Rattle.report_checking.specs.Checking.{TakesMemory, Checks, start, right, unchecked}
-use Rattle.report_checking.specs.Owing.{Owes, ScriptState}
+use Rattle.report_checking.specs.OwedLines.{Owes, OwesIn, ScriptState}
 use Rattle.report_checking.specs.Reading.{HoldsScript, LeadsScript, MayGoOn, IsRead, Finds, FindsFor, FindsNext, IsFoundBy, IsFine, IsChecking, LeadsOn, Advances}
 use Rattle.report_checking.specs.declared.findings.Found.{Found}
 use Rattle.report_checking.specs.declared.open_scripts.OpenScript.{OpenScript}
@@ -24,19 +31,39 @@ use Rattle.report_checking.specs.declared.checking.TheConstants.{LONGEST_REPLY}
 use Rattle.report_checking.specs.declared.findings.Owed.TheVariants as owed
 
 -- None was open, and the first one is.
-opened_by : (script : OpenScript) (sessions limit : ℕ) → script.searched ≡ false → Holds script.engine (fresh_state sessions limit) → IsSessions sessions × IsLimit limit → LeadsScript None (Some script) (λ before after. Owes before (Start sessions limit script.version) told.Done after)
-opened_by script sessions limit unsearched holds numbers None first =
-    (Some (record { state = fresh_state sessions limit; version = script.version; searched = false }), (numbers.0, numbers.1, refl), (holds, refl, unsearched))
-opened_by script sessions limit unsearched holds numbers (Some before) first = absurd first
+opened_by : (engine : EngineState) (sessions limit : ℕ) (version : Version) → Holds engine (fresh_state sessions limit) → IsSessions sessions × IsLimit limit
+    → LeadsScript None (Some (record { engine = engine; opening = Ordered version; searched = false })) (λ before after. Owes before (Start sessions limit version) told.Done after)
+opened_by engine sessions limit version holds numbers None first =
+    (Some (record { state = fresh_state sessions limit; opening = Ordered version; searched = false }), (numbers.0, numbers.1, refl), (holds, refl, refl))
+opened_by engine sessions limit version holds numbers (Some before) first = absurd first
 
-pub opened : (old : Option OpenScript) (script : OpenScript) (sessions limit : ℕ) → old ≡ None → script.searched ≡ false → Holds script.engine (fresh_state sessions limit) → IsSessions sessions × IsLimit limit → LeadsScript old (Some script) (λ before after. Owes before (Start sessions limit script.version) told.Done after)
-opened old script sessions limit none unsearched holds numbers =
-    subst (λ (o : Option OpenScript). LeadsScript o (Some script) (λ before after. Owes before (Start sessions limit script.version) told.Done after)) (sym none) (opened_by script sessions limit unsearched holds numbers)
+pub opened : (old : Option OpenScript) (engine : EngineState) (sessions limit : ℕ) (version : Version) → old ≡ None → Holds engine (fresh_state sessions limit) → IsSessions sessions × IsLimit limit
+    → LeadsScript old (Some (record { engine = engine; opening = Ordered version; searched = false })) (λ before after. Owes before (Start sessions limit version) told.Done after)
+opened old engine sessions limit version none holds numbers =
+    subst (λ (o : Option OpenScript). LeadsScript o (Some (record { engine = engine; opening = Ordered version; searched = false })) (λ before after. Owes before (Start sessions limit version) told.Done after)) (sym none)
+    (opened_by engine sessions limit version holds numbers)
+
+-- The same where transactions are split.
+isolated_by : (engine : EngineState) (sessions limit : ℕ) → HoldsSplit engine (fresh_state sessions (2 * limit)) → IsSessions sessions × IsIsolatedLimit limit
+    → LeadsScript None (Some (record { engine = engine; opening = Isolated; searched = false })) (λ before after. Owes before (StartIsolated sessions limit) told.Done after)
+isolated_by engine sessions limit holds numbers None first =
+    (Some (record { state = fresh_state sessions (2 * limit); opening = Isolated; searched = false }), (numbers.0, numbers.1, refl), (holds, refl, refl))
+isolated_by engine sessions limit holds numbers (Some before) first = absurd first
+
+pub isolated_opened : (old : Option OpenScript) (engine : EngineState) (sessions limit : ℕ) → old ≡ None → HoldsSplit engine (fresh_state sessions (2 * limit)) → IsSessions sessions × IsIsolatedLimit limit
+    → LeadsScript old (Some (record { engine = engine; opening = Isolated; searched = false })) (λ before after. Owes before (StartIsolated sessions limit) told.Done after)
+isolated_opened old engine sessions limit none holds numbers =
+    subst (λ (o : Option OpenScript). LeadsScript o (Some (record { engine = engine; opening = Isolated; searched = false })) (λ before after. Owes before (StartIsolated sessions limit) told.Done after)) (sym none)
+    (isolated_by engine sessions limit holds numbers)
 
 -- A search goes on.
+on_in : (opening : Opening) (waits searched : Bool) (state : State) → waits ≡ false → searched ≡ true → OwesIn opening searched state (Collect waits) told.Searching searched state
+on_in (Ordered version) waits searched state none goes = inl (none, goes, refl, refl, refl)
+on_in Isolated waits searched state none goes = inr (tt, inl (none, goes, refl, refl, refl))
+
 pub goes_on : (old : Option OpenScript) (command : Command) → MayGoOn old command → LeadsScript old old (λ before after. Owes before command told.Searching after)
 goes_on (Some script) (Collect waits) may (Some before) holds =
-    (Some before, (inl (may.0, sym holds.2 ∙ may.1, refl, refl, refl), refl), holds)
+    (Some before, (on_in before.opening waits before.searched before.state may.0 (sym holds.2 ∙ may.1), refl), holds)
 goes_on (Some script) (Collect waits) may None holds = absurd holds
 goes_on script command may before holds = absurd may
 

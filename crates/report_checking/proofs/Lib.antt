@@ -5,5 +5,8 @@ pub mod OtherReplies
 pub mod OwedReplies
 pub mod RightReports
 pub mod SaidOnce
+pub mod ScriptReplies
+pub mod SplitFaults
+pub mod SplitReplies
 pub mod Stopping
 pub mod ToldLines

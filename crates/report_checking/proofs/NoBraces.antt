@@ -16,15 +16,22 @@ use Rattle.refutation.specs.declared.trees.Leaf.{Leaf}
 use Rattle.refutation.specs.declared.trees.Leaf.TheVariants.{Cycle, NoWrite, Gone}
 use Rattle.refutation.specs.declared.trees.Tree.{Tree, Close, Force', Split'}
 use Rattle.log_text.specs.Lists.{list_text, word_text, numbers_text}
-use Rattle.log_text.specs.Replies.{id_text, kind_name, report_parts, text_of}
-use Rattle.log_text.specs.declared.names.Names.TheVariants.{Ids}
-use Rattle.log_text.specs.Trees.{choice_text, arc_text, cycle_text, side_number, step_text, split_text, leaf_text, items_of, tree_text}
+use Rattle.log_text.specs.Names.{event_texts, name_texts, key_told}
+use Rattle.log_text.specs.Replies.{id_text, event_text, kind_name, report_parts, text_of}
+use Rattle.log_text.specs.declared.names.Names.{Names}
+use Rattle.log_text.specs.declared.names.Names.TheVariants.{Ids, Events}
+use Rattle.snapshot_histories.specs.Halves.{event_at}
+use Rattle.snapshot_histories.specs.declared.events.Event.{Event}
+use Rattle.snapshot_histories.specs.declared.events.Event.TheVariants.{Begin, Commit}
+use Rattle.snapshot_scripts.specs.Isolated.{halved}
+use Rattle.log_text.specs.Trees.{choice_text, arc_text, cycle_text, side_number, step_text, split_text, reader_text, leaf_text, items_of, tree_text}
 use Rattle.log_text.specs.declared.commands.Command.{Command}
 use Rattle.round_state.specs.declared.reports.Certificate.{Certificate}
 use Rattle.round_state.specs.declared.reports.Certificate.TheVariants.{Order, Refuted, Nothing}
 use Rattle.round_state.specs.declared.reports.Report.{Report}
 use Rattle.cobra.specs.StepReplies.{certified, report_of}
-use Rattle.report_checking.specs.Reading.{IsFair, has_brace}
+use Rattle.report_checking.specs.Isolation.{told_by}
+use Rattle.report_checking.specs.Reading.{IsFair, has_brace, names_in}
 use Rattle.report_checking.specs.declared.findings.Found.{Found}
 use Rattle.report_checking.specs.declared.findings.Found.TheVariants as found
 use Rattle.report_checking.specs.declared.open_scripts.OpenScript.{OpenScript}
@@ -72,9 +79,6 @@ in_each text h (x ∷ xs) = (h x, in_each text h xs)
 in_numbers : (numbers : List ℕ) → HasNone (numbers_text numbers)
 in_numbers numbers = in_list (map decimal numbers) (in_each decimal in_decimal numbers)
 
-in_named : (word : List ℕ) → HasNone (word_text word) → (numbers : List ℕ) → HasNone (list_text (word_text word ∷ map decimal numbers))
-in_named word h numbers = in_list (word_text word ∷ map decimal numbers) (h, in_each decimal in_decimal numbers)
-
 in_both : (texts more : List (List ℕ)) → InNone texts → InNone more → InNone (texts ++ more)
 in_both [] more p q = q
 in_both (text ∷ texts) more p q = (p.0, in_both texts more p.1 q)
@@ -84,30 +88,52 @@ in_both (text ∷ texts) more p q = (p.0, in_both texts more p.1 q)
 in_id : (id : TxnId) → HasNone (id_text id)
 in_id id = in_numbers (id.session ∷ id.number ∷ [])
 
-in_choice : (choice : Choice) → HasNone (choice_text Ids choice)
-in_choice choice = in_numbers (choice.reader.session ∷ choice.reader.number ∷ choice.key ∷ choice.writer.session ∷ choice.writer.number ∷ choice.other.session ∷ choice.other.number ∷ [])
+in_event : (event : Event) → InNone (event_texts event)
+in_event (Begin id) = (in_decimal id.session, (in_decimal id.number, (refl, tt)))
+in_event (Commit id) = (in_decimal id.session, (in_decimal id.number, (refl, tt)))
 
-in_arc : (arc : Arc) → HasNone (arc_text Ids arc)
-in_arc (Session from to) = in_named (codes "session") refl (from.session ∷ from.number ∷ to.session ∷ to.number ∷ [])
-in_arc (Read key from to) = in_named (codes "read") refl (key ∷ from.session ∷ from.number ∷ to.session ∷ to.number ∷ [])
-in_arc (Base key from to) = in_named (codes "base") refl (key ∷ from.session ∷ from.number ∷ to.session ∷ to.number ∷ [])
-in_arc (Taken from to) = in_named (codes "taken") refl (from.session ∷ from.number ∷ to.session ∷ to.number ∷ [])
+in_name : (names : Names) (id : TxnId) → InNone (name_texts names id)
+in_name Ids id = (in_decimal id.session, (in_decimal id.number, tt))
+in_name Events half = in_event (event_at half)
 
-in_cycle : (arcs : List Arc) → HasNone (cycle_text Ids arcs)
-in_cycle arcs = in_list (map (arc_text Ids) arcs) (in_each (arc_text Ids) in_arc arcs)
+in_ends : (names : Names) (from to : TxnId) → InNone (name_texts names from ++ name_texts names to)
+in_ends names from to = in_both (name_texts names from) (name_texts names to) (in_name names from) (in_name names to)
 
-in_step : (step : ForceStep) → HasNone (step_text Ids step)
-in_step step = in_list (word_text (codes "force") ∷ choice_text Ids step.choice ∷ decimal (side_number step.side) ∷ cycle_text Ids step.cycle ∷ []) (refl, (in_choice step.choice, (in_decimal (side_number step.side), (in_cycle step.cycle, tt))))
+in_key : (names : Names) (key : ℕ) → HasNone (decimal (key_told names key))
+in_key names key = in_decimal (key_told names key)
 
-in_leaf : (leaf : Leaf) → HasNone (leaf_text Ids leaf)
-in_leaf (Cycle arcs) = in_list (word_text (codes "cycle") ∷ cycle_text Ids arcs ∷ []) (refl, (in_cycle arcs, tt))
-in_leaf (NoWrite reader key) = in_named (codes "nowrite") refl (reader.session ∷ reader.number ∷ key ∷ [])
-in_leaf (Gone reader key) = in_named (codes "gone") refl (reader.session ∷ reader.number ∷ key ∷ [])
+in_choice : (names : Names) (choice : Choice) → HasNone (choice_text names choice)
+in_choice names choice =
+    in_list (name_texts names choice.reader ++ (decimal (key_told names choice.key) ∷ (name_texts names choice.writer ++ name_texts names choice.other)))
+    (in_both (name_texts names choice.reader) (decimal (key_told names choice.key) ∷ (name_texts names choice.writer ++ name_texts names choice.other)) (in_name names choice.reader) (in_key names choice.key, in_ends names choice.writer choice.other))
 
-in_items : (tree : Tree) → InNone (items_of Ids tree)
-in_items (Close leaf) = (in_leaf leaf, tt)
-in_items (Force' steps p rest) = in_both (map (step_text Ids) steps) (items_of Ids rest) (in_each (step_text Ids) in_step steps) (in_items rest)
-in_items (Split' choice p first q second) = (in_list (word_text (codes "split") ∷ choice_text Ids choice ∷ []) (refl, (in_choice choice, tt)), in_both (items_of Ids first) (items_of Ids second) (in_items first) (in_items second))
+in_arc : (names : Names) (arc : Arc) → HasNone (arc_text names arc)
+in_arc names (Session from to) = in_list (word_text (codes "session") ∷ (name_texts names from ++ name_texts names to)) (refl, in_ends names from to)
+in_arc names (Read key from to) = in_list (word_text (codes "read") ∷ decimal (key_told names key) ∷ (name_texts names from ++ name_texts names to)) (refl, (in_key names key, in_ends names from to))
+in_arc names (Base key from to) = in_list (word_text (codes "base") ∷ decimal (key_told names key) ∷ (name_texts names from ++ name_texts names to)) (refl, (in_key names key, in_ends names from to))
+in_arc names (Taken from to) = in_list (word_text (codes "taken") ∷ (name_texts names from ++ name_texts names to)) (refl, in_ends names from to)
+
+in_cycle : (names : Names) (arcs : List Arc) → HasNone (cycle_text names arcs)
+in_cycle names arcs = in_list (map (arc_text names) arcs) (in_each (arc_text names) (in_arc names) arcs)
+
+in_step : (names : Names) (step : ForceStep) → HasNone (step_text names step)
+in_step names step =
+    in_list (word_text (codes "force") ∷ choice_text names step.choice ∷ decimal (side_number step.side) ∷ cycle_text names step.cycle ∷ []) (refl, (in_choice names step.choice, (in_decimal (side_number step.side), (in_cycle names step.cycle, tt))))
+
+in_read : (names : Names) (word : List ℕ) → HasNone (word_text word) → (reader : TxnId) (key : ℕ) → HasNone (reader_text names word reader key)
+in_read names word h reader key =
+    in_list (word_text word ∷ (name_texts names reader ++ decimal (key_told names key) ∷ [])) (h, in_both (name_texts names reader) (decimal (key_told names key) ∷ []) (in_name names reader) (in_key names key, tt))
+
+in_leaf : (names : Names) (leaf : Leaf) → HasNone (leaf_text names leaf)
+in_leaf names (Cycle arcs) = in_list (word_text (codes "cycle") ∷ cycle_text names arcs ∷ []) (refl, (in_cycle names arcs, tt))
+in_leaf names (NoWrite reader key) = in_read names (codes "nowrite") refl reader key
+in_leaf names (Gone reader key) = in_read names (codes "gone") refl reader key
+
+in_items : (names : Names) (tree : Tree) → InNone (items_of names tree)
+in_items names (Close leaf) = (in_leaf names leaf, tt)
+in_items names (Force' steps p rest) = in_both (map (step_text names) steps) (items_of names rest) (in_each (step_text names) (in_step names) steps) (in_items names rest)
+in_items names (Split' choice p first q second) =
+    (in_list (word_text (codes "split") ∷ choice_text names choice ∷ []) (refl, (in_choice names choice, tt)), in_both (items_of names first) (items_of names second) (in_items names first) (in_items names second))
 
 -- ---- reports
 
@@ -120,16 +146,23 @@ in_kind kinds.Spent = refl
 in_parts : (round : ℕ) (kind : Kind) (counts : List ℕ) → InNone (report_parts round kind counts)
 in_parts round kind counts = (refl, (in_decimal round, (in_kind kind, (in_numbers counts, tt))))
 
-in_certified : (report : Report) (certificate : Certificate) → HasNone (text_of (certified report certificate))
-in_certified report (Order order) =
-    in_list (report_parts report.round report.kind report.counts ++ list_text (map id_text order) ∷ []) (in_both (report_parts report.round report.kind report.counts) (list_text (map id_text order) ∷ []) (in_parts report.round report.kind report.counts) (in_list (map id_text order) (in_each id_text in_id order), tt))
-in_certified report (Refuted tree) =
-    in_list (report_parts report.round kinds.Violated report.counts ++ tree_text Ids tree ∷ []) (in_both (report_parts report.round kinds.Violated report.counts) (tree_text Ids tree ∷ []) (in_parts report.round kinds.Violated report.counts) (in_list (items_of Ids tree) (in_items tree), tt))
-in_certified report Nothing = in_list (report_parts report.round kinds.Spent report.counts) (in_parts report.round kinds.Spent report.counts)
+in_ordered : (round : ℕ) (kind : Kind) (counts : List ℕ) (last : List ℕ) → HasNone last → HasNone (list_text (report_parts round kind counts ++ last ∷ []))
+in_ordered round kind counts last h = in_list (report_parts round kind counts ++ last ∷ []) (in_both (report_parts round kind counts) (last ∷ []) (in_parts round kind counts) (h, tt))
+
+in_event_text : (half : TxnId) → HasNone (event_text half)
+in_event_text half = in_list (name_texts Events half) (in_name Events half)
+
+in_certified : (names : Names) (report : Report) (certificate : Certificate) → HasNone (text_of (told_by names (certified report certificate)))
+in_certified Ids report (Order order) = in_ordered report.round report.kind report.counts (list_text (map id_text order)) (in_list (map id_text order) (in_each id_text in_id order))
+in_certified Ids report (Refuted tree) = in_ordered report.round kinds.Violated report.counts (tree_text Ids tree) (in_list (items_of Ids tree) (in_items Ids tree))
+in_certified Ids report Nothing = in_list (report_parts report.round kinds.Spent report.counts) (in_parts report.round kinds.Spent report.counts)
+in_certified Events report (Order order) = in_ordered report.round report.kind (halved report.counts) (list_text (map event_text order)) (in_list (map event_text order) (in_each event_text in_event_text order))
+in_certified Events report (Refuted tree) = in_ordered report.round kinds.Violated (halved report.counts) (tree_text Events tree) (in_list (items_of Events tree) (in_items Events tree))
+in_certified Events report Nothing = in_list (report_parts report.round kinds.Spent (halved report.counts)) (in_parts report.round kinds.Spent (halved report.counts))
 
 -- where one stands in the stored reply, that isn't a report's, and may be found wrong
 pub brace_fair : (old : Option OpenScript) (asked : Command) (stored : List ℕ) (given : Found) → has_brace stored ≡ true → IsFair old asked stored given
 brace_fair old asked stored (found.Wrong why) brace =
-    λ report new earned shows same. false≢true (sym (in_certified report report.certificate) ∙ ap has_brace (sym same) ∙ brace)
+    λ report new earned shows same. false≢true (sym (in_certified (names_in old) report report.certificate) ∙ ap has_brace (sym same) ∙ brace)
 brace_fair old asked stored (found.Right what) brace = tt
 brace_fair old asked stored found.Unchecked brace = tt

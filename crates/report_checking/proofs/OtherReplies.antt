@@ -45,7 +45,8 @@ use Rattle.cobra.specs.Saving.{saved_told, fragment_told}
 use Rattle.cobra.specs.Scripts.{IsTakenIn}
 use Rattle.cobra.specs.StepReplies.{certificate_of, certified, report_of, reply_of}
 use Rattle.report_checking.specs.Checking.{AsksOfMemory, OpensEngine, TakesMemory, IsUnchecked}
-use Rattle.report_checking.specs.Owing.{IsStep, IsOfEngine, BeginsSearch, FinishesWhere, GoesOn, Owes, OwesFinish, OwesRound, OwesOpen, OwesBeside, OwesFirst, OwesLine, ScriptState}
+use Rattle.report_checking.specs.OwedLines.{OwesFirst, ScriptState}
+use Rattle.report_checking.specs.Owing.{IsStep, IsOfEngine, BeginsSearch, FinishesWhere, GoesOn, OwesFinish, OwesRound, OwesOpen, OwesBeside}
 use Rattle.report_checking.specs.Reading.{HoldsScript, IsToldOf, IsStepTold, IsTakenTold, IsTakenAs, IsRefusedBy, Gives, GivesFirst, GivesWhere, GivesBeside, GivesScript, MayGoOn, IsAlone, IsOtherwise, IsOtherwiseTo, IsFoundBy, IsFoundOf}
 use Rattle.report_checking.specs.RightReports.{IsNoReport, IsRightOther}
 use Rattle.report_checking.specs.declared.findings.Fault.{Fault}
@@ -213,7 +214,7 @@ never_closed old new session (reply.Refused r) steps is =
 never_closed old new session (reply.Report report) steps is = steps
 never_closed old new session (reply.Cut cut) steps is = steps
 
-other_refusal : told.No NoMemory ≡ told.No BadLine → ⊥
+pub other_refusal : told.No NoMemory ≡ told.No BadLine → ⊥
 other_refusal is = cc
 
 takes_open : (version : Version) (old : EngineState) (asked : Command) → Gives version old asked (told.No NoMemory) → AsksOfMemory asked
@@ -244,82 +245,12 @@ never_skipped old new (reply.Refused r) steps is =
 never_skipped old new (reply.Report report) steps is = steps
 never_skipped old new (reply.Cut cut) steps is = steps
 
-takes_beside : (version : Version) (searched : Bool) (old : EngineState) (asked : Command) → GivesBeside version searched old asked (told.No NoMemory) → AsksOfMemory asked
+pub takes_beside : (version : Version) (searched : Bool) (old : EngineState) (asked : Command) → GivesBeside version searched old asked (told.No NoMemory) → AsksOfMemory asked
 takes_beside version searched old (command.BeginSearch budget depth workers search) is = never_begun old.asked searched is.0 is.1
 takes_beside version searched old (command.Collect waits) is = tt
 takes_beside version searched old command.Skip is = never_skipped old is.1 is.0 is.2 is.3
 takes_beside version searched old (command.Finish budget depth workers search) is = tt
 takes_beside version searched old asked is = takes_open version old asked is
-
-takes_first : (asked : Command) → GivesFirst asked (told.No NoMemory) → OpensEngine asked
-takes_first (command.Start sessions limit lines) is = tt
-takes_first (command.StartIsolated sessions limit) is = is
-takes_first (command.Resume sessions limit lines) is = is
-takes_first asked is = other_refusal is
-
-takes_if : (old : Option OpenScript) (asked : Command) → GivesScript old asked (told.No NoMemory) → TakesMemory old asked
-takes_if None asked is = takes_first asked is
-takes_if (Some old) asked is = takes_beside old.version old.searched old.engine asked is
-
--- ---- what is found
-
-other_wrong : (old : Option OpenScript) (asked : Command) (stored : List ℕ) (given right : Reply) (text : List ℕ) → GivesScript old asked right → (TakesMemory old asked → stored ≢ text_of (told.No NoMemory)) → (given ≡ told.No NoMemory → ⊥) → stored ≢ text → text ≡ text_of given
-    → (right ≡ told.No NoMemory) ⊎ ((given ≡ told.No NoMemory) ⊎ (given ≡ right)) → stored ≢ text_of right
-other_wrong old asked stored given right text gives checked enough other is (inl none) same =
-    checked (takes_if old asked (subst (λ (r : Reply). GivesScript old asked r) none gives)) (same ∙ ap text_of none)
-other_wrong old asked stored given right text gives checked enough other is (inr (inl none)) same = enough none
-other_wrong old asked stored given right text gives checked enough other is (inr (inr alone)) same = other (same ∙ ap text_of (sym alone) ∙ sym is)
-
-other_of_reply : (old : Option OpenScript) (asked : Command) (stored : List ℕ) (given : Reply) (why : Fault) → IsAlone (GivesScript old asked) (owed.Reply given) → (TakesMemory old asked → stored ≢ text_of (told.No NoMemory)) → (MayGoOn old asked → stored ≢ text_of told.Searching) → IsFoundBy given stored (found.Wrong why) → (given ≡ told.No NoMemory → ⊥) → IsOtherwise old asked stored (found.Wrong why)
-other_of_reply old asked stored given (fault.Other text) alone checked ended is enough =
-    (λ right gives. other_wrong old asked stored given right text.items gives checked enough is.0 is.1 (alone right gives), checked, ended)
-other_of_reply old asked stored given (fault.Unshown it) alone checked ended is enough = absurd is
-other_of_reply old asked stored given fault.Missing alone checked ended is enough = absurd is
-other_of_reply old asked stored given fault.TooLong alone checked ended is enough = absurd is
-
-pub other_found : (old : Option OpenScript) (asked : Command) (stored : List ℕ) (given : Owed) → IsAlone (GivesScript old asked) given → (TakesMemory old asked → stored ≢ text_of (told.No NoMemory)) → (MayGoOn old asked → stored ≢ text_of told.Searching) → (got : Found) → IsFoundOf given stored got → IsOtherwise old asked stored got
-other_found old asked stored given alone checked ended (found.Right what) is = tt
-other_found old asked stored given alone checked ended found.Unchecked is = tt
-other_found old asked stored (owed.Reply given) alone checked ended (found.Wrong why) is = other_of_reply old asked stored given why alone checked ended is.0 is.1
-other_found old asked stored (owed.Nothing it) alone checked ended (found.Wrong why) is =
-    (λ right gives same. checked (takes_if old asked (subst (λ (r : Reply). GivesScript old asked r) (alone right gives) gives)) (same ∙ ap text_of (alone right gives)), checked, ended)
-
--- ---- a line is one command
-
-gives_answer : (old : Option OpenScript) (it other : Shown) (answer : Reply) → IsSameShown (Some it) (Some other) → GivesScript old (command.Answer other) answer → GivesScript old (command.Answer it) answer
-gives_answer None it other answer same is = is
-gives_answer (Some old) it other answer same is = (is.0, shown_then it other is.0 same is.1, is.2)
-
-otherwise_answer : (old : Option OpenScript) (it other : Shown) (stored : List ℕ) (why : Fault) → IsSameShown (Some it) (Some other) → IsOtherwise old (command.Answer it) stored (found.Wrong why) → IsOtherwise old (command.Answer other) stored (found.Wrong why)
-otherwise_answer None it other stored why same is = is
-otherwise_answer (Some old) it other stored why same is = (λ right gives. is.0 right (gives_answer (Some old) it other right same gives), is.1, is.2)
-
-otherwise_said : (old : Option OpenScript) (said : Data) (asked other : Command) (stored : List ℕ) (why : Fault) → Says said asked → Says said other → IsOtherwise old asked stored (found.Wrong why) → IsOtherwise old other stored (found.Wrong why)
-otherwise_said old said asked other stored why (inl one) (inl two) is =
-    let same : Some asked ≡ Some other = sym one ∙ two in
-    subst (λ (c : Command). IsOtherwise old c stored (found.Wrong why)) (let e : asked ≡ other = cc in e) is
-otherwise_said old said asked other stored why (inl one) (inr two) is = let no : Some asked ≡ None = sym one ∙ no_command said two.0 two.1 in absurd (let it : ⊥ = cc in it)
-otherwise_said old said asked other stored why (inr one) (inl two) is = let no : Some other ≡ None = sym two ∙ no_command said one.0 one.1 in absurd (let it : ⊥ = cc in it)
-otherwise_said old said asked other stored why (inr one) (inr two) is =
-    let first : IsOtherwise old (command.Answer one.0) stored (found.Wrong why) = subst (λ (c : Command). IsOtherwise old c stored (found.Wrong why)) one.2 is in
-    subst (λ (c : Command). IsOtherwise old c stored (found.Wrong why)) (sym two.2) (otherwise_answer old one.0 two.0 stored why (same_answer said one.0 two.0 one.1 two.1) first)
-
-pub otherwise_asked : (old : Option OpenScript) (next : Next) (asked : Command) (stored : List ℕ) → ((line : List ℕ) → IsTold line next → Asks line asked) → (got : Found) → IsOtherwise old asked stored got → IsOtherwiseTo old next stored got
-otherwise_asked old next asked stored asks (found.Right what) is = tt
-otherwise_asked old next asked stored asks found.Unchecked is = tt
-otherwise_asked old next asked stored asks (found.Wrong why) is = λ line said. (
-  λ other again. let here = asks line said in otherwise_said old here.is.said asked other stored why here.is.is (is_said line other asked again here) is,
-  λ none. absurd (none asked (asks line said)),
-)
-
-pub otherwise_none : (old : Option OpenScript) (next : Next) (stored : List ℕ) → ((line : List ℕ) → IsTold line next → (asked : Command) → ¬ Asks line asked) → (got : Found) → IsFoundBy (told.No BadLine) stored got → IsOtherwiseTo old next stored got
-otherwise_none old next stored none (found.Right what) is = tt
-otherwise_none old next stored none found.Unchecked is = tt
-otherwise_none old next stored none (found.Wrong (fault.Other text)) is = λ line said. (
-  λ asked asks. absurd (none line said asked asks),
-  λ no same. is.0 (same ∙ sym is.1),
-)
-otherwise_none old next stored none (found.Wrong why) is = absurd is
 
 -- ---- where the check stops
 
@@ -328,7 +259,7 @@ no_report_of report (Order order) is = is
 no_report_of report (Refuted tree) is = is
 no_report_of report Nothing is = is
 
-no_report : (report : Report) (answer : Reply) → answer ≡ report_of report → IsNoReport answer → ⊥
+pub no_report : (report : Report) (answer : Reply) → answer ≡ report_of report → IsNoReport answer → ⊥
 no_report report answer is none = no_report_of report report.certificate (subst IsNoReport is none)
 
 step_told : (old new : State) (asked : Step) (answer : Reply) → IsStep old asked answer new → IsStepTold old.engine asked answer
@@ -338,7 +269,7 @@ taken_told : (version : Version) (old new : State) (logged : LoggedFragment) (as
 taken_told version old new logged asked answer (inl is) = inl (is.0, step_told old new asked answer is.1)
 taken_told version old new logged asked answer (inr is) = inr (is.0, is.1.0)
 
-finish_told : (old new : State) (answer : Reply) → OwesFinish old answer new → IsNoReport answer → (old.engine.asked ≡ None) × (answer ≡ told.No NoRound)
+pub finish_told : (old new : State) (answer : Reply) → OwesFinish old answer new → IsNoReport answer → (old.engine.asked ≡ None) × (answer ≡ told.No NoRound)
 finish_told old new answer (inl is) none = absurd (no_report is.0 answer is.2 none)
 finish_told old new answer (inr is) none = (is.0, is.1)
 
@@ -369,15 +300,7 @@ gives_open version old new command.Show answer is none = is.0
 gives_open version old new (command.Save asked) answer is none = is.0
 gives_open version old new asked answer is none = is.0
 
-gives_first : (asked : Command) (answer : Reply) (new : Option ScriptState) → OwesFirst asked answer new → GivesFirst asked answer
-gives_first (command.Start sessions limit version) told.Done new is = (is.0, is.1)
-gives_first (command.Start sessions limit version) (told.No refusal) new is = is.0
-gives_first (command.Start sessions limit version) answer new is = absurd is
-gives_first (command.StartIsolated sessions limit) answer new is = absurd is
-gives_first (command.Resume sessions limit version) answer new is = absurd is
-gives_first asked answer new is = is.0
-
-begins_told : (asked : Option Parts) (searched after : Bool) (answer : Reply) → BeginsSearch asked searched answer after → (later : Bool) × BeginsSearch asked searched answer later
+pub begins_told : (asked : Option Parts) (searched after : Bool) (answer : Reply) → BeginsSearch asked searched answer after → (later : Bool) × BeginsSearch asked searched answer later
 begins_told asked searched after answer is = (after, is)
 
 where_told : (old new : State) (may searched after : Bool) (refusal : Refusal) (answer : Reply) → FinishesWhere may refusal searched old answer after new → IsNoReport answer → GivesWhere may refusal old.engine answer
@@ -393,92 +316,9 @@ collect_told : (waits searched after : Bool) (old new : State) (answer : Reply) 
 collect_told waits searched after old new answer (inl on) none = inl (on.0, on.1, on.2)
 collect_told waits searched after old new answer (inr is) none = inr (where_told old new searched searched after NoRound answer is none)
 
-gives_beside : (version : Version) (searched after : Bool) (old new : State) (asked : Command) (answer : Reply) → OwesBeside version searched old asked answer after new → IsNoReport answer → GivesOrGoesOn version searched old.engine asked answer
+pub gives_beside : (version : Version) (searched after : Bool) (old new : State) (asked : Command) (answer : Reply) → OwesBeside version searched old asked answer after new → IsNoReport answer → GivesOrGoesOn version searched old.engine asked answer
 gives_beside version searched after old new (command.BeginSearch budget depth workers search) answer is none = begins_told old.engine.asked searched after answer is.0
 gives_beside version searched after old new (command.Collect waits) answer is none = collect_told waits searched after old new answer is none
 gives_beside version searched after old new command.Skip answer is none = step_told old new step.Abandon answer is.0
 gives_beside version searched after old new (command.Finish budget depth workers search) answer is none = where_told old new (not searched) searched after RoundOpen answer is none
 gives_beside version searched after old new asked answer is none = gives_open version old new asked answer is.0 none
-
--- of a script
-abbrev GivesNow : Option OpenScript → Command → Reply → Type 0
-GivesNow script asked answer = GivesScript script asked answer ⊎ (MayGoOn script asked × (answer ≡ told.Searching))
-
-now_of : (script : OpenScript) (asked : Command) (answer : Reply) → GivesOrGoesOn script.version script.searched script.engine asked answer → GivesNow (Some script) asked answer
-now_of script (command.Collect waits) answer (inl on) = inr ((on.0, on.1), on.2)
-now_of script (command.Collect waits) answer (inr is) = inl is
-now_of script asked answer is = inl is
-
-gives_owed : (script : Option OpenScript) (old new : Option ScriptState) (asked : Command) (answer : Reply) → HoldsScript script old → Owes old asked answer new → IsNoReport answer → GivesNow script asked answer
-gives_owed None None new asked answer holds is none = inl (gives_first asked answer new is)
-gives_owed (Some script) (Some old) (Some new) asked answer holds is none =
-    let gives = gives_beside old.version old.searched new.searched old.state new.state asked answer is.0 none in
-    let engine = subst (λ (e : EngineState). GivesOrGoesOn old.version old.searched e asked answer) holds.0.same gives in
-    let searched = subst (λ (s : Bool). GivesOrGoesOn old.version s script.engine asked answer) (sym holds.2) engine in
-    now_of script asked answer (subst (λ (v : Version). GivesOrGoesOn v script.searched script.engine asked answer) (sym holds.1) searched)
-gives_owed (Some script) (Some old) None asked answer holds is none = absurd is
-gives_owed None (Some old) new asked answer holds is none = absurd holds
-gives_owed (Some script) None new asked answer holds is none = absurd holds
-
-not_given : (script : Option OpenScript) (asked : Command) (stored : List ℕ) (why : Fault) (answer : Reply) → IsOtherwise script asked stored (found.Wrong why) → GivesNow script asked answer → stored ≢ text_of answer
-not_given script asked stored why answer is (inl gives) = is.0 answer gives
-not_given script asked stored why answer is (inr on) = λ same. is.2 on.0 (same ∙ ap text_of on.1)
-
-line_owed : (script : Option OpenScript) (old new : Option ScriptState) (next : Next) (line stored : List ℕ) (why : Fault) (answer : Reply) → HoldsScript script old → IsTold line next → IsOtherwiseTo script next stored (found.Wrong why) → IsNoReport answer → OwesLine old line answer new → stored ≢ text_of answer
-line_owed script old new next line stored why answer holds said is none (inl owes) =
-    not_given script owes.0 stored why answer ((is line said).0 owes.0 owes.1) (gives_owed script old new owes.0 answer holds owes.2 none)
-line_owed script old new next line stored why answer holds said is none (inr owes) = λ same. (is line said).1 owes.0 (same ∙ ap text_of owes.1.0)
-
-pub no_right_other : (script : Option OpenScript) (old : Option ScriptState) (next : Next) (line stored : List ℕ) (why : Fault) → HoldsScript script old → IsTold line next → IsOtherwiseTo script next stored (found.Wrong why) → ¬ IsRightOther old line stored
-no_right_other script old next line stored why holds said is right = line_owed script old right.new next line stored why right.answer holds said is right.no_report right.owed right.text_is
-
-takes_back : (script : Option OpenScript) (old : Option ScriptState) (asked : Command) → HoldsScript script old → TakesMemory old asked → TakesMemory script asked
-takes_back None None asked holds takes = takes
-takes_back (Some script) (Some old) asked holds takes = takes
-takes_back None (Some old) asked holds takes = absurd holds
-takes_back (Some script) None asked holds takes = absurd holds
-
-pub no_unchecked : (script : Option OpenScript) (old : Option ScriptState) (next : Next) (line stored : List ℕ) (why : Fault) → HoldsScript script old → IsTold line next → IsOtherwiseTo script next stored (found.Wrong why) → (new : Option ScriptState) → ¬ IsUnchecked old line stored new
-no_unchecked script old next line stored why holds said is new un = ((is line said).0 un.command un.asks).1 (takes_back script old un.command holds un.takes) un.text_is
-
--- ---- an engine is opened
-
-same_opening : (sessions limit : ℕ) (r q : Refusal) → IsOpenRefusal sessions limit r → IsOpenRefusal sessions limit q → IsOne r q
-same_opening sessions limit NoMemory q a b = inl refl
-same_opening sessions limit r NoMemory a b = inr (inl refl)
-same_opening sessions limit BadSession BadSession a b = inr (inr refl)
-same_opening sessions limit BadSession TooLong a b = absurd (a b.0)
-same_opening sessions limit BadSession q a b = absurd b
-same_opening sessions limit TooLong BadSession a b = absurd (b a.0)
-same_opening sessions limit TooLong TooLong a b = inr (inr refl)
-same_opening sessions limit TooLong q a b = absurd b
-same_opening sessions limit r q a b = absurd a
-
-opened_anyway : (sessions limit : ℕ) (r : Refusal) → IsSessions sessions → IsLimit limit → IsOpenRefusal sessions limit r → r ≡ NoMemory
-opened_anyway sessions limit BadSession some few is = absurd (is some)
-opened_anyway sessions limit TooLong some few is = absurd (is.1 few)
-opened_anyway sessions limit NoMemory some few is = refl
-opened_anyway sessions limit r some few is = absurd is
-
-refused_first : (r q : Refusal) → IsOne r q → (told.No q ≡ told.No NoMemory) ⊎ ((told.No r ≡ told.No NoMemory) ⊎ (told.No r ≡ told.No q))
-refused_first r q (inl is) = inr (inl (ap told.No is))
-refused_first r q (inr (inl is)) = inl (ap told.No is)
-refused_first r q (inr (inr is)) = inr (inr (ap told.No is))
-
-first_done : (sessions limit : ℕ) (version : Version) → IsSessions sessions → IsLimit limit → IsAlone (GivesFirst (command.Start sessions limit version)) (owed.Reply told.Done)
-first_done sessions limit version some few told.Done is = inr (inr refl)
-first_done sessions limit version some few (told.No q) is = inl (ap told.No (opened_anyway sessions limit q some few is))
-first_done sessions limit version some few answer is = absurd is
-
-first_refused : (sessions limit : ℕ) (version : Version) (r : Refusal) → IsOpenRefusal sessions limit r → IsAlone (GivesFirst (command.Start sessions limit version)) (owed.Reply (told.No r))
-first_refused sessions limit version r why told.Done is = inr (inl (ap told.No (opened_anyway sessions limit r is.0 is.1 why)))
-first_refused sessions limit version r why (told.No q) is = refused_first r q (same_opening sessions limit r q why is)
-first_refused sessions limit version r why answer is = absurd is
-
-pub opened_alone : (old : Option OpenScript) (sessions limit : ℕ) (version : Version) → old ≡ None → IsSessions sessions × IsLimit limit → IsAlone (GivesScript old (command.Start sessions limit version)) (owed.Reply told.Done)
-opened_alone old sessions limit version none numbers =
-    subst (λ (o : Option OpenScript). IsAlone (GivesScript o (command.Start sessions limit version)) (owed.Reply told.Done)) (sym none) (first_done sessions limit version numbers.0 numbers.1)
-
-pub unopened_alone : (old : Option OpenScript) (sessions limit : ℕ) (version : Version) (r : Refusal) → old ≡ None → IsOpenRefusal sessions limit r → IsAlone (GivesScript old (command.Start sessions limit version)) (owed.Reply (told.No r))
-unopened_alone old sessions limit version r none why =
-    subst (λ (o : Option OpenScript). IsAlone (GivesScript o (command.Start sessions limit version)) (owed.Reply (told.No r))) (sym none) (first_refused sessions limit version r why)

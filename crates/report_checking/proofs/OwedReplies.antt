@@ -12,6 +12,7 @@ use Rattle.log_text.specs.declared.replies.Reply.TheVariants as told
 use Rattle.log_text.specs.Replies.{HasKindOfOrder}
 use Rattle.log_text.specs.Versions.{has_form}
 use Rattle.log_text.specs.declared.searches.Search.{Search}
+use Rattle.log_text.specs.declared.versions.Opening.{Opening}
 use Rattle.log_text.specs.declared.versions.Version.{Version}
 use Rattle.logged_fragments.specs.declared.logged.LoggedFragment.{LoggedFragment}
 use Rattle.round_state.specs.Legal.{State}
@@ -27,8 +28,9 @@ use Rattle.cobra.specs.Saving.{saved_told}
 use Rattle.cobra.specs.Scripts.{IsBadLine, IsTakenIn, state_told}
 use Rattle.cobra.specs.StepReplies.{reply_of, report_of}
 use Rattle.cobra.proofs.ReplyKinds.{judged_kind, saved_kind}
-use Rattle.report_checking.specs.Owing.{IsOwedReport, IsStep, OwesFinish, OwesRound, OwesOpen, OwesBeside, FinishesWhere, BeginsSearch, IsOfEngine, Owes, IsPlain, searched_after}
-use Rattle.report_checking.specs.Reading.{Leads, LeadsScript, IsOwedBy}
+use Rattle.report_checking.specs.Owing.{IsOwedReport, IsStep, OwesFinish, OwesRound, OwesOpen, OwesBeside, FinishesWhere, BeginsSearch, IsOfEngine, IsPlain, searched_after}
+use Rattle.report_checking.specs.OwedLines.{Owes, OwesIn, ScriptState}
+use Rattle.report_checking.specs.Reading.{Leads, LeadsIn, LeadsScript, HoldsIn, IsOwedBy}
 use Rattle.report_checking.specs.declared.findings.Owed.{Owed}
 use Rattle.report_checking.specs.declared.open_scripts.OpenScript.{OpenScript}
 use Rattle.report_checking.specs.declared.findings.Owed.TheVariants as owed
@@ -184,15 +186,18 @@ collect_owed old new version waits searched now (owed.Nothing why) owes = tt
 
 -- ---- scripts
 
-script_owed : (old new : OpenScript) (command : Command) (answer : Reply) → new.version ≡ old.version → Leads old.engine new.engine (λ before after. OwesBeside old.version old.searched before command answer new.searched after) → LeadsScript (Some old) (Some new) (λ before after. Owes before command answer after)
+script_owed : (old new : OpenScript) (command : Command) (answer : Reply) → new.opening ≡ old.opening → LeadsIn old.opening old.engine new.engine (λ before after. OwesIn old.opening old.searched before command answer new.searched after)
+    → LeadsScript (Some old) (Some new) (λ before after. Owes before command answer after)
 script_owed old new command answer same owes None holds = absurd holds
 script_owed old new command answer same owes (Some before) holds =
     let after = owes before.state holds.0 in
-    let searched = subst (λ (searched : Bool). OwesBeside old.version searched before.state command answer new.searched after.0) holds.2 after.1 in
-    let owed_it = subst (λ (version : Version). OwesBeside version before.searched before.state command answer new.searched after.0) holds.1 searched in
-    (Some (record { state = after.0; version = before.version; searched = new.searched }), (owed_it, refl), (after.2, same ∙ holds.1, refl))
+    let searched = subst (λ (searched : Bool). OwesIn old.opening searched before.state command answer new.searched after.0) holds.2 after.1 in
+    let owed_it = subst (λ (opening : Opening). OwesIn opening before.searched before.state command answer new.searched after.0) holds.1 searched in
+    let stands = subst (λ (opening : Opening). HoldsIn opening new.engine after.0) (sym same) after.2 in
+    (Some (record { state = after.0; opening = before.opening; searched = new.searched }), (owed_it, refl), (stands, same ∙ holds.1, refl))
 
 -- a script is open
-pub open_owed : (old new : OpenScript) (command : Command) (given : Owed) → new.version ≡ old.version → IsOwedBy (λ answer. Leads old.engine new.engine (λ before after. OwesBeside old.version old.searched before command answer new.searched after)) given → IsOwedBy (λ answer. LeadsScript (Some old) (Some new) (λ before after. Owes before command answer after)) given
+pub open_owed : (old new : OpenScript) (command : Command) (given : Owed) → new.opening ≡ old.opening → IsOwedBy (λ answer. LeadsIn old.opening old.engine new.engine (λ before after. OwesIn old.opening old.searched before command answer new.searched after)) given
+    → IsOwedBy (λ answer. LeadsScript (Some old) (Some new) (λ before after. Owes before command answer after)) given
 open_owed old new command (owed.Reply answer) same owes = (owes.0, script_owed old new command answer same owes.1)
 open_owed old new command (owed.Nothing why) same owes = tt

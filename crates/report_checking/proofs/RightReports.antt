@@ -21,11 +21,14 @@ use Rattle.log_text.specs.Commands.{command_of, Says}
 use Rattle.log_text.specs.ReadBack.{IsSameTree, IsSameShown}
 use Rattle.log_text.specs.Replies.{text_of}
 use Rattle.log_text.specs.Refutations.{nodes_of}
-use Rattle.log_text.specs.Shown.{Shows, HandsIn, IsAnswer, IsShownIn}
+use Rattle.log_text.specs.Shown.{Shows, HandsIn, IsAnswer}
 use Rattle.log_text.proofs.SameTrees.{same_tree}
 use Rattle.log_text.specs.Trees.{split_text, step_text}
 use Rattle.log_text.specs.Trees as trees
-use Rattle.log_text.specs.declared.names.Names.TheVariants.{Ids}
+use Rattle.log_text.specs.declared.names.Names.{Names}
+use Rattle.log_text.specs.declared.names.Names.TheVariants.{Ids, Events}
+use Rattle.log_text.specs.declared.versions.Opening.{Opening}
+use Rattle.log_text.specs.declared.versions.Opening.TheVariants.{Ordered, Isolated}
 use Rattle.log_text.specs.declared.commands.Command.{Command}
 use Rattle.log_text.specs.declared.commands.Command.TheVariants as command
 use Rattle.log_text.specs.declared.replies.Reply.{Reply}
@@ -44,8 +47,9 @@ use Rattle.round_state.specs.declared.steps.StepReply.{StepReply}
 use Rattle.round_state.specs.declared.steps.StepReply.TheVariants as reply
 use Rattle.cobra.specs.Outputs.{Asks, IsTold}
 use Rattle.cobra.specs.StepReplies.{certificate_of, certified, report_of, reply_of}
+use Rattle.report_checking.specs.Isolation.{IsShownBy, told_by}
 use Rattle.report_checking.specs.Owing.{IsEarned, IsOfEngine}
-use Rattle.report_checking.specs.Reading.{IsAnswerOf, IsToldOf, OwesText, Earns, EarnsWhere, EarnsBeside, EarnsScript, OfRight, IsFair, IsFairTo}
+use Rattle.report_checking.specs.Reading.{IsAnswerOf, IsToldOf, OwesText, Earns, EarnsWhere, EarnsBeside, EarnsIn, EarnsScript, OfRight, IsFair, IsFairTo}
 use Rattle.report_checking.specs.RightReports.{shown_of}
 use Rattle.report_checking.specs.declared.findings.Found.{Found}
 use Rattle.report_checking.specs.declared.findings.Found.TheVariants as found
@@ -58,13 +62,18 @@ use Rattle.report_checking.specs.declared.findings.Owed.TheVariants as owed
 
 -- ---- trees that are the same
 
-same_items : (tree other : Tree) → IsSameTree tree other → trees.items_of Ids tree ≡ trees.items_of Ids other
-same_items (Close leaf) (Close leaf') same = ap (λ (l : Leaf). trees.leaf_text Ids l ∷ []) same
-same_items (Force' steps p rest) (Force' steps' p' rest') same =
-    ap₂ (λ (ss : List ForceStep) (more : List (List ℕ)). map (step_text Ids) ss ++ more) same.0 (same_items rest rest' same.1)
-same_items (Split' choice p first q second) (Split' choice' p' first' q' second') same =
-    ap₂ (λ (texts more : List (List ℕ)). texts ++ more) (ap (λ c. split_text Ids c ∷ []) same.0) (ap₂ (λ (texts more : List (List ℕ)). texts ++ more) (same_items first first' same.1) (same_items second second' same.2))
-same_items tree other same = absurd same
+same_items : (names : Names) (tree other : Tree) → IsSameTree tree other → trees.items_of names tree ≡ trees.items_of names other
+same_items names (Close leaf) (Close leaf') same = ap (λ (l : Leaf). trees.leaf_text names l ∷ []) same
+same_items names (Force' steps p rest) (Force' steps' p' rest') same =
+    ap₂ (λ (ss : List ForceStep) (more : List (List ℕ)). map (step_text names) ss ++ more) same.0 (same_items names rest rest' same.1)
+same_items names (Split' choice p first q second) (Split' choice' p' first' q' second') same =
+    ap₂ (λ (texts more : List (List ℕ)). texts ++ more) (ap (λ c. split_text names c ∷ []) same.0)
+    (ap₂ (λ (texts more : List (List ℕ)). texts ++ more) (same_items names first first' same.1) (same_items names second second' same.2))
+same_items names tree other same = absurd same
+
+same_broken : (names : Names) (round : ℕ) (counts : List ℕ) (tree other : Tree) → IsSameTree tree other → text_of (told_by names (told.Violated round counts tree)) ≡ text_of (told_by names (told.Violated round counts other))
+same_broken Ids round counts tree other same = rw (same_items Ids tree other same) refl
+same_broken Events round counts tree other same = rw (same_items Events tree other same) refl
 
 same_depth : (tree other : Tree) → IsSameTree tree other → depth_of tree ≡ depth_of other
 same_depth (Close leaf) (Close leaf') same = refl
@@ -164,19 +173,19 @@ not_wrong parts first answer kind (Refuted tree) right is wrong =
 not_wrong parts first answer kind Nothing right is wrong = subst (IsWrong parts) (spent_of answer is) wrong
 
 -- and earns the same text
-same_texts : (parts : Parts) (first answer : Answer) (report other : Report) (certificate earned : Certificate) → other.round ≡ report.round → other.counts ≡ report.counts → IsRight parts first report.kind certificate → IsAnswerOf (shown_of certificate) answer → IsRight parts answer other.kind earned
-    → text_of (certified other earned) ≡ text_of (certified report certificate)
-same_texts parts first answer report other (Order order) earned rounds counts right is again =
+same_texts : (names : Names) (parts : Parts) (first answer : Answer) (report other : Report) (certificate earned : Certificate) → other.round ≡ report.round → other.counts ≡ report.counts → IsRight parts first report.kind certificate → IsAnswerOf (shown_of certificate) answer → IsRight parts answer other.kind earned
+    → text_of (told_by names (certified other earned)) ≡ text_of (told_by names (certified report certificate))
+same_texts names parts first answer report other (Order order) earned rounds counts right is again =
     let it = earned_order parts order other.kind earned (subst (λ (a : Answer). IsRight parts a other.kind earned) (yes_of order answer is) again) in
     let kinds = same_verdict parts other.kind report.kind it.1 (right_order parts first report.kind order right).1 in
-    ap (λ (c : Certificate). text_of (certified other c)) it.0 ∙ rw (rounds, kinds, counts) refl
-same_texts parts first answer report other (Refuted tree) earned rounds counts right is again =
+    ap (λ (c : Certificate). text_of (told_by names (certified other c))) it.0 ∙ rw (rounds, kinds, counts) refl
+same_texts names parts first answer report other (Refuted tree) earned rounds counts right is again =
     let no = no_of tree answer is in
     let it = earned_tree parts no.0 other.kind earned (subst (λ (a : Answer). IsRight parts a other.kind earned) no.1 again) in
-    ap (λ (c : Certificate). text_of (certified other c)) it ∙ rw (rounds, counts, same_items no.0 tree no.2) refl
-same_texts parts first answer report other Nothing earned rounds counts right is again =
+    ap (λ (c : Certificate). text_of (told_by names (certified other c))) it ∙ same_broken names other.round other.counts no.0 tree no.2 ∙ rw (rounds, counts) refl
+same_texts names parts first answer report other Nothing earned rounds counts right is again =
     let it = earned_nothing parts other.kind earned (subst (λ (a : Answer). IsRight parts a other.kind earned) (spent_of answer is) again) in
-    ap (λ (c : Certificate). text_of (certified other c)) it ∙ rw (rounds, counts) refl
+    ap (λ (c : Certificate). text_of (told_by names (certified other c))) it ∙ rw (rounds, counts) refl
 
 -- ---- a finish
 
@@ -190,16 +199,16 @@ reported old new (Some parts) answer report is = is.0
 pub reported_by : (old new : EngineState) (answer : Answer) (report : Report) → IsSomeAnd old.asked (λ parts. IsReportOn parts (old.rounds + 1) answer report × IsHeldAfter parts report.kind old.held new.held) → IsReportedBy old old.asked answer report
 reported_by old new answer report is = reported old new old.asked answer report is
 
-reported_texts : (old : EngineState) (asked : Option Parts) (first answer : Answer) (report other : Report) → IsReportedBy old asked first report → IsAnswerOf (shown_of report.certificate) answer → IsReportedBy old asked answer other → text_of (report_of other) ≡ text_of (report_of report)
-reported_texts old None first answer report other right is again = absurd right
-reported_texts old (Some parts) first answer report other right is again =
-    same_texts parts first answer report other report.certificate other.certificate (again.number ∙ sym right.number) (again.counts ∙ sym right.counts) right.right is again.right
+reported_texts : (names : Names) (old : EngineState) (asked : Option Parts) (first answer : Answer) (report other : Report) → IsReportedBy old asked first report → IsAnswerOf (shown_of report.certificate) answer → IsReportedBy old asked answer other → text_of (told_by names (report_of other)) ≡ text_of (told_by names (report_of report))
+reported_texts names old None first answer report other right is again = absurd right
+reported_texts names old (Some parts) first answer report other right is again =
+    same_texts names parts first answer report other report.certificate other.certificate (again.number ∙ sym right.number) (again.counts ∙ sym right.counts) right.right is again.right
 
 -- the answer that the stored reply tells earns the report
-pub right_finished : (old : EngineState) (stored : List ℕ) (answer : Answer) (other : Report) (given : Reply) → ((it : Option Shown) → IsShownIn stored it → IsAnswerOf it answer) → IsReportedBy old old.asked answer other → given ≡ report_of other
-    → OfRight (IsEarned old) stored (λ text. OwesText text (owed.Reply given))
-right_finished old stored answer other given told again is report new earned shows =
-    inr (ap text_of is ∙ reported_texts old old.asked earned.answer answer report other (reported old new old.asked earned.answer report earned.reported) (told (shown_of report.certificate) shows) again)
+pub right_finished : (names : Names) (old : EngineState) (stored : List ℕ) (answer : Answer) (other : Report) (given : Reply) → ((it : Option Shown) → IsShownBy names stored it → IsAnswerOf it answer) → IsReportedBy old old.asked answer other → given ≡ report_of other
+    → OfRight names (IsEarned old) stored (λ text. OwesText names text (owed.Reply given))
+right_finished names old stored answer other given told again is report new earned shows =
+    inr (ap (λ (r : Reply). text_of (told_by names r)) is ∙ reported_texts names old old.asked earned.answer answer report other (reported old new old.asked earned.answer report earned.reported) (told (shown_of report.certificate) shows) again)
 
 open_round : (old : EngineState) (asked : Option Parts) (answer : Answer) (report : Report) → IsReportedBy old asked answer report → asked ≡ None → ⊥
 open_round old None answer report is none = is
@@ -212,31 +221,31 @@ never_wrong : (old : EngineState) (asked : Option Parts) (first answer : Answer)
 never_wrong old None first answer report right is wrong = wrong
 never_wrong old (Some parts) first answer report right is wrong = not_wrong parts first answer report.kind report.certificate right.right is wrong
 
-pub never_bad : (old : EngineState) (stored : List ℕ) (answer : Answer) → ((it : Option Shown) → IsShownIn stored it → IsAnswerOf it answer) → IsFinishRefusal old answer refusals.BadCertificate
-    → (report : Report) (new : EngineState) → IsEarned old report new → IsShownIn stored (shown_of report.certificate) → ⊥
-never_bad old stored answer told wrong report new earned shows =
+pub never_bad : (names : Names) (old : EngineState) (stored : List ℕ) (answer : Answer) → ((it : Option Shown) → IsShownBy names stored it → IsAnswerOf it answer) → IsFinishRefusal old answer refusals.BadCertificate
+    → (report : Report) (new : EngineState) → IsEarned old report new → IsShownBy names stored (shown_of report.certificate) → ⊥
+never_bad names old stored answer told wrong report new earned shows =
     never_wrong old old.asked earned.answer answer report (reported old new old.asked earned.answer report earned.reported) (told (shown_of report.certificate) shows) wrong
 
 -- ---- a round
 
-pub right_begun : (old mid : EngineState) (stored : List ℕ) (given : Owed) → StepsTo old step.Begin reply.Done mid → OfRight (IsEarned mid) stored (λ text. OwesText text given)
-    → (begun : EngineState) → StepsTo old step.Begin reply.Done begun → OfRight (IsEarned begun) stored (λ text. OwesText text given)
-right_begun old mid stored given first right begun second =
-    subst (λ (e : EngineState). OfRight (IsEarned e) stored (λ text. OwesText text given)) (first.1 ∙ sym second.1) right
+pub right_begun : (names : Names) (old mid : EngineState) (stored : List ℕ) (given : Owed) → StepsTo old step.Begin reply.Done mid → OfRight names (IsEarned mid) stored (λ text. OwesText names text given)
+    → (begun : EngineState) → StepsTo old step.Begin reply.Done begun → OfRight names (IsEarned begun) stored (λ text. OwesText names text given)
+right_begun names old mid stored given first right begun second =
+    subst (λ (e : EngineState). OfRight names (IsEarned e) stored (λ text. OwesText names text given)) (first.1 ∙ sym second.1) right
 
 pub none_and_some : (asked : Option Parts) → asked ≡ None → IsSome asked → ⊥
 none_and_some None none some = let no : ⊥ = cc in no
 none_and_some (Some parts) none some = cc
 
-pub right_not_begun : (old new : EngineState) (stored : List ℕ) (said : StepReply) (answer : Reply) → StepsTo old step.Begin said new → said ≢ reply.Done → answer ≡ reply_of said
-    → (begun : EngineState) → StepsTo old step.Begin reply.Done begun → OfRight (IsEarned begun) stored (λ text. OwesText text (owed.Reply answer))
-right_not_begun old new stored reply.Done answer right not is begun may = absurd (not refl)
-right_not_begun old new stored (reply.Refused refusals.RoundOpen) answer right not is begun may = absurd (none_and_some old.asked may.0.none_open right.0)
-right_not_begun old new stored (reply.Refused refusals.TooLong) answer right not is begun may = absurd (omega (arith, may.0.number, right.0.1))
-right_not_begun old new stored (reply.Refused refusals.NoMemory) answer right not is begun may = λ report after earned shows. inl is
-right_not_begun old new stored (reply.Refused refusal) answer right not is begun may = absurd right.0
-right_not_begun old new stored (reply.Report report) answer right not is begun may = absurd right
-right_not_begun old new stored (reply.Cut cut) answer right not is begun may = absurd right
+pub right_not_begun : (names : Names) (old new : EngineState) (stored : List ℕ) (said : StepReply) (answer : Reply) → StepsTo old step.Begin said new → said ≢ reply.Done → answer ≡ reply_of said
+    → (begun : EngineState) → StepsTo old step.Begin reply.Done begun → OfRight names (IsEarned begun) stored (λ text. OwesText names text (owed.Reply answer))
+right_not_begun names old new stored reply.Done answer right not is begun may = absurd (not refl)
+right_not_begun names old new stored (reply.Refused refusals.RoundOpen) answer right not is begun may = absurd (none_and_some old.asked may.0.none_open right.0)
+right_not_begun names old new stored (reply.Refused refusals.TooLong) answer right not is begun may = absurd (omega (arith, may.0.number, right.0.1))
+right_not_begun names old new stored (reply.Refused refusals.NoMemory) answer right not is begun may = λ report after earned shows. inl is
+right_not_begun names old new stored (reply.Refused refusal) answer right not is begun may = absurd right.0
+right_not_begun names old new stored (reply.Report report) answer right not is begun may = absurd right
+right_not_begun names old new stored (reply.Cut cut) answer right not is begun may = absurd right
 
 -- ---- an answer that is handed in
 
@@ -281,22 +290,23 @@ judged_told : (old : EngineState) (asked : Option Parts) (it other : Shown) (rep
 judged_told old None it other report same right = absurd right
 judged_told old (Some parts) it other report same right = judged_shown parts it other report.kind report.certificate same right.right
 
-judged_said : (old new : EngineState) (it : Shown) (stored : List ℕ) (said : StepReply) → StepsTo old (step.Judge (certificate_of it)) said new → OfRight (Earns old (command.Answer it)) stored (λ text. OwesText text (owed.Reply (reply_of said)))
-judged_said old new it stored (reply.Report again) steps report after earned shows =
+judged_said : (names : Names) (old new : EngineState) (it : Shown) (stored : List ℕ) (said : StepReply) → StepsTo old (step.Judge (certificate_of it)) said new
+    → OfRight names (Earns old (command.Answer it)) stored (λ text. OwesText names text (owed.Reply (reply_of said)))
+judged_said names old new it stored (reply.Report again) steps report after earned shows =
     let right = reported old after old.asked (answer_told (certificate_of earned.0)) report earned.2.0 in
-    inr (reported_texts old old.asked (answer_told (certificate_of earned.0)) (answer_told (certificate_of it)) report again right (judged_told old old.asked it earned.0 report earned.1 right) (reported old new old.asked (answer_told (certificate_of it)) again steps.0))
-judged_said old new it stored (reply.Refused refusals.NoMemory) steps report after earned shows = inl refl
-judged_said old new it stored (reply.Refused refusals.NoRound) steps report after earned shows =
+    inr (reported_texts names old old.asked (answer_told (certificate_of earned.0)) (answer_told (certificate_of it)) report again right (judged_told old old.asked it earned.0 report earned.1 right) (reported old new old.asked (answer_told (certificate_of it)) again steps.0))
+judged_said names old new it stored (reply.Refused refusals.NoMemory) steps report after earned shows = inl refl
+judged_said names old new it stored (reply.Refused refusals.NoRound) steps report after earned shows =
     absurd (open_round old old.asked (answer_told (certificate_of earned.0)) report (reported old after old.asked (answer_told (certificate_of earned.0)) report earned.2.0) steps.0)
-judged_said old new it stored (reply.Refused refusals.BadCertificate) steps report after earned shows =
+judged_said names old new it stored (reply.Refused refusals.BadCertificate) steps report after earned shows =
     let right = reported old after old.asked (answer_told (certificate_of earned.0)) report earned.2.0 in
     absurd (never_wrong old old.asked (answer_told (certificate_of earned.0)) (answer_told (certificate_of it)) report right (judged_told old old.asked it earned.0 report earned.1 right) steps.0)
-judged_said old new it stored (reply.Refused refusal) steps report after earned shows = absurd steps.0
-judged_said old new it stored reply.Done steps report after earned shows = absurd steps
-judged_said old new it stored (reply.Cut cut) steps report after earned shows = absurd steps
+judged_said names old new it stored (reply.Refused refusal) steps report after earned shows = absurd steps.0
+judged_said names old new it stored reply.Done steps report after earned shows = absurd steps
+judged_said names old new it stored (reply.Cut cut) steps report after earned shows = absurd steps
 
-pub right_judged : (old : EngineState) (it : Shown) (stored : List ℕ) (given : Owed) → IsToldOf old (step.Judge (certificate_of it)) given → OfRight (Earns old (command.Answer it)) stored (λ text. OwesText text given)
-right_judged old it stored given told = subst (λ (g : Owed). OfRight (Earns old (command.Answer it)) stored (λ text. OwesText text g)) (sym told.3) (judged_said old told.1 it stored told.0 told.2)
+pub right_judged : (names : Names) (old : EngineState) (it : Shown) (stored : List ℕ) (given : Owed) → IsToldOf old (step.Judge (certificate_of it)) given → OfRight names (Earns old (command.Answer it)) stored (λ text. OwesText names text given)
+right_judged names old it stored given told = subst (λ (g : Owed). OfRight names (Earns old (command.Answer it)) stored (λ text. OwesText names text g)) (sym told.3) (judged_said names old told.1 it stored told.0 told.2)
 
 -- ---- what is found
 
@@ -338,8 +348,8 @@ is_said line asked other one two =
 
 -- ---- reports beside a search
 
-pub where_right : (old : EngineState) (may : Bool) (stored : List ℕ) (given : Owed) → OfRight (IsEarned old) stored (λ text. OwesText text given) → OfRight (EarnsWhere may old) stored (λ text. OwesText text given)
-where_right old may stored given right report new earned shows = right report new earned.1 shows
+pub where_right : (names : Names) (old : EngineState) (may : Bool) (stored : List ℕ) (given : Owed) → OfRight names (IsEarned old) stored (λ text. OwesText names text given) → OfRight names (EarnsWhere may old) stored (λ text. OwesText names text given)
+where_right names old may stored given right report new earned shows = right report new earned.1 shows
 
 earns_by_engine : (searched : Bool) (old : EngineState) (asked : Command) (report : Report) (new : EngineState) → IsOfEngine asked → EarnsBeside searched old asked report new → Earns old asked report new
 earns_by_engine searched old (command.BeginSearch budget depth workers search) report new of earned = absurd of
@@ -348,8 +358,15 @@ earns_by_engine searched old command.Skip report new of earned = absurd of
 earns_by_engine searched old (command.Finish budget depth workers search) report new of earned = absurd of
 earns_by_engine searched old asked report new of earned = earned
 
-pub engine_right : (searched : Bool) (old : EngineState) (asked : Command) (stored : List ℕ) (given : Owed) → IsOfEngine asked → OfRight (Earns old asked) stored (λ text. OwesText text given) → OfRight (EarnsBeside searched old asked) stored (λ text. OwesText text given)
-engine_right searched old asked stored given of right report new earned shows = right report new (earns_by_engine searched old asked report new of earned) shows
+pub engine_right : (names : Names) (searched : Bool) (old : EngineState) (asked : Command) (stored : List ℕ) (given : Owed) → IsOfEngine asked → OfRight names (Earns old asked) stored (λ text. OwesText names text given)
+    → OfRight names (EarnsBeside searched old asked) stored (λ text. OwesText names text given)
+engine_right names searched old asked stored given of right report new earned shows = right report new (earns_by_engine searched old asked report new of earned) shows
+
+-- an answer that is handed in earns what one that is the same does; where transactions are split none does
+earns_answer : (opening : Opening) (searched : Bool) (old : EngineState) (it other : Shown) (report : Report) (new : EngineState) → IsSameShown (Some it) (Some other)
+    → EarnsIn opening searched old (command.Answer other) report new → EarnsIn opening searched old (command.Answer it) report new
+earns_answer (Ordered version) searched old it other report new same earned = (earned.0, shown_then it other earned.0 same earned.1, earned.2)
+earns_answer Isolated searched old it other report new same earned = absurd earned.0
 
 earns_said : (old : Option OpenScript) (said : Data) (asked other : Command) (report : Report) (new : EngineState) → Says said asked → Says said other → EarnsScript old asked report new → EarnsScript old other report new
 earns_said old said asked other report new (inl one) (inl two) earned =
@@ -359,8 +376,8 @@ earns_said old said asked other report new (inl one) (inr two) earned = let no :
 earns_said None said asked other report new (inr one) two earned = absurd earned
 earns_said (Some old) said asked other report new (inr one) (inl two) earned = let no : Some other ≡ None = sym two ∙ no_command said one.0 one.1 in absurd (let it : ⊥ = cc in it)
 earns_said (Some old) said asked other report new (inr one) (inr two) earned =
-    let first : Earns old.engine (command.Answer one.0) report new = subst (λ (c : Command). EarnsBeside old.searched old.engine c report new) one.2 earned in
-    subst (λ (c : Command). EarnsBeside old.searched old.engine c report new) (sym two.2) (first.0, shown_then two.0 one.0 first.0 (same_answer said two.0 one.0 two.1 one.1) first.1, first.2)
+    let first : EarnsIn old.opening old.searched old.engine (command.Answer one.0) report new = subst (λ (c : Command). EarnsIn old.opening old.searched old.engine c report new) one.2 earned in
+    subst (λ (c : Command). EarnsIn old.opening old.searched old.engine c report new) (sym two.2) (earns_answer old.opening old.searched old.engine two.0 one.0 report new (same_answer said two.0 one.0 two.1 one.1) first)
 
 pub fair_asked : (old : Option OpenScript) (next : Next) (asked : Command) (stored : List ℕ) → ((line : List ℕ) → IsTold line next → Asks line asked) → (got : Found) → IsFair old asked stored got → IsFairTo old next stored got
 fair_asked old next asked stored asks (found.Right what) fair = tt

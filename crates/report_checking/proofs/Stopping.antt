@@ -5,6 +5,7 @@ use Rattle.std.proofs.lemmas.Bool.{not_from_false}
 use Rattle.polygraph.specs.declared.solving.Answer.{Answer}
 use Rattle.log_text.specs.declared.commands.Command.{Command}
 use Rattle.log_text.specs.declared.commands.Command.TheVariants as command
+use Rattle.log_text.specs.Replies.{text_of}
 use Rattle.byte_lines.specs.LineReaders.{IsNextOf}
 use Rattle.byte_lines.specs.declared.lines.Next.{Next}
 use Rattle.byte_lines.specs.declared.lines.Next.TheVariants.{Line, TooLong, End}
@@ -12,15 +13,20 @@ use Rattle.round_state.specs.EngineState.{EngineState}
 use Rattle.round_state.specs.Legal.{State}
 use Rattle.round_state.specs.declared.reports.Report.{Report}
 use Rattle.cobra.specs.Outputs.{IsTold}
-use Rattle.report_checking.specs.Owing.{ScriptState}
-use Rattle.report_checking.specs.Reading.{HoldsScript, EarnsBeside, IsFairTo, IsFairNext, IsOtherwiseNext, IsRead, StopsOn}
-use Rattle.report_checking.specs.RightReports.{OwesReport, TellsRightReport, HasWrongNext}
+use Rattle.cobra.specs.StepReplies.{report_of}
+use Rattle.log_text.specs.declared.names.Names.{Names}
+use Rattle.log_text.specs.declared.versions.Opening.{Opening}
+use Rattle.log_text.specs.declared.versions.Opening.TheVariants.{Ordered, Isolated}
+use Rattle.report_checking.specs.Isolation.{IsShownBy, names_of, told_by}
+use Rattle.report_checking.specs.OwedLines.{ScriptState}
+use Rattle.report_checking.specs.Reading.{HoldsScript, EarnsBeside, EarnsIn, IsFairTo, IsFairNext, IsOtherwiseNext, IsRead, StopsOn}
+use Rattle.report_checking.specs.RightReports.{OwesReport, OwesIsolation, OwesReportIn, shown_of, TellsRightReport, HasWrongNext}
 use Rattle.report_checking.specs.declared.findings.Found.{Found}
 use Rattle.report_checking.specs.declared.findings.Found.TheVariants as found
 use Rattle.report_checking.specs.declared.findings.Fault.{Fault}
 use Rattle.report_checking.specs.declared.open_scripts.OpenScript.{OpenScript}
 use Rattle.report_checking.proofs.CheckedLines.{next_line}
-use Rattle.report_checking.proofs.OtherReplies.{no_right_other, no_unchecked}
+use Rattle.report_checking.proofs.ScriptReplies.{same_engine, no_right_other, no_unchecked}
 use Rattle.report_checking.proofs.RightReports.{shown_self}
 
 -- ---- where the check stops
@@ -32,13 +38,28 @@ earns_of before (command.Round budget depth workers search) report new owes = (o
 earns_of before (command.Answer it) report new owes = (it, shown_self it, owes.engine)
 earns_of before asked report new owes = absurd owes
 
+earns_isolated : (before : ScriptState) (asked : Command) (report : Report) (new : State) → OwesIsolation before asked report new → EarnsIn Isolated before.searched before.state.engine asked report new.engine
+earns_isolated before (command.Finish budget depth workers search) report new owes = (tt, (not_from_false before.searched owes.0, owes.1.earned))
+earns_isolated before (command.Collect waits) report new owes = (tt, (owes.0, owes.1.earned))
+earns_isolated before (command.Round budget depth workers search) report new owes = (tt, (owes.0.engine, owes.1.engine, owes.2.earned))
+earns_isolated before asked report new owes = absurd owes
+
+earns_in : (opening : Opening) (before : ScriptState) (asked : Command) (report : Report) (new : State) → OwesReportIn opening before asked report new → EarnsIn opening before.searched before.state.engine asked report new.engine
+earns_in (Ordered version) before asked report new owes = earns_of before asked report new owes
+earns_in Isolated before asked report new owes = earns_isolated before asked report new owes
+
 no_right_report : (script : Option OpenScript) (state : Option ScriptState) (next : Next) (line stored : List ℕ) (why : Fault) → HoldsScript script state → IsTold line next → IsFairTo script next stored (found.Wrong why) → ¬ TellsRightReport state line stored
 no_right_report script None next line stored why holds said fair right = right
 no_right_report None (Some before) next line stored why holds said fair right = holds
 no_right_report (Some script) (Some before) next line stored why holds said fair right =
+    let names : names_of before.opening ≡ names_of script.opening = ap names_of (sym holds.1) in
+    let earned = earns_in before.opening before right.command right.report right.new right.owed in
+    let engine = subst (λ (e : EngineState). EarnsIn before.opening before.searched e right.command right.report right.new.engine) (same_engine script.opening script.engine before.state holds.0) earned in
+    let searched = subst (λ (s : Bool). EarnsIn before.opening s script.engine right.command right.report right.new.engine) (sym holds.2) engine in
     fair line said right.command right.asks right.report right.new.engine
-    (subst (λ (s : Bool). EarnsBeside s script.engine right.command right.report right.new.engine) (sym holds.2)
-    (subst (λ (e : EngineState). EarnsBeside before.searched e right.command right.report right.new.engine) holds.0.same (earns_of before right.command right.report right.new right.owed))) right.shows right.text_is
+    (subst (λ (o : Opening). EarnsIn o script.searched script.engine right.command right.report right.new.engine) (sym holds.1) searched)
+    (subst (λ (n : Names). IsShownBy n stored (shown_of right.report.certificate)) names right.shows)
+    (subst (λ (n : Names). stored ≡ text_of (told_by n (report_of right.report))) names right.text_is)
 
 -- what was read behind the line
 wrong_behind : (limit : ℕ) (left : List (List ℕ)) (after : Option (List (List ℕ))) (line : List ℕ) (next stored : Next) (script : Option OpenScript) (state : Option ScriptState) (why : Fault) → limit ≡ 1073741824 → HoldsScript script state → IsTold line next → IsNextOf limit (Some left) stored after

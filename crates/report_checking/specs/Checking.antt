@@ -8,7 +8,7 @@ use Rattle.log_text.specs.declared.replies.Reply.TheVariants as told
 use Rattle.log_text.specs.Replies.{text_of}
 use Rattle.byte_lines.specs.Lines.{lines}
 use Rattle.cobra.specs.Outputs.{Asks}
-use Rattle.report_checking.specs.Owing.{OwesLine, ScriptState}
+use Rattle.report_checking.specs.OwedLines.{OwesLine, ScriptState}
 
 -- the stored reply to a line is the text of what is owed
 pub record IsRightReply (old : Option ScriptState) (line stored : List ℕ) (new : Option ScriptState) : Type 0 where
@@ -19,6 +19,7 @@ pub record IsRightReply (old : Option ScriptState) (line stored : List ℕ) (new
 -- a command that may be refused for want of memory, where no engine is open
 abbrev pub OpensEngine : Command → Type 0
 OpensEngine (Start sessions limit version) = ⊤
+OpensEngine (StartIsolated sessions limit) = ⊤
 OpensEngine command = ⊥
 
 -- and where one is

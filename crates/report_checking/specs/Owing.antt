@@ -1,17 +1,16 @@
 -- Which reply is owed to a line of a script, where no search is made: what a report tells is judged by its own certificate.
-use Rattle.std.specs.Prelude.{◌≡◌, ℕ, ◌+◌, ◌⊎◌, ⊤, Bool, true, false, not, List, Option, Some, None, IsSomeAnd}
+use Rattle.std.specs.Prelude.{◌≡◌, ◌+◌, ◌⊎◌, ⊤, Bool, true, false, not, Option, Some, None, IsSomeAnd}
 use Rattle.txn.specs.declared.refusals.Refusal.{Refusal}
 use Rattle.txn.specs.declared.refusals.Refusal.TheVariants.{NoRound, RoundOpen}
 use Rattle.order_check.specs.declared.remainder.Parts.{Parts}
 use Rattle.polygraph.specs.declared.solving.Answer as solved
 use Rattle.log_text.specs.declared.commands.Command.{Command}
-use Rattle.log_text.specs.declared.commands.Command.TheVariants.{Start, StartIsolated, Offer, Join, Close, Begin, Finish, Round, BeginSearch, Collect, Skip, Truncate, Rebuild, Show, Resume, Save, Answer}
+use Rattle.log_text.specs.declared.commands.Command.TheVariants.{Offer, Join, Close, Begin, Finish, Round, BeginSearch, Collect, Skip, Truncate, Rebuild, Show, Save, Answer}
 use Rattle.log_text.specs.declared.replies.Reply.{Reply}
 use Rattle.log_text.specs.declared.replies.Reply.TheVariants as told
 use Rattle.log_text.specs.declared.versions.Version.{Version}
 use Rattle.round_state.specs.EngineState.{EngineState}
 use Rattle.round_state.specs.Legal.{State, Legal, TellsOf}
-use Rattle.round_state.specs.Opening.{IsSessions, IsLimit, IsOpenRefusal, fresh_state}
 use Rattle.round_state.specs.Solving.{IsReportOn}
 use Rattle.round_state.specs.Steps.{IsFinished, IsHeldAfter}
 use Rattle.round_state.specs.declared.reports.Report.{Report}
@@ -19,7 +18,6 @@ use Rattle.round_state.specs.declared.steps.Step.{Step}
 use Rattle.round_state.specs.declared.steps.Step.TheVariants as step
 use Rattle.round_state.specs.declared.steps.StepReply.{StepReply}
 use Rattle.round_state.specs.declared.steps.StepReply.TheVariants as reply
-use Rattle.cobra.specs.Outputs.{Asks}
 use Rattle.cobra.specs.Saving.{saved_told}
 use Rattle.cobra.specs.Scripts.{IsBadLine, IsTakenIn, state_told}
 use Rattle.cobra.specs.StepReplies.{certificate_of, reply_of, report_of}
@@ -106,35 +104,6 @@ OwesBeside version searched old (Collect waits) answer after new = GoesOn waits 
 OwesBeside version searched old Skip answer after new = IsStep old step.Abandon answer new × (after ≡ false)
 OwesBeside version searched old (Finish budget depth workers search) answer after new = FinishesWhere (not searched) RoundOpen searched old answer after new
 OwesBeside version searched old command answer after new = OwesOpen version old command answer new × (after ≡ searched_after searched new.engine.asked)
-
--- A script whose engine is open: the engine, with the history that it stands for, the version of the lines, and whether a search was begun for the
--- open round that isn't collected yet.
-pub record ScriptState : Type 0 where
-  pub state : State
-  pub version : Version
-  pub searched : Bool
-
--- What is owed to a command, where none is open yet. To one that begins a hand-over nothing is: what had gone before isn't shown. Nor is anything to
--- one that asks for snapshot isolation, of which replies aren't checked.
-abbrev pub OwesFirst : Command → Reply → Option ScriptState → Type 0
-OwesFirst (Start sessions limit version) told.Done new = IsSessions sessions × IsLimit limit × (new ≡ Some (record { state = fresh_state sessions limit; version = version; searched = false }))
-OwesFirst (Start sessions limit version) (told.No refusal) new = IsOpenRefusal sessions limit refusal × (new ≡ None)
-OwesFirst (Start sessions limit version) answer new = ⊥
-OwesFirst (StartIsolated sessions limit) answer new = ⊥
-OwesFirst (Resume sessions limit version) answer new = ⊥
-OwesFirst command answer new = IsBadLine None answer new
-
--- what is owed to a command; a script has a state once its engine is open, and its version stays
-abbrev pub Owes : Option ScriptState → Command → Reply → Option ScriptState → Type 0
-Owes None command answer new = OwesFirst command answer new
-Owes (Some old) command answer (Some new) = OwesBeside old.version old.searched old.state command answer new.searched new.state × (new.version ≡ old.version)
-Owes (Some old) command answer None = ⊥
-
--- what is owed to a line: that of its command, and BadLine where it is none
-abbrev pub OwesLine : Option ScriptState → List ℕ → Reply → Option ScriptState → Type 0
-OwesLine old line answer new =
-    ((command : Command) × Asks line command × Owes old command answer new)
-    ⊎ (((command : Command) → ¬ Asks line command) × IsBadLine old answer new)
 
 -- the step isn't a finish
 abbrev pub IsPlain : Step → Type 0

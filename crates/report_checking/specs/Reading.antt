@@ -11,11 +11,15 @@ use Rattle.log_text.specs.declared.replies.Reply.{Reply}
 use Rattle.log_text.specs.declared.replies.Reply.TheVariants as told
 use Rattle.log_text.specs.Replies.{HasKindOfOrder, text_of}
 use Rattle.log_text.specs.ReadBack.{IsSameTree, IsSameShown}
-use Rattle.log_text.specs.Shown.{IsShownIn}
 use Rattle.log_text.specs.declared.shown.Shown.{Shown}
 use Rattle.log_text.specs.declared.shown.Shown.TheVariants as shown
 use Rattle.log_text.specs.Versions.{has_form}
+use Rattle.log_text.specs.declared.names.Names.{Names}
+use Rattle.log_text.specs.declared.names.Names.TheVariants.{Ids}
+use Rattle.log_text.specs.declared.versions.Opening.{Opening}
+use Rattle.log_text.specs.declared.versions.Opening.TheVariants.{Ordered, Isolated}
 use Rattle.log_text.specs.declared.versions.Version.{Version}
+use Rattle.log_text.specs.declared.versions.Version.TheVariants.{Two}
 use Rattle.logged_fragments.specs.declared.logged.LoggedFragment.{LoggedFragment}
 use Rattle.byte_lines.specs.declared.lines.Next.{Next}
 use Rattle.byte_lines.specs.declared.lines.Next.TheVariants.{Line, TooLong, End}
@@ -31,12 +35,17 @@ use Rattle.round_state.specs.declared.steps.Step.{Step}
 use Rattle.round_state.specs.declared.steps.Step.TheVariants as step
 use Rattle.round_state.specs.declared.steps.StepReply.{StepReply}
 use Rattle.round_state.specs.declared.steps.StepReply.TheVariants as reply
+use Rattle.snapshot_scripts.specs.Isolated.{isolated_of}
+use Rattle.snapshot_scripts.specs.Legal.{HoldsSplit}
+use Rattle.snapshot_scripts.specs.Splitting.{CanBeAsked, IsAskedFault, split_command}
 use Rattle.cobra.specs.Outputs.{Asks, IsTold}
 use Rattle.cobra.specs.Saving.{saved_told}
-use Rattle.cobra.specs.Scripts.{state_told}
+use Rattle.cobra.specs.Scripts.{IsIsolatedLimit, IsIsolatedRefusal, state_told}
 use Rattle.cobra.specs.StepReplies.{certificate_of, report_of, reply_of}
 use Rattle.report_checking.specs.Checking.{IsRightReply, IsUnchecked, TakesMemory, Checks, IsAllRight, left_by}
-use Rattle.report_checking.specs.Owing.{BeginsSearch, IsEarned, Owes, ScriptState}
+use Rattle.report_checking.specs.Isolation.{IsShownBy, names_of, told_by}
+use Rattle.report_checking.specs.OwedLines.{Owes, ScriptState}
+use Rattle.report_checking.specs.Owing.{BeginsSearch, IsEarned}
 use Rattle.report_checking.specs.RightReports.{shown_of, StopsAtWrong}
 use Rattle.report_checking.specs.declared.findings.Found.{Found}
 use Rattle.report_checking.specs.declared.open_scripts.OpenScript.{OpenScript}
@@ -52,11 +61,23 @@ use Rattle.report_checking.specs.declared.findings.Owed.TheVariants as owed
 abbrev pub Leads : EngineState → EngineState → (State → State → Type 0) → Type 0
 Leads old new P = (before : State) → Holds old before → (after : State) × P before after × Holds new after
 
--- A script, once it is open, is of the version of its state, and searches where that does; its engine is that of the state, and stands for the
+-- the same where transactions are split: the histories are as they were offered
+abbrev pub LeadsSplit : EngineState → EngineState → (State → State → Type 0) → Type 0
+LeadsSplit old new P = (before : State) → HoldsSplit old before → (after : State) × P before after × HoldsSplit new after
+
+-- by what a script asks
+abbrev pub HoldsIn : Opening → EngineState → State → Type 0
+HoldsIn (Ordered version) engine state = Holds engine state
+HoldsIn Isolated engine state = HoldsSplit engine state
+
+abbrev pub LeadsIn : Opening → EngineState → EngineState → (State → State → Type 0) → Type 0
+LeadsIn opening old new P = (before : State) → HoldsIn opening old before → (after : State) × P before after × HoldsIn opening new after
+
+-- A script, once it is open, asks what its state does, and searches where that does; its engine is that of the state, and stands for the
 -- histories of the state.
 abbrev pub HoldsScript : Option OpenScript → Option ScriptState → Type 0
 HoldsScript None None = ⊤
-HoldsScript (Some script) (Some state) = Holds script.engine state.state × (script.version ≡ state.version) × (script.searched ≡ state.searched)
+HoldsScript (Some script) (Some state) = HoldsIn script.opening script.engine state.state × (script.opening ≡ state.opening) × (script.searched ≡ state.searched)
 HoldsScript script state = ⊥
 
 -- the same of a script, once it is open
@@ -162,10 +183,10 @@ IsAnswerOf found answer = ⊥
 abbrev pub IsToldOf : EngineState → Step → Owed → Type 0
 IsToldOf old asked given = (said : StepReply) × (new : EngineState) × StepsTo old asked said new × (given ≡ owed.Reply (reply_of said))
 
--- The reply with this text is owed, unless our own engine found no memory.
-abbrev pub OwesText : List ℕ → Owed → Type 0
-OwesText text (owed.Reply answer) = (answer ≡ told.No NoMemory) ⊎ (text_of answer ≡ text)
-OwesText text (owed.Nothing why) = ⊥
+-- The reply with this text by these names is owed, unless our own engine found no memory.
+abbrev pub OwesText : Names → List ℕ → Owed → Type 0
+OwesText names text (owed.Reply answer) = (answer ≡ told.No NoMemory) ⊎ (text_of (told_by names answer) ≡ text)
+OwesText names text (owed.Nothing why) = ⊥
 
 -- By the engine alone: a command that ends a round earns the report. An answer that is handed in may be kept elsewhere in memory.
 abbrev pub Earns : EngineState → Command → Report → EngineState → Type 0
@@ -186,23 +207,32 @@ EarnsBeside searched old Skip report new = ⊥
 EarnsBeside searched old (Finish budget depth workers search) report new = EarnsWhere (not searched) old report new
 EarnsBeside searched old command report new = Earns old command report new
 
--- the same of a script; the version of its lines has no part in it
+-- the same by what a script asks; the version of its lines has no part in it
+abbrev pub EarnsIn : Opening → Bool → EngineState → Command → Report → EngineState → Type 0
+EarnsIn (Ordered version) searched old command report new = EarnsBeside searched old command report new
+EarnsIn Isolated searched old command report new = CanBeAsked command × EarnsBeside searched old (split_command command) report new
+
 abbrev pub EarnsScript : Option OpenScript → Command → Report → EngineState → Type 0
 EarnsScript None command report new = ⊥
-EarnsScript (Some old) command report new = EarnsBeside old.searched old.engine command report new
+EarnsScript (Some old) command report new = EarnsIn old.opening old.searched old.engine command report new
 
--- Where a report is earned and the stored reply shows its certificate, this is so of its text.
-abbrev pub OfRight : (Report → EngineState → Type 0) → List ℕ → (List ℕ → Type 0) → Type 0
-OfRight Earned stored P = (report : Report) (new : EngineState) → Earned report new → IsShownIn stored (shown_of report.certificate) → P (text_of (report_of report))
+-- by which names a script tells of transactions
+abbrev pub names_in : Option OpenScript → Names
+names_in None = Ids
+names_in (Some script) = names_of script.opening
+
+-- Where a report is earned and the stored reply shows its certificate by these names, this is so of its text.
+abbrev pub OfRight : Names → (Report → EngineState → Type 0) → List ℕ → (List ℕ → Type 0) → Type 0
+OfRight names Earned stored P = (report : Report) (new : EngineState) → Earned report new → IsShownBy names stored (shown_of report.certificate) → P (text_of (told_by names (report_of report)))
 
 -- A reply to the command that is found wrong isn't the text of a right report.
 abbrev pub IsFair : Option OpenScript → Command → List ℕ → Found → Type 0
-IsFair old command stored (found.Wrong why) = OfRight (EarnsScript old command) stored (λ text. stored ≢ text)
+IsFair old command stored (found.Wrong why) = OfRight (names_in old) (EarnsScript old command) stored (λ text. stored ≢ text)
 IsFair old command stored given = ⊤
 
 -- the same of a reply to what was read
 abbrev pub IsFairTo : Option OpenScript → Next → List ℕ → Found → Type 0
-IsFairTo old next stored (found.Wrong why) = (line : List ℕ) → IsTold line next → (command : Command) → Asks line command → OfRight (EarnsScript old command) stored (λ text. stored ≢ text)
+IsFairTo old next stored (found.Wrong why) = (line : List ℕ) → IsTold line next → (command : Command) → Asks line command → OfRight (names_in old) (EarnsScript old command) stored (λ text. stored ≢ text)
 IsFairTo old next stored given = ⊤
 
 -- and of what was read behind it
@@ -262,19 +292,37 @@ abbrev pub GivesFirst : Command → Reply → Type 0
 GivesFirst (Start sessions limit version) told.Done = IsSessions sessions × IsLimit limit
 GivesFirst (Start sessions limit version) (told.No refusal) = IsOpenRefusal sessions limit refusal
 GivesFirst (Start sessions limit version) answer = ⊥
+GivesFirst (StartIsolated sessions limit) told.Done = IsSessions sessions × IsIsolatedLimit limit
+GivesFirst (StartIsolated sessions limit) (told.No refusal) = IsIsolatedRefusal sessions limit refusal
 GivesFirst (StartIsolated sessions limit) answer = ⊥
 GivesFirst (Resume sessions limit version) answer = ⊥
 GivesFirst command answer = answer ≡ told.No BadLine
 
+-- the same where transactions are split
+abbrev pub GivesIsolated : Bool → EngineState → Command → Reply → Type 0
+GivesIsolated searched old command answer =
+    ((refusal : Refusal) × IsAskedFault command refusal × (answer ≡ told.No refusal))
+    ⊎ (CanBeAsked command × (inner : Reply) × GivesBeside Two searched old (split_command command) inner × (answer ≡ isolated_of inner))
+
+-- by what a script asks
+abbrev pub GivesIn : Opening → Bool → EngineState → Command → Reply → Type 0
+GivesIn (Ordered version) searched old command answer = GivesBeside version searched old command answer
+GivesIn Isolated searched old command answer = GivesIsolated searched old command answer
+
 -- the same of a script
 abbrev pub GivesScript : Option OpenScript → Command → Reply → Type 0
 GivesScript None command answer = GivesFirst command answer
-GivesScript (Some old) command answer = GivesBeside old.version old.searched old.engine command answer
+GivesScript (Some old) command answer = GivesIn old.opening old.searched old.engine command answer
 
 -- What is owed is the one right reply of these, want of memory apart.
 abbrev pub IsAlone : (Reply → Type 0) → Owed → Type 0
 IsAlone P (owed.Reply given) = (answer : Reply) → P answer → (answer ≡ told.No NoMemory) ⊎ ((given ≡ told.No NoMemory) ⊎ (given ≡ answer))
 IsAlone P (owed.Nothing why) = (answer : Reply) → P answer → answer ≡ told.No NoMemory
+
+-- what is owed by halves, told of begins and commits
+abbrev pub isolated_owed : Owed → Owed
+isolated_owed (owed.Reply inner) = owed.Reply (isolated_of inner)
+isolated_owed (owed.Nothing why) = owed.Nothing why
 
 -- what is owed to a fragment is the reply to the step that takes it, or BadLine
 abbrev pub IsTakenAs : Version → EngineState → LoggedFragment → Step → Owed → Type 0

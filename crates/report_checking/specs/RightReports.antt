@@ -7,7 +7,8 @@ use Rattle.log_text.specs.declared.replies.Reply.TheVariants as told
 use Rattle.log_text.specs.declared.shown.Shown.{Shown}
 use Rattle.log_text.specs.declared.shown.Shown.TheVariants as shown
 use Rattle.log_text.specs.Replies.{text_of}
-use Rattle.log_text.specs.Shown.{IsShownIn}
+use Rattle.log_text.specs.declared.versions.Opening.{Opening}
+use Rattle.log_text.specs.declared.versions.Opening.TheVariants.{Ordered, Isolated}
 use Rattle.byte_lines.specs.Lines.{lines}
 use Rattle.round_state.specs.Legal.{State, Legal}
 use Rattle.round_state.specs.declared.reports.Certificate.{Certificate}
@@ -15,10 +16,13 @@ use Rattle.round_state.specs.declared.reports.Certificate.TheVariants.{Order, Re
 use Rattle.round_state.specs.declared.reports.Report.{Report}
 use Rattle.round_state.specs.declared.steps.Step.TheVariants as step
 use Rattle.round_state.specs.declared.steps.StepReply.TheVariants as reply
+use Rattle.snapshot_scripts.specs.Legal.{LegalIsolation}
 use Rattle.cobra.specs.Outputs.{Asks}
 use Rattle.cobra.specs.StepReplies.{certificate_of, report_of}
 use Rattle.report_checking.specs.Checking.{Checks, IsUnchecked}
-use Rattle.report_checking.specs.Owing.{IsOwedReport, OwesLine, ScriptState}
+use Rattle.report_checking.specs.Isolation.{IsOwedIsolation, IsShownBy, names_of, told_by}
+use Rattle.report_checking.specs.OwedLines.{OwesLine, ScriptState}
+use Rattle.report_checking.specs.Owing.{IsOwedReport}
 
 -- what the text of a report with this certificate is to show
 abbrev pub shown_of : Certificate → Option Shown
@@ -34,18 +38,31 @@ OwesReport old (Round budget depth workers search) report new = (begun : State) 
 OwesReport old (Answer handed) report new = Legal old.state (step.Judge (certificate_of handed)) (reply.Report report) new
 OwesReport old command report new = ⊥
 
+-- the same where transactions are split
+abbrev pub OwesIsolation : ScriptState → Command → Report → State → Type 0
+OwesIsolation old (Finish budget depth workers search) report new = (old.searched ≡ false) × IsOwedIsolation old.state report new
+OwesIsolation old (Collect waits) report new = (old.searched ≡ true) × IsOwedIsolation old.state report new
+OwesIsolation old (Round budget depth workers search) report new = (begun : State) × LegalIsolation old.state step.Begin reply.Done begun × IsOwedIsolation begun report new
+OwesIsolation old command report new = ⊥
+
+-- by what the script asks
+abbrev pub OwesReportIn : Opening → ScriptState → Command → Report → State → Type 0
+OwesReportIn (Ordered version) old command report new = OwesReport old command report new
+OwesReportIn Isolated old command report new = OwesIsolation old command report new
+
 -- The stored reply to the line is a right report: it is the text of one that is owed, whatever its certificate, and it shows that
--- certificate. The text that `write_reply` wrote of a report does, where it names sessions up to 255 and its tree is merged.
+-- certificate: an order or a tree by ids, or by begins and commits. The text that `write_reply` wrote of a report by ids does, where it names
+-- sessions up to 255 and its tree is merged.
 pub record IsRightReport (old : ScriptState) (line stored : List ℕ) : Type 0 where
   pub command : Command
   pub asks : Asks line command
   pub report : Report
   pub new : State
-  pub owed : OwesReport old command report new
-  pub text_is : stored ≡ text_of (report_of report)
-  pub shows : IsShownIn stored (shown_of report.certificate)
+  pub owed : OwesReportIn old.opening old command report new
+  pub text_is : stored ≡ text_of (told_by (names_of old.opening) (report_of report))
+  pub shows : IsShownBy (names_of old.opening) stored (shown_of report.certificate)
 
--- the same of a script, whatever the version of its lines is
+-- the same of a script
 abbrev pub TellsRightReport : Option ScriptState → List ℕ → List ℕ → Type 0
 TellsRightReport None line stored = ⊥
 TellsRightReport (Some old) line stored = IsRightReport old line stored
@@ -54,6 +71,8 @@ TellsRightReport (Some old) line stored = IsRightReport old line stored
 abbrev pub IsNoReport : Reply → Type 0
 IsNoReport (told.Order round kind counts order) = ⊥
 IsNoReport (told.Violated round counts tree) = ⊥
+IsNoReport (told.Events round kind counts order) = ⊥
+IsNoReport (told.Broken round counts tree) = ⊥
 IsNoReport (told.Spent round counts) = ⊥
 IsNoReport answer = ⊤
 

@@ -63,7 +63,6 @@ words_of_fault (fault.Other text) = codes "wrong: owed is "
 words_of_fault (fault.Unshown unshown.Order) = codes "wrong: its order doesn't explain what had been accepted"
 words_of_fault (fault.Unshown unshown.Refutation) = codes "wrong: it refutes nothing of what had been accepted"
 words_of_fault (fault.Unshown unshown.Beginning) = codes "wrong: its script resumes another, and what had gone before isn't shown"
-words_of_fault (fault.Unshown unshown.Isolation) = codes "wrong: its script asks for snapshot isolation, which isn't checked here"
 words_of_fault fault.Missing = codes "wrong: the line has no reply"
 words_of_fault fault.TooLong = codes "wrong: it is too long to be read"
 

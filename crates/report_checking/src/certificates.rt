@@ -2,11 +2,12 @@
 //! compared with the stored one.
 ghost use Rattle.std.specs.Prelude.{Option, IfOk};
 ghost use Rattle.log_text.specs.ReadBack.{IsSameShown};
-ghost use Rattle.log_text.specs.Shown.{IsShownIn};
 ghost use Rattle.log_text.specs.declared.shown.Shown.{Shown};
+ghost use Rattle.report_checking.specs.Isolation.{IsShownBy};
 ghost use Rattle.report_checking.specs.Reading.{IsAnswerOf};
 
-use log_text::{Shown, read_shown};
+use event_reports::read_events;
+use log_text::{Names, Shown, read_shown};
 use polygraph::Answer;
 use std::alloc::Global;
 use txn::NoMemory;
@@ -22,9 +23,19 @@ fn as_answer(found: Option<Shown>) -> Answer
     }
 }
 
-/// The answer of a search that this reply tells: the order or the tree that it shows, and Spent where it shows neither.
-pub(crate) fn answer_told(alloc: Global, stored: &[u8]) -> Result<Answer, NoMemory>
-    ensures { IfOk result (λ answer. (shown : Option Shown) → IsShownIn stored.now shown → IsAnswerOf shown answer) }
+/// What the reply shows, where it tells of transactions by these names.
+fn shown_by(alloc: Global, names: Names, stored: &[u8]) -> Result<Option<Shown>, NoMemory>
+    ensures { IfOk result (λ found. (shown : Option Shown) → IsShownBy names stored.now shown → IsSameShown found shown) }
 {
-    Ok(as_answer(read_shown(alloc, stored)?))
+    match names {
+        Names::Ids => read_shown(alloc, stored),
+        Names::Events => read_events(alloc, stored),
+    }
+}
+
+/// The answer of a search that this reply tells: the order or the tree that it shows, and Spent where it shows neither.
+pub(crate) fn answer_told(alloc: Global, names: Names, stored: &[u8]) -> Result<Answer, NoMemory>
+    ensures { IfOk result (λ answer. (shown : Option Shown) → IsShownBy names stored.now shown → IsAnswerOf shown answer) }
+{
+    Ok(as_answer(shown_by(alloc, names, stored)?))
 }

@@ -21,8 +21,6 @@ pub(crate) enum Unshown {
     Refutation,
     /// What had gone before: the script resumes what another run gave out.
     Beginning,
-    /// Its script asks for snapshot isolation, of which replies aren't checked.
-    Isolation,
 }
 
 /// Why a reply is wrong.

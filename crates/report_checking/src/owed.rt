@@ -12,7 +12,7 @@ use crate::certificates::answer_told;
 use crate::findings::{Owed, Unshown};
 use crate::replayed::Replayed;
 use cobra::{certificate_of, reply_of, report_of, saved_told, state_told};
-use log_text::{Command, Reply, Version};
+use log_text::{Command, Names, Reply, Version};
 use logged_fragments::LoggedFragment;
 use polygraph::Answer;
 use round_state::{Step, StepReply};
@@ -37,17 +37,18 @@ pub(crate) fn owed_step(engine: &mut Replayed, alloc: Global, step: Step) -> Res
     Ok(Owed::Reply(reply_of(alloc, said)?))
 }
 
-/// What is owed to a finish, whose report is what the certificate in the stored reply earns.
+/// What is owed to a finish, whose report is what the certificate earns that the stored reply tells by these names.
 pub(crate) fn owed_finish(
     engine: &mut Replayed,
     alloc: Global,
+    names: Names,
     stored: &[u8],
 ) -> Result<Owed, NoMemory>
     ensures owed { IfOk result (IsOwedBy (λ answer. Leads engine.old engine.new (λ before after. OwesFinish before answer after))) }
-    ensures right { IfOk result (λ owed. OfRight (IsEarned engine.old) stored.now (λ text. OwesText text owed)) }
+    ensures right { IfOk result (λ owed. OfRight names (IsEarned engine.old) stored.now (λ text. OwesText names text owed)) }
     ensures none { IfOk result (λ owed. engine.old.asked ≡ None → owed ≡ Owed.Reply (Reply.No Refusal.NoRound)) }
 {
-    let answer = answer_told(alloc, stored)?;
+    let answer = answer_told(alloc, names, stored)?;
     let unshown = unshown_by(&answer);
     match engine.finish(alloc, answer) {
         Ok(report) => Ok(Owed::Reply(report_of(report))),
@@ -57,13 +58,18 @@ pub(crate) fn owed_finish(
     }
 }
 
-fn owed_round(engine: &mut Replayed, alloc: Global, stored: &[u8]) -> Result<Owed, NoMemory>
+fn owed_round(
+    engine: &mut Replayed,
+    alloc: Global,
+    names: Names,
+    stored: &[u8],
+) -> Result<Owed, NoMemory>
     ensures owed { IfOk result (IsOwedBy (λ answer. Leads engine.old engine.new (λ before after. OwesRound before answer after))) }
-    ensures right { IfOk result (λ owed. (begun : EngineState) → StepsTo engine.old Step.Begin StepReply.Done begun → OfRight (IsEarned begun) stored.now (λ text. OwesText text owed)) }
+    ensures right { IfOk result (λ owed. (begun : EngineState) → StepsTo engine.old Step.Begin StepReply.Done begun → OfRight names (IsEarned begun) stored.now (λ text. OwesText names text owed)) }
     ensures refused { IfOk result (IsAlone (IsRefusedBy engine.old Step.Begin)) }
 {
     match engine.step(alloc, Step::Begin) {
-        StepReply::Done => owed_finish(engine, alloc, stored),
+        StepReply::Done => owed_finish(engine, alloc, names, stored),
         refused => Ok(Owed::Reply(reply_of(alloc, refused)?)),
     }
 }
@@ -102,16 +108,17 @@ fn owed_join(
     }
 }
 
-/// What is owed to a command that is about an engine alone, for lines of this version.
+/// What is owed to a command that is about an engine alone, for lines of this version, where the stored reply tells by these names.
 pub(crate) fn owed_open(
     engine: &mut Replayed,
     alloc: Global,
     version: Version,
+    names: Names,
     command: Command,
     stored: &[u8],
 ) -> Result<Owed, NoMemory>
     ensures owed { IfOk result (IsOwedBy (λ answer. Leads engine.old engine.new (λ before after. OwesOpen version before command answer after))) }
-    ensures right { IfOk result (λ owed. OfRight (Earns engine.old command) stored.now (λ text. OwesText text owed)) }
+    ensures right { IfOk result (λ owed. OfRight names (Earns engine.old command) stored.now (λ text. OwesText names text owed)) }
     ensures alone { IfOk result (IsAlone (Gives version engine.old command)) }
 {
     match command {
@@ -119,8 +126,8 @@ pub(crate) fn owed_open(
         Command::Join(logged) => owed_join(engine, alloc, version, logged),
         Command::Close(session) => owed_step(engine, alloc, Step::Close(session)),
         Command::Begin => owed_step(engine, alloc, Step::Begin),
-        Command::Finish { .. } => owed_finish(engine, alloc, stored),
-        Command::Round { .. } => owed_round(engine, alloc, stored),
+        Command::Finish { .. } => owed_finish(engine, alloc, names, stored),
+        Command::Round { .. } => owed_round(engine, alloc, names, stored),
         Command::Answer(shown) => owed_step(engine, alloc, Step::Judge(certificate_of(shown))),
         Command::Truncate => owed_step(engine, alloc, Step::Truncate),
         Command::Rebuild => owed_step(engine, alloc, Step::Rebuild),

@@ -3,16 +3,17 @@ ghost use Rattle.log_text.specs.declared.replies.Reply.TheVariants as told;
 ghost use Rattle.log_text.specs.Replies.{text_of, HasKindOfOrder};
 ghost use Rattle.txn.specs.declared.refusals.Refusal.TheVariants as refusals;
 ghost use Rattle.report_checking.specs.Checking.{TakesMemory};
-ghost use Rattle.report_checking.specs.Owing.{Owes};
+ghost use Rattle.log_text.specs.declared.names.Names.TheVariants as named;
+ghost use Rattle.report_checking.specs.OwedLines.{Owes};
 ghost use Rattle.report_checking.specs.Telling.{IsWhatOf};
-ghost use Rattle.report_checking.specs.Reading.{LeadsScript, MayGoOn, script_left, IsOwedBy, IsOfKind, Finds, FindsFor, IsFoundBy, IsFoundOf, EarnsScript, OfRight, OwesText, IsFair, IsFairTo, GivesScript, IsAlone, IsOtherwise, IsOtherwiseTo, has_brace};
+ghost use Rattle.report_checking.specs.Reading.{LeadsScript, MayGoOn, script_left, IsOwedBy, IsOfKind, Finds, FindsFor, IsFoundBy, IsFoundOf, EarnsScript, OfRight, OwesText, names_in, IsFair, IsFairTo, GivesScript, IsAlone, IsOtherwise, IsOtherwiseTo, has_brace};
 
 use crate::findings::{Fault, Found, Owed, Unshown, What, what_of};
 use crate::open_scripts::OpenScript;
 use crate::replayed::Replayed;
 use byte_lines::Next;
 use cobra::command_in;
-use log_text::{Command, Reply, Version, write_reply};
+use log_text::{Command, Opening, Reply, Version, write_reply};
 use std::alloc::{AllocError, Global};
 use txn::{NoMemory, Refusal};
 
@@ -45,13 +46,12 @@ impl Replay {
         ensures { IsTrue result ↔ TakesMemory self.now.script command.now }
     {
         match command {
-            Command::Start { .. } => self.script.is_none(),
+            Command::Start { .. } | Command::StartIsolated { .. } => self.script.is_none(),
             Command::Close(_)
             | Command::BeginSearch { .. }
             | Command::Skip
             | Command::Show
             | Command::Save(_)
-            | Command::StartIsolated { .. }
             | Command::Resume { .. }
             | Command::Marks { .. }
             | Command::MarksBegun { .. }
@@ -69,7 +69,22 @@ impl Replay {
     {
         match Replayed::open(alloc, sessions, limit) {
             Ok(engine) => {
-                self.script = Some(OpenScript::new(engine, version));
+                self.script = Some(OpenScript::new(engine, Opening::Ordered(version)));
+                Reply::Done
+            }
+            Err(refusal) => Reply::No(refusal),
+        }
+    }
+
+    fn open_isolated(&mut self, alloc: Global, sessions: u64, limit: u64) -> Reply
+        requires { self.old.script ≡ None }
+        ensures owed { LeadsScript self.old.script self.new.script (λ before after. Owes before (Command.StartIsolated sessions limit) result after) }
+        ensures kind { HasKindOfOrder result }
+        ensures alone { IsAlone (GivesScript self.old.script (Command.StartIsolated sessions limit)) (Owed.Reply result) }
+    {
+        match Replayed::open_isolated(alloc, sessions, limit) {
+            Ok(engine) => {
+                self.script = Some(OpenScript::new(engine, Opening::Isolated));
                 Reply::Done
             }
             Err(refusal) => Reply::No(refusal),
@@ -79,7 +94,7 @@ impl Replay {
     /// What is owed to a command.
     fn owed(&mut self, alloc: Global, command: Command, stored: &[u8]) -> Result<Owed, NoMemory>
         ensures owed { IfOk result (IsOwedBy (λ answer. LeadsScript self.old.script self.new.script (λ before after. Owes before command answer after))) }
-        ensures right { IfOk result (λ owed. OfRight (EarnsScript self.old.script command) stored.now (λ text. OwesText text owed)) }
+        ensures right { IfOk result (λ owed. OfRight (names_in self.old.script) (EarnsScript self.old.script command) stored.now (λ text. OwesText named.Ids text owed)) }
         ensures alone { IfOk result (IsAlone (GivesScript self.old.script command)) }
     {
         if let Some(script) = &mut self.script {
@@ -91,7 +106,9 @@ impl Replay {
                 limit,
                 version,
             } => Ok(Owed::Reply(self.open(alloc, sessions, limit, version))),
-            Command::StartIsolated { .. } => Ok(Owed::Nothing(Unshown::Isolation)),
+            Command::StartIsolated { sessions, limit } => {
+                Ok(Owed::Reply(self.open_isolated(alloc, sessions, limit)))
+            }
             Command::Resume { .. } => Ok(Owed::Nothing(Unshown::Beginning)),
             _ => Ok(Owed::Reply(Reply::No(Refusal::BadLine))),
         }

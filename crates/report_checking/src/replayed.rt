@@ -1,20 +1,26 @@
-ghost use Rattle.std.specs.Prelude.{◌≡◌, ◌+◌, Some, None, IsSome, IsSomeAnd, IfOk, IfErr, OnOk, MatchBool, ⊤};
+ghost use Rattle.std.specs.Prelude.{◌≡◌, ◌+◌, ◌*◌, Some, None, IsSome, IsSomeAnd, IfOk, IfErr, OnOk, MatchBool, ⊤};
 ghost use Rattle.order_check.specs.declared.remainder.Parts.{Parts};
 ghost use Rattle.order_check.specs.Good.{IsGood};
 ghost use Rattle.round_state.specs.Opening.{IsSessions, IsLimit, IsOpenRefusal, fresh_state};
 ghost use Rattle.round_state.specs.Runs.{HasLimits, Holds, StepsLegally};
 ghost use Rattle.round_state.specs.Solving.{IsReportOn};
 ghost use Rattle.round_state.specs.Steps.{StepsTo, IsFinishRefusal};
+ghost use Rattle.snapshot_scripts.specs.Legal.{HoldsSplit};
+ghost use Rattle.cobra.specs.Scripts.{IsIsolatedLimit, IsIsolatedRefusal};
 ghost use Rattle.report_checking.specs.Owing.{IsEarned, IsOwedReport};
 ghost use Rattle.report_checking.specs.Reading.{Leads};
 
 use order_check::verdict_as_stood_for;
 use polygraph::{Answer, Problem, Solver};
 use refutation::refuted_has_no_order;
-use round_state::{Engine, Report, Step, StepReply};
+use round_state::{Engine, Report, Step, StepReply, is_sessions};
+use snapshot_scripts::fresh_engines_are_split;
 use std::alloc::Global;
 use std::marker::Model;
 use txn::Refusal;
+
+/// How many transactions may be let remain where each is split.
+const ISOLATED_LIMIT: u64 = 2048;
 
 /// Searches nothing, and never finds memory for it: rounds are finished by answers that are stored.
 struct NoSearch;
@@ -66,6 +72,30 @@ impl Replayed {
             engine: Engine::open(alloc, sessions, limit)?,
             kept: None,
         })
+    }
+
+    /// One whose transactions are split: it has room for two of each.
+    pub(crate) fn open_isolated(
+        alloc: Global,
+        sessions: u64,
+        limit: u64,
+    ) -> Result<Replayed, Refusal>
+        ensures holds { IfOk result (λ engine. HoldsSplit engine (fresh_state sessions (2 * limit))) }
+        ensures numbers { OnOk result (IsSessions sessions × IsIsolatedLimit limit) }
+        ensures err { IfErr result (IsIsolatedRefusal sessions limit) }
+    {
+        // A law that the proof cites. It does nothing when it runs.
+        fresh_engines_are_split();
+        if !is_sessions(sessions) {
+            return Err(Refusal::BadSession);
+        }
+        if limit < 1 || limit > ISOLATED_LIMIT {
+            return Err(Refusal::TooLong);
+        }
+        match Replayed::open(alloc, sessions, 2 * limit) {
+            Ok(engine) => Ok(engine),
+            Err(refusal) => Err(refusal),
+        }
     }
 
     pub(crate) fn engine(&self) -> &Engine

@@ -90,8 +90,6 @@ fn words_of_fault(fault: &Fault) -> &'static str
             "wrong: it refutes nothing of what had been accepted",
         Fault::Unshown(Unshown::Beginning) =>
             "wrong: its script resumes another, and what had gone before isn't shown",
-        Fault::Unshown(Unshown::Isolation) =>
-            "wrong: its script asks for snapshot isolation, which isn't checked here",
         Fault::Missing => "wrong: the line has no reply",
         Fault::TooLong => "wrong: it is too long to be read",
     }

@@ -1,4 +1,4 @@
-//! Checks replies of which one is wrong, as `cobra_check` does, and so ends with status 3.
+//! Checks replies to a script that asks for snapshot isolation, of which one is wrong, as `cobra_check` does, and so ends with status 3.
 #![tactic(auto)]
 
 use cobra::{ReaderSource, WriterSink};

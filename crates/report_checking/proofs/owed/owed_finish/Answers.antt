@@ -20,7 +20,7 @@ returns-in-Err-NoRound-clause-owed c =
 
 pub returns-in-Ok-clause-right : goal.returns-in-Ok-clause-right
 returns-in-Ok-clause-right c =
-    right_finished c.args.engine.now c.args.stored.now c.in_ok-answer.answer c.in-Ok.report c.report_of.result c.in_ok-answer.ensures c.in-Ok.ensures.answered c.report_of.ensures
+    right_finished c.args.names c.args.engine.now c.args.stored.now c.in_ok-answer.answer c.in-Ok.report c.report_of.result c.in_ok-answer.ensures c.in-Ok.ensures.answered c.report_of.ensures
 
 pub returns-in-Err-NoRound-clause-right : goal.returns-in-Err-NoRound-clause-right
 returns-in-Err-NoRound-clause-right c =
@@ -30,7 +30,7 @@ returns-in-Err-NoRound-clause-right c =
 pub returns-in-Err-BadCertificate-clause-right : goal.returns-in-Err-BadCertificate-clause-right
 returns-in-Err-BadCertificate-clause-right c =
     let why = rw c.in-Err-BadCertificate.field-0-is at c.in-Err-BadCertificate.ensures.err in
-    λ report new earned shows. absurd (never_bad c.args.engine.now c.args.stored.now c.in_ok-answer.answer c.in_ok-answer.ensures why.0 report new earned shows)
+    λ report new earned shows. absurd (never_bad c.args.names c.args.engine.now c.args.stored.now c.in_ok-answer.answer c.in_ok-answer.ensures why.0 report new earned shows)
 
 pub returns-in-Ok-clause-none : goal.returns-in-Ok-clause-none
 returns-in-Ok-clause-none c = λ none. absurd (open_and_none c.args.engine.now.asked (λ parts. IsReportOn parts (c.args.engine.now.rounds + 1) c.in_ok-answer.answer c.in-Ok.report) none c.in-Ok.ensures.answered)

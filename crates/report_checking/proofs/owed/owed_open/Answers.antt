@@ -102,7 +102,7 @@ returns-in-Round-clause-right c = rw c.in-Round.is (IfOk-weaker c.owed_round.res
 pub returns-in-Answer-clause-right : goal.returns-in-Answer-clause-right
 returns-in-Answer-clause-right c =
     rw c.in-Answer.is
-    (IfOk-weaker c.owed_step-in-Answer.result _ _ (λ given told. right_judged c.args.engine.now c.in-Answer.shown c.args.stored.now given (subst (λ (it : Certificate). IsToldOf c.args.engine.now (step.Judge it) given) c.certificate_of.ensures told)) c.owed_step-in-Answer.ensures.told)
+    (IfOk-weaker c.owed_step-in-Answer.result _ _ (λ given told. right_judged c.args.names c.args.engine.now c.in-Answer.shown c.args.stored.now given (subst (λ (it : Certificate). IsToldOf c.args.engine.now (step.Judge it) given) c.certificate_of.ensures told)) c.owed_step-in-Answer.ensures.told)
 
 pub returns-in-Show-clause-right : goal.returns-in-Show-clause-right
 returns-in-Show-clause-right c = rw c.in-Show.is (λ report new earned shows. absurd earned)

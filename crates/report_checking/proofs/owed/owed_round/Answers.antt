@@ -17,11 +17,11 @@ returns-in_ok-reply_of-in_default-clause-owed c =
 
 pub returns-in-Done-clause-right : goal.returns-in-Done-clause-right
 returns-in-Done-clause-right c =
-    IfOk-weaker c.owed_finish.result _ _ (λ given. right_begun c.args.engine.now c.step.new.self c.args.stored.now given c.in-Done.ensures.right) c.owed_finish.ensures.right
+    IfOk-weaker c.owed_finish.result _ _ (λ given. right_begun c.args.names c.args.engine.now c.step.new.self c.args.stored.now given c.in-Done.ensures.right) c.owed_finish.ensures.right
 
 pub returns-in_ok-reply_of-in_default-clause-right : goal.returns-in_ok-reply_of-in_default-clause-right
 returns-in_ok-reply_of-in_default-clause-right c =
-    right_not_begun c.args.engine.now c.step.new.self c.args.stored.now c.step.result c.in_ok-reply_of-in_default.field-0 c.step.ensures.right c.in_default.not-Done c.in_ok-reply_of-in_default.ensures
+    right_not_begun c.args.names c.args.engine.now c.step.new.self c.args.stored.now c.step.result c.in_ok-reply_of-in_default.field-0 c.step.ensures.right c.in_default.not-Done c.in_ok-reply_of-in_default.ensures
 
 pub returns-in-Done-clause-refused : goal.returns-in-Done-clause-refused
 returns-in-Done-clause-refused c =

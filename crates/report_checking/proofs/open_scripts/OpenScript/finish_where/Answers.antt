@@ -12,7 +12,7 @@ pub returns-else-may-clause-owed : goal.returns-else-may-clause-owed
 returns-else-may-clause-owed c = (tt, refused_where c.args.self.now.engine c.args.may c.args.self.now.searched c.args.refusal c.if-may.false)
 
 pub returns-then-may-clause-right : goal.returns-then-may-clause-right
-returns-then-may-clause-right c = IfOk-weaker c.owed_finish.result _ _ (λ given. where_right c.args.self.now.engine c.args.may c.args.stored.now given) c.owed_finish.ensures.right
+returns-then-may-clause-right c = IfOk-weaker c.owed_finish.result _ _ (λ given. where_right c.args.names c.args.self.now.engine c.args.may c.args.stored.now given) c.owed_finish.ensures.right
 
 pub returns-then-may-clause-alone : goal.returns-then-may-clause-alone
 returns-then-may-clause-alone c =

@@ -2,7 +2,7 @@ use Rattle.std.proofs.lemmas.Result.{IfOk-weaker}
 use Rattle.report_checking.specs.Reading.{Finds, FindsFor}
 use Rattle.report_checking.proofs.CheckedLines.{finds_asked, finds_none}
 use Rattle.report_checking.proofs.RightReports.{fair_asked, fair_none}
-use Rattle.report_checking.proofs.OtherReplies.{otherwise_asked, otherwise_none}
+use Rattle.report_checking.proofs.ScriptReplies.{otherwise_asked, otherwise_none}
 use Rattle.report_checking.proofs.pairs.Replay.check.Goals as goal
 
 pub returns-in-Some-clause-finds : goal.returns-in-Some-clause-finds

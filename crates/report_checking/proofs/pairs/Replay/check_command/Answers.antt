@@ -4,7 +4,7 @@ use Rattle.std.proofs.lemmas.Result.{IfOk-weaker}
 use Rattle.log_text.specs.declared.replies.Reply.TheVariants as told
 use Rattle.report_checking.proofs.CheckedLines.{goes_on}
 use Rattle.report_checking.specs.Reading.{IsFoundOf, IsOtherwise}
-use Rattle.report_checking.proofs.OtherReplies.{other_found}
+use Rattle.report_checking.proofs.ScriptReplies.{other_found}
 use Rattle.report_checking.proofs.pairs.Replay.check_command.Goals as goal
 
 pub returns-then-branch-2-clause-finds : goal.returns-then-branch-2-clause-finds

@@ -1,7 +1,7 @@
 use Rattle.std.proofs.lemmas.Result.{IfOk-weaker}
 use Rattle.report_checking.specs.Reading.{IsFoundOf, IsFair, IsOtherwise}
 use Rattle.report_checking.proofs.NoBraces.{brace_fair}
-use Rattle.report_checking.proofs.OtherReplies.{other_found}
+use Rattle.report_checking.proofs.ScriptReplies.{other_found}
 use Rattle.report_checking.proofs.pairs.Replay.check_unread.Goals as goal
 
 pub returns-clause-fair : goal.returns-clause-fair

@@ -1,0 +1,2 @@
+pub mod EventsShown
+pub mod Halved

@@ -1,0 +1,31 @@
+use Rattle.std.proofs.lemmas.Result.{IfOk-weaker}
+use Rattle.report_checking.proofs.SplitReplies.{Laws, owed_told, right_told, alone_told, faulty_by, faulty_right, faulty_alone}
+use Rattle.report_checking.proofs.open_scripts.OpenScript.owed_isolated.Goals as goal
+
+pub returns-in_ok-owed-in-Ok-clause-owed : goal.returns-in_ok-owed-in-Ok-clause-owed
+returns-in_ok-owed-in-Ok-clause-owed c =
+    let asked = rw c.in-Ok.is at c.in_ok-split.ensures.split in
+    let laws : Laws = record { steps = c.split_steps_are_legal.ensures; doubles = c.split_doubles_counts.ensures; keeps = c.split_keeps_verdict.ensures } in
+    IfOk-weaker c.isolated_owed.result _ _
+    (λ given is. owed_told laws c.args.self.now.engine c.owed_beside.new.self.engine c.args.self.now.searched c.owed_beside.new.self.searched c.args.command c.in-Ok.split c.in_ok-owed-in-Ok.owed given asked c.in_ok-owed-in-Ok.ensures.owed is) c.isolated_owed.ensures
+
+pub returns-in-Err-clause-owed : goal.returns-in-Err-clause-owed
+returns-in-Err-clause-owed c = faulty_by c.args.self.now.engine c.args.self.now.searched c.args.command c.in-Err.refusal (rw c.in-Err.is at c.in_ok-split.ensures.split)
+
+pub returns-in_ok-owed-in-Ok-clause-right : goal.returns-in_ok-owed-in-Ok-clause-right
+returns-in_ok-owed-in-Ok-clause-right c =
+    let asked = rw c.in-Ok.is at c.in_ok-split.ensures.split in
+    IfOk-weaker c.isolated_owed.result _ _
+    (λ given is. right_told c.args.self.now.searched c.args.self.now.engine c.args.command c.in-Ok.split c.args.stored.now c.in_ok-owed-in-Ok.owed given asked.1 c.in_ok-owed-in-Ok.ensures.right is) c.isolated_owed.ensures
+
+pub returns-in-Err-clause-right : goal.returns-in-Err-clause-right
+returns-in-Err-clause-right c = faulty_right c.args.self.now.searched c.args.self.now.engine c.args.command c.in-Err.refusal c.args.stored.now (rw c.in-Err.is at c.in_ok-split.ensures.split)
+
+pub returns-in_ok-owed-in-Ok-clause-alone : goal.returns-in_ok-owed-in-Ok-clause-alone
+returns-in_ok-owed-in-Ok-clause-alone c =
+    let asked = rw c.in-Ok.is at c.in_ok-split.ensures.split in
+    IfOk-weaker c.isolated_owed.result _ _
+    (λ given is. alone_told c.args.self.now.searched c.args.self.now.engine c.args.command c.in-Ok.split c.in_ok-owed-in-Ok.owed given asked c.in_ok-owed-in-Ok.ensures.alone is) c.isolated_owed.ensures
+
+pub returns-in-Err-clause-alone : goal.returns-in-Err-clause-alone
+returns-in-Err-clause-alone c = faulty_alone c.args.self.now.searched c.args.self.now.engine c.args.command c.in-Err.refusal (rw c.in-Err.is at c.in_ok-split.ensures.split)

@@ -1,0 +1,50 @@
+-- Which reply is owed to a line of a script: of one about orders, or of one that asks for snapshot isolation.
+use Rattle.std.specs.Prelude.{◌≡◌, ℕ, ◌*◌, ◌⊎◌, Bool, false, List, Option, Some, None}
+use Rattle.log_text.specs.declared.commands.Command.{Command}
+use Rattle.log_text.specs.declared.commands.Command.TheVariants.{Start, StartIsolated, Resume}
+use Rattle.log_text.specs.declared.replies.Reply.{Reply}
+use Rattle.log_text.specs.declared.replies.Reply.TheVariants as told
+use Rattle.log_text.specs.declared.versions.Opening.{Opening}
+use Rattle.log_text.specs.declared.versions.Opening.TheVariants.{Ordered, Isolated}
+use Rattle.round_state.specs.Legal.{State}
+use Rattle.round_state.specs.Opening.{IsSessions, IsLimit, IsOpenRefusal, fresh_state}
+use Rattle.cobra.specs.Outputs.{Asks}
+use Rattle.cobra.specs.Scripts.{IsBadLine, IsIsolatedLimit, IsIsolatedRefusal}
+use Rattle.report_checking.specs.Isolation.{OwesIsolated}
+use Rattle.report_checking.specs.Owing.{OwesBeside}
+
+-- A script whose engine is open: the engine, with the history that it stands for, which where transactions are split is as they were offered; what
+-- the script asks; and whether a search was begun for the open round that isn't collected yet.
+pub record ScriptState : Type 0 where
+  pub state : State
+  pub opening : Opening
+  pub searched : Bool
+
+-- What is owed to a command, where none is open yet. To one that begins a hand-over nothing is: what had gone before isn't shown. An engine whose
+-- transactions are split has room for two of each.
+abbrev pub OwesFirst : Command → Reply → Option ScriptState → Type 0
+OwesFirst (Start sessions limit version) told.Done new = IsSessions sessions × IsLimit limit × (new ≡ Some (record { state = fresh_state sessions limit; opening = Ordered version; searched = false }))
+OwesFirst (Start sessions limit version) (told.No refusal) new = IsOpenRefusal sessions limit refusal × (new ≡ None)
+OwesFirst (Start sessions limit version) answer new = ⊥
+OwesFirst (StartIsolated sessions limit) told.Done new = IsSessions sessions × IsIsolatedLimit limit × (new ≡ Some (record { state = fresh_state sessions (2 * limit); opening = Isolated; searched = false }))
+OwesFirst (StartIsolated sessions limit) (told.No refusal) new = IsIsolatedRefusal sessions limit refusal × (new ≡ None)
+OwesFirst (StartIsolated sessions limit) answer new = ⊥
+OwesFirst (Resume sessions limit opening) answer new = ⊥
+OwesFirst command answer new = IsBadLine None answer new
+
+-- what is owed to a command of an open script, by what it asks
+abbrev pub OwesIn : Opening → Bool → State → Command → Reply → Bool → State → Type 0
+OwesIn (Ordered version) searched old command answer after new = OwesBeside version searched old command answer after new
+OwesIn Isolated searched old command answer after new = OwesIsolated searched old command answer after new
+
+-- what is owed to a command; a script has a state once its engine is open, and what it asks stays
+abbrev pub Owes : Option ScriptState → Command → Reply → Option ScriptState → Type 0
+Owes None command answer new = OwesFirst command answer new
+Owes (Some old) command answer (Some new) = OwesIn old.opening old.searched old.state command answer new.searched new.state × (new.opening ≡ old.opening)
+Owes (Some old) command answer None = ⊥
+
+-- what is owed to a line: that of its command, and BadLine where it is none
+abbrev pub OwesLine : Option ScriptState → List ℕ → Reply → Option ScriptState → Type 0
+OwesLine old line answer new =
+    ((command : Command) × Asks line command × Owes old command answer new)
+    ⊎ (((command : Command) → ¬ Asks line command) × IsBadLine old answer new)
