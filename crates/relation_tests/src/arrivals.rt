@@ -44,6 +44,7 @@ fn with_fragment(parts: &Parts, fragment: &Fragment) -> Result<Parts, NoMemory>
 
 /// Stops unless the fragment is that which comes next in its session.
 fn is_next(rt: &impl Abort, parts: &Parts, fragment: &Fragment)
+    requires { IsGood parts.now }
     ensures session { fragment.now.session < length parts.now.remain }
     ensures next { fragment.now.first ≡ received_count parts.now fragment.now.session }
 {
@@ -53,6 +54,7 @@ fn is_next(rt: &impl Abort, parts: &Parts, fragment: &Fragment)
 
 /// Stops unless it is good to add the fragment next.
 pub fn may_come(rt: &impl Abort, parts: &Parts, fragment: &Fragment) -> Result<(), NoMemory>
+    requires { IsGood parts.now }
     ensures session { OnOk result (fragment.now.session < length parts.now.remain) }
     ensures next { OnOk result (fragment.now.first ≡ received_count parts.now fragment.now.session) }
     ensures good { OnOk result (IsGood (parts_with parts.now fragment.now)) }

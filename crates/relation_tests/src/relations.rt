@@ -1,6 +1,7 @@
 //! The known relation of generated histories, as transactions and fragments arrive in several orders and cuts are made in between: all
 //! of it is compared with the plain computation.
 ghost use Rattle.std.specs.Prelude.{Some, IfOk, IfSome};
+ghost use Rattle.order_check.specs.Good.{IsGood};
 ghost use Rattle.settle.specs.Found.{IsFound};
 
 use crate::arrivals::{add, add_all, saturated_of};
@@ -174,7 +175,9 @@ pub fn next_of(
     whole: &Parts,
     parts: &Parts,
     turn: Turn,
-) -> Result<Fragment, NoMemory> {
+) -> Result<Fragment, NoMemory>
+    requires { IsGood parts.now }
+{
     let (session, count) = turn;
     let first = parts.received_count(session);
     let mut txns = Vec::new(alloc);

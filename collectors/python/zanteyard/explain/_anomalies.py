@@ -14,7 +14,8 @@ from typing import Dict, Iterator, List, Mapping, Optional, Sequence, Set, Tuple
 from ..core._own_keys import FENCE, PLAIN_FENCE
 from ..core._records import Logged, Naming, ShownId, Source, Transactions
 from ..promises._kinds import SERIALIZABLE, Promise
-from ._arcs import IN_TIME, READ, READ_BEFORE, Arc, told_later, transaction_of
+from ._arcs import IN_TIME, Arc, below, told_later, transaction_of
+from ._cycles import kind_of, weakest
 from ._words import name as plain_name
 from ._words import told_undone, version
 
@@ -36,8 +37,8 @@ MEANINGS: Mapping[str, str] = {
     "intermediate read": "a read of a version that its own writer overwrote or extended",
     "impossible read": "a read that no order could give its reader, whatever the others did",
     "non-repeatable read": "a transaction read a key twice, and found two versions of it",
-    "circular information flow": "Adya's G1c: transactions that each saw what another of them "
-    "wrote, in a cycle",
+    "circular information flow": "Adya's G1c, with session order: a cycle of transactions, each of "
+    "which saw what the last one wrote, or follows it in its session",
     "lost update": "two transactions read one version of a key, and both overwrote it",
     "dirty write": "Adya's G0: two transactions wrote the same keys, and each overwrote a part of "
     "the other's work",
@@ -99,26 +100,16 @@ def _busy(history: Sequence[Sequence[Logged]]) -> Transactions:
 
 
 def name_circle(arcs: Sequence[Arc], name: Naming = plain_name) -> Optional[Anomaly]:
-    """The name of a cycle that matches none of the patterns; None if real-time order is
+    """The name of a cycle that matches none of the patterns, or of the weakest one that it follows
+    from: which of them there is depends on the order of versions. None if real-time order is
     involved."""
-    kinds = [arc.kind for arc in arcs]
-    if not arcs or IN_TIME in kinds:
+    if not arcs or any(arc.kind == IN_TIME for arc in below(arcs)):
         return None
-    ids = tuple(dict.fromkeys(transaction_of(arc.start) for arc in arcs))
-    count = kinds.count(READ_BEFORE)
-    are_next = any(
-        first == second == READ_BEFORE for first, second in zip(kinds, [*kinds[1:], kinds[0]])
-    )
-    if not count and READ not in kinds:
-        called = "dirty write"
-    elif not count:
-        called = "circular information flow"
-    elif count == 1:
-        called = "G-single"
-    else:
-        called = "G2" if are_next else "G-nonadjacent"
+    shown = weakest(arcs)
+    ids = tuple(dict.fromkeys(transaction_of(arc.start) for arc in shown))
     around = " → ".join(name(id) for id in (*ids, ids[0]))
-    return Anomaly(called, f"each comes before the next: {around}", ids)
+    when = "" if shown is arcs else "by one of the orders of versions, "
+    return Anomaly(kind_of(shown), f"{when}each comes before the next: {around}", ids)
 
 
 def _told(key: str) -> str:

@@ -17,6 +17,7 @@ from ._arcs import (
     Choice,
     Event,
     Node,
+    is_of_writers,
     told_arc,
     told_later,
     told_node,
@@ -134,9 +135,3 @@ class ArcWords:
         if len(others) == 1:
             return f"so neither {others[0]} nor {last} can come first"
         return f"so none of {', '.join(others)} and {last} can come first"
-
-
-def is_of_writers(choice: Choice) -> bool:
-    """Whether the choice is about two writers of a key, one of which commits before the other
-    begins."""
-    return isinstance(choice.reader, Event) and choice.reader.what == "commit"

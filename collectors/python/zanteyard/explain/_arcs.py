@@ -37,6 +37,12 @@ class Choice(NamedTuple):
         return (self.other, self.writer), (self.reader, self.other)
 
 
+def is_of_writers(choice: Choice) -> bool:
+    """Whether the choice is about two writers of a key, one of which commits before the other
+    begins."""
+    return isinstance(choice.reader, Event) and choice.reader.what == "commit"
+
+
 class Arc(NamedTuple):
     """One transaction comes before another, or one's begin or commit before another's. A forced arc
     has the choice that it is a side of, and in `needs` the arcs of a path that rules the other side

@@ -3,7 +3,8 @@ auditor has checked: its cycles, what they force, and its splits.
 
 Two things make it shorter. If what a cycle follows from contains a shorter cycle, that one is
 used. And if an arc of the last cycle was forced, this cycle and the one that forced the arc each
-rule out one side of a choice; the shorter of the two comes last.
+rule out one side of a choice; the shorter of the two comes last. If there are no cases, so does the
+weaker one, since no more is shown than the weakest cycle.
 """
 
 from __future__ import annotations
@@ -13,9 +14,10 @@ from typing import Any, Callable, Dict, List, Mapping, Sequence, Tuple
 from ..core._records import History, Naming, ShownId
 from ..promises._kinds import EVENTS
 from ..promises._times import TIME_KEYS
-from ._arc_words import ArcWords, is_of_writers
+from ._arc_words import ArcWords
 from ._arcs import SESSION, WRITTEN, Arc, Choice, Ends, Event, Node, below, merged
-from ._arcs import shortest_circle, table, transaction_of
+from ._arcs import is_of_writers, shortest_circle, table, transaction_of
+from ._cycles import places_to, weakest, weakness
 from ._explanation import Case, Explanation
 
 MOST_ARCS = 256  # arcs among which a shorter cycle is looked for
@@ -42,7 +44,8 @@ def read_refutation(
     if count > MANY:
         return Explanation(f"the auditor's refutation has {count + 1:,} cases, too many to show")
     try:
-        return _Reading(items, history, keys, name, moved, keeps_sessions).part({})
+        reading = _Reading(items, history, keys, name, moved, keeps_sessions)
+        return reading.weakest_last(reading.part({}))
     except (LookupError, TypeError, ValueError, StopIteration) as error:
         raise UnreadableError(f"{error!r}") from error
 
@@ -115,7 +118,10 @@ class _Reading:
         needed = below(arcs)
         if len(needed) <= MOST_ARCS:  # what it follows from may contain a cycle
             arcs = shortest_circle([*arcs, *needed])
-        around = self._turned(self._better(self._turned(arcs), facts))
+        return self._ended(self._better(self._turned(arcs), facts))
+
+    def _ended(self, arcs: Sequence[Arc]) -> Explanation:
+        around = self._turned(arcs)
         names = [self.words.step(arc.start) for arc in around]
         end = self.words.none_first(around)
         return Explanation(end, tuple(around), tuple([*names, names[0]]))
@@ -136,15 +142,35 @@ class _Reading:
         if not forced:
             return around
         at = max(forced, key=lambda at: order.index(around[at].ends))
+        return min(around, self._swapped(around, at) or around, key=_length)
+
+    def _swapped(self, around: Sequence[Arc], at: int) -> List[Arc]:
+        """The cycle that forced the arc at this place, with the arc of the other side, which the
+        rest of this cycle rules out the opposite of; empty if the two don't fit."""
         last, rest = around[at], [*around[at + 1 :], *around[:at]]
         choice = last.choice
         assert choice is not None
         side = 2 if last.ends == choice.sides()[0] else 1
         other = self._forced(choice, side, merged(rest, self.name))
         ways = [other, *last.needs]
-        if any(one.end != two.start for one, two in zip(ways, [*ways[1:], ways[0]])):
-            return around
-        return min(around, ways, key=_length)
+        fit = all(one.end == two.start for one, two in zip(ways, [*ways[1:], ways[0]]))
+        return ways if fit else []
+
+    def weakest_last(self, explanation: Explanation) -> Explanation:
+        """The same, with the weakest cycle that it follows from as the last one, if that can be."""
+        around = [*explanation.arcs]
+        needed = below(around)
+        if not around or len(needed) > MOST_ARCS:
+            return explanation
+        wanted = weakness(weakest(around))
+        for swaps in range(len(needed)):
+            if weakness(around) >= wanted:
+                return self._ended(around) if swaps else explanation
+            ways = (self._swapped(around, at) for at in places_to(around))
+            around = next(filter(None, ways), [])
+            if not around:
+                break
+        return explanation
 
     # parts of items
 

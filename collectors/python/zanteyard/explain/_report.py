@@ -14,6 +14,7 @@ from ..core._records import AuditId, History, Logged, Naming, Pending, ShownId
 from ..promises._kinds import SERIALIZABLE, Promise
 from ._anomalies import Anomaly, find_anomaly, meaning_of, name_circle
 from ._arcs import transaction_of
+from ._claims import contradicts
 from ._explanation import Explanation, Reasons, laid_out
 from ._reasons import explanation_of
 from ._script_names import PART, REST
@@ -76,6 +77,14 @@ class Story:
         """The verdict in words."""
         return self.promise.sentence(self.kind)
 
+    def with_standing(self, standing: Standing) -> Story:
+        """The story with what the violation breaks and keeps. A name that contradicts this is left
+        out: names are an aid, and what is kept was checked."""
+        name = self.anomaly.name if self.anomaly else ""
+        if name and contradicts(name, self.promise, standing.kept):
+            return replace(self, anomaly=None, standing=standing)
+        return replace(self, standing=standing)
+
 
 def verdict_story(
     verdict: Verdict, history: ScriptHistory, promise: Promise = SERIALIZABLE
@@ -133,7 +142,7 @@ def _story_in(
     refuted = audited_apart(small, program, promise)
     explanation = explanation_of(refuted, small, names)
     story = story_of(small, names, explanation, refuted.script, counts, promise)
-    return replace(story, standing=standing(small, program, promise, seconds))
+    return story.with_standing(standing(small, program, promise, seconds))
 
 
 def story_of(

@@ -3,7 +3,6 @@
 from __future__ import annotations
 
 import time
-from dataclasses import replace
 from typing import Callable, Iterable, Tuple
 
 from ..core._circumstances import circumstances
@@ -66,7 +65,7 @@ def tell_story(
     story = story_of(small, called, explanation, audited.script, (), promise)
     told("because", *(f"  {line}" for line in story.because))
     left = max(0.5, ends - time.monotonic())
-    story = replace(story, standing=standing(small, program, promise, left))
+    story = story.with_standing(standing(small, program, promise, left))
     told(*story.standing.lines())
 
     def drawn() -> str:

@@ -239,7 +239,7 @@ def explained(
     explanation = explanation_of(audited, renamed, called)
     story = story_of(renamed, called, explanation, audited.script, counts, promise)
     story = named_story(story, renamed, called)
-    story = replace(story, standing=standing(small, program, promise, seconds))
+    story = story.with_standing(standing(small, program, promise, seconds))
     gone = next((one for one, there in places.items() if there == (0, 0) and one not in ids), None)
     writers = as_shown({there: one for one, there in ids.items()}, gone, held.base)
 
