@@ -112,12 +112,13 @@ class Shrinking(unittest.TestCase):
 
         def audited_here(history, *more):
             sizes.append(sum(map(len, history)))
-            return audited(history, *more)
+            return audited_apart(history, *more)
 
-        self.addCleanup(setattr, shrinking, "audited", audited)
+        audited_apart = shrinking.audited_apart
+        self.addCleanup(setattr, shrinking, "audited_apart", audited_apart)
         history = history_of(workloads()["counter"], "lost-update", 20, count=100)
         known = named(audited(history)[0].certificate)
-        shrinking.audited = audited_here
+        shrinking.audited_apart = audited_here
         wanted = smaller(history, seconds=60.0)
         whole, sizes[:] = sizes[0], []
         self.assertEqual(smaller(history, seconds=60.0, known=known), wanted)
