@@ -19,7 +19,7 @@ pub fn saturated_of(rt: &impl Abort, alloc: Global, parts: &Parts) -> Result<Sat
 }
 
 /// One transaction alone.
-pub fn alone(alloc: Global, id: TxnId, txn: &Txn) -> Result<Fragment, NoMemory>
+fn alone(alloc: Global, id: TxnId, txn: &Txn) -> Result<Fragment, NoMemory>
     ensures { IfOk result (λ fragment. fragment ≡ fragment_of id txn.now) }
 {
     let mut txns = Vec::with_capacity(alloc, 1)?;
@@ -43,24 +43,23 @@ fn with_fragment(parts: &Parts, fragment: &Fragment) -> Result<Parts, NoMemory>
 }
 
 /// Stops unless the fragment is that which comes next in its session.
-fn is_next(rt: &impl Abort, parts: &Parts, fragment: &Fragment)
-    requires { IsGood parts.now }
-    ensures session { fragment.now.session < length parts.now.remain }
-    ensures next { fragment.now.first ≡ received_count parts.now fragment.now.session }
+fn is_next(rt: &impl Abort, saturated: &Saturated, fragment: &Fragment)
+    ensures session { fragment.now.session < length saturated.now.parts.remain }
+    ensures next { fragment.now.first ≡ received_count saturated.now.parts fragment.now.session }
 {
+    let parts = saturated.parts();
     assert!(rt; usize::from(fragment.session) < parts.sessions());
     assert!(rt; fragment.first == parts.received_count(fragment.session));
 }
 
 /// Stops unless it is good to add the fragment next.
-pub fn may_come(rt: &impl Abort, parts: &Parts, fragment: &Fragment) -> Result<(), NoMemory>
-    requires { IsGood parts.now }
-    ensures session { OnOk result (fragment.now.session < length parts.now.remain) }
-    ensures next { OnOk result (fragment.now.first ≡ received_count parts.now fragment.now.session) }
-    ensures good { OnOk result (IsGood (parts_with parts.now fragment.now)) }
+fn may_come(rt: &impl Abort, saturated: &Saturated, fragment: &Fragment) -> Result<(), NoMemory>
+    ensures session { OnOk result (fragment.now.session < length saturated.now.parts.remain) }
+    ensures next { OnOk result (fragment.now.first ≡ received_count saturated.now.parts fragment.now.session) }
+    ensures good { OnOk result (IsGood (parts_with saturated.now.parts fragment.now)) }
 {
-    is_next(rt, parts, fragment);
-    let more = with_fragment(parts, fragment)?;
+    is_next(rt, saturated, fragment);
+    let more = with_fragment(saturated.parts(), fragment)?;
     assert!(rt; more.is_good());
     Ok(())
 }
@@ -71,7 +70,7 @@ pub fn add_all(
     saturated: &mut Saturated,
     fragment: &Fragment,
 ) -> Result<(), NoMemory> {
-    may_come(rt, saturated.parts(), fragment)?;
+    may_come(rt, saturated, fragment)?;
     saturated.add_all(alloc, fragment)
 }
 
@@ -85,6 +84,6 @@ pub fn add(
     ensures { OnOk result (saturated.new.parts ≡ parts_with saturated.old.parts (fragment_of id txn.now)) }
 {
     let fragment = alone(alloc, id, txn)?;
-    may_come(rt, saturated.parts(), &fragment)?;
+    may_come(rt, saturated, &fragment)?;
     saturated.add(alloc, id, txn)
 }

@@ -5,7 +5,6 @@ ghost use Rattle.order_check.specs.StandsFor.{IsOpenSession};
 ghost use Rattle.settle.specs.Found.{IsFound};
 
 use crate::arrivals::{add, saturated_of};
-use crate::clocks;
 use crate::cuts::cut_past;
 use crate::relations::cut_behind;
 use forced_choices::Saturated;
@@ -75,43 +74,8 @@ fn add_late(
     add(rt, alloc, known, id, late)
 }
 
-/// The same by session clocks.
-fn add_late_by_clocks(
-    rt: &impl Abort,
-    alloc: Global,
-    front: &Parts,
-    known: &mut clock_choices::Saturated,
-    late: &Txn,
-) -> Result<(), NoMemory>
-    requires { known.old.parts ≡ front.now }
-    ensures { OnOk result (IsKeptFront front.now known.new.parts) }
-{
-    front_of_itself();
-    fragment_keeps_front();
-    is_open(rt, front);
-    let id = TxnId {
-        session: 1,
-        number: 1,
-    };
-    clocks::add(rt, alloc, known, id, late)
-}
-
 /// Goes on with what the cut of the front leaves.
 fn cut_late(alloc: Global, front: &Parts, known: &mut Saturated, cut: &Cut) -> Result<(), NoMemory>
-    requires kept { IsKeptFront front.now known.old.parts }
-    requires found { IsFound front.now (Some cut.now) }
-{
-    let left = cut_past(alloc, front, known.parts(), cut)?;
-    known.cut(alloc, cut.gone.as_slice(), &left)
-}
-
-/// The same by session clocks.
-fn cut_late_by_clocks(
-    alloc: Global,
-    front: &Parts,
-    known: &mut clock_choices::Saturated,
-    cut: &Cut,
-) -> Result<(), NoMemory>
     requires kept { IsKeptFront front.now known.old.parts }
     requires found { IsFound front.now (Some cut.now) }
 {
@@ -146,39 +110,6 @@ fn is_cut_out(
     Ok(())
 }
 
-/// The same by session clocks.
-fn is_cut_out_by_clocks(
-    rt: &impl Abort,
-    alloc: Global,
-    front: &Parts,
-    known: &mut clock_choices::Saturated,
-    cut: &Cut,
-    late: &Txn,
-) -> Result<(), NoMemory>
-    requires known { known.old.parts ≡ front.now }
-    requires found { IsFound front.now (Some cut.now) }
-{
-    add_late_by_clocks(rt, alloc, front, known, late)?;
-    assert!(rt; known.reaches(ID_1_1, ID_1_1));
-    clocks::is_as_defined(rt, alloc, known)?;
-    cut_late_by_clocks(alloc, front, known, cut)?;
-    assert!(rt; !known.reaches(ID_1_1, ID_1_1));
-    clocks::is_as_defined(rt, alloc, known)
-}
-
-fn ends_without_a_cycle_by_clocks(
-    rt: &impl Abort,
-    alloc: Global,
-    front: &Parts,
-    cut: &Cut,
-    late: &Txn,
-) -> Result<(), NoMemory>
-    requires { IsFound front.now (Some cut.now) }
-{
-    let mut known = clocks::clocks_of(rt, alloc, front)?;
-    is_cut_out_by_clocks(rt, alloc, front, &mut known, cut, late)
-}
-
 fn ends_without_a_cycle(
     rt: &impl Abort,
     alloc: Global,
@@ -188,10 +119,7 @@ fn ends_without_a_cycle(
     let mut known = saturated_of(rt, alloc, front)?;
     let problem = Problem::of(alloc, &known)?;
     match cut_behind(rt, alloc, &problem, order())? {
-        Some(cut) => {
-            is_cut_out(rt, alloc, front, &mut known, &cut, late)?;
-            ends_without_a_cycle_by_clocks(rt, alloc, front, &cut, late)
-        }
+        Some(cut) => is_cut_out(rt, alloc, front, &mut known, &cut, late),
         None => panic!(rt; "there is no cut"),
     }
 }

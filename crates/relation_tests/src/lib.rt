@@ -4,8 +4,6 @@
 #[cfg(test)]
 mod arrivals;
 #[cfg(test)]
-mod clocks;
-#[cfg(test)]
 mod cuts;
 #[cfg(test)]
 mod fences;

@@ -1,7 +1,6 @@
 //! The known relation of generated histories, as transactions and fragments arrive in several orders and cuts are made in between: all
 //! of it is compared with the plain computation.
 ghost use Rattle.std.specs.Prelude.{Some, IfOk, IfSome};
-ghost use Rattle.order_check.specs.Good.{IsGood};
 ghost use Rattle.settle.specs.Found.{IsFound};
 
 use crate::arrivals::{add, add_all, saturated_of};
@@ -66,7 +65,7 @@ fn is_cycle(arcs: &[Arc], standing: &Relation, side: Pair) -> bool {
 }
 
 /// Whether each step's cycle rules the other side out. The sides that were forced stand then.
-pub fn are_forced(facts: &Facts, standing: &mut Relation, log: &[ForceStep]) -> bool {
+fn are_forced(facts: &Facts, standing: &mut Relation, log: &[ForceStep]) -> bool {
     for step in log {
         let first = step.side == Side::First;
         let side = side_of(step.choice, !first);
@@ -129,11 +128,7 @@ fn cut_in(rt: &impl Abort, alloc: Global, problem: &Problem) -> Result<Option<Cu
 }
 
 /// The cut that is found, where an order explains the parts.
-pub fn cut_of(
-    rt: &impl Abort,
-    alloc: Global,
-    saturated: &Saturated,
-) -> Result<Option<Cut>, NoMemory>
+fn cut_of(rt: &impl Abort, alloc: Global, saturated: &Saturated) -> Result<Option<Cut>, NoMemory>
     ensures { IfOk result (λ found. IfSome found (λ cut. IsFound saturated.now.parts (Some cut))) }
 {
     match Problem::of(alloc, saturated) {
@@ -170,16 +165,14 @@ fn cuts(rt: &impl Abort, alloc: Global, saturated: &mut Saturated) -> Result<boo
 }
 
 /// What comes next of a session, at most so many transactions.
-pub fn next_of(
+fn next_of(
     alloc: Global,
     whole: &Parts,
-    parts: &Parts,
+    saturated: &Saturated,
     turn: Turn,
-) -> Result<Fragment, NoMemory>
-    requires { IsGood parts.now }
-{
+) -> Result<Fragment, NoMemory> {
     let (session, count) = turn;
-    let first = parts.received_count(session);
+    let first = saturated.parts().received_count(session);
     let mut txns = Vec::new(alloc);
     for ahead in 0..count {
         let number = first.wrapping_add(ahead);
@@ -202,7 +195,7 @@ fn give(
     saturated: &mut Saturated,
     turn: Turn,
 ) -> Result<(), NoMemory> {
-    let fragment = next_of(alloc, whole, saturated.parts(), turn)?;
+    let fragment = next_of(alloc, whole, saturated, turn)?;
     let (session, number) = (fragment.session, fragment.first);
     match fragment.txns.as_slice() {
         [] => Ok(()),
@@ -212,9 +205,9 @@ fn give(
 }
 
 /// A session, and how many transactions of it come together; or that one tries to cut.
-pub type Turn = (u8, u64);
+type Turn = (u8, u64);
 
-pub const CUT: Turn = (3, 0);
+const CUT: Turn = (3, 0);
 
 /// One by one in turn; one by one, session after session; whole sessions together; and several together.
 static ORDERS: [&[Turn]; 4] = [
@@ -272,7 +265,7 @@ static ORDERS: [&[Turn]; 4] = [
     ],
 ];
 
-pub fn orders() -> &'static [&'static [Turn]] {
+fn orders() -> &'static [&'static [Turn]] {
     &ORDERS
 }
 

@@ -1,7 +1,6 @@
 //! Transactions that come before those that they read from, and late reads of the initial state, one by one: what is known then is what
 //! is known of the whole.
 use crate::arrivals::{add, saturated_of};
-use crate::clocks;
 use forced_choices::Saturated;
 use order_check::Parts;
 use std::alloc::Global;
@@ -50,39 +49,6 @@ fn turned(rt: &impl Abort, alloc: Global, whole: &Parts) -> Result<Saturated, No
     Ok(known)
 }
 
-/// The same by session clocks.
-fn turned_by_clocks(
-    rt: &impl Abort,
-    alloc: Global,
-    whole: &Parts,
-) -> Result<clock_choices::Saturated, NoMemory> {
-    let mut none = over(alloc, whole.base.clone()?)?;
-    none.limit = whole.limit;
-    let mut known = clocks::clocks_of(rt, alloc, &none)?;
-    for id in in_turns(alloc)?.as_slice() {
-        if let Some(txn) = whole.remaining_at(*id) {
-            clocks::add(rt, alloc, &mut known, *id, txn)?;
-        }
-    }
-    Ok(known)
-}
-
-fn has_same_row(
-    rows: &Saturated,
-    clocks: &clock_choices::Saturated,
-    ids: &[TxnId],
-    earlier: TxnId,
-) -> bool {
-    ids.iter().all(|later| rows.reaches(earlier, *later) == clocks.reaches(earlier, *later))
-}
-
-/// Stops unless the clocks know the same.
-fn are_same(rt: &impl Abort, rows: &Saturated, clocks: &clock_choices::Saturated, ids: &[TxnId]) {
-    for earlier in ids {
-        assert!(rt; has_same_row(rows, clocks, ids, *earlier));
-    }
-}
-
 fn is_same_row(one: &Saturated, other: &Saturated, ids: &[TxnId], earlier: TxnId) -> bool {
     ids.iter().all(|later| one.reaches(earlier, *later) == other.reaches(earlier, *later))
 }
@@ -98,18 +64,6 @@ fn who_comes_before_what_it_reads_from_is_known_as_well(rt: HostRuntime) -> Resu
     for earlier in ids.as_slice() {
         assert!(rt; is_same_row(&made, &turned, ids.as_slice(), *earlier));
     }
-    are_same(
-        &rt,
-        &made,
-        &clocks::clocks_of(&rt, alloc, &whole)?,
-        ids.as_slice(),
-    );
-    are_same(
-        &rt,
-        &made,
-        &turned_by_clocks(&rt, alloc, &whole)?,
-        ids.as_slice(),
-    );
     assert!(rt; made.open_choices(alloc)?.as_slice() == turned.open_choices(alloc)?.as_slice());
     Ok(())
 }
