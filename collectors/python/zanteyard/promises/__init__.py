@@ -1,3 +1,3 @@
-"""Checks promises other than serializability with the proved auditor of serializability, by
-rewriting its input: snapshot isolation, strict serializability, and what follows from the same
-rewritings (docs/PROMISES.md)."""
+"""Checks promises other than serializability with the auditor. It is asked about snapshot isolation
+itself; real-time order and prefix consistency are expressed by what it is given
+(docs/PROMISES.md)."""
