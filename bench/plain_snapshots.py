@@ -8,7 +8,7 @@ it replies is `told` of transactions as they were offered.
 """
 from dataclasses import dataclass, field
 
-from plain_verdicts import INIT, Parts, Wrong
+from plain_verdicts import INIT, Parts, Wrong, is_reached
 
 STARS, NUMBERS = 2**63, 2**47  # keys, and numbers, are below these
 EVENTS = ("begin", "commit")
@@ -61,26 +61,16 @@ def check_events(whole, order):
 
 
 def has_events(whole, most):
-    """Whether there is such an order, by trial; None if more than this many fronts would have to be
-    tried."""
+    """Whether there is such an order; None if that would take too many trials."""
     end = tuple(2 * len(txns) for txns in whole.remaining)
-    seen, waiting = set(), [(tuple(map(int, whole.begun)), whole.base)]
-    while waiting:
-        front, last = waiting.pop()
-        if front == end:
-            return True
-        name = front, frozenset(last.items())
-        if name in seen:
-            continue
-        seen.add(name)
-        if len(seen) > most:
-            return None
-        for session in range(len(end)):
-            then = whole.then(front, last, session) if front[session] < end[session] else None
+
+    def nexts(front, last):
+        for session, place in enumerate(front):
+            then = whole.then(front, last, session) if place < end[session] else None
             if then is not None:
-                further = front[session] + 1
-                waiting.append((front[:session] + (further,) + front[session + 1:], then))
-    return False
+                yield front[:session] + (place + 1,) + front[session + 1:], then
+
+    return is_reached(tuple(map(int, whole.begun)), whole.base, end, nexts, most)
 
 
 def star(key):

@@ -237,16 +237,13 @@ def may_be_spent(parts, relation, budget, depth, most):
     return is_spent
 
 
-def has_order(parts, most):
-    """Whether some order explains the parts, by trial; None if more than this many fronts would
-    have to be tried."""
-    if parts.has_bad_read():
-        return False
-    counts = tuple(map(len, parts.remaining))
-    seen, waiting = set(), [((0,) * len(counts), dict(parts.base))]
+def is_reached(start, last, end, nexts, most):
+    """Whether a front is reached from another one and its last writers, by trial; None if more than
+    this many fronts would have to be tried. `nexts` are those that may follow a front."""
+    seen, waiting = set(), [(start, last)]
     while waiting:
         front, last = waiting.pop()
-        if front == counts:
+        if front == end:
             return True
         name = front, frozenset(last.items())
         if name in seen:
@@ -254,16 +251,28 @@ def has_order(parts, most):
         seen.add(name)
         if len(seen) > most:
             return None
+        waiting += nexts(front, last)
+    return False
+
+
+def has_order(parts, most):
+    """Whether some order explains the parts; None if that would take too many trials."""
+    if parts.has_bad_read():
+        return False
+    counts = tuple(map(len, parts.remaining))
+
+    def nexts(front, last):
         for session, place in enumerate(front):
             if place == counts[session]:
                 continue
             reads, writes = parts.remaining[session][place]
             if all(last.get(key, INIT) == source or parts.is_pending(source)
                    for key, source in reads):
-                then = dict(last)
-                then.update((key, (session, parts.gone[session] + place)) for key in writes)
-                waiting.append((front[:session] + (place + 1,) + front[session + 1:], then))
-    return False
+                me = session, parts.gone[session] + place
+                then = {**last, **dict.fromkeys(writes, me)}
+                yield front[:session] + (place + 1,) + front[session + 1:], then
+
+    return is_reached((0,) * len(counts), dict(parts.base), counts, nexts, most)
 
 
 def cut_of(parts, relation):
