@@ -6,13 +6,13 @@ model for what has been taken in so far; within a chunk it assumes that everythi
 """
 from collections import defaultdict
 
-from judge import (ABORTED, ISOLATED, LONGEST, NUMBERS, WHOLE, command_of, decode, effect_of,
-                   encode, is_aborted)
+from judge import (ABORTED, ISOLATED, LARGE, LONGEST, NUMBERS, ORDERED, WHOLE, command_of, decode,
+                   effect_of, encode, is_aborted)
 from plain_snapshots import split_command
 from plain_verdicts import is_fence
 
 EDGES = (0, 1, 2, 3, 5, 6, 7, 8, 15, 16, 17, 63, 64, 65, 127, 128, 129, 255, 256, 257, 2048, 2049,
-         4095, 4096, 4097, 2**31 - 1, 2**31, 2**32 - 1, 2**32, 2**32 + 1, 2**47 - 1, 2**47,
+         4095, 4096, 4097, 2**20 - 1, 2**20, 2**20 + 1, 2**31 - 1, 2**31, 2**32 - 1, 2**32, 2**32 + 1, 2**47 - 1, 2**47,
          NUMBERS - 257, NUMBERS - 256, NUMBERS - 1, NUMBERS, NUMBERS + 1, 2**53, 2**53 + 1,
          2**63 - 1, 2**63, WHOLE - 1, WHOLE, WHOLE + 1)
 NO_NUMBERS = ("-0", "-1", "-5", "00", "01", "007", "+1", "5.0", "0.0", "5e0", "5E0", "5e-1", "1e1",
@@ -40,9 +40,9 @@ class Raw(str):
 
 
 SNAPSHOT = "snapshot"  # in place of a script's version: one of version 2 that asks for this
-MORE = {1: [], 2: [2], SNAPSHOT: [2, SNAPSHOT]}  # in openings
-VERSIONS = (2, 2, 2, 1, 0, 3, 4, 256, WHOLE, "2", "", None, True, [], [2], Raw("2.0"), Raw("-2"),
-            Raw("02"), Raw("2e0"), Raw('"\\u0032"'))
+MORE = {1: [], 2: [2], 3: [3], SNAPSHOT: [2, SNAPSHOT]}  # in openings
+VERSIONS = (2, 2, 2, 3, 3, 1, 0, 4, 256, WHOLE, "2", "", None, True, [], [2], [3], Raw("2.0"),
+            Raw("-2"), Raw("02"), Raw("2e0"), Raw("3.0"), Raw("03"), Raw('"\\u0032"'))
 OUTCOMES = (*[ABORTED] * 4, "Aborted", "abort", "aborted ", "committed", "", None, False, 0, 2, [],
             [ABORTED], Raw('"\\u0061borted"'), Raw('"abor\\u0074ed"'), Raw("aborted"))
 
@@ -74,13 +74,14 @@ def opening(word, sessions, limit, version):
 
 
 def versioned(dice, line):
-    """The line with an addition to what an opening, or a transaction, has in version 1: version 2's
-    or not, twice, or removed."""
+    """The line with an addition to what an opening, or a transaction, has in version 1: a later
+    version's or not, twice, or removed."""
     line = copied(line)
     if line[0] in ("open", "resume"):
         line = line[:3] if dice.random() < 0.8 else line
         if dice.random() < 0.2:
-            line = [*line[:3], 2, dice.choice((SNAPSHOT, SNAPSHOT, SNAPSHOT[:-1], "serializable"))]
+            words = (SNAPSHOT, SNAPSHOT, SNAPSHOT[:-1], "serializable")
+            line = [*line[:3], dice.choice((2, 2, 3)), dice.choice(words)]
         holder, more = line, dice.choice(VERSIONS)
     elif line[0] in ("offer", "join") and type(line[-1]) is list and line[-1]:
         holder, more = dice.choice(line[-1]), dice.choice(OUTCOMES)
@@ -350,10 +351,12 @@ class Scripts:
         self.most = dice.choice((8, 12, 16, 30))  # what remains is at most a little more
         if self.store.torn:
             self.most = dice.choice((12, 16))
-        self.version = dice.choice((1, 2, SNAPSHOT))
+        self.version = dice.choice((1, 2, 3, SNAPSHOT))
         self.store.fit(self.version)
         if self.version == SNAPSHOT:
             self.limit, self.most = min(self.limit, ISOLATED.limit), self.most // 2 + 2
+        if self.version == 3 and dice.random() < 0.5:
+            self.limit = dice.choice((ORDERED.limit + 1, LARGE.limit))
         if self.version != 1:
             self.store.aborts = dice.choice((0.0, 0.1, 0.3))
         self.is_open, self.odd = False, dice.choice((0.0, 0.0, 0.05, 0.2))
@@ -521,7 +524,7 @@ class Mutated:
         self.sessions = dice.choice((1, 2, 3, 64))
         self.limit = dice.choice((1, 5, 10, 16))
         self.store = Store(dice, self.sessions)
-        self.version = dice.choice((1, 2, SNAPSHOT))
+        self.version = dice.choice((1, 2, 3, SNAPSHOT))
         self.store.fit(self.version)
         self.store.aborts = 0.0 if self.version == 1 else 0.3
         self.count = dice.choice((16, 100))
@@ -589,8 +592,8 @@ class Answers:
             self.store.lies = dice.choice((0.0, 0.0, 0.1, 0.4))
         self.store.ahead = dice.choice((0.0, 0.0, 0.0, 0.1))
         self.most = dice.choice((2, 4, 6, 8, 12))
-        self.version = dice.choice((1, 2))
-        self.store.aborts = dice.choice((0.1, 0.4)) if self.version == 2 else 0.0
+        self.version = dice.choice((1, 2, 3))
+        self.store.aborts = dice.choice((0.1, 0.4)) if self.version != 1 else 0.0
 
     def is_over(self, model):
         return False
@@ -853,7 +856,7 @@ class Longest:
     def chunk(self, model):
         dice, kind = self.dice, "longest lines"
         self.is_done = True
-        lines = [(kind, compact(opening("open", 2, 16, dice.choice((1, 2)))))]
+        lines = [(kind, compact(opening("open", 2, 16, dice.choice((1, 2, 3)))))]
         for over in (0, 1):
             room = LONGEST + over
             fill = dice.choice((b" ", b"\t", b"\r"))

@@ -74,7 +74,7 @@ def is_txn(it):
 
 
 def tells_aborted(command):
-    """Whether the command has an aborted transaction, which only version 2 knows."""
+    """Whether the command has an aborted transaction, which version 1 doesn't know."""
     return command[0] in ("offer", "join") and any(map(is_aborted, command[-1]))
 
 
@@ -85,9 +85,9 @@ def is_offer(parts):
 
 
 def is_opening(parts):
-    """Two numbers, followed by the version if that is 2, and then perhaps by a promise; version 1
-    isn't stated."""
-    return are_wholes(parts[:3]) and parts[2:] in ([], [2], [2, "snapshot"])
+    """Two numbers, followed by the version if that is 2 or 3, and after 2 perhaps by a promise;
+    version 1 isn't stated."""
+    return are_wholes(parts[:3]) and parts[2:] in ([], [2], [3], [2, "snapshot"])
 
 
 def is_nothing(parts):
@@ -258,6 +258,7 @@ class Bounds:
 
 
 ORDERED, ISOLATED = Bounds(), Bounds(128, NUMBERS // 2, STARS, 2048)
+LARGE = Bounds(limit=2**20)  # of version 3
 
 
 def is_low(txn, bounds):
@@ -324,7 +325,7 @@ class HandOver:
 
     def owed(self, command):
         """The right reply to the command, whose effect on the parts is applied. Aborted attempts
-        leave nothing to hand over, in either version."""
+        leave nothing to hand over, in any version."""
         word, *told = command
         if word == "offer" and self.parts and not tells_aborted(command):
             return self.offer(*told)
@@ -489,7 +490,7 @@ class Model:
         return whole_of(self.parts) if self.is_isolated else self.parts
 
     def open(self, sessions, limit, version=1, promise=None):
-        refused = self.refused_opening(sessions, limit, promise)
+        refused = self.refused_opening(sessions, limit, version, promise)
         if refused:
             return refused
         self.limit, self.version, self.handed = limit * (2 if promise else 1), version, None
@@ -502,18 +503,18 @@ class Model:
         self.whole = whole_of(self.parts) if is_isolated and is_proper(self.parts) else None
 
     def resume(self, sessions, limit, version=1, promise=None):
-        refused = self.refused_opening(sessions, limit, promise)
+        refused = self.refused_opening(sessions, limit, version, promise)
         if refused:
             return refused
         handed = SplitHandOver if promise else HandOver
         self.version, self.handed = version, handed(sessions, limit)
         return OK
 
-    def refused_opening(self, sessions, limit, promise):
+    def refused_opening(self, sessions, limit, version, promise):
         if not 1 <= sessions <= 64:
             return REFUSALS[2]
-        most = (ISOLATED if promise else ORDERED).limit
-        return None if 1 <= limit <= most else REFUSALS[9]
+        bounds = ISOLATED if promise else LARGE if version == 3 else ORDERED
+        return None if 1 <= limit <= bounds.limit else REFUSALS[9]
 
     def hand_over(self, command):
         owed = self.handed.owed(command)

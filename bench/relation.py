@@ -35,7 +35,7 @@ import time
 import histories
 import refused_memory
 
-LOW = ["txn", "order_check", "known_graph", "forced_choices", "fence_chain", "refutation", "polygraph", "settle", "truncate"]
+LOW = ["txn", "order_check", "session_clocks", "clock_choices", "fence_chain", "refutation", "polygraph", "settle", "truncate"]
 SIZES = [500, 1000, 2048, 4096]
 LARGE = [2048, 4096]
 # What the program is to time.
@@ -54,7 +54,7 @@ def lay_out(top, folder):
     shutil.copy(top / "HANDLES", folder / "HANDLES")
     lines = (top / "crates.txt").read_text(encoding="ascii").splitlines()
     wanted = [line for line in lines if line.split(":")[0] in LOW]
-    wanted.append("relation: txn order_check forced_choices polygraph settle truncate")
+    wanted.append("relation: txn order_check clock_choices polygraph settle truncate")
     (folder / "crates.txt").write_text("\n".join(wanted) + "\n", encoding="ascii")
     return crates / "relation"
 

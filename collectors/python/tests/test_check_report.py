@@ -26,7 +26,9 @@ def lines_of(path):
 
 
 def resumes(path):
-    return any(line.startswith(b'["resumed"') for line in lines_of(path))
+    """Whether a line of it resumes, and isn't refused as a line: what had gone before isn't shown."""
+    turns = zip(lines_of(path), lines_of(path[: -len("jsonl")] + "replies"))
+    return any(line.startswith(b'["resume') and b"BadLine" not in reply for line, reply in turns)
 
 
 def asks_for_isolation(path):

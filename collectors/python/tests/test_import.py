@@ -471,9 +471,9 @@ class Strict(unittest.TestCase):
 
     @unittest.skipUnless(os.path.isfile(PROGRAM), f"{PROGRAM} is not built")
     def test_a_long_history_with_pauses(self):
-        self.addCleanup(setattr, import_script, "LIMIT", import_script.LIMIT)
+        self.addCleanup(setattr, import_script, "MOST", import_script.MOST)
         self.addCleanup(setattr, import_command, "EVERY", import_command.EVERY)
-        import_script.LIMIT, import_command.EVERY = 400, 100
+        import_script.MOST, import_command.EVERY = 400, 100
         with tempfile.TemporaryDirectory() as folder:
             path, script = os.path.join(folder, "a.json"), os.path.join(folder, "a.jsonl")
             lines = self.long(1100, 100)
@@ -485,6 +485,7 @@ class Strict(unittest.TestCase):
                 return run("check", script) if not status else (status, "", err)
 
             self.assertIn("1,100 transactions", tried()[2])
+            self.assertIn("divide it at moments with none in flight (--strict)", tried()[2])
             for option in ("--strict", "--realtime"):
                 status, out, err = tried(option)
                 self.assertEqual((status, err), (0, ""))
@@ -496,6 +497,8 @@ class Strict(unittest.TestCase):
             self.assertIn("import it again without --strict", err)
             lines = self.long(1100, 700)
             self.assertIn("line 1: from here on, 70", tried("--strict")[2])
+            lines = self.long(1100, 2000)
+            self.assertIn("there is no moment with none in flight", tried("--strict")[2])
 
     @unittest.skipUnless(os.path.isfile(PROGRAM), f"{PROGRAM} is not built")
     def test_what_time_alone_excludes_is_told_so(self):
@@ -634,12 +637,24 @@ class Limits(unittest.TestCase):
     def test_many_transactions(self):
         head = "session,number,operation,key,value\n"
         many = "".join(f"a,{at},write,x,{at + 1}\n" for at in range(4097))
-        with self.assertRaisesRegex(ImportRefusedError, "4,097 transactions"):
+        for first, opened in (
+            (None, ["open", 1, 4097, 3]),
+            (4096, ["open", 1, 4097, 3]),  # and one that waits for the rest
+            (4095, ["open", 1, 4096]),
+        ):
+            with self.subTest(first=first):
+                lines = import_text("csv", head + many, first).lines
+                self.assertEqual(json.loads(lines[0]), opened)
+                words = [json.loads(line)[0] for line in lines[1:]]
+                self.assertEqual(words, ["offer"] * (len(lines) - 2) + ["round"])
+        undone = "b,0,write,y,1\nb,0,abort,,\nc,0,read,y,1\n"
+        opened, *_ = import_text("csv", head + many + undone).lines
+        self.assertEqual(json.loads(opened), ["open", 3, 4099, 3])
+        self.addCleanup(setattr, import_script, "MOST", import_script.MOST)
+        import_script.MOST = 4096
+        refused = "4,097 transactions, and at most 4,096 can be checked at once: take .* N.$"
+        with self.assertRaisesRegex(ImportRefusedError, refused):
             import_text("csv", head + many)
-        with self.assertRaisesRegex(ImportRefusedError, "4,097 transactions"):
-            import_text("csv", head + many, 4096)  # and one that waits for the rest
-        lines = import_text("csv", head + many, 4095).lines
-        self.assertEqual(json.loads(lines[0]), ["open", 1, 4096])
         wide = "".join(f"a,0,write,x{at},1\n" for at in range(257))
         with self.assertRaisesRegex(ImportRefusedError, "line 2: .* at most 256"):
             import_text("csv", head + wide)

@@ -93,11 +93,13 @@ class Rules(unittest.TestCase):
         for line, *asked in (
             (["open", 2, 16, 2], ["open", 2, 16, *form]),
             (["open", 2, 4000], ["open", 2, 2048, *form]),
+            (["open", 2, 100000, 3], ["open", 2, 2048, *form]),
+            (["open", 2, 1048577, 3], ["open", 2, 1048577, *form]),  # which is refused
             (["offer", 0, 2, many], ["offer", 0, 2, many[:128]], ["offer", 0, 130, many[128:]]),
             (["join", 2, many], ["join", 2, many[:128]], ["offer", 2, 128, many[128:]]),
             *((line, line) for line in (
                 offer, ["join", 2, 5, [fence]], ["save", "marks"], ["round", 1, 0, 1], longer,
-                ["open", 2, 4097, *form], ["open", 2, 8, 3], ["offer", 0, 0, "x"],
+                ["open", 2, 4097, *form], ["open", 2, 8, 4], ["offer", 0, 0, "x"],
                 ["offer", 0, 0, [[[[5]], []]]], [],
             )),
         ):
@@ -110,6 +112,7 @@ class Rules(unittest.TestCase):
         with self.assertRaises(CantBeAskedError):
             Asking(SERIALIZABLE).asked(["resume", 2, 16, *form])
         self.assertEqual(Asking(STRICT).asked(["open", 2, 8, *form]), [["open", 2, 8, 2]])
+        self.assertEqual(Asking(STRICT).asked(["open", 2, 5000, 3]), [["open", 2, 5000, 3]])
 
     def test_there_is_an_order_where_the_promise_is_kept(self):
         """Without the auditor: tests the halves of prefix consistency, and the times."""

@@ -122,7 +122,7 @@ class Shrinking(unittest.TestCase):
         wanted = smaller(history, seconds=60.0)
         whole, sizes[:] = sizes[0], []
         self.assertEqual(smaller(history, seconds=60.0, known=known), wanted)
-        self.assertLess(max(sizes), whole // 4)
+        self.assertLess(max(sizes), whole // 2)
         sizes.clear()
         self.assertEqual(smaller(history, seconds=60.0, known={(0, 0)}), wanted)  # these aren't violated by themselves
         self.assertEqual(sizes[1], whole)

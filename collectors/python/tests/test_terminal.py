@@ -14,13 +14,31 @@ from zanteyard.program._binaries import PROGRAM
 LOST = '["open",2,8]\n["offer",0,0,[[[[5,"init"]],[5]]]]\n["offer",1,0,[[[[5,"init"]],[5]]]]\n'
 SERIAL = '["open",1,8]\n["offer",0,0,[[[],[5]]]]\n'
 SECONDS = 300.0  # for a program to print something
+# A program that takes the second offer only when there is a file, and gives every round up when
+# there is another one.
+SLOW = """
+import json, os, sys, time
+def wait_for(name):
+    while not os.path.exists("{folder}/" + name):
+        time.sleep(0.05)
+for line in sys.stdin:
+    word, *more = json.loads(line)
+    reply = ["ok"]
+    if word == "offer" and more[:2] != [0, 0]:
+        wait_for("goes_on")
+    if word == "round":
+        wait_for("ends")
+        reply = ["report", 1, "spent", [500, 500, 500]]
+    print(json.dumps(reply), flush=True)
+"""
 RED, GREEN, PLAIN = "\x1b[1;31m", "\x1b[1;32m", "\x1b[0m"
 
 
 @unittest.skipUnless(os.path.isfile(PROGRAM), f"{PROGRAM} is not built")
 class OnATerminal(unittest.TestCase):
     def begin(self, *words, **more):
-        """The command on a terminal of its own; `seen` reads that."""
+        """The command on a terminal of its own; `seen` reads that. What is printed, and progress,
+        which is on standard error, are on the same one."""
         self.seen, theirs = pty.openpty()
         self.addCleanup(os.close, self.seen)
         its = {**os.environ, "TERM": "xterm", "COBRA_AUDIT": os.path.abspath(PROGRAM), **more}
@@ -28,7 +46,7 @@ class OnATerminal(unittest.TestCase):
             its.pop("NO_COLOR", None)
         running = subprocess.Popen(
             [sys.executable, "-m", "zanteyard", *words],
-            env=its, stdin=subprocess.PIPE, stdout=theirs, stderr=subprocess.DEVNULL,
+            env=its, stdin=subprocess.PIPE, stdout=theirs, stderr=theirs,
         )
         os.close(theirs)
         self.addCleanup(running.stdin.close)
@@ -78,23 +96,47 @@ class OnATerminal(unittest.TestCase):
             text=True, env={**os.environ, "TERM": "xterm", "COBRA_AUDIT": os.path.abspath(PROGRAM)},
         )
         self.assertEqual(ended.returncode, 1)
-        self.assertNotIn("\x1b", ended.stdout + ended.stderr)
+        self.assertNotIn("\x1b", ended.stdout)
+        self.assertEqual(ended.stderr, "")
 
     def test_how_far_it_is(self):
-        """While it waits for the rest of a script; afterwards the line is cleared."""
+        """While it waits for the rest of a script; afterwards the line is cleared. Nothing is shown
+        of what takes less than two seconds."""
         running = self.begin("check", "-")
         first, second, third = LOST.splitlines(True)
         running.stdin.write((first + second).encode())
         running.stdin.flush()
-        self.assertIn("(line 2, ", self.read("(line 2, "))
+        began = time.monotonic()
+        self.assertIn("(1 transaction read, ", self.read("(1 transaction read, "))
+        self.assertGreater(time.monotonic() - began, 1.0)
         running.stdin.write(third.encode())
         running.stdin.close()
         text = self.read()
         before, after = text.split("at the end: ", 1)
         self.assertTrue(before.endswith("\r\x1b[K"), before)
         self.assertTrue(after.startswith(f"{RED}violated"), after)
-        self.assertNotIn("(line", after)
+        self.assertNotIn(" read, ", after)
         self.assertEqual(running.wait(SECONDS), 1)
+
+    def test_of_how_many(self):
+        """If the script has names, which say how many there are; and that it searches."""
+        folder = tempfile.mkdtemp()
+        self.addCleanup(shutil.rmtree, folder)
+        history, script, slow = (f"{folder}/{name}" for name in ("a.csv", "a.jsonl", "slow"))
+        rows = (f"s{at % 3},{at},write,x,{at + 1}\n" for at in range(1500))
+        with open(history, "w", encoding="utf-8") as file:
+            file.write("session,number,operation,key,value\n" + "".join(rows))
+        words = [sys.executable, "-m", "zanteyard", "import", "csv", history, "-o", script]
+        subprocess.run(words, check=True, capture_output=True)
+        with open(slow, "w", encoding="utf-8", opener=as_program) as file:
+            file.write(f"#!{sys.executable}\n" + SLOW.format(folder=folder))
+        running = self.begin("check", script, COBRA_AUDIT=slow)
+        self.read("(256 of 1,500 transactions read, ")
+        open(f"{folder}/goes_on", "wb").close()
+        self.read("(searching, ")
+        open(f"{folder}/ends", "wb").close()
+        self.assertIn("undecided: ", self.read())
+        self.assertEqual(running.wait(SECONDS), 4)
 
     def test_that_it_is_at_work(self):
         """Commands that count nothing; a file or program has each of them wait until it is shown."""
@@ -107,7 +149,7 @@ class OnATerminal(unittest.TestCase):
             file.write(f'#!/bin/sh\n{waits}\nexec {os.path.abspath(PROGRAM)} "$@"\n')
         for words, shown, goes_on, wanted in (
             (("import", "csv", history, "-o", script), "(importing, ", "session,number,operation,key,value\na,0,write,x,1\n", f"{script}: "),
-            (("levels", "-"), "(checking, ", LOST, "serializab"),
+            (("levels", "-"), "(reading, ", LOST, "serializab"),
             (("demo", "lost-update", "--no-html"), "(checking, ", "", "violated"),
         ):
             with self.subTest(words=words):

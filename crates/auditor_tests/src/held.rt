@@ -115,6 +115,20 @@ fn too_many_are_refused(rt: HostRuntime) -> Result<(), Fail> {
 }
 
 #[test]
+fn more_may_remain_in_version_3(rt: HostRuntime) -> Result<(), Fail> {
+    let mut script = Vec::new(rt.alloc());
+    script.extend_from_slice(b"[\"resume\",1,4097,3]\n[\"marks\",[0],[false]]\n")?;
+    push_offer(&mut script, "0", 4097)?;
+    script.extend_from_slice(b"[\"resumed\"]\n")?;
+    push_offer(&mut script, "4097", 1)?;
+    script.extend_from_slice(b"[\"show\"]\n")?;
+    let told =
+        "[\"ok\"]\n[\"ok\"]\n[\"ok\"]\n[\"ok\"]\n[\"no\",8,\"Backlog\"]\n[\"show\",[0],[4097],[false],[],4097]\n";
+    assert!(rt; replies(&rt, rt.alloc(), &script)?.as_slice() == told.as_bytes());
+    Ok(())
+}
+
+#[test]
 fn any_number_is_handed_over(rt: HostRuntime) -> Result<(), Fail> {
     let mut script = Vec::new(rt.alloc());
     script.extend_from_slice(b"[\"resume\",1,1000]\n[\"marks\",[0],[false]]\n")?;

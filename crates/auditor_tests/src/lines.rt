@@ -86,7 +86,7 @@ fn numbers_of(command: &Command) -> (&'static str, [u64; 3]) {
 fn opening_number(opening: Opening) -> u64 {
     match opening {
         Opening::Ordered(version) => version_number(version),
-        Opening::Isolated => 3,
+        Opening::Isolated => 9,
     }
 }
 
@@ -94,6 +94,7 @@ fn version_number(version: Version) -> u64 {
     match version {
         Version::One => 1,
         Version::Two => 2,
+        Version::Three => 3,
     }
 }
 
@@ -127,7 +128,7 @@ struct Row {
     numbers: [u64; 3],
 }
 
-static COMMANDS: [Row; 35] = [
+static COMMANDS: [Row; 37] = [
     Row {
         line: "[\"search\",4294967296,6,16]",
         name: "search",
@@ -169,6 +170,16 @@ static COMMANDS: [Row; 35] = [
         numbers: [2, 16, 2],
     },
     Row {
+        line: "[\"open\",2,16,3]",
+        name: "open",
+        numbers: [2, 16, 3],
+    },
+    Row {
+        line: "[\"resume\",2,16,3]",
+        name: "resume",
+        numbers: [2, 16, 3],
+    },
+    Row {
         line: "[\"open\",2,16,2,\"\\u0073napshot\"]",
         name: "open isolated",
         numbers: [2, 16, 0],
@@ -181,7 +192,7 @@ static COMMANDS: [Row; 35] = [
     Row {
         line: "[\"resume\",2,16,2,\"snapshot\"]",
         name: "resume",
-        numbers: [2, 16, 3],
+        numbers: [2, 16, 9],
     },
     Row {
         line: "[\"join\",1,[[[],[],\"\\u0061borted\"]]]",
@@ -353,6 +364,7 @@ fn aborted_transactions(rt: HostRuntime) -> Result<(), Fail> {
     };
     assert!(rt; logged.aborted.as_slice() == [false, true, false].as_slice());
     assert!(rt; Version::Two.has_form(&logged) && !Version::One.has_form(&logged));
+    assert!(rt; Version::Three.has_form(&logged));
     let txns = logged.fragment.txns.as_slice();
     assert!(rt; txns.len() == 3 && txns[1].reads.as_slice() == [(5, Source::Init)].as_slice());
     assert!(rt; txns[1].writes.as_slice() == [6].as_slice());
@@ -360,7 +372,7 @@ fn aborted_transactions(rt: HostRuntime) -> Result<(), Fail> {
 }
 
 // Texts that are no JSON, or no array of a known word and its parts; other parts; offers and joins with other parts.
-static BAD_LINES: [&str; 93] = [
+static BAD_LINES: [&str; 97] = [
     "",
     " ",
     "null",
@@ -393,7 +405,11 @@ static BAD_LINES: [&str; 93] = [
     "[\"close\",-1]",
     "[\"open\",2]",
     "[\"open\",2,16,1]",
-    "[\"open\",2,16,3]",
+    "[\"open\",2,16,4]",
+    "[\"open\",2,16,3.0]",
+    "[\"open\",2,16,\"3\"]",
+    "[\"open\",2,16,3,\"snapshot\"]",
+    "[\"open\",2,16,3,3]",
     "[\"open\",2,16,\"2\"]",
     "[\"open\",2,16,2.0]",
     "[\"open\",2,16,null]",

@@ -17,24 +17,24 @@ use Rattle.session_clocks.specs.Paths.{IsPathOf}
 use Rattle.session_clocks.specs.Reach.{IsThere}
 use Rattle.clock_choices.specs.declared.steps.Forced.{Forced}
 use Rattle.clock_choices.specs.Cycling.{AreLookedUp}
-use Rattle.clock_choices.specs.Logging.{IsLogged, IsStepAfter}
+use Rattle.clock_choices.specs.Logging.{IsLoggedFrom, IsStepFrom}
 use Rattle.clock_choices.specs.Over.{IsOver}
-use Rattle.clock_choices.specs.Steps.{bare, premise, premise_of, sides_of}
+use Rattle.clock_choices.specs.Steps.{bare, premise, premise_of, sides_behind}
 use Rattle.clock_choices.proofs.FullLogs.{not_taken_is, path_with}
 use Rattle.clock_choices.proofs.Remaining.{reader_remains, writer_remains}
 use Rattle.clock_choices.proofs.RightArcs.{path_found}
 use Rattle.clock_choices.proofs.There.{remains_there}
 
-pub cycle_found : (parts : Parts) (gone received : List ℕ) (arcs : List Arc) (before : List Forced) (step : Forced) (path found cycle : List Arc) → IsOver parts gone received → IsStepAfter parts gone received arcs before step → IsPathOf gone received (take step.arcs arcs) (premise step).0 path (premise step).1 → AreLookedUp parts path found
-    → cycle ≡ Taken (premise step).1 (premise step).0 ∷ found → IsForced parts (sides_of before) (record { choice = step.choice; side = step.side; cycle = cycle })
-cycle_found parts gone received arcs before step path found cycle over is leads are same =
+pub cycle_found : (parts : Parts) (gone received : List ℕ) (arcs : List Arc) (taken : Sides) (step : Forced) (path found cycle : List Arc) → IsOver parts gone received → IsStepFrom parts gone received arcs taken step → IsPathOf gone received (take step.arcs arcs) (premise step).0 path (premise step).1 → AreLookedUp parts path found
+    → cycle ≡ Taken (premise step).1 (premise step).0 ∷ found → IsForced parts taken (record { choice = step.choice; side = step.side; cycle = cycle })
+cycle_found parts gone received arcs taken step path found cycle over is leads are same =
     let back : TxnId × TxnId = ((premise step).1, (premise step).0) in
-    let on = path_found parts (sides_of before) gone received (take step.arcs arcs) (premise step).0 path found (premise step).1 over is.right leads.leads are in
+    let on = path_found parts taken gone received (take step.arcs arcs) (premise step).0 path found (premise step).1 over is.right leads.leads are in
     let whole : List Arc = Taken (premise step).1 (premise step).0 ∷ found in
-    let closes : IsCycle parts (back ∷ sides_of before) whole = (refl, (0, (omega arith), refl), path_with parts back (sides_of before) (premise step).0 found (premise step).1 on) in (
+    let closes : IsCycle parts (back ∷ taken) whole = (refl, (0, (omega arith), refl), path_with parts back taken (premise step).0 found (premise step).1 on) in (
       is.choice_of,
-      subst (λ (xs : List Arc). IsCycle parts (side_not_taken (record { choice = step.choice; side = step.side; cycle = cycle }) ∷ sides_of before) xs) (sym same)
-          (subst (λ (side : TxnId × TxnId). IsCycle parts (side ∷ sides_of before) whole) (sym (not_taken_is step.choice step.side cycle)) closes),
+      subst (λ (xs : List Arc). IsCycle parts (side_not_taken (record { choice = step.choice; side = step.side; cycle = cycle }) ∷ taken) xs) (sym same)
+          (subst (λ (side : TxnId × TxnId). IsCycle parts (side ∷ taken) whole) (sym (not_taken_is step.choice step.side cycle)) closes),
     )
 
 -- both ends of what rules the other side out are there
@@ -65,20 +65,20 @@ abbrev some_or : ForceStep → Option ForceStep → ForceStep
 some_or d None = d
 some_or d (Some step) = step
 
-pub cycle_logged : (parts : Parts) (steps : List Forced) (place : ℕ) (step d : Forced) (cycle : List Arc) → place < length steps → step ≡ get_or steps place d → IsForced parts (sides_of (take place steps)) (record { choice = step.choice; side = step.side; cycle = cycle })
-    → (one : ForceStep) → slice_get (map bare steps) place ≡ Some one → IsForced parts (sides_after [] (take place (map bare steps))) (record one { cycle = cycle })
-cycle_logged parts steps place step d cycle within at is one found =
+pub cycle_logged : (parts : Parts) (start : Sides) (steps : List Forced) (place : ℕ) (step d : Forced) (cycle : List Arc) → place < length steps → step ≡ get_or steps place d → IsForced parts (sides_behind start (take place steps)) (record { choice = step.choice; side = step.side; cycle = cycle })
+    → (one : ForceStep) → slice_get (map bare steps) place ≡ Some one → IsForced parts (sides_after start (take place (map bare steps))) (record one { cycle = cycle })
+cycle_logged parts start steps place step d cycle within at is one found =
     let len = length_bare steps in
     let there = slice_get-get_or (map bare steps) place one (omega (arith, within, len)) in
     let same : bare step ≡ one = ap bare at ∙ sym (at_bare steps place d one within) ∙ ap (λ (o : Option ForceStep). some_or one o) (sym there ∙ found) in
-    subst (λ (taken : Sides). IsForced parts taken (record one { cycle = cycle })) (ap (λ (xs : List ForceStep). sides_after [] xs) (sym (take_bare steps place)))
-    (subst (λ (s : ForceStep). IsForced parts (sides_of (take place steps)) (record s { cycle = cycle })) same is)
+    subst (λ (taken : Sides). IsForced parts taken (record one { cycle = cycle })) (ap (λ (xs : List ForceStep). sides_after start xs) (sym (take_bare steps place)))
+    (subst (λ (s : ForceStep). IsForced parts (sides_behind start (take place steps)) (record s { cycle = cycle })) same is)
 
 -- the step at a place was forced behind those before it
-pub logged_at : (parts : Parts) (gone received : List ℕ) (arcs : List Arc) (steps : List Forced) (log : List ForceStep) (place : ℕ) (step : Forced) → map bare steps ≡ log → place < length log → step ≡ get_or steps place step → IsLogged parts gone received arcs steps
-    → (place < length steps) × IsStepAfter parts gone received arcs (take place steps) step
-logged_at parts gone received arcs steps log place step same inside at logged =
+pub logged_at : (parts : Parts) (start : Sides) (gone received : List ℕ) (arcs : List Arc) (steps : List Forced) (log : List ForceStep) (place : ℕ) (step : Forced) → map bare steps ≡ log → place < length log → step ≡ get_or steps place step → IsLoggedFrom parts start gone received arcs steps
+    → (place < length steps) × IsStepFrom parts gone received arcs (sides_behind start (take place steps)) step
+logged_at parts start gone received arcs steps log place step same inside at logged =
     let len = ap (λ (xs : List ForceStep). length xs) same in
     let bare_len = length_bare steps in
     let within : place < length steps = omega (arith, len, bare_len, inside) in
-    (within, subst (λ (one : Forced). IsStepAfter parts gone received arcs (take place steps) one) (sym at) (logged.each place step within))
+    (within, subst (λ (one : Forced). IsStepFrom parts gone received arcs (sides_behind start (take place steps)) one) (sym at) (logged.each place step within))

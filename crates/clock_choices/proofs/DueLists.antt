@@ -98,3 +98,7 @@ take_none (suc n) = refl
 
 pub not_flagged_behind : (xs : List Bool) (n m p : ℕ) → xs ≡ [] → get_or (take n xs ++ replicate m false) p false ≡ true → ⊥
 not_flagged_behind xs n m p none is = not_flagged m p (ap (λ (some : List Bool). get_or (some ++ replicate m false) p false) (sym (ap (λ (ys : List Bool). take n ys) none ∙ take_none n)) ∙ is)
+
+-- one that has a flag is listed
+pub listed_has : (gone : List ℕ) (flags : List (Vec Bool Global)) (ids : List TxnId) (id : TxnId) (place : ℕ) → get_or gone id.session 0 + place ≡ id.number → AreListed gone flags ids → flag_at flags id.session place ≡ true → Contains ids id
+listed_has gone flags ids id place number are is = subst (λ (other : TxnId). Contains ids other) (λ i. record { session = id.session; number = number i }) (are id.session place is)

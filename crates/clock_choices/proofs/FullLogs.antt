@@ -1,5 +1,5 @@
 -- Steps that were forced have cycles, with which they are a full log.
-use Rattle.std.proofs.Common.{◌≡◌, ℕ, zero, suc, ◌<◌, List, [], ◌∷◌, ◌++◌, length, get_or, map, take, refl, sym, ap, subst, ◌∙◌, arith, append-nil, append_assoc, Contains}
+use Rattle.std.proofs.Common.{◌≡◌, ℕ, zero, suc, ◌<◌, List, [], ◌∷◌, ◌++◌, length, get_or, map, take, refl, sym, ap, subst, ◌∙◌, arith, Contains}
 use Rattle.std.specs.Prelude.{⊤}
 use Rattle.std.proofs.lemmas.List.{get_or-take, length-take}
 use Rattle.std.proofs.lemmas.List.Elements.{All-contains}
@@ -12,17 +12,17 @@ use Rattle.txn.specs.declared.choices.Side.{Side}
 use Rattle.txn.specs.declared.choices.Side.TheVariants.{First, Second}
 use Rattle.txn.specs.Arcs.{start_of, end_of}
 use Rattle.order_check.specs.declared.remainder.Parts.{Parts}
-use Rattle.order_check.specs.Cycles.{AreForced, IsArc, IsCycle, IsForced, IsFullLog, IsPath, Links, Sides, TakeEachOnce, side_not_taken, side_taken, sides_after}
+use Rattle.order_check.specs.Cycles.{AreForced, IsArc, IsCycle, IsForced, IsFullLog, IsFullLogFrom, IsPath, Links, Sides, TakeEachOnce, side_not_taken, side_taken, sides_after}
 use Rattle.order_check.specs.Known.{Known}
 use Rattle.session_clocks.specs.Reach.{Reaches, by_session, by_arc, through}
 use Rattle.clock_choices.specs.declared.steps.Forced.{Forced}
-use Rattle.clock_choices.specs.Held.{IsHeld}
-use Rattle.clock_choices.specs.Logging.{AreRight, HasRight, IsLogged, IsStepAfter}
+use Rattle.clock_choices.specs.Held.{IsHeld, IsHeldFrom}
+use Rattle.clock_choices.specs.Logging.{AreRight, AreStepsFrom, HasRight, IsLoggedFrom, IsStepFrom}
 use Rattle.clock_choices.specs.Over.{IsOver}
 use Rattle.clock_choices.specs.SaturatedState.{sides_logged}
-use Rattle.clock_choices.specs.Steps.{bare, conclusion, conclusion_of, premise, premise_of, sides_of}
+use Rattle.clock_choices.specs.Steps.{bare, conclusion, conclusion_of, premise, premise_of, sides_behind}
 use Rattle.clock_choices.proofs.Closing.{reached_known}
-use Rattle.clock_choices.proofs.Logged.{links_reached, map_push, sides_push, taken_is}
+use Rattle.clock_choices.proofs.Logged.{links_reached, taken_is}
 use Rattle.clock_choices.proofs.There.{there_remains}
 
 -- paths, one behind another
@@ -102,29 +102,27 @@ side_among (step ∷ steps) taken (suc i) d within = side_among steps (side_take
 
 module _ (parts : Parts) (gone received : List ℕ) (arcs : List Arc) (over : IsOver parts gone received) where
   -- each step has its cycle
-  cycle_for : (before : List Forced) (step : Forced) → IsStepAfter parts gone received arcs before step → (cycle : List Arc) × IsForced parts (sides_of before) (record { choice = step.choice; side = step.side; cycle = cycle })
-  cycle_for before step is =
-      let links = reached_links parts (sides_of before) gone received (take step.arcs arcs) over is.right is.ready in
+  cycle_for : (taken : Sides) (step : Forced) → IsStepFrom parts gone received arcs taken step → (cycle : List Arc) × IsForced parts taken (record { choice = step.choice; side = step.side; cycle = cycle })
+  cycle_for taken step is =
+      let links = reached_links parts taken gone received (take step.arcs arcs) over is.right is.ready in
       let cycle : List Arc = Taken (premise step).1 (premise step).0 ∷ links.0 ∷ links.1 in
-      (cycle, (is.choice_of, subst (λ (side : TxnId × TxnId). IsCycle parts (side ∷ sides_of before) cycle) (sym (not_taken_is step.choice step.side cycle)) (cycle_back parts (sides_of before) (premise step).0 (premise step).1 links)))
+      (cycle, (is.choice_of, subst (λ (side : TxnId × TxnId). IsCycle parts (side ∷ taken) cycle) (sym (not_taken_is step.choice step.side cycle)) (cycle_back parts taken (premise step).0 (premise step).1 links)))
 
-  with_cycles : (before steps : List Forced) → ((i : ℕ) (d : Forced) → i < length steps → IsStepAfter parts gone received arcs (before ++ take i steps) (get_or steps i d)) → (whole : List ForceStep) × AreSameSteps steps whole × AreForced parts (sides_of before) whole
-  with_cycles before [] each = ([], tt, tt)
-  with_cycles before (step ∷ steps) each =
-      let found = cycle_for before step (subst (λ (some : List Forced). IsStepAfter parts gone received arcs some step) (append-nil before) (each 0 step (omega arith))) in
+  with_cycles : (taken : Sides) (steps : List Forced) → AreStepsFrom parts taken gone received arcs steps → (whole : List ForceStep) × AreSameSteps steps whole × AreForced parts taken whole
+  with_cycles taken [] each = ([], tt, tt)
+  with_cycles taken (step ∷ steps) each =
+      let found = cycle_for taken step (each 0 step (omega arith)) in
       let one : ForceStep = record { choice = step.choice; side = step.side; cycle = found.0 } in
       let side : side_taken one ≡ conclusion step = side_is step.choice step.side found.0 in
-      let sides : sides_of (before ++ step ∷ []) ≡ side_taken one ∷ sides_of before =
-      ap (λ (xs : List ForceStep). sides_after [] xs) (map_push before step) ∙ sides_push [] (map bare before) (bare step) ∙ ap (λ (x : TxnId × TxnId). x ∷ sides_of before) (taken_is step.choice step.side ∙ sym side) in
-      let rest = with_cycles (before ++ step ∷ []) steps (λ i d within. subst (λ (some : List Forced). IsStepAfter parts gone received arcs some (get_or steps i d)) (sym (append_assoc before (step ∷ []) (take i steps))) (each (suc i) d (omega arith))) in
-      (one ∷ rest.0, (side, refl, refl, rest.1), (found.1, subst (λ (xs : Sides). AreForced parts xs rest.0) sides rest.2))
+      let rest = with_cycles (side_taken (bare step) ∷ taken) steps (λ i d within. each (suc i) d (omega arith)) in
+      (one ∷ rest.0, (side, refl, refl, rest.1), (found.1, subst (λ (x : TxnId × TxnId). AreForced parts (x ∷ taken) rest.0) (taken_is step.choice step.side ∙ sym side) rest.2))
     where
       side_is : (choice : Choice) (side : Side) (cycle : List Arc) → side_taken (record { choice = choice; side = side; cycle = cycle }) ≡ conclusion_of choice side
       side_is choice First cycle = refl
       side_is choice Second cycle = refl
 
-  pub full_log : (steps : List Forced) → IsHeld parts gone received arcs steps → (whole : List ForceStep) × (sides_logged whole ≡ sides_logged (map bare steps)) × IsFullLog parts whole
-  full_log steps held = (
+  pub full_log_from : (taken start : Sides) (steps : List Forced) → IsHeldFrom parts taken start gone received arcs steps → (whole : List ForceStep) × (sides_logged whole ≡ sides_logged (map bare steps)) × IsFullLogFrom parts taken start whole
+  full_log_from taken start steps held = (
     whole,
     same_logged steps whole same,
     record {
@@ -133,14 +131,14 @@ module _ (parts : Parts) (gone received : List ℕ) (arcs : List Arc) (over : Is
       known = λ i e within.
           let at = same_at steps whole i none e same within in
           let side = conclusion (get_or steps i none) in
-          subst (λ (x : TxnId × TxnId). Known parts [] x.0 x.1) (sym at.1)
-          (reached_known parts [] gone received arcs over held.known (let plain = held.plain in plain.sides side.0 side.1 (side_among steps [] i none at.0)));
+          subst (λ (x : TxnId × TxnId). Known parts taken x.0 x.1) (sym at.1)
+          (reached_known parts taken gone received arcs over held.known (let plain = held.plain in plain.sides side.0 side.1 (side_among steps start i none at.0)));
       after = λ choice is links. reached choice.reader choice.other ((held.closed choice is).behind (linked choice.writer choice.other links));
       before = λ choice is links. reached choice.other choice.writer ((held.closed choice is).before (linked choice.other choice.reader links));
     },
   )
     where
-      logged : IsLogged parts gone received arcs steps
+      logged : IsLoggedFrom parts start gone received arcs steps
       logged = held.logged
 
       none : Forced
@@ -149,8 +147,8 @@ module _ (parts : Parts) (gone received : List ℕ) (arcs : List Arc) (over : Is
           no_id : TxnId
           no_id = record { session = 0; number = 0 }
 
-      found : (whole : List ForceStep) × AreSameSteps steps whole × AreForced parts (sides_of []) whole
-      found = with_cycles [] steps logged.each
+      found : (whole : List ForceStep) × AreSameSteps steps whole × AreForced parts start whole
+      found = with_cycles start steps logged.each
 
       whole : List ForceStep
       whole = found.0
@@ -158,14 +156,14 @@ module _ (parts : Parts) (gone received : List ℕ) (arcs : List Arc) (over : Is
       same : AreSameSteps steps whole
       same = found.1
 
-      sides : sides_after [] whole ≡ sides_of steps
-      sides = same_sides [] steps whole same
+      sides : sides_after start whole ≡ sides_behind start steps
+      sides = same_sides start steps whole same
 
-      linked : (a b : TxnId) → Links parts (sides_after [] whole) a b → Reaches gone received arcs a b
-      linked a b links = links_reached parts gone received over (sides_of steps) arcs held.plain a b (subst (λ (xs : Sides). Links parts xs a b) sides links)
+      linked : (a b : TxnId) → Links parts (sides_after start whole) a b → Reaches gone received arcs a b
+      linked a b links = links_reached parts gone received over (sides_behind start steps) arcs held.plain a b (subst (λ (xs : Sides). Links parts xs a b) sides links)
 
-      reached : (a b : TxnId) → Reaches gone received arcs a b → Links parts (sides_after [] whole) a b
-      reached a b is = subst (λ (xs : Sides). Links parts xs a b) (sym sides) (reached_links parts (sides_of steps) gone received arcs over logged.right is)
+      reached : (a b : TxnId) → Reaches gone received arcs a b → Links parts (sides_after start whole) a b
+      reached a b is = subst (λ (xs : Sides). Links parts xs a b) (sym sides) (reached_links parts (sides_behind start steps) gone received arcs over logged.right is)
 
       once : TakeEachOnce whole
       once i j e less within =
@@ -173,5 +171,8 @@ module _ (parts : Parts) (gone received : List ℕ) (arcs : List Arc) (over : Is
           let second = same_at steps whole j none e same within in
           let step = logged.each j none second.0 in
           let side = conclusion (get_or steps i none) in
-          let was : Contains (sides_of (take j steps)) side = subst (λ (s : Forced). Contains (sides_of (take j steps)) (conclusion s)) (get_or-take j steps i none less) (side_among (take j steps) [] i none (let len = length-take j steps in let inside = second.0 in omega (arith, less, len, inside))) in
+          let was : Contains (sides_behind start (take j steps)) side = subst (λ (s : Forced). Contains (sides_behind start (take j steps)) (conclusion s)) (get_or-take j steps i none less) (side_among (take j steps) start i none (let len = length-take j steps in let inside = second.0 in omega (arith, less, len, inside))) in
           λ equal. step.new (subst (λ (x : TxnId × TxnId). Reaches gone received (take (get_or steps j none).arcs arcs) x.0 x.1) (sym first.1 ∙ equal ∙ second.1) (step.sides side.0 side.1 was))
+
+  pub full_log : (steps : List Forced) → IsHeld parts gone received arcs steps → (whole : List ForceStep) × (sides_logged whole ≡ sides_logged (map bare steps)) × IsFullLog parts whole
+  full_log steps held = full_log_from [] [] steps held

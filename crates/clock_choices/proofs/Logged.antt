@@ -17,7 +17,7 @@ use Rattle.clock_choices.specs.declared.steps.Forced.{Forced}
 use Rattle.clock_choices.specs.Closed.{AreKnown, IsPlain}
 use Rattle.clock_choices.specs.Forcing.{Forces, forced, unforced}
 use Rattle.clock_choices.specs.Over.{IsOver}
-use Rattle.clock_choices.specs.Steps.{bare, conclusion, conclusion_of, premise_of, sides_of, taken_arc}
+use Rattle.clock_choices.specs.Steps.{bare, conclusion, conclusion_of, premise_of, sides_behind, sides_of, taken_arc}
 use Rattle.clock_choices.proofs.Closing.{reached_known}
 use Rattle.clock_choices.proofs.Growths.{reaches_more}
 use Rattle.clock_choices.proofs.There.{remains_there}
@@ -28,9 +28,9 @@ taken_is choice First = refl
 taken_is choice Second = refl
 
 -- a side that is ruled out has the other one known
-forced_known : (parts : Parts) (choice : Choice) (side : Side) → IsChoice parts choice → Known parts [] (premise_of choice side).0 (premise_of choice side).1 → Known parts [] (conclusion_of choice side).0 (conclusion_of choice side).1
-forced_known parts choice First is known = forces_before choice is known
-forced_known parts choice Second is known = forces_after choice is known
+forced_known : (parts : Parts) (taken : Sides) (choice : Choice) (side : Side) → IsChoice parts choice → Known parts taken (premise_of choice side).0 (premise_of choice side).1 → Known parts taken (conclusion_of choice side).0 (conclusion_of choice side).1
+forced_known parts taken choice First is known = forces_before choice is known
+forced_known parts taken choice Second is known = forces_after choice is known
 
 -- sides of steps behind others
 sides_both : (taken : Sides) (steps more : List ForceStep) → sides_after taken (steps ++ more) ≡ sides_after (sides_after taken steps) more
@@ -41,8 +41,11 @@ pub map_both : (steps more : List Forced) → map bare (steps ++ more) ≡ map b
 map_both [] more = refl
 map_both (step ∷ steps) more = ap (λ (rest : List ForceStep). bare step ∷ rest) (map_both steps more)
 
+pub sides_behind_both : (start : Sides) (steps more : List Forced) → sides_behind start (steps ++ more) ≡ sides_behind (sides_behind start steps) more
+sides_behind_both start steps more = ap (λ (xs : List ForceStep). sides_after start xs) (map_both steps more) ∙ sides_both start (map bare steps) (map bare more)
+
 pub sides_of_both : (steps more : List Forced) → sides_of (steps ++ more) ≡ sides_after (sides_of steps) (map bare more)
-sides_of_both steps more = ap (λ (xs : List ForceStep). sides_after [] xs) (map_both steps more) ∙ sides_both [] (map bare steps) (map bare more)
+sides_of_both steps more = sides_behind_both [] steps more
 
 pub sides_push : (taken : Sides) (steps : List ForceStep) (step : ForceStep) → sides_after taken (steps ++ step ∷ []) ≡ side_taken step ∷ sides_after taken steps
 sides_push taken [] step = refl
@@ -55,6 +58,9 @@ map_push (first ∷ steps) step = ap (λ (rest : List ForceStep). bare first ∷
 pub first_or : {X : Type 0} (x : X) (xs : List X) (y : X) → Contains (x ∷ xs) y → (x ≡ y) ⊎ Contains xs y
 first_or x xs y (zero, within, is) = inl is
 first_or x xs y (suc k, within, is) = inr (k, (omega arith), is)
+
+pub contains_behind : {X : Type 0} (x : X) (xs : List X) (y : X) → Contains xs y → Contains (x ∷ xs) y
+contains_behind x xs y (k, within, is) = (suc k, (omega arith), is)
 
 module _ (parts : Parts) (gone received : List ℕ) (over : IsOver parts gone received) where
   -- where right arcs lead, one comes
@@ -74,12 +80,15 @@ module _ (parts : Parts) (gone received : List ℕ) (over : IsOver parts gone re
     links_reached a b (arc, path, begins, right, rest) = path_reached a (end_of arc) path b (subst (λ (id : TxnId). Reaches gone received arcs id (end_of arc)) begins (arc_reached arc right)) rest
 
   -- what is forced from known arcs is known
+  pub forces_known_from : (taken : Sides) (arcs : List Arc) (steps : List Forced) (more : List Arc) (all : List Forced) → AreKnown parts taken arcs → Forces parts gone received arcs steps more all → AreKnown parts taken more
+  forces_known_from taken arcs steps more all known unforced = known
+  forces_known_from taken arcs steps more all known (forced {between = between} {some = some} step before is) =
+      let so_far = forces_known_from taken arcs steps between some known before in
+      let ready = reached_known parts taken gone received between over so_far is.ready in
+      All-push (λ (arc : Arc). Known parts taken (start_of arc) (end_of arc)) between (taken_arc step) so_far (forced_known parts taken step.choice step.side is.choice_of ready)
+
   pub forces_known : (arcs : List Arc) (steps : List Forced) (more : List Arc) (all : List Forced) → AreKnown parts [] arcs → Forces parts gone received arcs steps more all → AreKnown parts [] more
-  forces_known arcs steps more all known unforced = known
-  forces_known arcs steps more all known (forced {between = between} {some = some} step before is) =
-      let so_far = forces_known arcs steps between some known before in
-      let ready = reached_known parts [] gone received between over so_far is.ready in
-      All-push (λ (arc : Arc). Known parts [] (start_of arc) (end_of arc)) between (taken_arc step) so_far (forced_known parts step.choice step.side is.choice_of ready)
+  forces_known arcs steps more all known forces = forces_known_from [] arcs steps more all known forces
 
   -- no less is reached
   pub forces_reach : (arcs : List Arc) (steps : List Forced) (more : List Arc) (all : List Forced) {a b : TxnId} → Forces parts gone received arcs steps more all → Reaches gone received arcs a b → Reaches gone received more a b

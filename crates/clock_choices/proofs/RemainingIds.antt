@@ -90,10 +90,10 @@ session_within parts id remains = elim (cases_lt id.session (length parts.remain
 pub none_rise : AreInOrder []
 none_rise i j d first within = absurd (omega arith)
 
-below_by_session : (a b : TxnId) → a.session < b.session → id_below a b ≡ true
+pub below_by_session : (a b : TxnId) → a.session < b.session → id_below a b ≡ true
 below_by_session a b below = let l = lt-ltb a.session b.session below in ap (λ t. t || (nat_eq a.session b.session && nat_lt a.number b.number)) l
 
-below_in_session : (a b : TxnId) → a.session ≡ b.session → a.number < b.number → id_below a b ≡ true
+pub below_in_session : (a b : TxnId) → a.session ≡ b.session → a.number < b.number → id_below a b ≡ true
 below_in_session a b same below =
     let e = eq-eqb a.session b.session same in
     let l = lt-ltb a.number b.number below in

@@ -1,5 +1,6 @@
 -- What holds of parts holds of them with a session closed.
-use Rattle.std.proofs.Common.{ℕ, List, [], true, refl, subst, ◌∙◌, append-nil}
+use Rattle.std.proofs.Common.{ℕ, List, [], Option, Some, None, true, refl, subst, ◌∙◌, append-nil}
+use Rattle.std.specs.Prelude.{IfSome}
 use Rattle.std.proofs.lemmas.List.{length-set}
 use Rattle.std.proofs.lemmas.List.Elements.{All-nil, All-weaker}
 use Rattle.txn.specs.declared.choices.Arc.{Arc}
@@ -9,10 +10,12 @@ use Rattle.order_check.specs.Cycles.{IsArc}
 use Rattle.order_check.specs.Good.{IsGood}
 use Rattle.order_check.specs.Known.{Known}
 use Rattle.order_check.specs.StandsFor.{parts_closed}
+use Rattle.clock_choices.specs.declared.sharing.SharedIndex.{SharedIndex}
 use Rattle.clock_choices.specs.declared.steps.Forced.{Forced}
 use Rattle.clock_choices.specs.Growth.{AreMore}
 use Rattle.clock_choices.specs.Held.{IsHeld}
 use Rattle.clock_choices.specs.Logging.{IsLogged}
+use Rattle.clock_choices.specs.SharedIndexes.{IsIndexIn}
 use Rattle.clock_choices.proofs.CaughtUp.{arcs_there}
 use Rattle.clock_choices.proofs.Growing.{known_grows}
 use Rattle.clock_choices.proofs.MoreNodes.{more_none}
@@ -52,3 +55,12 @@ held_closed parts s gone received arcs steps held =
       logged = subst (λ (some : List Arc). IsLogged then gone received some steps) (append-nil arcs)
           (logged_linked parts then gone received received 0 0 arcs [] steps (same_more parts s) over (more_none received 0) (arcs_there parts gone received arcs over held.known) (All-nil (IsArc then [])) held.logged);
     }
+
+pub shared_closed : (parts : Parts) (s : ℕ) (kept : Option SharedIndex) → IfSome kept (IsIndexIn parts) → IfSome kept (IsIndexIn (parts_closed parts s))
+shared_closed parts s None is = tt
+shared_closed parts s (Some shared) is = record {
+  runs = is.runs;
+  writers = λ key. let of = is.writers key in record { each = of.each; all = of.all };
+  reads = λ id. let of = is.reads id in record { each = of.each; all = of.all };
+  base = λ key. let of = is.base key in record { each = of.each; all = of.all };
+}

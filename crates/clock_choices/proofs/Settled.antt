@@ -1,7 +1,7 @@
 -- Reads that are settled, but for those that are due.
-use Rattle.std.proofs.Common.{◌≡◌, ℕ, zero, suc, ◌+◌, ◌<◌, ◌≤◌, ◌++◌, Vec, Global, ◌∷◌, List, [], length, get_or, take, refl, sym, ap, subst, ◌∙◌, inl, inr, arith, Contains, All}
+use Rattle.std.proofs.Common.{◌≡◌, ◌⊎◌, ℕ, zero, suc, ◌+◌, ◌<◌, ◌≤◌, ◌++◌, Vec, Global, ◌∷◌, List, [], length, get_or, take, refl, sym, ap, subst, ◌∙◌, inl, inr, arith, Contains, All}
 use Rattle.std.proofs.lemmas.List.{take_more}
-use Rattle.std.proofs.lemmas.List.Elements.{All-contains, Contains-get_or, Contains-push_cases}
+use Rattle.std.proofs.lemmas.List.Elements.{All-contains, Contains-append_left, Contains-get_or, Contains-push, Contains-push_cases}
 use Rattle.std.specs.BTreeMap.{BTreeMap}
 use Rattle.txn.specs.declared.transactions.TxnId.{TxnId}
 use Rattle.txn.specs.declared.choices.Arc.{Arc}
@@ -17,7 +17,7 @@ use Rattle.clock_choices.specs.Forcing.{IsGrowth, AreSettled, AreRunsSettled, Ar
 use Rattle.clock_choices.specs.Index.{AreReadsOf, AreRunsOf, IsInRuns, IsRead, IsRunThere, ReadLists, reads_at, reads_in}
 use Rattle.clock_choices.specs.Pending.{IsClosedBut, IsDue, IsSettledBut}
 use Rattle.clock_choices.specs.Runs.{IsThird}
-use Rattle.clock_choices.specs.Stages.{IsReadSettled, IsTxnSettled}
+use Rattle.clock_choices.specs.Stages.{IsLeftTo, IsReadSettled, IsTurnSettled, IsTxnSettled}
 
 -- a session and a number make a transaction
 pub same_there : (gone received : List ℕ) (session : ℕ) (id : TxnId) → session ≡ id.session → IsThere gone received (record { session = session; number = id.number }) → IsThere gone received id
@@ -105,14 +105,56 @@ module _ (gone received : List ℕ) (arcs more : List Arc) where
     pub read_stays : (parts : Parts) (read : Read) → IsReadSettled parts gone received arcs due read → IsReadSettled parts gone received more then read
     read_stays parts read settled other is = choice_stays (choice_of read other) (settled other is)
 
-    pub txn_stays : (parts : Parts) (id : TxnId) → IsTxnSettled parts gone received arcs due id → IsTxnSettled parts gone received more then id
-    txn_stays parts id settled choice is takes = choice_stays choice (settled choice is takes)
+    pub turn_stays : (parts : Parts) (batch : List TxnId) (id : TxnId) → IsTurnSettled parts gone received arcs due batch id → IsTurnSettled parts gone received more then batch id
+    turn_stays parts batch id done read is takes = elim (done read is takes) [ inl settled ↦ inl (read_stays parts read settled) | inr left ↦ inr left ]
 
--- a transaction is settled where its reads are
-pub txn_settled : (parts : Parts) (gone received : List ℕ) (arcs : List Arc) (due : List TxnId) (id : TxnId) (reads : List Read) → AreReadsOf parts id reads → All (IsReadSettled parts gone received arcs due) reads → IsTxnSettled parts gone received arcs due id
-txn_settled parts gone received arcs due id reads are settled choice is takes =
+-- some of the reads
+pub among_reads : (P : Read → Type 0) (reads turn : List Read) → ((read : Read) → Contains turn read → Contains reads read) → All P reads → All P turn
+among_reads P reads turn each all k d within = All-contains P reads (get_or turn k d) all (each (get_or turn k d) (Contains-get_or turn k d within))
+
+-- in its turn its reads are settled, or left to their readers' turns
+pub turn_settled : (parts : Parts) (gone received : List ℕ) (arcs : List Arc) (due batch : List TxnId) (id : TxnId) (reads turn : List Read) → AreReadsOf parts id reads
+    → ((read : Read) → Contains reads read → Contains turn read ⊎ IsLeftTo batch id read) → All (IsReadSettled parts gone received arcs due) turn → IsTurnSettled parts gone received arcs due batch id
+turn_settled parts gone received arcs due batch id reads turn are all settled read is takes = elim (all read (are.all read is takes)) [
+  | inl there ↦ inl (All-contains (IsReadSettled parts gone received arcs due) turn read settled there)
+  | inr left ↦ inr left
+]
+
+-- one more is put among those of the turn, or left
+pub turn_more : (batch : List TxnId) (id : TxnId) (reads old new : List Read) (k : ℕ) (d : Read) → k < length reads → ((read : Read) → Contains old read → Contains reads read) → ((read : Read) → Contains (take k reads) read → Contains old read ⊎ IsLeftTo batch id read)
+    → (new ≡ old ++ get_or reads k d ∷ []) ⊎ ((new ≡ old) × IsLeftTo batch id (get_or reads k d))
+    → ((read : Read) → Contains new read → Contains reads read) × ((read : Read) → Contains (take (k + 1) reads) read → Contains new read ⊎ IsLeftTo batch id read)
+turn_more batch id reads old new k d within each all (inl is) =
+    let one = get_or reads k d in (
+      λ read there. elim (Contains-push_cases old one read (subst (λ (some : List Read). Contains some read) is there)) [
+        | inl was ↦ each read was
+        | inr same ↦ subst (λ (x : Read). Contains reads x) same (Contains-get_or reads k d within)
+      ],
+      λ read there. elim (Contains-push_cases (take k reads) one read (subst (λ (some : List Read). Contains some read) (take_more reads k d within) there)) [
+        | inl was ↦ elim (all read was) [ inl here ↦ inl (subst (λ (some : List Read). Contains some read) (sym is) (Contains-append_left old (one ∷ []) read here)) | inr left ↦ inr left ]
+        | inr same ↦ inl (subst (λ (some : List Read). Contains some read) (sym is) (subst (λ (x : Read). Contains (old ++ one ∷ []) x) same (Contains-push old one)))
+      ],
+    )
+turn_more batch id reads old new k d within each all (inr both) =
+    let one = get_or reads k d in (
+      λ read there. each read (subst (λ (some : List Read). Contains some read) both.0 there),
+      λ read there. elim (Contains-push_cases (take k reads) one read (subst (λ (some : List Read). Contains some read) (take_more reads k d within) there)) [
+        | inl was ↦ elim (all read was) [ inl here ↦ inl (subst (λ (some : List Read). Contains some read) (sym both.0) here) | inr left ↦ inr left ]
+        | inr same ↦ inr (subst (λ (x : Read). IsLeftTo batch id x) same both.1)
+      ],
+    )
+
+-- once each has had its turn, all are settled
+pub batch_settled : (parts : Parts) (gone received : List ℕ) (arcs : List Arc) (due batch : List TxnId) → All (IsTurnSettled parts gone received arcs due batch) batch → All (IsTxnSettled parts gone received arcs due) batch
+batch_settled parts gone received arcs due batch turns k d within choice is takes =
     let read : Read = record { reader = choice.reader; key = choice.key; writer = choice.writer } in
-    All-contains (IsReadSettled parts gone received arcs due) reads read settled (are.all read is.reads takes) choice.other is
+    elim (turns k d within read is.reads takes) [
+      | inl settled ↦ settled choice.other is
+      | inr left ↦ elim (All-contains (IsTurnSettled parts gone received arcs due batch) batch choice.reader turns left.0 read is.reads (inl refl)) [
+        | inl settled ↦ settled choice.other is
+        | inr again ↦ absurd (again.1 refl)
+      ]
+    ]
 
 -- once all that were due are settled, those are due that this told
 pub closed_but : (parts : Parts) (gone received : List ℕ) (arcs more : List Arc) (were then : List TxnId) → IsGrowth gone received arcs [] more then → IsClosedBut parts (Reaches gone received arcs) (λ id. Contains were id)
@@ -148,6 +190,17 @@ closed_now parts R closed choice is = record {
     nobody : IsDue (λ id. Contains [] id) choice → ⊥
     nobody (inl none) = omega (arith, none.1)
     nobody (inr none) = omega (arith, none.1)
+
+-- where more are due
+pub closed_wider : (parts : Parts) (R : TxnId → TxnId → Type 0) (due more : TxnId → Type 0) → ((id : TxnId) → due id → more id) → IsClosedBut parts R due → IsClosedBut parts R more
+closed_wider parts R due more wider closed choice is = record {
+  before = λ reached. elim ((closed choice is).before reached) [ inl there ↦ inl there | inr is_due ↦ inr (widened is_due) ];
+  behind = λ reached. elim ((closed choice is).behind reached) [ inl there ↦ inl there | inr is_due ↦ inr (widened is_due) ];
+}
+  where
+    widened : IsDue due choice → IsDue more choice
+    widened (inl there) = inl (wider choice.reader there)
+    widened (inr there) = inr (wider choice.writer there)
 
 pub closed_is_but : (parts : Parts) (R : TxnId → TxnId → Type 0) (due : TxnId → Type 0) → IsClosed parts R → IsClosedBut parts R due
 closed_is_but parts R due closed choice is = record { before = λ reached. inl ((closed choice is).before reached); behind = λ reached. inl ((closed choice is).behind reached) }

@@ -35,6 +35,10 @@ taken_arc step = Taken (conclusion step).0 (conclusion step).1
 abbrev pub bare : Forced → ForceStep
 bare step = record { choice = step.choice; side = step.side; cycle = [] }
 
+-- the sides taken after these steps, the last first
+abbrev pub sides_behind : Sides → List Forced → Sides
+sides_behind taken steps = sides_after taken (map bare steps)
+
 -- the sides that these steps take
 abbrev pub sides_of : List Forced → Sides
-sides_of steps = sides_after [] (map bare steps)
+sides_of steps = sides_behind [] steps

@@ -6,10 +6,8 @@ ghost use Rattle.order_check.specs.Based.{Remains};
 ghost use Rattle.order_check.specs.Cycles.{IsForced, Sides};
 ghost use Rattle.order_check.specs.Known.{ReadsKey, WritesKey};
 ghost use Rattle.clock_choices.specs.Cycling.{AreLookedUp, Fits, IsRightOf};
-ghost use Rattle.clock_choices.specs.declared.steps.Forced.{Forced};
-ghost use Rattle.clock_choices.specs.Logging.{HasRight, IsStepAfter};
+ghost use Rattle.clock_choices.specs.Logging.{HasRight, IsStepFrom};
 ghost use Rattle.clock_choices.specs.Over.{IsOver};
-ghost use Rattle.clock_choices.specs.Steps.{sides_of};
 
 use crate::indexing::is_base_source;
 use crate::steps::Forced;
@@ -116,9 +114,9 @@ pub(crate) fn cycle_of_step(
     graph: &Graph,
     step: Forced,
 ) -> Result<Sequence<Arc>, NoMemory>
-    requires { (before : List Forced) × IsOver parts.now graph.now.gone graph.now.received × IsStepAfter parts.now graph.now.gone graph.now.received graph.now.arcs before step }
-    ensures { IfOk result (λ cycle. (before : List Forced) → IsOver parts.now graph.now.gone graph.now.received → IsStepAfter parts.now graph.now.gone graph.now.received graph.now.arcs before step
-        → IsForced parts.now (sides_of before) (record { choice = step.choice; side = step.side; cycle = cycle })) }
+    requires { (taken : Sides) × IsOver parts.now graph.now.gone graph.now.received × IsStepFrom parts.now graph.now.gone graph.now.received graph.now.arcs taken step }
+    ensures { IfOk result (λ cycle. (taken : Sides) → IsOver parts.now graph.now.gone graph.now.received → IsStepFrom parts.now graph.now.gone graph.now.received graph.now.arcs taken step
+        → IsForced parts.now taken (record { choice = step.choice; side = step.side; cycle = cycle })) }
 {
     let (from, to) = step.premise();
     let Some(path) = graph.path_within(alloc, step.arcs, from, to)? else {

@@ -1,5 +1,5 @@
 // Transactions whose reads are due to be looked at, each once.
-ghost use Rattle.std.specs.Prelude.{◌≡◌, ◌≢◌, ◌⊎◌, ◌+◌, ℕ, true, false, [], IfOk, IfSome, OnOk, slice_index, slice_index_or};
+ghost use Rattle.std.specs.Prelude.{◌≡◌, ◌≢◌, ◌⊎◌, ◌+◌, ℕ, true, false, [], Contains, IfOk, IfSome, IsTrue, OnOk, slice_index, slice_index_or};
 ghost use Rattle.clock_choices.specs.Due.{flag_at, IsNoted, AreNoted};
 
 use std::alloc::Global;
@@ -135,6 +135,22 @@ impl Due {
             self.note(*id)?;
         }
         Ok(())
+    }
+
+    /// Whether a transaction that is there is noted.
+    pub fn has(&self, id: TxnId) -> bool
+        ensures { IsTrue result → Contains self.now id }
+    {
+        match place_of(&self.gone, id) {
+            Some(place) => flag_of(&self.flags, usize::from(id.session), place),
+            None => false,
+        }
+    }
+
+    pub fn ids(&self) -> &[TxnId]
+        ensures { result.now ≡ self.now }
+    {
+        self.ids.as_slice()
     }
 
     pub fn into_ids(self) -> Vec<TxnId>

@@ -41,7 +41,7 @@ fn link(alloc: Global, graph: &mut Graph, due: &mut Due, arc: Arc) -> Result<(),
     due.note_all(&told)
 }
 
-/// Adds the arc of a read, if its source writes the key and remains.
+/// Adds the arc of a read, if its source writes the key and remains, unless it is reached already.
 fn link_read(
     alloc: Global,
     writers: &BTreeMap<u64, Vec<Run>>,
@@ -58,6 +58,9 @@ fn link_read(
         → Brings parts graph.old.gone graph.old.received graph.old.arcs due.old graph.new.arcs due.new
         × IsLinked parts (Reaches graph.old.gone graph.old.received graph.new.arcs) read) }
 {
+    if graph.reaches(read.writer, read.reader) {
+        return Ok(());
+    }
     let runs = runs_of(writers, read.key);
     if !is_in_runs(runs, read.writer) {
         return Ok(());

@@ -1,21 +1,28 @@
-ghost use Rattle.std.specs.Prelude.{◌≡◌, ◌↔◌, ◌<◌, List, [], true, Contains, Some, length, map, slice_get, take, IfOk, IsTrue, OnOk, OnErr};
+ghost use Rattle.std.specs.Prelude.{◌≡◌, ◌↔◌, ◌<◌, List, [], true, Contains, Some, length, map, slice_get, take, IfOk, IfSome, IsTrue, OnOk, OnErr};
 ghost use Rattle.std.specs.List.{AllPairs};
+ghost use Rattle.txn.specs.declared.transactions.TxnId.{TxnId};
 ghost use Rattle.txn.specs.declared.choices.ForceStep.{ForceStep};
 ghost use Rattle.txn.specs.Transactions.{id_below};
 ghost use Rattle.order_check.specs.Based.{Remains, received_count};
 ghost use Rattle.order_check.specs.Cuts.{IsContentCutOff};
 ghost use Rattle.order_check.specs.Cycles.{AreNew, IsForced, IsFullLog, sides_after};
 ghost use Rattle.order_check.specs.Good.{IsGood};
-ghost use Rattle.order_check.specs.Known.{Known};
+ghost use Rattle.order_check.specs.Known.{AreOpenChoices, Known};
 ghost use Rattle.order_check.specs.StandsFor.{parts_closed, parts_with};
+ghost use Rattle.session_clocks.specs.Reach.{Reaches};
+ghost use Rattle.clock_choices.specs.CountedChoices.{AreFirstOpen};
 ghost use Rattle.clock_choices.specs.Held.{IsHeld};
+ghost use Rattle.clock_choices.specs.Over.{IsOver};
 ghost use Rattle.clock_choices.specs.SaturatedState.{AreNewBehind, LogsOnAfterCut, fragment_of, sides_logged};
+ghost use Rattle.clock_choices.specs.SharedIndexes.{IsIndexIn};
 ghost use Rattle.clock_choices.specs.Steps.{bare};
 
 use crate::catching_up::catch_up;
 use crate::cutting::left_steps;
 use crate::cycles::cycle_of_step;
-use crate::indexing::{Index, index_of, remaining_ids_of};
+use crate::indexing::{index_of, remaining_ids_of};
+use crate::open_choices::{Listed, OpenChoices, all_of, listed_for, open_of};
+use crate::sharing::{SharedIndex, kept_index, own_index, shared_index, shared_or_none};
 use crate::steps::Forced;
 use crate::whole::relation_of;
 use order_check::{
@@ -24,17 +31,19 @@ use order_check::{
 use session_clocks::Graph;
 use std::alloc::Global;
 use std::marker::Model;
-use txn::{Arc, Fragment, NoMemory, Sequence, Txn, TxnId};
+use txn::{Arc, Choice, Fragment, NoMemory, Sequence, Txn, TxnId};
 
 /// The known relation of parts: what every order that explains them has to keep. Contracts see the parts, and the steps
 /// by which sides of choices were forced.
-#[derive(Drop, Debug)]
+#[derive(Debug)]
 pub struct Saturated {
     parts: Parts,
     graph: Graph,
     steps: Vec<Forced>,
-    /// What additions look up; none where it isn't made yet.
-    index: Option<Index>,
+    /// What is looked up of the parts, shared with copies and branches; none where it isn't made yet.
+    index: Option<SharedIndex>,
+    /// The first open choices, and how many there are; none where they aren't listed yet.
+    listed: Option<Listed>,
 }
 
 impl Model for Saturated {
@@ -43,8 +52,9 @@ impl Model for Saturated {
     ghost use Rattle.order_check.specs.Codes.{coded_last};
     ghost use Rattle.order_check.specs.Good.{IsGood};
     ghost use Rattle.clock_choices.specs.Held.{IsHeld};
-    ghost use Rattle.clock_choices.specs.Indexing.{IsIndex};
+    ghost use Rattle.clock_choices.specs.KeptLists.{IsListed};
     ghost use Rattle.clock_choices.specs.SaturatedState.{SaturatedState};
+    ghost use Rattle.clock_choices.specs.SharedIndexes.{IsIndexIn};
     ghost use Rattle.clock_choices.specs.Steps.{bare};
 
     ghost Value = { SaturatedState };
@@ -53,7 +63,7 @@ impl Model for Saturated {
 
     ghost view = { λ s. record { parts = s.parts; log = map bare s.steps.items } };
 
-    ghost invariant = { λ s. IsGood s.parts × IsHeld s.parts s.graph.gone s.graph.received s.graph.arcs s.steps.items × IfSome s.index (IsIndex s.parts) };
+    ghost invariant = { λ s. IsGood s.parts × IsHeld s.parts s.graph.gone s.graph.received s.graph.arcs s.steps.items × IfSome s.index (IsIndexIn s.parts) × IfSome s.listed (IsListed s.parts) };
 }
 
 /// A whole copy.
@@ -82,7 +92,8 @@ fn of_whole(alloc: Global, parts: Parts) -> Result<Saturated, NoMemory>
         parts,
         graph,
         steps,
-        index: Some(index),
+        index: shared_or_none(alloc, index),
+        listed: None,
     })
 }
 
@@ -104,6 +115,35 @@ impl Saturated {
         &self.parts
     }
 
+    /// Whole copies of the parts, of the graph and of the steps.
+    pub(crate) fn copies(&self, alloc: Global) -> Result<(Parts, Graph, Vec<Forced>), NoMemory>
+        ensures parts { IfOk result (λ copies. copies.0 ≡ self.now.parts) }
+        ensures log { IfOk result (λ copies. map bare copies.2.items ≡ self.now.log) }
+        ensures good { IfOk result (λ copies. IsGood copies.0) }
+        ensures held { IfOk result (λ copies. IsHeld copies.0 copies.1.gone copies.1.received copies.1.arcs copies.2.items) }
+    {
+        let parts = copy_of_parts(&self.parts)?;
+        let graph = copy_of_graph(&self.graph)?;
+        let steps = Vec::from_slice(alloc, &self.steps)?;
+        Ok((parts, graph, steps))
+    }
+
+    /// What is looked up of the parts, shared.
+    pub(crate) fn index(&self, alloc: Global) -> Result<SharedIndex, NoMemory>
+        ensures { IfOk result (IsIndexIn self.now.parts) }
+    {
+        shared_index(alloc, &self.index, &self.parts)
+    }
+
+    /// What remains, with arcs by which it reaches what is known to come after it.
+    pub(crate) fn graph(&self) -> &Graph
+        ensures sessions { length result.now.gone ≡ length self.now.parts.remain }
+        ensures over { IsOver self.now.parts result.now.gone result.now.received }
+        ensures exact { (a b : TxnId) → Reaches result.now.gone result.now.received result.now.arcs a b ↔ Known self.now.parts [] a b }
+    {
+        &self.graph
+    }
+
     /// What remains, in order of id.
     pub fn ids(&self, alloc: Global) -> Result<Vec<TxnId>, NoMemory>
         ensures rise { IfOk result (λ ids. AllPairs (λ a b. id_below a b ≡ true) ids.items) }
@@ -120,6 +160,45 @@ impl Saturated {
         ensures { IsTrue result ↔ Known self.now.parts [] earlier later }
     {
         self.graph.reaches(earlier, later)
+    }
+
+    /// Makes what is looked up of the parts, if none is kept.
+    fn keep_index(&mut self, alloc: Global) -> Result<(), NoMemory>
+        ensures { self.new ≡ self.old }
+    {
+        let index = shared_index(alloc, &self.index, &self.parts)?;
+        self.index = Some(index);
+        Ok(())
+    }
+
+    /// Lists the first so many of the open choices, so that who asks for as many gets them at once until a change. Contracts see no
+    /// difference.
+    pub fn keep_open(&mut self, alloc: Global, most: usize) -> Result<(), NoMemory>
+        ensures { self.new ≡ self.old }
+    {
+        self.keep_index(alloc)?;
+        let choices = self.first_open(alloc, most)?;
+        self.listed = Some(Listed { most, choices });
+        Ok(())
+    }
+
+    /// The open choices, in order of reader, key, writer, other writer.
+    pub fn open_choices(&self, alloc: Global) -> Result<Sequence<Choice>, NoMemory>
+        ensures { IfOk result (AreOpenChoices self.now.parts []) }
+    {
+        let found = self.first_open(alloc, usize::MAX)?;
+        Ok(all_of(found))
+    }
+
+    /// The first so many of the open choices, and how many there are. It takes memory of those, and not of all.
+    pub fn first_open(&self, alloc: Global, most: usize) -> Result<OpenChoices, NoMemory>
+        ensures { IfOk result (AreFirstOpen self.now.parts most) }
+    {
+        let listed = listed_for(&self.listed, most)?;
+        match listed {
+            Some(choices) => Ok(choices),
+            None => open_of(alloc, &self.parts, &self.index, &self.graph, most),
+        }
     }
 
     /// The sides that were forced, one after another. There are cycles that the other sides would close, with which they are a full
@@ -168,10 +247,7 @@ impl Saturated {
         ensures logged { OnOk result (AreNewBehind self.new.parts self.old.log self.new.log) }
         ensures err { OnErr result (self.new ≡ self.old) }
     {
-        let index = match self.index.take() {
-            Some(index) => index,
-            None => index_of(alloc, &self.parts)?,
-        };
+        let index = own_index(alloc, self.index.take(), &self.parts)?;
         let txns = copy_of_txns(&fragment.txns)?;
         let place = usize::from(fragment.session);
         let before = self.parts.remaining_of(fragment.session).len();
@@ -185,7 +261,8 @@ impl Saturated {
             &mut self.steps,
         ) {
             Ok(index) => {
-                self.index = Some(index);
+                self.index = shared_or_none(alloc, index);
+                self.listed = None;
                 Ok(())
             }
             Err(error) => {
@@ -219,6 +296,7 @@ impl Saturated {
         self.steps = steps;
         self.parts = copy;
         self.index = None;
+        self.listed = None;
         Ok(())
     }
 
@@ -241,7 +319,7 @@ impl Saturated {
         ensures { self.new ≡ record self.old { parts = parts_closed self.old.parts session } }
     {
         self.parts.closed.set(usize::from(session), true);
-        self.index = None;
+        self.listed = None;
     }
 
     /// The parts, without what is known of them.
@@ -253,15 +331,22 @@ impl Saturated {
             graph: _,
             steps: _,
             index: _,
+            listed: _,
         } = self;
         parts
     }
 }
 
-/// A relation whose index isn't made yet.
-fn saturated_from(parts: Parts, graph: Graph, steps: Vec<Forced>) -> Saturated
+/// A relation whose open choices aren't listed yet.
+fn saturated_from(
+    parts: Parts,
+    graph: Graph,
+    steps: Vec<Forced>,
+    index: Option<SharedIndex>,
+) -> Saturated
     requires good { IsGood parts }
     requires held { IsHeld parts graph.gone graph.received graph.arcs steps.items }
+    requires index { IfSome index (IsIndexIn parts) }
     ensures parts { result.parts ≡ parts }
     ensures log { result.log ≡ map bare steps.items }
 {
@@ -269,7 +354,8 @@ fn saturated_from(parts: Parts, graph: Graph, steps: Vec<Forced>) -> Saturated
         parts,
         graph,
         steps,
-        index: None,
+        index,
+        listed: None,
     }
 }
 
@@ -278,6 +364,19 @@ fn copy_of_graph(graph: &Graph) -> Result<Graph, NoMemory>
     ensures { IfOk result (λ copy. copy ≡ graph.now) }
 {
     graph.clone()
+}
+
+// Written out, so that whoever lets a relation go calls this: a derived one would be written into each of its proofs, field by field.
+impl Drop for Saturated {
+    fn drop(self) {
+        let Saturated {
+            parts: _,
+            graph: _,
+            steps: _,
+            index: _,
+            listed: _,
+        } = self;
+    }
 }
 
 impl Clone for Saturated {
@@ -290,6 +389,7 @@ impl Clone for Saturated {
         let parts = copy_of_parts(&self.parts)?;
         let graph = copy_of_graph(&self.graph)?;
         let steps = Vec::from_slice(alloc, &self.steps)?;
-        Ok(saturated_from(parts, graph, steps))
+        let index = kept_index(&self.index)?;
+        Ok(saturated_from(parts, graph, steps, index))
     }
 }

@@ -1,5 +1,5 @@
 // The reads of those that are due are settled, and then of those that this makes due, until none is.
-ghost use Rattle.std.specs.Prelude.{◌≡◌, ℕ, [], All, Contains, IfOk, OnOk};
+ghost use Rattle.std.specs.Prelude.{◌≡◌, ◌⊎◌, ℕ, [], All, Contains, IfOk, IsTrue, OnOk};
 ghost use Rattle.txn.specs.declared.transactions.TxnId.{TxnId};
 ghost use Rattle.order_check.specs.declared.remainder.Parts.{Parts};
 ghost use Rattle.session_clocks.specs.Graphs.{HasNode, last_mark};
@@ -8,7 +8,7 @@ ghost use Rattle.clock_choices.specs.Forcing.{Forces, IsGrowth};
 ghost use Rattle.clock_choices.specs.Index.{AreReadsOf, AreRunsOf, IsRead, IsRunThere, reads_of, runs_of};
 ghost use Rattle.clock_choices.specs.Closed.{IsClosed};
 ghost use Rattle.clock_choices.specs.Pending.{IsClosedBut};
-ghost use Rattle.clock_choices.specs.Stages.{IsReadSettled, IsTxnSettled};
+ghost use Rattle.clock_choices.specs.Stages.{IsLeftTo, IsReadSettled, IsTxnSettled};
 
 use crate::due::Due;
 use crate::index::{is_in_runs, reads_of, runs_of};
@@ -76,31 +76,68 @@ fn settle_reads(
     Ok(())
 }
 
-/// The same of the reads in which these transactions take part; those that are due then.
+/// Whether the read is another transaction's, which has a turn of its own.
+fn is_left(batch: &Due, id: TxnId, read: Read) -> bool
+    ensures { IsTrue result → IsLeftTo batch.now id read }
+{
+    read.reader != id && batch.has(read.reader)
+}
+
+/// The reads that are looked at in the transaction's turn: not those that are left to their readers' turns.
+fn reads_in_turn(
+    alloc: Global,
+    batch: &Due,
+    id: TxnId,
+    reads: &[Read],
+) -> Result<Vec<Read>, NoMemory>
+    ensures each { IfOk result (λ turn. (read : Read) → Contains turn.items read → Contains reads.now read) }
+    ensures all { IfOk result (λ turn. (read : Read) → Contains reads.now read → Contains turn.items read ⊎ IsLeftTo batch.now id read) }
+{
+    let mut turn = Vec::new(alloc);
+    for read in reads {
+        if !is_left(batch, id, *read) {
+            turn.push(*read)?;
+        }
+    }
+    Ok(turn)
+}
+
+/// The same of the reads in which the transactions of a batch take part; those that are due then.
 fn settle_batch(
     alloc: Global,
     writers: &BTreeMap<u64, Vec<Run>>,
     reads: &[BTreeMap<u64, Vec<Read>>],
     graph: &mut Graph,
     steps: &mut Vec<Forced>,
-    ids: &[TxnId],
-) -> Result<Vec<TxnId>, NoMemory>
+    batch: &Due,
+) -> Result<Due, NoMemory>
     requires runs { (key : ℕ) → All (IsRunThere graph.old.gone graph.old.received) (runs_of writers.now key) }
     requires readers { (id : TxnId) → All (λ read. HasNode graph.old read.reader) (reads_of reads.now id) }
     ensures gone { graph.new.gone ≡ graph.old.gone }
     ensures received { graph.new.received ≡ graph.old.received }
     ensures mark { last_mark graph.new ≡ last_mark graph.old }
-    ensures growth { IfOk result (λ then. IsGrowth graph.old.gone graph.old.received graph.old.arcs [] graph.new.arcs then.items) }
+    ensures growth { IfOk result (λ then. IsGrowth graph.old.gone graph.old.received graph.old.arcs [] graph.new.arcs then) }
     ensures forces { OnOk result ((parts : Parts) → ((key : ℕ) → AreRunsOf parts key (runs_of writers.now key)) → ((id : TxnId) → AreReadsOf parts id (reads_of reads.now id))
         → Forces parts graph.old.gone graph.old.received graph.old.arcs steps.old.items graph.new.arcs steps.new.items) }
     ensures settled { IfOk result (λ then. (parts : Parts) → ((key : ℕ) → AreRunsOf parts key (runs_of writers.now key)) → ((id : TxnId) → AreReadsOf parts id (reads_of reads.now id))
-        → All (IsTxnSettled parts graph.old.gone graph.old.received graph.new.arcs then.items) ids.now) }
+        → All (IsTxnSettled parts graph.old.gone graph.old.received graph.new.arcs then) batch.now) }
 {
     let mut due = Due::new(alloc, graph.gone(), graph.received())?;
+    let ids = batch.ids();
     for id in ids {
-        settle_reads(alloc, writers, graph, steps, &mut due, reads_of(reads, *id))?;
+        let turn = reads_in_turn(alloc, batch, *id, reads_of(reads, *id))?;
+        settle_reads(alloc, writers, graph, steps, &mut due, &turn)?;
     }
-    Ok(due.into_ids())
+    Ok(due)
+}
+
+/// Those that are due, each noted once.
+fn noted_of(alloc: Global, graph: &Graph, ids: &[TxnId]) -> Result<Due, NoMemory>
+    ensures { IfOk result (λ due. (id : TxnId) → Contains ids.now id → Contains due id) }
+{
+    let mut due = Due::new(alloc, graph.gone(), graph.received())?;
+    due.note_all(ids)?;
+    Ok(due)
 }
 
 /// Settles the reads of those that are due, and of whoever that tells, until none is due. Each turn but the last forces a side that
@@ -124,9 +161,10 @@ pub(crate) fn saturate(
         → IsClosedBut parts (Reaches graph.old.gone graph.old.received graph.old.arcs) (λ id. Contains due.items id)
         → IsClosed parts (Reaches graph.old.gone graph.old.received graph.new.arcs)) }
 {
-    let mut batch = due;
+    let noted = noted_of(alloc, graph, &due)?;
+    let mut batch = noted;
     for _turn in 0..u64::MAX {
-        if batch.is_empty() {
+        if batch.ids().is_empty() {
             return Ok(());
         }
         batch = settle_batch(alloc, writers, reads, graph, steps, &batch)?;

@@ -50,7 +50,7 @@ fn force(
 }
 
 /// The choice of a read with another writer of its key.
-fn choice_of(read: Read, other: TxnId) -> Choice
+pub(crate) fn choice_of(read: Read, other: TxnId) -> Choice
     ensures { result ≡ choice_of read other }
 {
     Choice {

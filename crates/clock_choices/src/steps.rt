@@ -1,5 +1,5 @@
 ghost use Rattle.std.specs.Prelude.{◌≡◌};
-ghost use Rattle.clock_choices.specs.Steps.{premise, conclusion};
+ghost use Rattle.clock_choices.specs.Steps.{premise, conclusion, conclusion_of};
 
 use txn::{Choice, Side, TxnId};
 
@@ -26,9 +26,16 @@ impl Forced {
     pub(crate) fn conclusion(self) -> (TxnId, TxnId)
         ensures { result ≡ conclusion self }
     {
-        match self.side {
-            Side::First => (self.choice.other, self.choice.writer),
-            Side::Second => (self.choice.reader, self.choice.other),
-        }
+        conclusion_of(self.choice, self.side)
+    }
+}
+
+/// The arc of a side.
+pub(crate) fn conclusion_of(choice: Choice, side: Side) -> (TxnId, TxnId)
+    ensures { result ≡ conclusion_of choice side }
+{
+    match side {
+        Side::First => (choice.other, choice.writer),
+        Side::Second => (choice.reader, choice.other),
     }
 }

@@ -9,29 +9,16 @@ ghost use Rattle.clock_choices.specs.Over.{IsOver};
 ghost use Rattle.clock_choices.specs.Steps.{bare};
 ghost use Rattle.clock_choices.specs.Whole.{AreAll, IsGraphOf};
 
+use crate::by_sources::graph_by_sources;
 use crate::due::Due;
 use crate::indexing::{Index, remaining_ids_of};
 use crate::linking::link_txns;
-use crate::nodes::add_nodes;
 use crate::saturating::saturate;
 use crate::steps::Forced;
 use order_check::Parts;
 use session_clocks::Graph;
 use std::alloc::Global;
 use txn::{NoMemory, TxnId};
-
-/// A graph of what remains, without an arc.
-fn graph_of(alloc: Global, parts: &Parts) -> Result<Graph, NoMemory>
-    requires { IsGood parts.now }
-    ensures { IfOk result (λ graph. IsGraphOf parts.now graph.gone graph.received graph.arcs) }
-{
-    let mut graph = Graph::new(alloc, parts.base.marks.as_slice())?;
-    for session in 0..parts.sessions() as u8 {
-        let count = parts.remaining_of(session).len();
-        add_nodes(&mut graph, session, parts.mark_of(session), count)?;
-    }
-    Ok(graph)
-}
 
 /// Adds all that is there from the start, and settles all reads.
 fn bring_all(
@@ -51,7 +38,8 @@ fn bring_all(
 {
     let mut due = Due::new(alloc, graph.gone(), graph.received())?;
     due.note_all(ids)?;
-    link_txns(alloc, parts, index, graph, &mut due, 0, ids)?;
+    // Each reader of the base has its turn: no writer has to look for those.
+    link_txns(alloc, parts, index, graph, &mut due, u64::MAX, ids)?;
     saturate(
         alloc,
         &index.writers,
@@ -74,7 +62,7 @@ pub(crate) fn relation_of(
     ensures new { IfOk result (λ found. AreNew parts.now [] (map bare found.1.items)) }
 {
     let ids = remaining_ids_of(alloc, parts)?;
-    let mut graph = graph_of(alloc, parts)?;
+    let mut graph = graph_by_sources(alloc, parts, index, &ids)?;
     let mut steps = Vec::new(alloc);
     bring_all(alloc, parts, index, &mut graph, &mut steps, &ids)?;
     Ok((graph, steps))

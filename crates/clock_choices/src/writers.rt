@@ -62,7 +62,7 @@ fn add_to_run(runs: &mut Vec<Run>, place: usize, id: TxnId) -> Result<(), NoMemo
 }
 
 /// Puts a transaction among those of the runs.
-fn add_to_runs(alloc: Global, runs: &mut Vec<Run>, id: TxnId) -> Result<(), NoMemory>
+pub(crate) fn add_to_runs(alloc: Global, runs: &mut Vec<Run>, id: TxnId) -> Result<(), NoMemory>
     requires { AreRuns runs.old.items }
     ensures runs { OnOk result (AreRuns runs.new.items) }
     ensures adds { OnOk result (Adds (IsInRuns runs.old.items) (IsInRuns runs.new.items) (λ other. other ≡ id)) }

@@ -45,7 +45,7 @@ pub(crate) fn add_node(
 }
 
 // An arc between two that are there; whether it closes a cycle.
-fn add_arc(
+pub(crate) fn add_arc(
     rt: &impl Abort,
     alloc: Global,
     graph: &mut Graph,

@@ -23,7 +23,12 @@ fn high_or_less(low: u64, high: u64, state: &mut u64) -> u64
 }
 
 // How many of each session may go: those that reach the transaction, or fewer.
-fn draw_fronts(alloc: Global, graph: &Graph, at: TxnId, state: &mut u64) -> Result<Vec<u64>, Fail>
+pub(crate) fn draw_fronts(
+    alloc: Global,
+    graph: &Graph,
+    at: TxnId,
+    state: &mut u64,
+) -> Result<Vec<u64>, Fail>
     requires { HasNode graph.now at }
     ensures len { IfOk result (λ fronts. length fronts.items ≡ length graph.now.gone) }
     ensures more { IfOk result (λ fronts. (session : ℕ) → slice_index graph.now.gone session ≤ slice_index fronts.items session) }
@@ -39,7 +44,7 @@ fn draw_fronts(alloc: Global, graph: &Graph, at: TxnId, state: &mut u64) -> Resu
 }
 
 // Whether the transaction isn't among those that go.
-fn stays(fronts: &[u64], id: TxnId) -> bool {
+pub(crate) fn stays(fronts: &[u64], id: TxnId) -> bool {
     fronts.get(usize::from(id.session)).copied().unwrap_or(0) <= id.number
 }
 

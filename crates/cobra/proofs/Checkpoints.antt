@@ -196,8 +196,8 @@ checkpoint_taken parts version given good is =
     ))
 
 pub given_out_is_taken : GivenOutIsTaken
-given_out_is_taken parts version given good is = record {
-  resumes = ((good.some_sessions, good.few_sessions), (good.some_limit, good.low_limit), refl);
+given_out_is_taken parts version given good within is = record {
+  resumes = ((good.some_sessions, good.few_sessions), within, refl);
   taken = checkpoint_taken parts version given good is;
   good = good_again parts good;
   same = parts_again parts;

@@ -17,7 +17,7 @@ use Rattle.log_text.specs.declared.replies.Reply.{Reply}
 use Rattle.log_text.specs.declared.versions.Opening.{Opening}
 use Rattle.log_text.specs.declared.versions.Opening.TheVariants.{Ordered, Isolated}
 use Rattle.log_text.specs.declared.versions.Version.{Version}
-use Rattle.log_text.specs.declared.versions.Version.TheVariants.{One, Two}
+use Rattle.log_text.specs.declared.versions.Version.TheVariants.{One, Two, Three}
 use Rattle.log_text.specs.Held.{held}
 use Rattle.log_text.specs.Versions.{has_form}
 use Rattle.round_state.specs.EngineState.{EngineState}
@@ -106,6 +106,7 @@ step_told old new one other answer goes is = (is.0, goes is.0 is.1, is.2)
 form_alike : (version : Version) (front whole : LoggedFragment) → front.aborted ≡ whole.aborted → has_form version whole ≡ has_form version front
 form_alike One front whole flags = ap (λ (fs : List Bool). not (list_any (λ aborted. aborted) fs)) (sym flags)
 form_alike Two front whole flags = refl
+form_alike Three front whole flags = refl
 
 taken_alike : {X : Type 0} (version : Version) (front whole : LoggedFragment) (old new : X) (answer : Reply) (Taken Other : Type 0) → front.aborted ≡ whole.aborted → (Taken → Other) → IsTakenIn version front old answer new Taken → IsTakenIn version whole old answer new Other
 taken_alike version front whole old new answer Taken Other flags goes is =

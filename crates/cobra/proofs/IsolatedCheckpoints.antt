@@ -273,10 +273,10 @@ module _ (laws : GivenIsTaken) (parts : Parts) (good : IsGood parts) (split : Ar
       ))
 
 pub isolated_out_is_taken : GivenIsTaken → IsolatedOutIsTaken
-isolated_out_is_taken laws parts limit given good split room is = record {
+isolated_out_is_taken laws parts limit given good split within room is = record {
   resumes = (
     (good.some_sessions, good.few_sessions),
-    (let some = good.some_limit in omega (arith, some, room), let low = good.low_limit in omega (arith, low, room)),
+    within,
     ap (λ (n : ℕ). Some (stage.Resuming (length parts.remain) n Isolated)) room,
   );
   taken = checkpoint_taken laws parts good split given is;

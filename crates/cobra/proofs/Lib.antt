@@ -8,7 +8,9 @@ pub mod IsolatedAnswers
 pub mod IsolatedCheckpoints
 pub mod LightCommands
 pub mod LastTold
+pub mod Limits
 pub mod LineCounts
+pub mod Openings
 pub mod OtherCommands
 pub mod Pages
 pub mod ReplyKinds

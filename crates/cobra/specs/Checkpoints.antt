@@ -18,7 +18,7 @@ use Rattle.log_text.specs.Saved.{handed_by}
 use Rattle.snapshot_scripts.specs.SplitParts.{AreSplitParts}
 use Rattle.cobra.specs.HandOver.{AreGoodParts, handed_parts}
 use Rattle.cobra.specs.Saving.{handing_of, isolated_told, saved_told}
-use Rattle.cobra.specs.Scripts.{Answers, Resumes}
+use Rattle.cobra.specs.Scripts.{Answers, IsIsolatedLimit, IsVersionLimit, Resumes}
 use Rattle.cobra.specs.declared.stages.Stage.{Stage}
 use Rattle.cobra.specs.declared.stages.Stage.TheVariants as stage
 
@@ -68,11 +68,12 @@ pub record IsResumed (parts : Parts) (limit : ℕ) (opening : Opening) (given : 
   pub good : AreGoodParts (handing_of parts)
   pub same : handed_parts (handing_of parts) ≡ parts
 
--- Whatever good parts give out is taken where it is handed over, for lines of either version, and comes to these very parts.
+-- Whatever good parts give out is taken where it is handed over, for lines of each version that lets as many remain, and comes to these very
+-- parts.
 abbrev pub GivenOutIsTaken : Type 0
-GivenOutIsTaken = (parts : Parts) (version : Version) (given : List Saved) → IsGood parts → IsCheckpoint (saved_told parts) (length parts.remain) given → IsResumed parts parts.limit (Ordered version) given
+GivenOutIsTaken = (parts : Parts) (version : Version) (given : List Saved) → IsGood parts → IsVersionLimit version parts.limit → IsCheckpoint (saved_told parts) (length parts.remain) given → IsResumed parts parts.limit (Ordered version) given
 
 -- The same of parts whose transactions are split, which have room for two of each: what they give out is told by transactions as they were
 -- offered, and comes to these very parts again.
 abbrev pub IsolatedOutIsTaken : Type 0
-IsolatedOutIsTaken = (parts : Parts) (limit : ℕ) (given : List Saved) → IsGood parts → AreSplitParts parts → parts.limit ≡ 2 * limit → IsCheckpoint (isolated_told parts) (length parts.remain) given → IsResumed parts limit Isolated given
+IsolatedOutIsTaken = (parts : Parts) (limit : ℕ) (given : List Saved) → IsGood parts → AreSplitParts parts → IsIsolatedLimit limit → parts.limit ≡ 2 * limit → IsCheckpoint (isolated_told parts) (length parts.remain) given → IsResumed parts limit Isolated given

@@ -3,6 +3,7 @@ pub mod Checkpoints
 pub mod HandOver
 pub mod Held
 pub mod LastTold
+pub mod Limits
 pub mod Outputs
 pub mod Programs
 pub mod Saving

@@ -18,10 +18,10 @@ use Rattle.log_text.specs.declared.versions.Opening.{Opening}
 use Rattle.log_text.specs.declared.versions.Opening.TheVariants.{Ordered, Isolated}
 use Rattle.log_text.specs.declared.versions.Version.{Version}
 use Rattle.log_text.specs.declared.versions.Version.TheVariants.{One, Two}
-use Rattle.log_text.specs.Versions.{has_form}
+use Rattle.log_text.specs.Versions.{greatest_limit, has_form}
 use Rattle.logged_fragments.specs.declared.logged.LoggedFragment.{LoggedFragment}
 use Rattle.round_state.specs.EngineState.{EngineState, engine_over}
-use Rattle.round_state.specs.Opening.{IsSessions, IsLimit, IsOpenRefusal, fresh, fresh_state}
+use Rattle.round_state.specs.Opening.{IsSessions, fresh, fresh_state}
 use Rattle.round_state.specs.Legal.{State}
 use Rattle.round_state.specs.Runs.{Holds, StepsLegally}
 use Rattle.round_state.specs.Steps.{StepsTo}
@@ -143,22 +143,38 @@ AnswersIsolated old command answer new =
     ((refusal : Refusal) × IsAskedFault command refusal × (answer ≡ told.No refusal) × (new ≡ old))
     ⊎ (CanBeAsked command × (inner : Reply) × AnswersBeside Two old (split_command command) inner new × (answer ≡ isolated_of inner))
 
+-- so many transactions may be let remain, where at most this many may
+abbrev pub IsLimitWithin : ℕ → ℕ → Type 0
+IsLimitWithin most limit = (1 ≤ limit) × (limit ≤ most)
+
+-- Why no script begins, where at most so many transactions may be let remain: the number of sessions is judged before the limit, and memory is
+-- asked for last.
+abbrev pub IsBeginningRefusal : ℕ → ℕ → ℕ → Refusal → Type 0
+IsBeginningRefusal most sessions limit BadSession = ¬ IsSessions sessions
+IsBeginningRefusal most sessions limit TooLong = IsSessions sessions × (¬ IsLimitWithin most limit)
+IsBeginningRefusal most sessions limit NoMemory = IsSessions sessions × IsLimitWithin most limit
+IsBeginningRefusal most sessions limit refusal = ⊥
+
+-- the same in a script of this version
+abbrev pub IsVersionLimit : Version → ℕ → Type 0
+IsVersionLimit version = IsLimitWithin (greatest_limit version)
+
+abbrev pub IsVersionRefusal : Version → ℕ → ℕ → Refusal → Type 0
+IsVersionRefusal version = IsBeginningRefusal (greatest_limit version)
+
 -- An engine is opened: it is a fresh one, which stands for the history in which nothing was received. Where it isn't, no stage begins.
 abbrev pub Opens : ℕ → ℕ → Version → Reply → Option Stage → Type 0
-Opens sessions limit version told.Done begun = IsSessions sessions × IsLimit limit × (begun ≡ Some (stage.Open (unsearched (fresh sessions limit)) version)) × Holds (fresh sessions limit) (fresh_state sessions limit)
-Opens sessions limit version (told.No refusal) begun = IsOpenRefusal sessions limit refusal × (begun ≡ None)
+Opens sessions limit version told.Done begun = IsSessions sessions × IsVersionLimit version limit × (begun ≡ Some (stage.Open (unsearched (fresh sessions limit)) version)) × Holds (fresh sessions limit) (fresh_state sessions limit)
+Opens sessions limit version (told.No refusal) begun = IsVersionRefusal version sessions limit refusal × (begun ≡ None)
 Opens sessions limit version answer begun = ⊥
 
 -- so many transactions may be let remain where each is split
 abbrev pub IsIsolatedLimit : ℕ → Type 0
-IsIsolatedLimit limit = (1 ≤ limit) × (limit ≤ 2048)
+IsIsolatedLimit = IsLimitWithin 2048
 
 -- why no engine is given for them
 abbrev pub IsIsolatedRefusal : ℕ → ℕ → Refusal → Type 0
-IsIsolatedRefusal sessions limit BadSession = ¬ IsSessions sessions
-IsIsolatedRefusal sessions limit TooLong = IsSessions sessions × (¬ IsIsolatedLimit limit)
-IsIsolatedRefusal sessions limit NoMemory = IsSessions sessions × IsIsolatedLimit limit
-IsIsolatedRefusal sessions limit refusal = ⊥
+IsIsolatedRefusal = IsBeginningRefusal 2048
 
 -- An engine is opened whose transactions are split: it has room for two of each.
 abbrev pub OpensIsolated : ℕ → ℕ → Reply → Option Stage → Type 0
@@ -168,8 +184,8 @@ OpensIsolated sessions limit answer begun = ⊥
 
 -- A hand-over begins, where an engine may be opened: of parts with room for two of each, where transactions are split.
 abbrev pub Resumes : ℕ → ℕ → Opening → Reply → Option Stage → Type 0
-Resumes sessions limit (Ordered version) told.Done begun = IsSessions sessions × IsLimit limit × (begun ≡ Some (stage.Resuming sessions limit (Ordered version)))
-Resumes sessions limit (Ordered version) (told.No refusal) begun = IsOpenRefusal sessions limit refusal × (begun ≡ None)
+Resumes sessions limit (Ordered version) told.Done begun = IsSessions sessions × IsVersionLimit version limit × (begun ≡ Some (stage.Resuming sessions limit (Ordered version)))
+Resumes sessions limit (Ordered version) (told.No refusal) begun = IsVersionRefusal version sessions limit refusal × (begun ≡ None)
 Resumes sessions limit Isolated told.Done begun = IsSessions sessions × IsIsolatedLimit limit × (begun ≡ Some (stage.Resuming sessions (2 * limit) Isolated))
 Resumes sessions limit Isolated (told.No refusal) begun = IsIsolatedRefusal sessions limit refusal × (begun ≡ None)
 Resumes sessions limit opening answer begun = ⊥
@@ -244,7 +260,7 @@ EndsHandOver handed opening told.Done new = AreGoodParts handed × (new ≡ open
 EndsHandOver handed opening (told.No refusal) new = IsResumedRefusal handed refusal × (new ≡ stage.Handing handed opening)
 EndsHandOver handed opening answer new = ⊥
 
--- The reply to a command, while parts are handed over. What remains is what transactions did: in either version none is told to have aborted.
+-- The reply to a command, while parts are handed over. What remains is what transactions did: in every version none is told to have aborted.
 abbrev pub TakesOver : Handing → Opening → Command → Reply → Stage → Type 0
 TakesOver handed opening (Last more) answer new = HandsWriters handed opening more answer new
 TakesOver handed opening (Offer logged) answer new = IsTakenIn One logged (stage.Handing handed opening) answer new (HandsOffer handed opening logged.fragment answer new)

@@ -1,6 +1,8 @@
 //! How a script begins, or one that was saved is handed over.
-ghost use Rattle.std.specs.Prelude.{◌≡◌, IfOk};
-ghost use Rattle.cobra.specs.Scripts.{IsTakenIn, Opens, OpensIsolated, Resumes, AnswersFirst, BeginsAnew, AnswersResuming, AnswersHanding, HandsMarks, HandsWriters, HandsOffer, EndsHandOver, TakesHalves, TakesMarks, TakesOver, opened};
+ghost use Rattle.std.specs.Prelude.{◌≡◌, ◌≢◌, IfOk, IfErr, OnOk};
+ghost use Rattle.txn.specs.declared.refusals.Refusal.{Refusal};
+ghost use Rattle.round_state.specs.Opening.{IsSessions};
+ghost use Rattle.cobra.specs.Scripts.{IsLimitWithin, IsBeginningRefusal, IsTakenIn, Opens, OpensIsolated, Resumes, AnswersFirst, BeginsAnew, AnswersResuming, AnswersHanding, HandsMarks, HandsWriters, HandsOffer, EndsHandOver, TakesHalves, TakesMarks, TakesOver, opened};
 ghost use Rattle.cobra.specs.declared.stages.Stage.{Stage};
 ghost use Rattle.log_text.specs.declared.commands.Command.{Command};
 ghost use Rattle.log_text.specs.declared.versions.Opening.{Opening};
@@ -12,7 +14,7 @@ use crate::open_engine::OpenEngine;
 use crate::stages::Stage;
 use log_text::{Command, Opening, Reply, Version};
 use logged_fragments::LoggedFragment;
-use round_state::{is_limit, is_sessions};
+use round_state::is_sessions;
 use snapshot_scripts::{half_command, half_marks, have_halves};
 use std::alloc::Global;
 use txn::{Fragment, NoMemory, Refusal, Sequence, TxnId};
@@ -20,9 +22,27 @@ use txn::{Fragment, NoMemory, Refusal, Sequence, TxnId};
 /// How many transactions may be let remain where each is split.
 const ISOLATED_LIMIT: u64 = 2048;
 
+/// Whether a script may begin with these numbers, where at most so many transactions may be let remain.
+pub fn may_begin(most: u64, sessions: u64, limit: u64) -> Result<(), Refusal>
+    ensures ok { OnOk result (IsSessions sessions × IsLimitWithin most limit) }
+    ensures err { IfErr result (IsBeginningRefusal most sessions limit) }
+    ensures memory { IfErr result (λ refusal. refusal ≢ Refusal.NoMemory) }
+{
+    if !is_sessions(sessions) {
+        return Err(Refusal::BadSession);
+    }
+    if limit < 1 || limit > most {
+        return Err(Refusal::TooLong);
+    }
+    Ok(())
+}
+
 fn open(alloc: Global, sessions: u64, limit: u64, version: Version) -> (Reply, Option<Stage>)
     ensures { Opens sessions limit version result.0 result.1 }
 {
+    if let Err(refusal) = may_begin(version.greatest_limit(), sessions, limit) {
+        return (Reply::No(refusal), None);
+    }
     match OpenEngine::open(alloc, sessions, limit) {
         Ok(engine) => {
             let audit = Audit::new(engine);
@@ -36,11 +56,8 @@ fn open(alloc: Global, sessions: u64, limit: u64, version: Version) -> (Reply, O
 fn open_isolated(alloc: Global, sessions: u64, limit: u64) -> (Reply, Option<Stage>)
     ensures { OpensIsolated sessions limit result.0 result.1 }
 {
-    if !is_sessions(sessions) {
-        return (Reply::No(Refusal::BadSession), None);
-    }
-    if limit < 1 || limit > ISOLATED_LIMIT {
-        return (Reply::No(Refusal::TooLong), None);
+    if let Err(refusal) = may_begin(ISOLATED_LIMIT, sessions, limit) {
+        return (Reply::No(refusal), None);
     }
     match OpenEngine::open(alloc, sessions, 2 * limit) {
         Ok(engine) => {
@@ -54,11 +71,8 @@ fn open_isolated(alloc: Global, sessions: u64, limit: u64) -> (Reply, Option<Sta
 fn begin_ordered(sessions: u64, limit: u64, version: Version) -> (Reply, Option<Stage>)
     ensures { Resumes sessions limit (Opening.Ordered version) result.0 result.1 }
 {
-    if !is_sessions(sessions) {
-        return (Reply::No(Refusal::BadSession), None);
-    }
-    if !is_limit(limit) {
-        return (Reply::No(Refusal::TooLong), None);
+    if let Err(refusal) = may_begin(version.greatest_limit(), sessions, limit) {
+        return (Reply::No(refusal), None);
     }
     let begun = Stage::Resuming {
         sessions,
@@ -72,11 +86,8 @@ fn begin_ordered(sessions: u64, limit: u64, version: Version) -> (Reply, Option<
 fn begin_isolated(sessions: u64, limit: u64) -> (Reply, Option<Stage>)
     ensures { Resumes sessions limit Opening.Isolated result.0 result.1 }
 {
-    if !is_sessions(sessions) {
-        return (Reply::No(Refusal::BadSession), None);
-    }
-    if limit < 1 || limit > ISOLATED_LIMIT {
-        return (Reply::No(Refusal::TooLong), None);
+    if let Err(refusal) = may_begin(ISOLATED_LIMIT, sessions, limit) {
+        return (Reply::No(refusal), None);
     }
     let begun = Stage::Resuming {
         sessions,
@@ -291,7 +302,7 @@ fn hand_fragment(handed: Handing, opening: Opening, fragment: Fragment) -> (Repl
     }
 }
 
-/// What is handed over is what transactions did, in either version: none is told to have aborted.
+/// What is handed over is what transactions did, in every version: none is told to have aborted.
 fn hand_offer(handed: Handing, opening: Opening, logged: LoggedFragment) -> (Reply, Stage)
     ensures { IsTakenIn Version.One logged (Stage.Handing handed opening) result.0 result.1 (HandsOffer handed opening logged.fragment result.0 result.1) }
 {

@@ -1,4 +1,5 @@
 //! Laws of scripts. The functions do nothing.
+ghost use Rattle.cobra.specs.Limits.{LimitsStay};
 ghost use Rattle.cobra.specs.SplitStages.{IsolatedStays};
 ghost use Rattle.cobra.specs.TrueReports.{EachReportIsTrue};
 
@@ -16,6 +17,11 @@ pub fn each_report_is_true()
     split_keeps_verdict();
     split_doubles_counts();
 }
+
+/// A script keeps the limit that it was opened with, which is one of its version.
+pub fn limits_stay()
+    ensures { LimitsStay }
+{}
 
 /// A script that asks for snapshot isolation keeps parts of split transactions.
 pub fn isolated_stays()

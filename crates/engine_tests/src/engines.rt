@@ -201,13 +201,14 @@ fn what_an_engine_shows(rt: HostRuntime) -> Result<(), Fail> {
 }
 
 /// Sessions, a limit, and how an engine of them is refused.
-static NUMBERS: [(u64, u64, Option<Refusal>); 6] = [
+static NUMBERS: [(u64, u64, Option<Refusal>); 7] = [
     (1, 1, None),
-    (64, 4096, None),
-    (0, 4097, Some(BadSession)),
-    (65, 4096, Some(BadSession)),
+    (64, 4097, None),
+    (64, 1_048_576, None),
+    (0, 1_048_577, Some(BadSession)),
+    (65, 1_048_576, Some(BadSession)),
     (1, 0, Some(TooLong)),
-    (64, 4097, Some(TooLong)),
+    (64, 1_048_577, Some(TooLong)),
 ];
 
 fn numbers() -> &'static [(u64, u64, Option<Refusal>)] {

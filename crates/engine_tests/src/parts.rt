@@ -57,8 +57,8 @@ static CASES: [Case; 12] = [
         ..EMPTY
     },
     Case {
-        name: "limit 4097",
-        limit: 4097,
+        name: "limit 1048577",
+        limit: 1_048_577,
         ..EMPTY
     },
     Case {

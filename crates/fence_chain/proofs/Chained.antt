@@ -13,7 +13,7 @@ use Rattle.order_check.specs.declared.remainder.Parts.{Parts}
 use Rattle.order_check.specs.Based.{Remains, remaining_at}
 use Rattle.order_check.specs.Known.{Known, through}
 use Rattle.order_check.specs.Settled.{IsBefore, InFront}
-use Rattle.forced_choices.specs.OrderedAmong.{AreOrdered, IsOrderedAmong}
+use Rattle.clock_choices.specs.OrderedAmong.{AreOrdered, IsOrderedAmong}
 use Rattle.fence_chain.specs.Chains.{IsRemainingFence, IsChained, IsChain}
 use Rattle.fence_chain.specs.Picked.{AreInOrder, IsBetween, IsPicked, IsPutIn, IsSorting}
 use Rattle.fence_chain.proofs.Picking.{front_below, not_below_itself}

@@ -2,12 +2,12 @@ ghost use Rattle.std.specs.Prelude.{◌-◌, ◌<◌, ◌⊎◌, All, Contains, 
 ghost use Rattle.std.specs.List.{AllPairs};
 ghost use Rattle.txn.specs.declared.transactions.TxnId.{TxnId};
 ghost use Rattle.order_check.specs.Settled.{IsBefore};
-ghost use Rattle.forced_choices.specs.OrderedAmong.{AreOrdered};
+ghost use Rattle.clock_choices.specs.OrderedAmong.{AreOrdered};
 ghost use Rattle.fence_chain.specs.Chains.{IsChain};
 ghost use Rattle.fence_chain.specs.Picked.{AreInOrder, IsBetween, IsPutIn, IsSorting};
 
 use crate::fences::fences_among;
-use forced_choices::Saturated;
+use clock_choices::Saturated;
 use std::alloc::Global;
 use txn::{NoMemory, TxnId};
 

@@ -5,7 +5,7 @@ ghost use Rattle.order_check.specs.Based.{Remains};
 ghost use Rattle.order_check.specs.Settled.{InFront};
 ghost use Rattle.fence_chain.specs.Picked.{AreInOrder, IsPicked, PicksOne};
 
-use forced_choices::Saturated;
+use clock_choices::Saturated;
 use std::alloc::Global;
 use txn::{NoMemory, TxnId};
 

@@ -1,5 +1,9 @@
 //! Why a node of the search has no order: a tree, and the sides that its cycles use. Nothing is promised of it: the whole tree is checked.
+ghost use Rattle.std.specs.Prelude.{◌≡◌, ◌<◌, length};
+ghost use Rattle.clock_choices.specs.BranchState.{last_steps};
+
 use crate::choosing::Recent;
+use clock_choices::Branch;
 use refutation::{Leaf, Tree};
 use std::alloc::Global;
 use std::collections::BTreeSet;
@@ -43,20 +47,50 @@ fn note_used(
     Ok(())
 }
 
-/// The steps whose sides are used behind them, the last one first.
+/// How many steps the last side assumed forces; where none is assumed, how many were forced before.
+fn count_steps(branch: &Branch) -> usize
+    ensures { result ≡ length (last_steps branch.now.log branch.now.levels) }
+{
+    branch.steps().len()
+}
+
+/// The last side's step at this place, with its cycle, where its side is used behind it.
+fn used_step(
+    alloc: Global,
+    branch: &Branch,
+    place: usize,
+    used: &mut BTreeSet<(TxnId, TxnId)>,
+) -> Result<Option<ForceStep>, NoMemory>
+    requires { place < length (last_steps branch.now.log branch.now.levels) }
+{
+    let Some(step) = branch.steps().get(place).copied() else {
+        return Ok(None);
+    };
+    if !used.remove(&arc_of(step.choice, step.side)) {
+        return Ok(None);
+    }
+    let against = arc_of(step.choice, other_side(step.side));
+    let cycle = branch.cycle_of(alloc, place)?;
+    note_used(used, cycle.as_slice(), Some(against))?;
+    Ok(Some(ForceStep {
+        choice: step.choice,
+        side: step.side,
+        cycle,
+    }))
+}
+
+/// The last side's steps whose sides are used behind them, the last one first. The cycles of these alone are looked up.
 fn used_steps(
     alloc: Global,
     recent: &mut Recent,
-    steps: &[ForceStep],
+    branch: &Branch,
     used: &mut BTreeSet<(TxnId, TxnId)>,
 ) -> Result<Vec<ForceStep>, NoMemory> {
     let mut kept = Vec::new(alloc);
-    for step in steps.iter().rev() {
-        if used.remove(&arc_of(step.choice, step.side)) {
-            let against = arc_of(step.choice, other_side(step.side));
-            note_used(used, step.cycle.as_slice(), Some(against))?;
+    for place in (0..count_steps(branch)).rev() {
+        if let Some(step) = used_step(alloc, branch, place, used)? {
             recent.note(step.choice)?;
-            kept.push(step.clone()?)?;
+            kept.push(step)?;
         }
     }
     Ok(kept)
@@ -89,15 +123,15 @@ impl Conflict {
         })
     }
 
-    /// The same above the steps that it uses, which are noted as recent.
+    /// The same above those of the last side's steps that it uses, which are noted as recent.
     pub fn above(
         self,
         alloc: Global,
         recent: &mut Recent,
-        steps: &[ForceStep],
+        branch: &Branch,
     ) -> Result<Conflict, NoMemory> {
         let Conflict { tree, mut used } = self;
-        let mut kept = used_steps(alloc, recent, steps, &mut used)?;
+        let mut kept = used_steps(alloc, recent, branch, &mut used)?;
         if kept.is_empty() {
             return Ok(Conflict { tree, used });
         }

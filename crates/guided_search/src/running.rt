@@ -1,5 +1,5 @@
 //! A lucky order: what a store would do that takes one transaction after another. Nothing is promised of it.
-use forced_choices::Branch;
+use clock_choices::Branch;
 use order_check::Parts;
 use polygraph::Problem;
 use std::alloc::Global;

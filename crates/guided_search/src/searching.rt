@@ -1,7 +1,7 @@
 //! The search: it keeps the splits that it stands below in a list, so that it takes little of the stack. Nothing is promised of what it finds.
 use crate::choosing::{Places, Recent, is_choice, next_choice};
 use crate::conflicts::{Conflict, arc_of, other_side};
-use forced_choices::Branch;
+use clock_choices::Branch;
 use polygraph::Problem;
 use refutation::Tree;
 use std::alloc::Global;
@@ -129,7 +129,7 @@ fn go_up(
     while let Some(split) = search.splits.pop() {
         let choice = split.choice;
         let side = split.side;
-        conflict = conflict.above(alloc, &mut search.recent, branch.steps())?;
+        conflict = conflict.above(alloc, &mut search.recent, branch)?;
         take_back(branch);
         match join(alloc, &mut search.recent, split, conflict)? {
             Joined::Whole(whole) => conflict = whole,
@@ -145,7 +145,7 @@ fn go_up(
             }
         }
     }
-    let whole = conflict.above(alloc, &mut search.recent, branch.steps())?;
+    let whole = conflict.above(alloc, &mut search.recent, branch)?;
     Ok(Some(whole))
 }
 

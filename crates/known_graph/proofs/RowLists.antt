@@ -4,7 +4,7 @@ use Rattle.std.proofs.lemmas.Bool.{cases_eq, cases_lt}
 use Rattle.std.specs.Vec.{with_items}
 use Rattle.std.proofs.lemmas.List.{with_items_is, length_push}
 use Rattle.known_graph.specs.Bits.{HasBit}
-use Rattle.known_graph.specs.Rows.{row_at, HasAt, HaveWidth, HaveSameLengths, IsJoinedAt, IsClearedAt}
+use Rattle.known_graph.specs.Rows.{row_at, HasAt, IsOrHasAt, HaveWidth, HaveSameLengths, IsJoinedAt}
 use Rattle.known_graph.proofs.Words.{no_bit}
 
 pub row_at-get : (rows : List (Vec ℕ Global)) (i : ℕ) (d : Vec ℕ Global) → i < length rows → (get_or rows i d).items ≡ row_at rows i
@@ -63,14 +63,6 @@ module _ (rows : List (Vec ℕ Global)) (i : ℕ) (d : Vec ℕ Global) (words sh
     others = λ k apart. row_at-set_other rows i k written apart;
   }
 
-  pub IsClearedAt-set : (column : ℕ) → ((j : ℕ) → HasBit words j ↔ (HasBit shown j × (j ≢ column))) → IsClearedAt rows (set rows i written) i column
-  IsClearedAt-set column bits = record {
-    lengths = lengths-set;
-    here = λ j. subst (λ row. HasBit row j ↔ (HasAt rows i j × (j ≢ column))) (sym now)
-        (subst (λ row. HasBit words j ↔ (HasBit row j × (j ≢ column))) was (bits j));
-    others = λ k apart. row_at-set_other rows i k written apart;
-  }
-
   pub bits-set : ((j : ℕ) → ¬ HasBit words j) → (k j : ℕ) → HasAt (set rows i written) k j ↔ (HasAt rows k j × (k ≢ i))
   bits-set none k j = elim (cases_eq k i) [
     | inl here ↦ (
@@ -82,80 +74,64 @@ module _ (rows : List (Vec ℕ Global)) (i : ℕ) (d : Vec ℕ Global) (words sh
         (λ has. (subst (λ row. HasBit row j) same has, apart), λ had. subst (λ row. HasBit row j) (sym same) had.0)
   ]
 
--- the rows so far are joined with the row where the place is among these, and the others are as they were
-pub record AreJoinedBelow (old new : List (Vec ℕ Global)) (places more : List ℕ) (done : ℕ) : Type 0 where
+-- the rows so far are joined with the row where they are at the place or have it, and the others are as they were
+pub record AreJoinedBelow (old new : List (Vec ℕ Global)) (place : ℕ) (more : List ℕ) (done : ℕ) : Type 0 where
   pub lengths : HaveSameLengths old new
-  pub joined : (i j : ℕ) → i < done → HasAt new i j ↔ (HasAt old i j ⊎ (HasBit places i × HasBit more j))
+  pub joined : (i j : ℕ) → i < done → HasAt new i j ↔ (HasAt old i j ⊎ (IsOrHasAt old i place × HasBit more j))
   pub rest : (i : ℕ) → done ≤ i → row_at new i ≡ row_at old i
 
-module _ (old mid : List (Vec ℕ Global)) (places more : List ℕ) (done : ℕ) (below : AreJoinedBelow old mid places more done) where
-  unmoved : (i j : ℕ) → done ≤ i → HasAt mid i j ↔ HasAt old i j
-  unmoved i j past = let same = below.rest i past in (λ has. subst (λ words. HasBit words j) same has, λ has. subst (λ words. HasBit words j) (sym same) has)
+module _ (old mid : List (Vec ℕ Global)) (place : ℕ) (more : List ℕ) (done : ℕ) (below : AreJoinedBelow old mid place more done) where
+  unmoved : row_at mid done ≡ row_at old done
+  unmoved = below.rest done (omega arith)
 
-  -- up to the next of the places, which is joined
-  pub AreJoinedBelow-join : (new : List (Vec ℕ Global)) (next : ℕ) → done ≤ next → HasBit places next → ((j : ℕ) → done ≤ j → j < next → ¬ HasBit places j) → IsJoinedAt mid new next more → AreJoinedBelow old new places more (next + 1)
-  AreJoinedBelow-join new next on is_place none here = record {
-    lengths = (here.lengths.0 ∙ below.lengths.0, λ i. here.lengths.1 i ∙ below.lengths.1 i);
-    joined = λ i j within. elim (cases_eq i next) [
-      | inl same ↦
-          subst (λ k. HasAt new k j ↔ (HasAt old k j ⊎ (HasBit places k × HasBit more j))) (sym same) (
-            λ has. elim ((here.here j).0 has) [
-              | inl was ↦ inl ((unmoved next j on).0 was)
-              | inr joins ↦ inr (is_place, joins)
-            ],
-            λ was. (here.here j).1 (elim was [
-              | inl had ↦ inl ((unmoved next j on).1 had)
-              | inr joins ↦ inr joins.1
-            ]),
-          )
-      | inr apart ↦ subst (λ words. HasBit words j ↔ (HasAt old i j ⊎ (HasBit places i × HasBit more j))) (sym (here.others i apart)) (before i j (omega arith))
+  -- one more row, in which others are as they were
+  one_more : (new : List (Vec ℕ Global)) → HaveSameLengths mid new → ((i : ℕ) → i ≢ done → row_at new i ≡ row_at mid i)
+      → ((j : ℕ) → HasAt new done j ↔ (HasAt old done j ⊎ (IsOrHasAt old done place × HasBit more j))) → AreJoinedBelow old new place more (done + 1)
+  one_more new lengths others here = record {
+    lengths = (lengths.0 ∙ below.lengths.0, λ i. lengths.1 i ∙ below.lengths.1 i);
+    joined = λ i j within. elim (cases_eq i done) [
+      | inl same ↦ subst (λ k. HasAt new k j ↔ (HasAt old k j ⊎ (IsOrHasAt old k place × HasBit more j))) (sym same) (here j)
+      | inr apart ↦ subst (λ words. HasBit words j ↔ (HasAt old i j ⊎ (IsOrHasAt old i place × HasBit more j))) (sym (others i apart)) (below.joined i j (omega arith))
     ];
-    rest = λ i above. here.others i (λ e. omega arith) ∙ below.rest i (omega arith);
+    rest = λ i above. others i (λ e. omega arith) ∙ below.rest i (omega arith);
   }
-    where
-      before : (i j : ℕ) → i < next → HasAt mid i j ↔ (HasAt old i j ⊎ (HasBit places i × HasBit more j))
-      before i j within = elim (cases_lt i done) [
-        | inl low ↦ below.joined i j low
-        | inr high ↦ (
-          λ has. inl ((unmoved i j high).0 has),
-          λ was. elim was [
-            | inl had ↦ (unmoved i j high).1 had
-            | inr joins ↦ absurd (none i high within joins.0)
-          ],
-        )
-      ]
 
-  -- there is no further place
-  pub AreJoinedBelow-all : ((j : ℕ) → done ≤ j → ¬ HasBit places j) → (i j : ℕ) → HasAt mid i j ↔ (HasAt old i j ⊎ (HasBit places i × HasBit more j))
-  AreJoinedBelow-all none i j = elim (cases_lt i done) [
+  pub AreJoinedBelow-join : (new : List (Vec ℕ Global)) → IsOrHasAt mid done place → IsJoinedAt mid new done more → AreJoinedBelow old new place more (done + 1)
+  AreJoinedBelow-join new is_source here = one_more new here.lengths here.others (λ j. (
+    λ has. elim ((here.here j).0 has) [
+      | inl was ↦ inl (subst (λ words. HasBit words j) unmoved was)
+      | inr joins ↦ inr (subst (λ words. (done ≡ place) ⊎ HasBit words place) unmoved is_source, joins)
+    ],
+    λ was. (here.here j).1 (elim was [
+      | inl had ↦ inl (subst (λ words. HasBit words j) (sym unmoved) had)
+      | inr joins ↦ inr joins.1
+    ]),
+  ))
+
+  pub AreJoinedBelow-stay : (¬ IsOrHasAt mid done place) → AreJoinedBelow old mid place more (done + 1)
+  AreJoinedBelow-stay is_none = one_more mid (refl, λ i. refl) (λ i apart. refl) (λ j. (
+    λ has. inl (subst (λ words. HasBit words j) unmoved has),
+    λ was. elim was [
+      | inl had ↦ subst (λ words. HasBit words j) (sym unmoved) had
+      | inr joins ↦ absurd (is_none (subst (λ words. (done ≡ place) ⊎ HasBit words place) (sym unmoved) joins.0))
+    ],
+  ))
+
+  -- once the loop is through
+  pub AreJoinedBelow-all : length old ≤ done → place < length old → (i j : ℕ) → HasAt mid i j ↔ (HasAt old i j ⊎ (IsOrHasAt old i place × HasBit more j))
+  AreJoinedBelow-all all within i j = elim (cases_lt i done) [
     | inl low ↦ below.joined i j low
     | inr high ↦ (
-      λ has. inl ((unmoved i j high).0 has),
+      λ has. absurd (none_past mid i j (omega (arith, below.lengths.0)) has),
       λ was. elim was [
-        | inl had ↦ (unmoved i j high).1 had
-        | inr joins ↦ absurd (none i high joins.0)
+        | inl had ↦ absurd (none_past old i j (omega arith) had)
+        | inr joins ↦ elim joins.0 [
+          | inl same ↦ absurd (omega arith)
+          | inr has ↦ absurd (none_past old i place (omega arith) has)
+        ]
       ],
     )
   ]
-
--- the rows so far are without the column
-pub record AreClearedBelow (old new : List (Vec ℕ Global)) (column done : ℕ) : Type 0 where
-  pub lengths : HaveSameLengths old new
-  pub cleared : (i j : ℕ) → i < done → HasAt new i j ↔ (HasAt old i j × (j ≢ column))
-  pub rest : (i : ℕ) → done ≤ i → row_at new i ≡ row_at old i
-
-pub AreClearedBelow-more : (old mid new : List (Vec ℕ Global)) (column done : ℕ) → AreClearedBelow old mid column done → IsClearedAt mid new done column → AreClearedBelow old new column (done + 1)
-AreClearedBelow-more old mid new column done below here = record {
-  lengths = (here.lengths.0 ∙ below.lengths.0, λ i. here.lengths.1 i ∙ below.lengths.1 i);
-  cleared = λ i j within. elim (cases_lt i done) [
-    | inl before ↦ subst (λ words. HasBit words j ↔ (HasAt old i j × (j ≢ column))) (sym (here.others i (λ e. omega arith))) (below.cleared i j before)
-    | inr above ↦
-        let same : done ≡ i = omega arith in
-        subst (λ k. HasAt new k j ↔ (HasAt old k j × (j ≢ column))) same
-        (subst (λ words. HasAt new done j ↔ (HasBit words j × (j ≢ column))) (below.rest done (omega arith)) (here.here j))
-  ];
-  rest = λ i above. here.others i (λ e. omega arith) ∙ below.rest i (omega arith);
-}
 
 pub row_at-push_before : (rows : List (Vec ℕ Global)) (row : Vec ℕ Global) (i : ℕ) → i < length rows → row_at (rows ++ row ∷ []) i ≡ row_at rows i
 row_at-push_before [] row i within = absurd (omega arith)

@@ -1,7 +1,8 @@
 -- What a tree of arcs to a goal has, and how it grows.
 use Rattle.std.proofs.Common.{◌≡◌, ◌≢◌, ◌⊎◌, ℕ, zero, suc, ◌+◌, ◌<◌, ◌≤◌, Bool, true, false, not, cond, ◌||◌, List, [], ◌∷◌, ◌++◌, length, get_or, take, filter, refl, sym, ap, ◌∙◌, inl, inr, arith, Contains}
 use Rattle.std.proofs.lemmas.Bool.{false≢true, cases_lt}
-use Rattle.std.proofs.lemmas.List.{take-append-le, take_at, get_or_append_left, get_or_push, length_push}
+use Rattle.std.proofs.lemmas.List.{take-append-le, take_at, take_more, get_or_append_left, get_or_push, length_push}
+use Rattle.std.proofs.lemmas.List.Elements.{Contains-push_cases}
 use Rattle.std.proofs.lemmas.List.Folds.{list_any-append}
 use Rattle.txn.specs.declared.transactions.TxnId.{TxnId}
 use Rattle.txn.specs.declared.choices.Arc.{Arc}
@@ -11,7 +12,6 @@ use Rattle.txn.specs.Arcs.{start_of, end_of}
 use Rattle.txn.proofs.Ids.{same_id_is, same_id_itself, same_id_from}
 use Rattle.known_graph.specs.Reach.{Reaches, by_arc, through, Leads}
 use Rattle.known_graph.specs.Trees.{begins_at, LeadsOn, IsTreeTo, IsWholeTree, IsNextOf}
-use Rattle.known_graph.proofs.Members.{Contains-more_cases}
 
 -- the arcs that begin outside the tree
 abbrev pub outside : List Arc → List Arc → List Arc
@@ -123,6 +123,9 @@ Reaches-from_Leads arcs start (arc ∷ (next ∷ path)) goal some leads =
 -- what a read past the end of a list of arcs would give
 abbrev pub no_arc : Arc
 no_arc = Session (record { session = 0; number = 0 }) (record { session = 0; number = 0 })
+
+Contains-more_cases : {X : Type 0} (xs : List X) (i : ℕ) (d x : X) → i < length xs → Contains (take (i + 1) xs) x → Contains (take i xs) x ⊎ (get_or xs i d ≡ x)
+Contains-more_cases xs i d x within there = Contains-push_cases _ _ x (rw (take_more xs i d within) at there)
 
 -- one more arc that was looked at
 pub IsWholeTree-more : (arcs : List Arc) (goal : TxnId) (tree : List Arc) (i : ℕ) (d : Arc) → i < length arcs → IsWholeTree (take i arcs) goal tree → (LeadsOn tree goal (end_of (get_or arcs i d)) → begins_at tree (start_of (get_or arcs i d)) ≡ true) → IsWholeTree (take (i + 1) arcs) goal tree

@@ -1,5 +1,5 @@
--- What arcs that are added answer, and what they leave.
-use Rattle.std.specs.Prelude.{◌≡◌, List, ◌++◌}
+-- What an arc that is added answers.
+use Rattle.std.specs.Prelude.{List}
 use Rattle.txn.specs.declared.choices.Arc.{Arc}
 use Rattle.txn.specs.Arcs.{start_of, end_of}
 use Rattle.known_graph.specs.declared.digraph.Addition.{Addition}
@@ -10,7 +10,3 @@ use Rattle.known_graph.specs.Reach.{Reaches, IsPathOf}
 abbrev pub IsAddition : List Arc → Arc → Addition → Type 0
 IsAddition arcs arc Added = ¬ Reaches arcs (end_of arc) (start_of arc)
 IsAddition arcs arc (Cycle path) = Reaches arcs (end_of arc) (start_of arc) × IsPathOf arcs (end_of arc) path (start_of arc)
-
--- behind the arcs that were there stand some of these, from the first on
-abbrev pub AddsFront : List Arc → List Arc → List Arc → Type 0
-AddsFront old arcs new = (done rest : List Arc) × (arcs ≡ done ++ rest) × (new ≡ old ++ done)

@@ -31,12 +31,6 @@ pub record IsJoinedAt (old new : List (Vec ℕ Global)) (place : ℕ) (more : Li
   pub here : (j : ℕ) → HasAt new place j ↔ (HasAt old place j ⊎ HasBit more j)
   pub others : (i : ℕ) → i ≢ place → row_at new i ≡ row_at old i
 
--- the row at a place hasn't the column, and no other row changed
-pub record IsClearedAt (old new : List (Vec ℕ Global)) (place column : ℕ) : Type 0 where
-  pub lengths : HaveSameLengths old new
-  pub here : (j : ℕ) → HasAt new place j ↔ (HasAt old place j × (j ≢ column))
-  pub others : (i : ℕ) → i ≢ place → row_at new i ≡ row_at old i
-
 -- there are as many rows as a row has bits
 abbrev pub AreSquare : List (Vec ℕ Global) → Type 0
 AreSquare rows = (i : ℕ) → i < length rows → 64 * length (row_at rows i) ≡ length rows

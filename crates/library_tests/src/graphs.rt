@@ -17,9 +17,6 @@ const SMALL: usize = 12;
 // Columns in a first, a second and a third word.
 const LARGE: usize = 150;
 
-// So few that most pairs of 150 are not joined.
-const DRAWN: usize = 90;
-
 const FIRST: TxnId = TxnId {
     session: 0,
     number: 0,
@@ -62,7 +59,6 @@ fn add(
     to: usize,
 ) -> Result<bool, Fail>
     ensures arcs { OnOk result (graph.new.arcs ≡ graph.old.arcs ++ Taken (record { session = 0; number = from }) (record { session = 0; number = to }) ∷ []) }
-    ensures marks { graph.new.marks ≡ graph.old.marks }
 {
     let arc = Arc::Taken {
         from: id(from),
@@ -89,9 +85,7 @@ fn add_drawn(
     seed: u64,
     nodes: usize,
     arcs: usize,
-) -> Result<(), Fail>
-    ensures { OnOk result (graph.new.marks ≡ graph.old.marks) }
-{
+) -> Result<(), Fail> {
     let mut state = seed;
     for _turn in 0..arcs {
         let from = next(&mut state, nodes);
@@ -148,50 +142,6 @@ fn closures_past_two_words(rt: HostRuntime) -> Result<(), Fail> {
     Ok(())
 }
 
-// The graph against the closure of the arcs drawn from these seeds.
-fn assert_drawn(
-    rt: &impl Abort,
-    alloc: Global,
-    graph: &Graph,
-    seeds: &[u64],
-    arcs: usize,
-) -> Result<(), Fail> {
-    let mut again = with_nodes(rt, alloc, LARGE)?;
-    let mut reached = no_pairs(alloc, LARGE)?;
-    for seed in seeds {
-        add_drawn(rt, alloc, &mut again, &mut reached, *seed, LARGE, arcs)?;
-    }
-    reached.close();
-    for i in 0..LARGE {
-        assert_row(rt, graph, &reached, LARGE, i);
-    }
-    Ok(())
-}
-
-// Two marks, each with arcs behind it, to which the graph comes back.
-fn assert_backs(rt: &impl Abort, alloc: Global, graph: &mut Graph, seed: u64) -> Result<(), Fail> {
-    let mut unread = no_pairs(alloc, 0)?;
-    graph.mark()?;
-    add_drawn(rt, alloc, graph, &mut unread, seed, LARGE, DRAWN)?;
-    graph.mark()?;
-    add_drawn(rt, alloc, graph, &mut unread, seed ^ 1, LARGE, DRAWN)?;
-    assert_drawn(rt, alloc, graph, &[seed, seed ^ 1], DRAWN)?;
-    graph.back();
-    assert_drawn(rt, alloc, graph, &[seed], DRAWN)?;
-    graph.back();
-    assert_drawn(rt, alloc, graph, &[], DRAWN)
-}
-
-#[test]
-fn going_back_leaves_what_stood_at_the_mark(rt: HostRuntime) -> Result<(), Fail> {
-    let alloc = rt.alloc();
-    let mut graph = with_nodes(&rt, alloc, LARGE)?;
-    for seed in 0..4 {
-        assert_backs(&rt, alloc, &mut graph, 2 * seed)?;
-    }
-    Ok(())
-}
-
 // 0, 1, 2 one after another.
 fn chain(rt: &impl Abort, alloc: Global) -> Result<Graph, Fail>
     ensures { IfOk result (λ graph. All (λ arc. end_of arc ≢ FIRST) graph.arcs) }
@@ -237,14 +187,21 @@ fn assert_apart(rt: &impl Abort, graph: &Graph, one: TxnId, others: &[TxnId]) {
 }
 
 #[test]
+fn a_row_has_what_is_reached(rt: HostRuntime) -> Result<(), Fail> {
+    let graph = chain(&rt, rt.alloc())?;
+    assert!(rt; graph.contains(id(0)));
+    // Those at keys 1 and 2, of 64 a word.
+    assert_eq!(rt; graph.row(id(0)), [6u64].as_slice());
+    Ok(())
+}
+
+#[test]
 fn a_key_given_out_again_has_no_old_bits(rt: HostRuntime) -> Result<(), Fail> {
     let mut graph = chain(&rt, rt.alloc())?;
-    let key = graph.key_of(FIRST).ok_or("no key")?;
     assert!(rt; graph.contains(FIRST));
     drop_first(&mut graph);
     assert!(rt; !graph.contains(id(3)));
     graph.add_node(id(3))?;
-    assert_eq!(rt; graph.key_of(id(3)), Some(key));
     assert_apart(&rt, &graph, id(3), &[FIRST, id(1), id(2)]);
     assert!(rt; graph.reaches(id(1), id(2)));
     Ok(())

@@ -160,7 +160,7 @@ alone_takes_few made = of_few 0 (alone made) (alone_few made)
 
 version_few : (given : Items) → IsThere (version_in given) → AreFewAtoms 1 given
 version_few no_items there = tt
-version_few (item a no_items) there = (within_atom 2 2 a (map_there _ (number_within 2 2 a) there), tt)
+version_few (item a no_items) there = (within_atom 2 3 a (map_there _ (number_within 2 3 a) there), tt)
 version_few (item a (item b rest)) never = absurd never
 
 source_few : (given : Items) → IsThere (source_in given) → AreFewAtoms 2 given
@@ -186,7 +186,7 @@ promise_atom (object ms) never = absurd never
 
 opening_few : (given : Items) → IsThere (opening_in given) → AreFewAtoms 2 given
 opening_few no_items there = tt
-opening_few (item a no_items) there = (within_atom 2 2 a (map_there _ (number_within 2 2 a) (map_there _ (version_in (item a no_items)) there)), tt)
+opening_few (item a no_items) there = (within_atom 2 3 a (map_there _ (number_within 2 3 a) (map_there _ (version_in (item a no_items)) there)), tt)
 opening_few (item a (item b no_items)) there = let both = both_there _ (number_within 2 2 a) (promise_of b) there in (within_atom 2 2 a both.0, (promise_atom b both.1, tt))
 opening_few (item a (item b (item c rest))) never = absurd never
 

@@ -83,7 +83,7 @@ abbrev pub start_of : ℕ → ℕ → Opening → Command
 start_of sessions limit (Ordered version) = Start sessions limit version
 start_of sessions limit Isolated = StartIsolated sessions limit
 
--- ["open",sessions,limit], ["open",sessions,limit,2] or ["open",sessions,limit,2,"snapshot"]
+-- ["open",sessions,limit], ["open",sessions,limit,2], ["open",sessions,limit,3] or ["open",sessions,limit,2,"snapshot"]
 abbrev pub start_in : Items → Option Command
 start_in (item sessions (item limit behind)) = with_three start_of (whole_number sessions) (whole_number limit) (opening_in behind)
 start_in items = None
@@ -137,7 +137,7 @@ waits_in items = None
 abbrev pub collect_in : Items → Option Command
 collect_in parts = option_map Collect (waits_in parts)
 
--- ["resume",sessions,limit], ["resume",sessions,limit,2] or ["resume",sessions,limit,2,"snapshot"]
+-- ["resume",sessions,limit], ["resume",sessions,limit,2], ["resume",sessions,limit,3] or ["resume",sessions,limit,2,"snapshot"]
 abbrev pub resume_in : Items → Option Command
 resume_in (item sessions (item limit behind)) = with_three Resume (whole_number sessions) (whole_number limit) (opening_in behind)
 resume_in items = None

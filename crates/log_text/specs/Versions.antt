@@ -1,24 +1,35 @@
 -- Versions of scripts.
-use Rattle.std.specs.Prelude.{Bool, true, not, Option, Some, None, option_map, bytes_eq, codes, if◌then◌else◌}
+use Rattle.std.specs.Prelude.{ℕ, Bool, true, not, Option, Some, None, option_map, bytes_eq, codes, nat_eq, if◌then◌else◌}
 use Rattle.std.specs.List.{list_any}
 use Rattle.serde_json.specs.Data.{Data, string, Items, no_items, item}
 use Rattle.logged_fragments.specs.declared.logged.LoggedFragment.{LoggedFragment}
 use Rattle.log_text.specs.declared.versions.Version.{Version}
-use Rattle.log_text.specs.declared.versions.Version.TheVariants.{One, Two}
+use Rattle.log_text.specs.declared.versions.Version.TheVariants.{One, Two, Three}
 use Rattle.log_text.specs.Items.{with_both}
 use Rattle.log_text.specs.Numbers.{number_within}
 use Rattle.log_text.specs.declared.versions.Opening.{Opening}
 use Rattle.log_text.specs.declared.versions.Opening.TheVariants.{Ordered, Isolated}
 
--- In a script of version 1 no transaction is told to have aborted; in one of version 2 each may be.
+-- In a script of version 1 no transaction is told to have aborted; in one of another version each may be.
 abbrev pub has_form : Version → LoggedFragment → Bool
 has_form One logged = not (list_any (λ aborted. aborted) logged.aborted)
 has_form Two logged = true
+has_form Three logged = true
 
--- The version of a script, by what stands behind the numbers of its first line: it is 1 where nothing does, and 2 where 2 does.
+-- how many transactions may be let remain in a script of a version
+abbrev pub greatest_limit : Version → ℕ
+greatest_limit One = 4096
+greatest_limit Two = 4096
+greatest_limit Three = 1048576
+
+-- the version that is told by a number, of 2 and 3
+abbrev pub version_numbered : ℕ → Version
+version_numbered n = if nat_eq n 2 then Two else Three
+
+-- The version of a script, by what stands behind the numbers of its first line: it is 1 where nothing does, and 2 or 3 where that number does.
 abbrev pub version_in : Items → Option Version
 version_in no_items = Some One
-version_in (item version no_items) = option_map (λ n. Two) (number_within 2 2 version)
+version_in (item version no_items) = option_map version_numbered (number_within 2 3 version)
 version_in items = None
 
 -- "snapshot"

@@ -4,7 +4,7 @@ ghost use Rattle.log_text.specs.Numbers.{number_within};
 ghost use Rattle.std.specs.List.{list_any};
 ghost use Rattle.serde_json.specs.Data.{string};
 ghost use Rattle.serde_json.specs.View.{view, items_view};
-ghost use Rattle.log_text.specs.Versions.{has_form, opening_in, promise_of, version_in};
+ghost use Rattle.log_text.specs.Versions.{greatest_limit, has_form, opening_in, promise_of, version_in, version_numbered};
 
 use crate::numbers::number_within;
 use logged_fragments::LoggedFragment;
@@ -16,7 +16,15 @@ pub enum Version {
     One,
     /// In which transactions may be told to have aborted.
     Two,
+    /// As version 2, in which many more transactions may be let remain.
+    Three,
 }
+
+/// How many transactions may be let remain in a script of version 1 or 2.
+const SMALL_LIMIT: u64 = 4096;
+
+/// How many in one of version 3.
+const LARGE_LIMIT: u64 = 1_048_576;
 
 /// Whether one of the transactions is told to have aborted.
 fn tells_abort(flags: &[bool]) -> bool
@@ -41,12 +49,33 @@ impl Version {
     {
         match self {
             Version::One => !tells_abort(logged.aborted.as_slice()),
-            Version::Two => true,
+            Version::Two | Version::Three => true,
+        }
+    }
+
+    /// How many transactions may be let remain in a script of this version.
+    pub fn greatest_limit(self) -> u64
+        ensures { result ≡ greatest_limit self }
+    {
+        match self {
+            Version::One | Version::Two => SMALL_LIMIT,
+            Version::Three => LARGE_LIMIT,
         }
     }
 }
 
-/// The version of a script, by what stands behind the numbers of its first line: nothing, or 2.
+/// The version that is told by a number, of 2 and 3.
+fn version_numbered(number: u64) -> Version
+    ensures { result ≡ version_numbered number }
+{
+    if number == 2 {
+        Version::Two
+    } else {
+        Version::Three
+    }
+}
+
+/// The version of a script, by what stands behind the numbers of its first line: nothing, 2 or 3.
 #[tactic(auto, using(crate::proofs::Arity::version_none))]
 pub fn version_in(behind: &[Value]) -> Option<Version>
     ensures { result ≡ version_in (items_view behind.now) }
@@ -54,8 +83,8 @@ pub fn version_in(behind: &[Value]) -> Option<Version>
     match behind {
         [] => Some(Version::One),
         [version] => {
-            let _ = number_within(2, 2, version)?;
-            Some(Version::Two)
+            let number = number_within(2, 3, version)?;
+            Some(version_numbered(number))
         }
         _ => None,
     }
@@ -90,7 +119,7 @@ fn ordered_in(behind: &[Value]) -> Option<Opening>
     Some(Opening::Ordered(version_in(behind)?))
 }
 
-/// What a script is opened for, by what stands behind the numbers of its first line: nothing, 2, or 2 and "snapshot".
+/// What a script is opened for, by what stands behind the numbers of its first line: nothing, 2, 3, or 2 and "snapshot".
 #[tactic(auto, using(crate::proofs::Arity::ordered_else))]
 pub(crate) fn opening_in(behind: &[Value]) -> Option<Opening>
     ensures { result ≡ opening_in (items_view behind.now) }

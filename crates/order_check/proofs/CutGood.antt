@@ -73,7 +73,7 @@ good_left old new gone last good can cut = record {
   marks = cut.marks_length ∙ good.marks ∙ sym cut.sessions;
   closed = ap length cut.closed ∙ good.closed ∙ sym cut.sessions;
   some_limit = subst (λ limit. 1 ≤ limit) (sym cut.limit) good.some_limit;
-  low_limit = subst (λ limit. limit ≤ 4096) (sym cut.limit) good.low_limit;
+  low_limit = subst (λ limit. limit ≤ 1048576) (sym cut.limit) good.low_limit;
   room = let less = sum_shorter new.remain old.remain cut.sessions shorter in let limit = cut.limit in omega (arith, good.room, less, limit);
   numbers = λ s. let e = as_many s in subst (λ n. n ≤ 2 ^ 48) (sym e) (good.numbers s);
   well_formed = λ s n txn at. subst (λ number. IsWellFormed (record { session = s; number = number }) txn) (place s n) (good.well_formed s (count_in gone s + n) txn (stood old new gone last cut s n txn at));

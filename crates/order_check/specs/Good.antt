@@ -11,9 +11,9 @@ pub record IsGood (parts : Parts) : Type 0 where
   pub few_sessions : length parts.remain ≤ 64
   pub marks : length parts.base.marks ≡ length parts.remain
   pub closed : length parts.closed ≡ length parts.remain
-  -- a limit of 1 to 4,096, and no more remain
+  -- a limit of 1 to 1,048,576, of which an opening may allow less, and no more remain
   pub some_limit : 1 ≤ parts.limit
-  pub low_limit : parts.limit ≤ 4096
+  pub low_limit : parts.limit ≤ 1048576
   pub room : sum_by length parts.remain ≤ parts.limit
   -- transactions are numbered below 2^48
   pub numbers : (s : ℕ) → received_count parts s ≤ 2 ^ 48

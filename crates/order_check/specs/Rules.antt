@@ -8,14 +8,14 @@ use Rattle.txn.specs.Transactions.{IsWellFormed, IsShort}
 use Rattle.order_check.specs.declared.remainder.Parts.{Parts}
 use Rattle.order_check.specs.Based.{mark_of, remaining_of, received_count}
 
--- 1 to 64 sessions, each with a mark and a flag, and a limit of 1 to 4,096
+-- 1 to 64 sessions, each with a mark and a flag, and a limit of 1 to 1,048,576
 pub record HasGoodShape (parts : Parts) : Type 0 where
   pub some_sessions : 1 ≤ length parts.remain
   pub few_sessions : length parts.remain ≤ 64
   pub marks : length parts.base.marks ≡ length parts.remain
   pub closed : length parts.closed ≡ length parts.remain
   pub some_limit : 1 ≤ parts.limit
-  pub low_limit : parts.limit ≤ 4096
+  pub low_limit : parts.limit ≤ 1048576
 
 -- a transaction is well formed as the one with this id, and short
 pub record IsGoodTxn (id : TxnId) (txn : Txn) : Type 0 where

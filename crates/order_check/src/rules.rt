@@ -8,8 +8,8 @@ use txn::{NUMBERS, Txn, TxnId, is_short, is_well_formed};
 /// How many sessions there may be.
 const SESSIONS: usize = 64;
 
-/// How high a limit may be.
-const HIGHEST_LIMIT: u64 = 4096;
+/// How high a limit may be. An opening may allow less.
+const HIGHEST_LIMIT: u64 = 1_048_576;
 
 fn is_good_txn(id: TxnId, txn: &Txn) -> bool
     ensures { IsTrue result ↔ IsGoodTxn id txn.now }

@@ -6,7 +6,6 @@ use Rattle.std.proofs.lemmas.List.{length-take, length-drop, take-take}
 use Rattle.std.proofs.lemmas.List.Elements.{All-take}
 use Rattle.txn.specs.declared.transactions.TxnId.{TxnId}
 use Rattle.txn.specs.declared.choices.Choice.{Choice}
-use Rattle.txn.specs.declared.choices.ForceStep.{ForceStep}
 use Rattle.txn.specs.Choices.{first_side, second_side}
 use Rattle.order_check.specs.declared.remainder.Parts.{Parts}
 use Rattle.order_check.specs.Cycles.{Sides}
@@ -14,12 +13,11 @@ use Rattle.order_check.specs.Known.{Known, IsChoice, IsOpen, AreOpenChoices, by_
 use Rattle.order_check.specs.Search.{Outcome, used_up, Scans}
 use Rattle.order_check.specs.SearchLaws.{ScansAreBounded}
 use Rattle.refutation.specs.Joining.{cube_sides}
-use Rattle.forced_choices.specs.BranchState.{BranchState, assumed}
+use Rattle.clock_choices.specs.BranchState.{BranchState, assumed}
 use Rattle.polygraph.specs.ProblemState.{ProblemState, IsProblem}
 use Rattle.polygraph.specs.declared.solving.Cube.{Cube}
 use Rattle.polygraph.specs.declared.solving.Cube.TheVariants.{Yes, No, Spent}
-use Rattle.polygraph.specs.Noted.{IsAt}
-use Rattle.polygraph.specs.Outcomes.{IsCube, split_choices}
+use Rattle.polygraph.specs.Outcomes.{IsCube, sides_of_cube, split_choices}
 use Rattle.polygraph.specs.Shown.{outcome_of, OrderKeeps, IsAbove}
 use Rattle.polygraph.proofs.Scanned.{assumed_length}
 
@@ -140,25 +138,25 @@ pub split_length : (problem : ProblemState) (depth : ℕ) (is : IsProblem proble
 split_length problem depth is low = ap length (split_is problem depth is low) ∙ length-take depth is.all
 
 -- what is found from a branch at a cube is told of the cube
-pub told_of_cube : (problem : ProblemState) (depth cube share : ℕ) (branch : BranchState) (steps : List ForceStep) (found : Cube) →
-    IsAt problem.known.parts (cube_sides (split_choices problem depth) cube []) branch steps →
+pub told_of_cube : (problem : ProblemState) (depth cube share : ℕ) (branch : BranchState) (found : Cube) →
+    branch.parts ≡ problem.known.parts → assumed branch.levels ≡ sides_of_cube problem depth cube →
     (left : ℕ) × Scans branch.parts (assumed branch.levels) share (outcome_of found) left →
     OrderKeeps (assumed branch.levels) found →
     IsAbove branch.parts (assumed branch.levels) (2 * length branch.levels) 4095 found →
     IsCube problem depth share cube found
-told_of_cube problem depth cube share branch steps found at (left, scans) keeps above = by_kind found (left, here scans) (subst (λ s. OrderKeeps s found) at.sides_of keeps) (moved above)
+told_of_cube problem depth cube share branch found parts_of sides_of (left, scans) keeps above = by_kind found (left, here scans) (subst (λ s. OrderKeeps s found) sides_of keeps) (moved above)
   where
     sides : Sides
     sides = cube_sides (split_choices problem depth) cube []
 
     levels : length branch.levels ≡ length (split_choices problem depth)
-    levels = let a = assumed_length branch.levels in let b = ap length at.sides_of in let c = cube_sides_length (split_choices problem depth) cube [] in omega (arith, a, b, c)
+    levels = let a = assumed_length branch.levels in let b = ap length sides_of in let c = cube_sides_length (split_choices problem depth) cube [] in omega (arith, a, b, c)
 
     here : {n : ℕ} {outcome : Outcome} {left : ℕ} → Scans branch.parts (assumed branch.levels) n outcome left → Scans problem.known.parts sides n outcome left
-    here {n} {outcome} {left} h = subst (λ s. Scans problem.known.parts s n outcome left) at.sides_of (subst (λ p. Scans p (assumed branch.levels) n outcome left) at.parts_of h)
+    here {n} {outcome} {left} h = subst (λ s. Scans problem.known.parts s n outcome left) sides_of (subst (λ p. Scans p (assumed branch.levels) n outcome left) parts_of h)
 
     moved : IsAbove branch.parts (assumed branch.levels) (2 * length branch.levels) 4095 found → IsAbove problem.known.parts sides (2 * length (split_choices problem depth)) 4095 found
-    moved h = subst (λ n. IsAbove problem.known.parts sides (2 * n) 4095 found) levels (subst (λ s. IsAbove problem.known.parts s (2 * length branch.levels) 4095 found) at.sides_of (subst (λ p. IsAbove p (assumed branch.levels) (2 * length branch.levels) 4095 found) at.parts_of h))
+    moved h = subst (λ n. IsAbove problem.known.parts sides (2 * n) 4095 found) levels (subst (λ s. IsAbove problem.known.parts s (2 * length branch.levels) 4095 found) sides_of (subst (λ p. IsAbove p (assumed branch.levels) (2 * length branch.levels) 4095 found) parts_of h))
 
     by_kind : (f : Cube) → (left : ℕ) × Scans problem.known.parts sides share (outcome_of f) left → OrderKeeps sides f → IsAbove problem.known.parts sides (2 * length (split_choices problem depth)) 4095 f → IsCube problem depth share cube f
     by_kind (Yes order) finds keeps h = (finds, h, keeps)

@@ -1,13 +1,14 @@
 ghost use Rattle.std.specs.Prelude.{◌≡◌, ℕ, ◌+◌, IfOk, List};
 ghost use Rattle.txn.specs.declared.transactions.TxnId.{TxnId};
-ghost use Rattle.order_check.specs.declared.remainder.Parts as PartsState;
-ghost use Rattle.order_check.specs.Cycles.{AreForced, sides_after};
+ghost use Rattle.clock_choices.specs.BranchState.{assumed, all_taken, taken_before};
 ghost use Rattle.polygraph.specs.Shown.{outcome_of, OrderKeeps, told_of, StandsAbove};
 
 use crate::solving::Cube;
+use crate::steps::{below_all, below_last};
+use clock_choices::Branch;
 use refutation::Pruned;
 use std::alloc::Global;
-use txn::{ForceStep, NoMemory, Sequence, TxnId};
+use txn::{NoMemory, Sequence, TxnId};
 
 /// What a search of a node finds.
 #[derive(Drop)]
@@ -33,14 +34,27 @@ impl Found {
     }
 }
 
-/// What was found, a tree below a node of those of these steps that it needs.
-pub fn above_steps(alloc: Global, steps: &[ForceStep], found: Found) -> Result<Found, NoMemory>
+/// What was found, a tree below a node of those of the branch's last steps that it needs.
+pub fn above_last(alloc: Global, branch: &Branch, found: Found) -> Result<Found, NoMemory>
     ensures kind { IfOk result (λ whole. outcome_of (told_of whole) ≡ outcome_of (told_of found)) }
     ensures sides { IfOk result (λ whole. (sides : List (TxnId × TxnId)) → OrderKeeps sides (told_of found) → OrderKeeps sides (told_of whole)) }
-    ensures above { IfOk result (λ whole. (parts : PartsState.Parts) (taken : List (TxnId × TxnId)) (more most : ℕ) → AreForced parts taken steps.now → StandsAbove parts (sides_after taken steps.now) more most found → StandsAbove parts taken more (most + 1) whole) }
+    ensures above { IfOk result (λ whole. (more most : ℕ) → StandsAbove branch.now.parts (all_taken branch.now.log branch.now.levels) more most found → StandsAbove branch.now.parts (taken_before branch.now.log branch.now.levels) more (most + 1) whole) }
 {
     match found {
-        Found::No(pruned) => Ok(Found::No(Pruned::above(alloc, steps, pruned)?)),
+        Found::No(pruned) => Ok(Found::No(below_last(alloc, branch, pruned)?)),
+        found => Ok(found),
+    }
+}
+
+/// What was found, a tree below a node of those of all the branch's steps that it needs. Where there
+/// is a tree, all sides are taken back.
+pub fn above_all(alloc: Global, branch: &mut Branch, found: Found) -> Result<Found, NoMemory>
+    ensures kind { IfOk result (λ whole. outcome_of (told_of whole) ≡ outcome_of (told_of found)) }
+    ensures sides { IfOk result (λ whole. (sides : List (TxnId × TxnId)) → OrderKeeps sides (told_of found) → OrderKeeps sides (told_of whole)) }
+    ensures above { IfOk result (λ whole. (more most : ℕ) → StandsAbove branch.old.parts (all_taken branch.old.log branch.old.levels) more most found → StandsAbove branch.old.parts (assumed branch.old.levels) more (most + 1) whole) }
+{
+    match found {
+        Found::No(pruned) => Ok(Found::No(below_all(alloc, branch, pruned)?)),
         found => Ok(found),
     }
 }

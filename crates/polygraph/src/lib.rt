@@ -5,12 +5,12 @@ mod bad_reads;
 mod cubes;
 mod found;
 mod nodes;
-mod noted;
 mod ordering;
 mod problems;
 mod scanning;
 mod single;
 mod solving;
+mod steps;
 mod stopping;
 
 pub use problems::Problem;

@@ -6,14 +6,14 @@ ghost use Rattle.order_check.specs.Explains.{Explains};
 ghost use Rattle.order_check.specs.Known.{IsChoice, IsOpen};
 ghost use Rattle.order_check.specs.Search.{Scans, IsHopeless, IsFirstOpen};
 ghost use Rattle.order_check.specs.TakenSides.{KeepsSides};
-ghost use Rattle.forced_choices.specs.BranchState.{arc_of, assumed};
+ghost use Rattle.clock_choices.specs.BranchState.{arc_of, assumed};
 ghost use Rattle.polygraph.specs.Shown.{IsBadRead, IsClosedBy, outcome_of, OrderKeeps, told_of, IsShown, IsShownBeyond};
 
 use crate::bad_reads::{BadRead, leaf_of};
-use crate::found::{Found, above_steps};
+use crate::found::{Found, above_last};
 use crate::nodes::Nodes;
 use crate::ordering::order_of;
-use forced_choices::Branch;
+use clock_choices::Branch;
 use order_check::keeping_explains;
 use refutation::{Leaf, Pruned};
 use std::alloc::Global;
@@ -73,7 +73,7 @@ fn scan_side(
 {
     branch.assume(alloc, choice, side)?;
     let found = scan(alloc, branch, bad, nodes)?;
-    let found = above_steps(alloc, branch.steps(), found)?;
+    let found = above_last(alloc, branch, found)?;
     branch.back();
     Ok(found)
 }

@@ -96,7 +96,7 @@ pub fn solve_cube(
     scans_are_bounded();
     problem.go_on()?;
     let choices = problem.choices(depth);
-    let (mut branch, steps) = branch_at(alloc, problem.known(), choices, cube)?;
-    let found = search(alloc, &mut branch, steps.as_slice(), share, problem)?;
+    let mut branch = branch_at(alloc, problem.known(), choices, cube)?;
+    let found = search(alloc, &mut branch, share, problem)?;
     Ok(found)
 }

@@ -1,6 +1,6 @@
 -- What is kept of a tree refutes where the sides that it uses are taken.
-use Rattle.std.proofs.Common.{ℕ, Bool, true, ◌==◌, ◌≡◌, ◌≢◌, ◌⊎◌, ◌↔◌, ◌∙◌, List, [], ◌∷◌, ◌++◌, length, Some, None, refl, sym, ap, subst, inl, inr, zero, suc, arith}
-use Rattle.std.proofs.lemmas.Bool.{eqb-true}
+use Rattle.std.proofs.Common.{ℕ, ◌+◌, ◌<◌, get_or, reverse, take, ◌≡◌, ◌≢◌, ◌⊎◌, ◌↔◌, ◌∙◌, List, [], ◌∷◌, ◌++◌, length, Some, None, refl, sym, ap, subst, inl, inr, zero, suc, arith}
+use Rattle.std.proofs.Math.Seq.{take-suc}
 use Rattle.std.specs.Prelude.{Contains}
 use Rattle.txn.specs.declared.transactions.TxnId.{TxnId}
 use Rattle.txn.specs.declared.choices.Arc.{Arc}
@@ -12,7 +12,9 @@ use Rattle.txn.specs.Choices.{first_side, second_side}
 use Rattle.order_check.specs.declared.remainder.Parts.{Parts}
 use Rattle.order_check.specs.Cycles.{Sides, IsArc, IsPath, IsCycle, IsForced, side_taken, side_not_taken, AreForced, sides_after}
 use Rattle.order_check.specs.Known.{IsChoice}
+use Rattle.refutation.specs.declared.above.Above.{Above}
 use Rattle.refutation.specs.declared.pruned.Pruned.{Pruned}
+use Rattle.refutation.specs.Above.{StandsBelow}
 use Rattle.refutation.specs.declared.trees.Tree.{Tree}
 use Rattle.refutation.specs.Pruned.{AreAmong, UseSide, Stands}
 use Rattle.refutation.specs.Refutes.{Refutes}
@@ -67,32 +69,33 @@ cycle_takes : (parts : Parts) (taken : Sides) (arcs : List Arc) → IsCycle part
 cycle_takes parts taken [] h = absurd h
 cycle_takes parts taken (arc ∷ arcs) h = path_takes parts taken (start_of arc) (arc ∷ arcs) (start_of arc) h
 
--- what stands behind a step is right without the step where its side isn't used
-pub skips_step : (parts : Parts) (before all used left : Sides) (step : ForceStep) (kept : List ForceStep) → ¬ Contains used (side_taken step) →
-    ((other : TxnId × TxnId) → Contains left other ↔ (Contains used other × (other ≢ side_taken step))) →
-    AreAmong used (side_taken step ∷ before) → AreForced parts used kept → AreAmong all (sides_after used kept) →
-    AreAmong left before × AreForced parts left kept × AreAmong all (sides_after left kept)
-skips_step parts before all used left step kept unused others among forced behind = (
-  λ side has. let h = (others side).0 has in not_first (side_taken step) before side h.1 (among side h.0),
-  forced_more parts used left kept stay forced,
-  λ side has. after_more used left kept stay side (behind side has),
-)
-  where
-    stay : AreAmong used left
-    stay side has = (others side).1 (has, λ same. unused (subst (λ s. Contains used s) same has))
+-- what stands below steps stands without one more whose side isn't used
+pub skips_step : (parts : Parts) (before : Sides) (step : ForceStep) (above : Above) → ¬ Contains above.used (side_taken step) →
+    StandsBelow parts (side_taken step ∷ before) above → StandsBelow parts before above
+skips_step parts before step above unused stands = record {
+  forced = stands.forced;
+  right = stands.right;
+  among = λ side has. not_first (side_taken step) before side (λ same. unused (subst (λ s. Contains above.used s) same has)) (stands.among side has);
+}
 
--- a step whose side is used stands before them, and the sides of its cycle are used above it
-pub keeps_step : (parts : Parts) (before all used left new : Sides) (step : ForceStep) (kept : List ForceStep) →
-    ((other : TxnId × TxnId) → Contains left other ↔ (Contains used other × (other ≢ side_taken step))) →
-    Notes left new step.cycle (Some (side_not_taken step)) →
-    IsForced parts before step → AreAmong used (side_taken step ∷ before) → AreForced parts used kept → AreAmong all (sides_after used kept) →
-    AreAmong new before × AreForced parts new (step ∷ kept) × AreAmong all (sides_after new (step ∷ kept))
-keeps_step parts before all used left new step kept others notes is among forced behind = (
-  within,
-  ((is.0, cycle_used parts (against ∷ before) (against ∷ new) step.cycle in_cycle is.1), forced_more parts used (side ∷ new) kept stay forced),
-  λ other has. after_more used (side ∷ new) kept stay other (behind other has),
-)
+-- a step stands before them, and the sides of its cycle are used above it
+pub puts_step : (parts : Parts) (before left : Sides) (step : ForceStep) (old after : Above) →
+    after.tree ≡ old.tree → reverse after.steps.items ≡ step ∷ reverse old.steps.items →
+    ((other : TxnId × TxnId) → Contains left other ↔ (Contains old.used other × (other ≢ side_taken step))) →
+    Notes left after.used step.cycle (Some (side_not_taken step)) →
+    IsForced parts before step → StandsBelow parts (side_taken step ∷ before) old → StandsBelow parts before after
+puts_step parts before left step old after same_tree steps others notes is stands = record {
+  forced = subst (λ steps. AreForced parts new steps) (sym steps) ((is.0, cycle_used parts (against ∷ before) (against ∷ new) step.cycle in_cycle is.1), forced_more parts old.used (side ∷ new) kept stay stands.forced);
+  right = subst (λ steps. Refutes parts after.tree (sides_after new steps)) (sym steps) (subst (λ tree. Refutes parts tree (sides_after (side ∷ new) kept)) (sym same_tree) (refutes_more parts old.tree (sides_after old.used kept) (sides_after (side ∷ new) kept) (after_more old.used (side ∷ new) kept stay) stands.right));
+  among = within;
+}
   where
+    new : Sides
+    new = after.used
+
+    kept : List ForceStep
+    kept = reverse old.steps.items
+
     side : TxnId × TxnId
     side = side_taken step
 
@@ -103,10 +106,10 @@ keeps_step parts before all used left new step kept others notes is among forced
     within other has = by_case ((notes other).0 has)
       where
         by_case : Contains left other ⊎ (UseSide step.cycle other × (Some against ≢ Some other)) → Contains before other
-        by_case (inl h) = let k = (others other).0 h in not_first side before other k.1 (among other k.0)
+        by_case (inl h) = let k = (others other).0 h in not_first side before other k.1 (stands.among other k.0)
         by_case (inr (uses, apart)) = not_first against before other (λ same. apart (ap Some (sym same))) (cycle_takes parts (against ∷ before) step.cycle is.1 other uses)
 
-    stay : AreAmong used (side ∷ new)
+    stay : AreAmong old.used (side ∷ new)
     stay other has = by_case (same_or_not other side)
       where
         by_case : (other ≡ side) ⊎ (other ≢ side) → Contains (side ∷ new) other
@@ -128,24 +131,24 @@ last_forced : (parts : Parts) (taken : Sides) (before : List ForceStep) (step : 
 last_forced parts taken [] step h = (tt, h.0)
 last_forced parts taken (x ∷ before) step h = let rest = last_forced parts (side_taken x ∷ taken) before step h.1 in ((h.0, rest.0), rest.1)
 
--- the last of the steps left is looked at
-pub turn_kept : (parts : Parts) (taken all used new : Sides) (before left : List ForceStep) (step : ForceStep) (kept more : List ForceStep) → left ≡ before ++ step ∷ [] →
-    ((parts : Parts) (before all : Sides) → IsForced parts before step → AreAmong used (side_taken step ∷ before) → AreForced parts used kept → AreAmong all (sides_after used kept) →
-    AreAmong new before × AreForced parts new more × AreAmong all (sides_after new more)) →
-    AreForced parts taken left × AreAmong used (sides_after taken left) × AreForced parts used kept × AreAmong all (sides_after used kept) →
-    AreForced parts taken before × AreAmong new (sides_after taken before) × AreForced parts new more × AreAmong all (sides_after new more)
-turn_kept parts taken all used new before left step kept more is turn (forced, among, right, behind) =
-    let here = last_forced parts taken before step (subst (λ steps. AreForced parts taken steps) is forced) in
-    let e : sides_after taken left ≡ side_taken step ∷ sides_after taken before = ap (sides_after taken) is ∙ after_both taken before (step ∷ []) in
-    let next = turn parts (sides_after taken before) all here.1 (subst (λ sides. AreAmong used sides) e among) right behind in
-    (here.0, next.0, next.1, next.2)
+-- the first of some forced steps are forced
+first_forced : (parts : Parts) (taken : Sides) (steps : List ForceStep) (n : ℕ) → AreForced parts taken steps → AreForced parts taken (take n steps)
+first_forced parts taken steps zero h = tt
+first_forced parts taken [] (suc n) h = tt
+first_forced parts taken (step ∷ steps) (suc n) h = (h.0, first_forced parts (side_taken step ∷ taken) steps n h.1)
 
--- no step is left
-pub all_kept : (parts : Parts) (taken all used : Sides) (left kept items : List ForceStep) → length left ≡ 0 → items ≡ kept →
-    AreForced parts taken left × AreAmong used (sides_after taken left) × AreForced parts used kept × AreAmong all (sides_after used kept) →
-    AreAmong used taken × AreForced parts used items × AreAmong all (sides_after used items)
-all_kept parts taken all used [] kept items none is (forced, among, right, behind) = subst (λ steps. AreAmong used taken × AreForced parts used steps × AreAmong all (sides_after used steps)) (sym is) (among, right, behind)
-all_kept parts taken all used (step ∷ left) kept items none is h = absurd (omega (arith, none))
+-- one more step is looked at, the last of those left
+pub turn_put : (parts : Parts) (taken : Sides) (steps : List ForceStep) (place top : ℕ) (step : ForceStep) (old after : Above) → top ≡ place + 1 → place < length steps → step ≡ get_or steps place step →
+    ((parts : Parts) (before : Sides) → IsForced parts before step → StandsBelow parts (side_taken step ∷ before) old → StandsBelow parts before after) →
+    AreForced parts taken steps → StandsBelow parts (sides_after taken (take top steps)) old → StandsBelow parts (sides_after taken (take place steps)) after
+turn_put parts taken steps place top step old after next within is turn forced stands =
+    let before : List ForceStep = take place steps in
+    let one : suc place ≡ top = omega (arith, next) in
+    let whole : take top steps ≡ before ++ get_or steps place step ∷ [] = subst (λ n. take n steps ≡ before ++ get_or steps place step ∷ []) one (take-suc steps place step within) in
+    let e : take top steps ≡ before ++ step ∷ [] = whole ∙ ap (λ s. before ++ s ∷ []) (sym is) in
+    let last = last_forced parts taken before step (subst (λ xs. AreForced parts taken xs) e (first_forced parts taken steps top forced)) in
+    let sides : sides_after taken (take top steps) ≡ side_taken step ∷ sides_after taken before = ap (sides_after taken) e ∙ after_both taken before (step ∷ []) in
+    turn parts (sides_after taken before) last.1 (subst (λ sides. StandsBelow parts sides old) sides stands)
 
 -- the sides that a leaf uses
 pub cycle_uses : (parts : Parts) (taken used : Sides) (arcs : List Arc) → Notes [] used arcs None → IsCycle parts taken arcs → IsCycle parts used arcs × AreAmong used taken
@@ -160,15 +163,6 @@ cycle_uses parts taken used arcs notes h = (cycle_used parts taken used arcs in_
         by_case : Contains [] side ⊎ (UseSide arcs side × (None ≢ Some side)) → Contains taken side
         by_case (inl (k, within, is)) = absurd (omega arith)
         by_case (inr (uses, _)) = cycle_takes parts taken arcs h side uses
-
--- the kept steps stand above the rest
-pub above_steps : (parts : Parts) (taken used : Sides) (steps kept : List ForceStep) (rest : Pruned) →
-    ((parts : Parts) (taken : Sides) → AreForced parts taken steps → AreAmong rest.used (sides_after taken steps) → AreAmong used taken × AreForced parts used kept × AreAmong rest.used (sides_after used kept)) →
-    AreForced parts taken steps → Stands parts (sides_after taken steps) rest →
-    AreAmong used taken × AreForced parts used kept × Refutes parts rest.tree (sides_after used kept)
-above_steps parts taken used steps kept rest law forced stands =
-    let here = law parts taken forced stands.among in
-    (here.0, here.1, refutes_more parts rest.tree rest.used (sides_after used kept) here.2 stands.right)
 
 -- a tree that doesn't use a side stands without it
 pub stands_alone : (parts : Parts) (taken : Sides) (side : TxnId × TxnId) (pruned : Pruned) → ¬ Contains pruned.used side → Stands parts (side ∷ taken) pruned → Stands parts taken pruned
@@ -209,7 +203,3 @@ stands_split parts taken one other both choice first second ones others united i
         by_case : Contains one side ⊎ Contains other side → Contains taken side
         by_case (inl h) = let k = (ones side).0 h in not_first (first_side choice) taken side k.1 (left.among side k.0)
         by_case (inr h) = let k = (others side).0 h in not_first (second_side choice) taken side k.1 (right.among side k.0)
-
-pub is_none : (steps : List ForceStep) (n : ℕ) (is_empty : Bool) → length steps ≡ n → is_empty ≡ (n == 0) → is_empty ≡ true → steps ≡ []
-is_none [] n b long h yes' = refl
-is_none (step ∷ steps) n b long h yes' = absurd (omega (arith, long, eqb-true n 0 (sym h ∙ yes')))

@@ -12,7 +12,6 @@ use Rattle.std.specs.Cmp.{IsTotalOrder}
 use Rattle.std.specs.BTreeMap.{is_at}
 use Rattle.std.specs.BTreeSet.{BTreeSet, contains, Updates}
 use Rattle.txn.specs.declared.transactions.TxnId.{TxnId}
-use Rattle.txn.specs.contracts.transactions.TxnIdOrd.TheImpl as id_ord
 use Rattle.txn.specs.contracts.transactions.TxnIdOrd.TheImpl.Laws.{total-law}
 use Rattle.txn.proofs.Ids.{id_cmp}
 

@@ -1,6 +1,7 @@
 //! Trees that show that no order explains parts, and their checker.
 #![tactic(auto)]
 
+mod above;
 mod arcs;
 mod checking;
 mod joining;
@@ -12,11 +13,12 @@ mod steps;
 mod trees;
 mod used;
 
+pub use above::Above;
 pub use checking::{check, check_front};
 pub use joining::join;
 pub use laws::{
-    after_both, after_more, forced_both, forced_with_more, joined_depth, joined_trees_refute,
-    refuted_has_no_order, refutes_with_more,
+    after_both, forced_with_more, joined_depth, joined_trees_refute, refuted_has_no_order,
+    refutes_with_more,
 };
 pub use pruned::Pruned;
 pub use shortening::shortened;

@@ -5,14 +5,16 @@ ghost use Rattle.order_check.specs.declared.remainder.Parts.{Parts};
 ghost use Rattle.order_check.specs.Cycles.{IsForced, AreForced, sides_after, side_taken};
 ghost use Rattle.order_check.specs.Known.{IsChoice};
 ghost use Rattle.refutation.specs.declared.trees.Tree.{Close};
+ghost use Rattle.refutation.specs.Above.{StandsBelow};
 ghost use Rattle.refutation.specs.Pruned.{AreAmong, Stands};
 ghost use Rattle.refutation.specs.Refutes.{IsClosed, depth_of};
 
-use crate::steps::{first_side, second_side, side_not_taken, side_taken};
+use crate::above::Above;
+use crate::steps::{first_side, second_side};
 use crate::trees::{Leaf, Tree};
 use crate::used::UsedSides;
 use std::alloc::Global;
-use txn::{Choice, ForceStep, NoMemory, Sequence, TxnId};
+use txn::{Choice, ForceStep, NoMemory, TxnId};
 
 /// A tree that takes no side that none of its cycles uses, with the sides that have to be taken above it.
 #[derive(Drop)]
@@ -32,47 +34,15 @@ fn copy_of_step(step: &ForceStep) -> Result<ForceStep, NoMemory>
     })
 }
 
-/// Keeps the step if its side is used behind it. What is kept stands the last one first.
-fn keep_used(
-    step: &ForceStep,
-    used: &mut UsedSides,
-    kept: &mut Vec<ForceStep>,
-) -> Result<(), NoMemory>
-    ensures { OnOk result ((parts : Parts) (before all : List (TxnId × TxnId)) → IsForced parts before step.now → AreAmong used.old (side_taken step.now ∷ before) → AreForced parts used.old (reverse kept.old.items) → AreAmong all (sides_after used.old (reverse kept.old.items))
-        → AreAmong used.new before × AreForced parts used.new (reverse kept.new.items) × AreAmong all (sides_after used.new (reverse kept.new.items))) }
+/// Puts the step before those that are there, if its side is used behind it.
+fn put_used(above: &mut Above, step: &ForceStep) -> Result<(), NoMemory>
+    ensures stands { OnOk result ((parts : Parts) (before : List (TxnId × TxnId)) → IsForced parts before step.now → StandsBelow parts (side_taken step.now ∷ before) above.old → StandsBelow parts before above.new) }
+    ensures tree { OnOk result (above.new.tree ≡ above.old.tree) }
 {
-    if used.remove(side_taken(step)) {
-        used.add_arcs(step.cycle.as_slice(), Some(side_not_taken(step)))?;
-        kept.push(copy_of_step(step)?)?;
+    if above.needs(step.choice, step.side) {
+        above.put(copy_of_step(step)?)?;
     }
     Ok(())
-}
-
-/// The steps the other way round.
-fn turned(steps: Vec<ForceStep>) -> Vec<ForceStep>
-    ensures { result.items ≡ reverse steps.items }
-{
-    let mut steps = steps;
-    steps.as_mut_slice().reverse();
-    steps
-}
-
-/// The steps whose sides are used behind them.
-fn used_steps(
-    alloc: Global,
-    steps: &[ForceStep],
-    used: &mut UsedSides,
-) -> Result<Vec<ForceStep>, NoMemory>
-    ensures { IfOk result (λ kept. (parts : Parts) (taken : List (TxnId × TxnId)) → AreForced parts taken steps.now → AreAmong used.old (sides_after taken steps.now)
-        → AreAmong used.new taken × AreForced parts used.new kept.items × AreAmong used.old (sides_after used.new kept.items)) }
-{
-    let mut kept = Vec::new(alloc);
-    let mut left = steps;
-    while let Some((step, before)) = left.split_last() {
-        keep_used(step, used, &mut kept)?;
-        left = before;
-    }
-    Ok(turned(kept))
 }
 
 /// The sides that the leaf's cycle uses.
@@ -105,16 +75,11 @@ impl Pruned {
         ensures stands { IfOk result (λ whole. (parts : Parts) (taken : List (TxnId × TxnId)) → AreForced parts taken steps.now → Stands parts (sides_after taken steps.now) rest → Stands parts taken whole) }
         ensures depth { IfOk result (λ whole. depth_of whole.tree ≤ depth_of rest.tree + 1) }
     {
-        let Pruned { tree, mut used } = rest;
-        let kept = used_steps(alloc, steps, &mut used)?;
-        if kept.is_empty() {
-            return Ok(Pruned { tree, used });
+        let mut above = Above::of(alloc, rest);
+        for place in (0..steps.len()).rev() {
+            put_used(&mut above, &steps[place])?;
         }
-        let tree = Tree::Force {
-            steps: Sequence::new(kept),
-            rest: Box::new(alloc, tree)?,
-        };
-        Ok(Pruned { tree, used })
+        above.end(alloc)
     }
 
     /// Whether a cycle of the tree uses the side.

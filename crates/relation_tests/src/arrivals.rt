@@ -3,13 +3,16 @@ ghost use Rattle.std.specs.Prelude.{◌≡◌, ◌<◌, length, IfOk, OnOk};
 ghost use Rattle.order_check.specs.Based.{received_count};
 ghost use Rattle.order_check.specs.Good.{IsGood};
 ghost use Rattle.order_check.specs.StandsFor.{parts_with};
-ghost use Rattle.forced_choices.specs.SaturatedState.{fragment_of};
+ghost use Rattle.clock_choices.specs.SaturatedState.{fragment_of};
 
-use forced_choices::Saturated;
+use clock_choices::Saturated;
 use order_check::Parts;
 use std::alloc::Global;
 use std::process::Abort;
 use txn::{Fragment, NoMemory, Sequence, Txn, TxnId};
+
+/// A session, and how many transactions of it come together.
+pub type Turn = (u8, u64);
 
 pub fn saturated_of(rt: &impl Abort, alloc: Global, parts: &Parts) -> Result<Saturated, NoMemory>
     ensures { IfOk result (λ saturated. saturated.parts ≡ parts.now) }
@@ -64,7 +67,7 @@ fn may_come(rt: &impl Abort, saturated: &Saturated, fragment: &Fragment) -> Resu
     Ok(())
 }
 
-pub fn add_all(
+fn add_all(
     rt: &impl Abort,
     alloc: Global,
     saturated: &mut Saturated,
@@ -86,4 +89,44 @@ pub fn add(
     let fragment = alone(alloc, id, txn)?;
     may_come(rt, saturated, &fragment)?;
     saturated.add(alloc, id, txn)
+}
+
+/// What comes next of a session, at most so many transactions.
+fn next_of(
+    alloc: Global,
+    whole: &Parts,
+    saturated: &Saturated,
+    turn: Turn,
+) -> Result<Fragment, NoMemory> {
+    let (session, count) = turn;
+    let first = saturated.parts().received_count(session);
+    let mut txns = Vec::new(alloc);
+    for ahead in 0..count {
+        let number = first.wrapping_add(ahead);
+        if let Some(txn) = whole.remaining_at(TxnId { session, number }) {
+            txns.push(txn.clone()?)?;
+        }
+    }
+    Ok(Fragment {
+        session,
+        first,
+        txns: Sequence::new(txns),
+    })
+}
+
+/// Adds what comes next of a session: one transaction, or several together.
+pub fn give(
+    rt: &impl Abort,
+    alloc: Global,
+    whole: &Parts,
+    saturated: &mut Saturated,
+    turn: Turn,
+) -> Result<(), NoMemory> {
+    let fragment = next_of(alloc, whole, saturated, turn)?;
+    let (session, number) = (fragment.session, fragment.first);
+    match fragment.txns.as_slice() {
+        [] => Ok(()),
+        [txn] => add(rt, alloc, saturated, TxnId { session, number }, txn),
+        _ => add_all(rt, alloc, saturated, &fragment),
+    }
 }

@@ -1,6 +1,6 @@
 //! Chains of fences, and what stands in front of one.
+use clock_choices::Saturated;
 use fence_chain::{chain, ids_in_front};
-use forced_choices::Saturated;
 use std::alloc::Global;
 use std::process::Abort;
 use std::test::Fail;

@@ -7,7 +7,7 @@ ghost use Rattle.settle.specs.Found.{IsFound};
 use crate::arrivals::{add, saturated_of};
 use crate::cuts::cut_past;
 use crate::relations::cut_behind;
-use forced_choices::Saturated;
+use clock_choices::Saturated;
 use order_check::{Parts, fragment_keeps_front, front_of_itself};
 use polygraph::Problem;
 use settle::Cut;

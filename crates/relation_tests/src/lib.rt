@@ -4,7 +4,11 @@
 #[cfg(test)]
 mod arrivals;
 #[cfg(test)]
+mod copies;
+#[cfg(test)]
 mod cuts;
+#[cfg(test)]
+mod defined;
 #[cfg(test)]
 mod fences;
 #[cfg(test)]
@@ -18,4 +22,8 @@ mod settled;
 #[cfg(test)]
 mod sides;
 #[cfg(test)]
+mod steps;
+#[cfg(test)]
 mod turned;
+#[cfg(test)]
+mod walks;

@@ -1,7 +1,7 @@
 //! The known relation of four transactions, in each order in which they may arrive.
 use crate::arrivals::saturated_of;
 use crate::turned::give;
-use forced_choices::Saturated;
+use clock_choices::Saturated;
 use order_check::Parts;
 use std::alloc::Global;
 use std::process::Abort;

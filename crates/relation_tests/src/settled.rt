@@ -2,7 +2,7 @@
 ghost use Rattle.std.specs.Prelude.{OnOk};
 ghost use Rattle.order_check.specs.Explains.{Explains};
 
-use forced_choices::Saturated;
+use clock_choices::Saturated;
 use order_check::explains;
 use polygraph::Problem;
 use settle::{Cut, find};

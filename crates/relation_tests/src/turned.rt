@@ -1,7 +1,7 @@
 //! Transactions that come before those that they read from, and late reads of the initial state, one by one: what is known then is what
 //! is known of the whole.
 use crate::arrivals::{add, saturated_of};
-use forced_choices::Saturated;
+use clock_choices::Saturated;
 use order_check::Parts;
 use std::alloc::Global;
 use std::process::Abort;

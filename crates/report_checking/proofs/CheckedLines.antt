@@ -11,13 +11,13 @@ use Rattle.byte_lines.specs.declared.lines.Next.{Next}
 use Rattle.byte_lines.specs.declared.lines.Next.TheVariants.{Line, TooLong, End}
 use Rattle.byte_lines.specs.LineReaders.{LineState, lines_ahead, IsNextOf}
 use Rattle.byte_lines.specs.Lines.{lines}
-use Rattle.round_state.specs.Opening.{IsSessions, IsLimit, fresh_state}
+use Rattle.round_state.specs.Opening.{IsSessions, fresh_state}
 use Rattle.round_state.specs.EngineState.{EngineState}
 use Rattle.round_state.specs.Legal.{State}
 use Rattle.round_state.specs.Runs.{Holds}
 use Rattle.snapshot_scripts.specs.Legal.{HoldsSplit}
 use Rattle.cobra.specs.Outputs.{Asks, IsTold}
-use Rattle.cobra.specs.Scripts.{IsIsolatedLimit}
+use Rattle.cobra.specs.Scripts.{IsIsolatedLimit, IsVersionLimit}
 use Rattle.report_checking.specs.Checking.{TakesMemory, Checks, start, right, unchecked}
 use Rattle.report_checking.specs.OwedLines.{Owes, OwesIn, ScriptState}
 use Rattle.report_checking.specs.Reading.{HoldsScript, LeadsScript, MayGoOn, IsRead, Finds, FindsFor, FindsNext, IsFoundBy, IsFine, IsChecking, LeadsOn, Advances}
@@ -31,13 +31,13 @@ use Rattle.report_checking.specs.declared.checking.TheConstants.{LONGEST_REPLY}
 use Rattle.report_checking.specs.declared.findings.Owed.TheVariants as owed
 
 -- None was open, and the first one is.
-opened_by : (engine : EngineState) (sessions limit : ℕ) (version : Version) → Holds engine (fresh_state sessions limit) → IsSessions sessions × IsLimit limit
+opened_by : (engine : EngineState) (sessions limit : ℕ) (version : Version) → Holds engine (fresh_state sessions limit) → IsSessions sessions × IsVersionLimit version limit
     → LeadsScript None (Some (record { engine = engine; opening = Ordered version; searched = false })) (λ before after. Owes before (Start sessions limit version) told.Done after)
 opened_by engine sessions limit version holds numbers None first =
     (Some (record { state = fresh_state sessions limit; opening = Ordered version; searched = false }), (numbers.0, numbers.1, refl), (holds, refl, refl))
 opened_by engine sessions limit version holds numbers (Some before) first = absurd first
 
-pub opened : (old : Option OpenScript) (engine : EngineState) (sessions limit : ℕ) (version : Version) → old ≡ None → Holds engine (fresh_state sessions limit) → IsSessions sessions × IsLimit limit
+pub opened : (old : Option OpenScript) (engine : EngineState) (sessions limit : ℕ) (version : Version) → old ≡ None → Holds engine (fresh_state sessions limit) → IsSessions sessions × IsVersionLimit version limit
     → LeadsScript old (Some (record { engine = engine; opening = Ordered version; searched = false })) (λ before after. Owes before (Start sessions limit version) told.Done after)
 opened old engine sessions limit version none holds numbers =
     subst (λ (o : Option OpenScript). LeadsScript o (Some (record { engine = engine; opening = Ordered version; searched = false })) (λ before after. Owes before (Start sessions limit version) told.Done after)) (sym none)

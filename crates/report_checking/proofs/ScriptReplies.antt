@@ -8,6 +8,7 @@ use Rattle.order_check.specs.declared.remainder.Parts.{Parts}
 use Rattle.log_text.specs.Commands.{Says}
 use Rattle.log_text.specs.ReadBack.{IsSameShown}
 use Rattle.log_text.specs.Replies.{text_of}
+use Rattle.log_text.specs.Versions.{greatest_limit}
 use Rattle.log_text.specs.declared.commands.Command.{Command}
 use Rattle.log_text.specs.declared.commands.Command.TheVariants as command
 use Rattle.log_text.specs.declared.replies.Reply.{Reply}
@@ -21,7 +22,7 @@ use Rattle.log_text.specs.declared.versions.Version.TheVariants.{Two}
 use Rattle.byte_lines.specs.declared.lines.Next.{Next}
 use Rattle.round_state.specs.EngineState.{EngineState}
 use Rattle.round_state.specs.Legal.{State}
-use Rattle.round_state.specs.Opening.{IsSessions, IsLimit, IsOpenRefusal}
+use Rattle.round_state.specs.Opening.{IsSessions}
 use Rattle.round_state.specs.Steps.{StepsTo}
 use Rattle.round_state.specs.declared.reports.Certificate.{Certificate}
 use Rattle.round_state.specs.declared.reports.Certificate.TheVariants.{Order, Refuted, Nothing}
@@ -33,7 +34,7 @@ use Rattle.snapshot_scripts.specs.Isolated.{isolated_of}
 use Rattle.snapshot_scripts.specs.Splitting.{CanBeAsked, IsAskedFault, split_command, split_wanted}
 use Rattle.cobra.specs.Outputs.{Asks, IsTold}
 use Rattle.cobra.specs.Saving.{saved_told}
-use Rattle.cobra.specs.Scripts.{IsIsolatedLimit, IsIsolatedRefusal, state_told}
+use Rattle.cobra.specs.Scripts.{IsBeginningRefusal, IsIsolatedLimit, IsIsolatedRefusal, IsLimitWithin, IsVersionLimit, IsVersionRefusal, state_told}
 use Rattle.cobra.specs.StepReplies.{certified, report_of, reply_of}
 use Rattle.report_checking.specs.Checking.{AsksOfMemory, OpensEngine, TakesMemory, IsUnchecked}
 use Rattle.report_checking.specs.Isolation.{EndsIsolated, IsIsolatedRound, EndsWhere, OwesSplit, OwesAsked, OwesIsolated}
@@ -314,72 +315,55 @@ no_unchecked script old next line stored why holds said is new un = ((is line sa
 
 -- ---- an engine is opened
 
-same_opening : (sessions limit : ℕ) (r q : Refusal) → IsOpenRefusal sessions limit r → IsOpenRefusal sessions limit q → IsOne r q
-same_opening sessions limit NoMemory q a b = inl refl
-same_opening sessions limit r NoMemory a b = inr (inl refl)
-same_opening sessions limit BadSession BadSession a b = inr (inr refl)
-same_opening sessions limit BadSession TooLong a b = absurd (a b.0)
-same_opening sessions limit BadSession q a b = absurd b
-same_opening sessions limit TooLong BadSession a b = absurd (b a.0)
-same_opening sessions limit TooLong TooLong a b = inr (inr refl)
-same_opening sessions limit TooLong q a b = absurd b
-same_opening sessions limit r q a b = absurd a
+same_beginning : (most sessions limit : ℕ) (r q : Refusal) → IsBeginningRefusal most sessions limit r → IsBeginningRefusal most sessions limit q → IsOne r q
+same_beginning most sessions limit NoMemory q a b = inl refl
+same_beginning most sessions limit r NoMemory a b = inr (inl refl)
+same_beginning most sessions limit BadSession BadSession a b = inr (inr refl)
+same_beginning most sessions limit BadSession TooLong a b = absurd (a b.0)
+same_beginning most sessions limit BadSession q a b = absurd b
+same_beginning most sessions limit TooLong BadSession a b = absurd (b a.0)
+same_beginning most sessions limit TooLong TooLong a b = inr (inr refl)
+same_beginning most sessions limit TooLong q a b = absurd b
+same_beginning most sessions limit r q a b = absurd a
 
-opened_anyway : (sessions limit : ℕ) (r : Refusal) → IsSessions sessions → IsLimit limit → IsOpenRefusal sessions limit r → r ≡ NoMemory
-opened_anyway sessions limit BadSession some few is = absurd (is some)
-opened_anyway sessions limit TooLong some few is = absurd (is.1 few)
-opened_anyway sessions limit NoMemory some few is = refl
-opened_anyway sessions limit r some few is = absurd is
+begun_first : (most sessions limit : ℕ) (r : Refusal) → IsSessions sessions → IsLimitWithin most limit → IsBeginningRefusal most sessions limit r → r ≡ NoMemory
+begun_first most sessions limit BadSession some few is = absurd (is some)
+begun_first most sessions limit TooLong some few is = absurd (is.1 few)
+begun_first most sessions limit NoMemory some few is = refl
+begun_first most sessions limit r some few is = absurd is
 
 refused_first : (r q : Refusal) → IsOne r q → (told.No q ≡ told.No NoMemory) ⊎ ((told.No r ≡ told.No NoMemory) ⊎ (told.No r ≡ told.No q))
 refused_first r q (inl is) = inr (inl (ap told.No is))
 refused_first r q (inr (inl is)) = inl (ap told.No is)
 refused_first r q (inr (inr is)) = inr (inr (ap told.No is))
 
-first_done : (sessions limit : ℕ) (version : Version) → IsSessions sessions → IsLimit limit → IsAlone (GivesFirst (command.Start sessions limit version)) (owed.Reply told.Done)
+first_done : (sessions limit : ℕ) (version : Version) → IsSessions sessions → IsVersionLimit version limit → IsAlone (GivesFirst (command.Start sessions limit version)) (owed.Reply told.Done)
 first_done sessions limit version some few told.Done is = inr (inr refl)
-first_done sessions limit version some few (told.No q) is = inl (ap told.No (opened_anyway sessions limit q some few is))
+first_done sessions limit version some few (told.No q) is = inl (ap told.No (begun_first (greatest_limit version) sessions limit q some few is))
 first_done sessions limit version some few answer is = absurd is
 
-first_refused : (sessions limit : ℕ) (version : Version) (r : Refusal) → IsOpenRefusal sessions limit r → IsAlone (GivesFirst (command.Start sessions limit version)) (owed.Reply (told.No r))
-first_refused sessions limit version r why told.Done is = inr (inl (ap told.No (opened_anyway sessions limit r is.0 is.1 why)))
-first_refused sessions limit version r why (told.No q) is = refused_first r q (same_opening sessions limit r q why is)
+first_refused : (sessions limit : ℕ) (version : Version) (r : Refusal) → IsVersionRefusal version sessions limit r → IsAlone (GivesFirst (command.Start sessions limit version)) (owed.Reply (told.No r))
+first_refused sessions limit version r why told.Done is = inr (inl (ap told.No (begun_first (greatest_limit version) sessions limit r is.0 is.1 why)))
+first_refused sessions limit version r why (told.No q) is = refused_first r q (same_beginning (greatest_limit version) sessions limit r q why is)
 first_refused sessions limit version r why answer is = absurd is
 
-pub opened_alone : (old : Option OpenScript) (sessions limit : ℕ) (version : Version) → old ≡ None → IsSessions sessions × IsLimit limit → IsAlone (GivesScript old (command.Start sessions limit version)) (owed.Reply told.Done)
+pub opened_alone : (old : Option OpenScript) (sessions limit : ℕ) (version : Version) → old ≡ None → IsSessions sessions × IsVersionLimit version limit → IsAlone (GivesScript old (command.Start sessions limit version)) (owed.Reply told.Done)
 opened_alone old sessions limit version none numbers =
     subst (λ (o : Option OpenScript). IsAlone (GivesScript o (command.Start sessions limit version)) (owed.Reply told.Done)) (sym none) (first_done sessions limit version numbers.0 numbers.1)
 
-pub unopened_alone : (old : Option OpenScript) (sessions limit : ℕ) (version : Version) (r : Refusal) → old ≡ None → IsOpenRefusal sessions limit r → IsAlone (GivesScript old (command.Start sessions limit version)) (owed.Reply (told.No r))
+pub unopened_alone : (old : Option OpenScript) (sessions limit : ℕ) (version : Version) (r : Refusal) → old ≡ None → IsVersionRefusal version sessions limit r → IsAlone (GivesScript old (command.Start sessions limit version)) (owed.Reply (told.No r))
 unopened_alone old sessions limit version r none why =
     subst (λ (o : Option OpenScript). IsAlone (GivesScript o (command.Start sessions limit version)) (owed.Reply (told.No r))) (sym none) (first_refused sessions limit version r why)
 
 -- the same where transactions are split
-same_isolated : (sessions limit : ℕ) (r q : Refusal) → IsIsolatedRefusal sessions limit r → IsIsolatedRefusal sessions limit q → IsOne r q
-same_isolated sessions limit NoMemory q a b = inl refl
-same_isolated sessions limit r NoMemory a b = inr (inl refl)
-same_isolated sessions limit BadSession BadSession a b = inr (inr refl)
-same_isolated sessions limit BadSession TooLong a b = absurd (a b.0)
-same_isolated sessions limit BadSession q a b = absurd b
-same_isolated sessions limit TooLong BadSession a b = absurd (b a.0)
-same_isolated sessions limit TooLong TooLong a b = inr (inr refl)
-same_isolated sessions limit TooLong q a b = absurd b
-same_isolated sessions limit r q a b = absurd a
-
-isolated_anyway : (sessions limit : ℕ) (r : Refusal) → IsSessions sessions → IsIsolatedLimit limit → IsIsolatedRefusal sessions limit r → r ≡ NoMemory
-isolated_anyway sessions limit BadSession some few is = absurd (is some)
-isolated_anyway sessions limit TooLong some few is = absurd (is.1 few)
-isolated_anyway sessions limit NoMemory some few is = refl
-isolated_anyway sessions limit r some few is = absurd is
-
 isolated_done : (sessions limit : ℕ) → IsSessions sessions → IsIsolatedLimit limit → IsAlone (GivesFirst (command.StartIsolated sessions limit)) (owed.Reply told.Done)
 isolated_done sessions limit some few told.Done is = inr (inr refl)
-isolated_done sessions limit some few (told.No q) is = inl (ap told.No (isolated_anyway sessions limit q some few is))
+isolated_done sessions limit some few (told.No q) is = inl (ap told.No (begun_first 2048 sessions limit q some few is))
 isolated_done sessions limit some few answer is = absurd is
 
 isolated_refused : (sessions limit : ℕ) (r : Refusal) → IsIsolatedRefusal sessions limit r → IsAlone (GivesFirst (command.StartIsolated sessions limit)) (owed.Reply (told.No r))
-isolated_refused sessions limit r why told.Done is = inr (inl (ap told.No (isolated_anyway sessions limit r is.0 is.1 why)))
-isolated_refused sessions limit r why (told.No q) is = refused_first r q (same_isolated sessions limit r q why is)
+isolated_refused sessions limit r why told.Done is = inr (inl (ap told.No (begun_first 2048 sessions limit r is.0 is.1 why)))
+isolated_refused sessions limit r why (told.No q) is = refused_first r q (same_beginning 2048 sessions limit r q why is)
 isolated_refused sessions limit r why answer is = absurd is
 
 pub isolated_opened_alone : (old : Option OpenScript) (sessions limit : ℕ) → old ≡ None → IsSessions sessions × IsIsolatedLimit limit → IsAlone (GivesScript old (command.StartIsolated sessions limit)) (owed.Reply told.Done)

@@ -7,9 +7,9 @@ use Rattle.log_text.specs.declared.replies.Reply.TheVariants as told
 use Rattle.log_text.specs.declared.versions.Opening.{Opening}
 use Rattle.log_text.specs.declared.versions.Opening.TheVariants.{Ordered, Isolated}
 use Rattle.round_state.specs.Legal.{State}
-use Rattle.round_state.specs.Opening.{IsSessions, IsLimit, IsOpenRefusal, fresh_state}
+use Rattle.round_state.specs.Opening.{IsSessions, fresh_state}
 use Rattle.cobra.specs.Outputs.{Asks}
-use Rattle.cobra.specs.Scripts.{IsBadLine, IsIsolatedLimit, IsIsolatedRefusal}
+use Rattle.cobra.specs.Scripts.{IsBadLine, IsIsolatedLimit, IsIsolatedRefusal, IsVersionLimit, IsVersionRefusal}
 use Rattle.report_checking.specs.Isolation.{OwesIsolated}
 use Rattle.report_checking.specs.Owing.{OwesBeside}
 
@@ -23,8 +23,8 @@ pub record ScriptState : Type 0 where
 -- What is owed to a command, where none is open yet. To one that begins a hand-over nothing is: what had gone before isn't shown. An engine whose
 -- transactions are split has room for two of each.
 abbrev pub OwesFirst : Command → Reply → Option ScriptState → Type 0
-OwesFirst (Start sessions limit version) told.Done new = IsSessions sessions × IsLimit limit × (new ≡ Some (record { state = fresh_state sessions limit; opening = Ordered version; searched = false }))
-OwesFirst (Start sessions limit version) (told.No refusal) new = IsOpenRefusal sessions limit refusal × (new ≡ None)
+OwesFirst (Start sessions limit version) told.Done new = IsSessions sessions × IsVersionLimit version limit × (new ≡ Some (record { state = fresh_state sessions limit; opening = Ordered version; searched = false }))
+OwesFirst (Start sessions limit version) (told.No refusal) new = IsVersionRefusal version sessions limit refusal × (new ≡ None)
 OwesFirst (Start sessions limit version) answer new = ⊥
 OwesFirst (StartIsolated sessions limit) told.Done new = IsSessions sessions × IsIsolatedLimit limit × (new ≡ Some (record { state = fresh_state sessions (2 * limit); opening = Isolated; searched = false }))
 OwesFirst (StartIsolated sessions limit) (told.No refusal) new = IsIsolatedRefusal sessions limit refusal × (new ≡ None)

@@ -27,7 +27,7 @@ use Rattle.byte_lines.specs.LineReaders.{IsNextOf}
 use Rattle.byte_lines.specs.Lines.{lines}
 use Rattle.round_state.specs.EngineState.{EngineState}
 use Rattle.round_state.specs.Legal.{State}
-use Rattle.round_state.specs.Opening.{IsSessions, IsLimit, IsOpenRefusal}
+use Rattle.round_state.specs.Opening.{IsSessions}
 use Rattle.round_state.specs.Runs.{Holds}
 use Rattle.round_state.specs.Steps.{StepsTo}
 use Rattle.round_state.specs.declared.reports.Report.{Report}
@@ -40,7 +40,7 @@ use Rattle.snapshot_scripts.specs.Legal.{HoldsSplit}
 use Rattle.snapshot_scripts.specs.Splitting.{CanBeAsked, IsAskedFault, split_command}
 use Rattle.cobra.specs.Outputs.{Asks, IsTold}
 use Rattle.cobra.specs.Saving.{saved_told}
-use Rattle.cobra.specs.Scripts.{IsIsolatedLimit, IsIsolatedRefusal, state_told}
+use Rattle.cobra.specs.Scripts.{IsIsolatedLimit, IsIsolatedRefusal, IsVersionLimit, IsVersionRefusal, state_told}
 use Rattle.cobra.specs.StepReplies.{certificate_of, report_of, reply_of}
 use Rattle.report_checking.specs.Checking.{IsRightReply, IsUnchecked, TakesMemory, Checks, IsAllRight, left_by}
 use Rattle.report_checking.specs.Isolation.{IsShownBy, names_of, told_by}
@@ -289,8 +289,8 @@ GivesBeside version searched old command answer = Gives version old command answ
 
 -- the same where no engine is open
 abbrev pub GivesFirst : Command → Reply → Type 0
-GivesFirst (Start sessions limit version) told.Done = IsSessions sessions × IsLimit limit
-GivesFirst (Start sessions limit version) (told.No refusal) = IsOpenRefusal sessions limit refusal
+GivesFirst (Start sessions limit version) told.Done = IsSessions sessions × IsVersionLimit version limit
+GivesFirst (Start sessions limit version) (told.No refusal) = IsVersionRefusal version sessions limit refusal
 GivesFirst (Start sessions limit version) answer = ⊥
 GivesFirst (StartIsolated sessions limit) told.Done = IsSessions sessions × IsIsolatedLimit limit
 GivesFirst (StartIsolated sessions limit) (told.No refusal) = IsIsolatedRefusal sessions limit refusal

@@ -67,7 +67,7 @@ impl Replay {
         ensures kind { HasKindOfOrder result }
         ensures alone { IsAlone (GivesScript self.old.script (Command.Start sessions limit version)) (Owed.Reply result) }
     {
-        match Replayed::open(alloc, sessions, limit) {
+        match Replayed::open(alloc, sessions, limit, version) {
             Ok(engine) => {
                 self.script = Some(OpenScript::new(engine, Opening::Ordered(version)));
                 Reply::Done

@@ -1,19 +1,21 @@
 ghost use Rattle.std.specs.Prelude.{◌≡◌, ◌+◌, ◌*◌, Some, None, IsSome, IsSomeAnd, IfOk, IfErr, OnOk, MatchBool, ⊤};
 ghost use Rattle.order_check.specs.declared.remainder.Parts.{Parts};
 ghost use Rattle.order_check.specs.Good.{IsGood};
-ghost use Rattle.round_state.specs.Opening.{IsSessions, IsLimit, IsOpenRefusal, fresh_state};
+ghost use Rattle.round_state.specs.Opening.{IsSessions, IsOpenRefusal, fresh_state};
 ghost use Rattle.round_state.specs.Runs.{HasLimits, Holds, StepsLegally};
 ghost use Rattle.round_state.specs.Solving.{IsReportOn};
 ghost use Rattle.round_state.specs.Steps.{StepsTo, IsFinishRefusal};
 ghost use Rattle.snapshot_scripts.specs.Legal.{HoldsSplit};
-ghost use Rattle.cobra.specs.Scripts.{IsIsolatedLimit, IsIsolatedRefusal};
+ghost use Rattle.cobra.specs.Scripts.{IsIsolatedLimit, IsIsolatedRefusal, IsVersionLimit, IsVersionRefusal};
 ghost use Rattle.report_checking.specs.Owing.{IsEarned, IsOwedReport};
 ghost use Rattle.report_checking.specs.Reading.{Leads};
 
+use cobra::may_begin;
+use log_text::Version;
 use order_check::verdict_as_stood_for;
 use polygraph::{Answer, Problem, Solver};
 use refutation::refuted_has_no_order;
-use round_state::{Engine, Report, Step, StepReply, is_sessions};
+use round_state::{Engine, Report, Step, StepReply};
 use snapshot_scripts::fresh_engines_are_split;
 use std::alloc::Global;
 use std::marker::Model;
@@ -63,15 +65,35 @@ impl Model for Replayed {
 }
 
 impl Replayed {
-    pub(crate) fn open(alloc: Global, sessions: u64, limit: u64) -> Result<Replayed, Refusal>
+    /// One with a fresh engine, whatever asked for it.
+    fn fresh(alloc: Global, sessions: u64, limit: u64) -> Result<Replayed, Refusal>
         ensures holds { IfOk result (λ engine. Holds engine (fresh_state sessions limit)) }
-        ensures numbers { OnOk result (IsSessions sessions × IsLimit limit) }
         ensures err { IfErr result (IsOpenRefusal sessions limit) }
     {
         Ok(Replayed {
             engine: Engine::open(alloc, sessions, limit)?,
             kept: None,
         })
+    }
+
+    /// One for lines of this version.
+    pub(crate) fn open(
+        alloc: Global,
+        sessions: u64,
+        limit: u64,
+        version: Version,
+    ) -> Result<Replayed, Refusal>
+        ensures holds { IfOk result (λ engine. Holds engine (fresh_state sessions limit)) }
+        ensures numbers { OnOk result (IsSessions sessions × IsVersionLimit version limit) }
+        ensures err { IfErr result (IsVersionRefusal version sessions limit) }
+    {
+        if let Err(refusal) = may_begin(version.greatest_limit(), sessions, limit) {
+            return Err(refusal);
+        }
+        match Replayed::fresh(alloc, sessions, limit) {
+            Ok(engine) => Ok(engine),
+            Err(refusal) => Err(refusal),
+        }
     }
 
     /// One whose transactions are split: it has room for two of each.
@@ -86,13 +108,10 @@ impl Replayed {
     {
         // A law that the proof cites. It does nothing when it runs.
         fresh_engines_are_split();
-        if !is_sessions(sessions) {
-            return Err(Refusal::BadSession);
+        if let Err(refusal) = may_begin(ISOLATED_LIMIT, sessions, limit) {
+            return Err(refusal);
         }
-        if limit < 1 || limit > ISOLATED_LIMIT {
-            return Err(Refusal::TooLong);
-        }
-        match Replayed::open(alloc, sessions, 2 * limit) {
+        match Replayed::fresh(alloc, sessions, 2 * limit) {
             Ok(engine) => Ok(engine),
             Err(refusal) => Err(refusal),
         }

@@ -20,7 +20,7 @@ use Rattle.order_check.specs.FrontLaws.{FrontOfItself, FragmentKeepsFront, Close
 use Rattle.order_check.specs.Good.{IsGood}
 use Rattle.order_check.specs.Settled.{IsCutOf}
 use Rattle.order_check.specs.StandsFor.{IsOpenSession, parts_with}
-use Rattle.forced_choices.specs.SaturatedState.{SaturatedState}
+use Rattle.clock_choices.specs.SaturatedState.{SaturatedState}
 use Rattle.settle.specs.declared.cuts.Cut.{Cut}
 use Rattle.round_state.specs.Behind.{IsBehind, AreKnownBehind, IsCaughtBelow, IsClosedBelow, fragment_behind}
 use Rattle.round_state.specs.Kept.{IsFitting}

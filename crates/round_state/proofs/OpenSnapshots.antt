@@ -12,7 +12,7 @@ use Rattle.order_check.specs.CountedFronts.{AreFrontCounts, KeptFrontsAreCounted
 use Rattle.order_check.specs.Explains.{Explains}
 use Rattle.order_check.specs.FrontLaws.{FrontOfItself}
 use Rattle.order_check.specs.Good.{IsGood}
-use Rattle.forced_choices.specs.SaturatedState.{SaturatedState}
+use Rattle.clock_choices.specs.SaturatedState.{SaturatedState}
 use Rattle.refutation.specs.Refutes.{IsRefutation}
 use Rattle.refutation.specs.declared.trees.Tree.{Tree}
 use Rattle.polygraph.specs.declared.solving.Answer.{Answer}

@@ -4,7 +4,7 @@ use Rattle.txn.specs.declared.transactions.Fragment.{Fragment}
 use Rattle.order_check.specs.declared.remainder.Parts.{Parts}
 use Rattle.order_check.specs.Based.{received_count, remaining_of}
 use Rattle.order_check.specs.Cuts.{IsKeptFront}
-use Rattle.forced_choices.specs.SaturatedState.{SaturatedState}
+use Rattle.clock_choices.specs.SaturatedState.{SaturatedState}
 use Rattle.round_state.specs.OpenRounds.{IsOpenOn}
 use Rattle.round_state.specs.declared.snapshots.OpenRound.{OpenRound}
 

@@ -36,7 +36,7 @@ IsSessions sessions = (1 ≤ sessions) × (sessions ≤ 64)
 
 -- so many transactions may be let remain
 abbrev pub IsLimit : ℕ → Type 0
-IsLimit limit = (1 ≤ limit) × (limit ≤ 4096)
+IsLimit limit = (1 ≤ limit) × (limit ≤ 1048576)
 
 -- Why no engine is given: the number of sessions is judged before the limit, and memory is asked for last.
 abbrev pub IsOpenRefusal : ℕ → ℕ → Refusal → Type 0

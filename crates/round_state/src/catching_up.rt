@@ -5,7 +5,7 @@ ghost use Rattle.order_check.specs.Cuts.{IsContentCutOff};
 ghost use Rattle.order_check.specs.Good.{IsGood};
 ghost use Rattle.round_state.specs.Behind.{IsBehind, IsCaughtBelow, IsClosedBelow, fragment_behind};
 
-use forced_choices::Saturated;
+use clock_choices::Saturated;
 use order_check::Parts;
 use std::alloc::Global;
 use txn::{Fragment, NoMemory, Sequence, Txn, TxnId};

@@ -10,7 +10,7 @@ use txn::{NoMemory, Sequence, Txn};
 const GREATEST_SESSIONS: u64 = 64;
 
 /// The greatest number of transactions that may remain.
-const GREATEST_LIMIT: u64 = 4096;
+const GREATEST_LIMIT: u64 = 1_048_576;
 
 /// Whether an audit may begin with so many sessions.
 pub fn is_sessions(sessions: u64) -> bool

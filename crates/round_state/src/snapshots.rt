@@ -6,7 +6,7 @@ ghost use Rattle.order_check.specs.Good.{IsGood};
 ghost use Rattle.refutation.specs.Refutes.{IsRefutation};
 ghost use Rattle.round_state.specs.OpenRounds.{IsOpenOn, IsSnapshotOf};
 
-use forced_choices::Saturated;
+use clock_choices::Saturated;
 use order_check::{Parts, explains_front};
 use polygraph::Problem;
 use refutation::{Tree, check_front};

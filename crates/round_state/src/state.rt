@@ -20,7 +20,7 @@ use crate::opening::{empty_parts, is_limit, is_sessions};
 use crate::reports::{Report, report_on};
 use crate::snapshots::{OpenRound, Snapshot, asked_of, relation_in};
 use crate::tracking::{raise_all, tracks_of};
-use forced_choices::Saturated;
+use clock_choices::Saturated;
 use logged_fragments::LoggedFragment;
 use order_check::{
     Parts, close_keeps_front, fragment_keeps_front, front_of_itself, kept_fronts_are_counted,

@@ -1,5 +1,5 @@
 //! Searches: worked histories with budgets.
-use forced_choices::Saturated;
+use clock_choices::Saturated;
 use order_check::Parts;
 use polygraph::{Answer, Problem, Single, Solver};
 use refutation::Tree;

@@ -10,7 +10,7 @@ use Rattle.txn.proofs.Ids.{same_or_not}
 use Rattle.order_check.specs.declared.remainder.Parts.{Parts}
 use Rattle.order_check.specs.Based.{Remains}
 use Rattle.order_check.specs.Settled.{IsBefore}
-use Rattle.forced_choices.specs.OrderedAmong.{AreOrdered, IsOrderedAmong}
+use Rattle.clock_choices.specs.OrderedAmong.{AreOrdered, IsOrderedAmong}
 use Rattle.fence_chain.specs.Chains.{IsChain}
 use Rattle.settle.specs.declared.cuts.Cut.{Cut}
 use Rattle.settle.specs.Found.{IsFound}

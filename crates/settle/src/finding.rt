@@ -8,8 +8,8 @@ ghost use Rattle.settle.specs.Lines.{IsCutOrNone, IsFoundAmong, IsOrderedChain, 
 use crate::cuts::Cut;
 use crate::lines::{are_past, none_waits};
 use crate::writers::last_writers;
+use clock_choices::Saturated;
 use fence_chain::{chain, ids_in_front};
-use forced_choices::Saturated;
 use order_check::cycle_leaves_no_order;
 use polygraph::Problem;
 use std::alloc::Global;

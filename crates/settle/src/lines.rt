@@ -6,7 +6,7 @@ ghost use Rattle.order_check.specs.Good.{IsGood};
 ghost use Rattle.order_check.specs.Settled.{IsPast};
 ghost use Rattle.settle.specs.Lines.{ArePast, IsClosedOrPast, IsLastRemaining, IsPastBy, HasReceivedReads, IsReceivedSource};
 
-use forced_choices::Saturated;
+use clock_choices::Saturated;
 use order_check::Parts;
 use txn::{Source, TxnId};
 

@@ -6,7 +6,7 @@ ghost use Rattle.order_check.specs.Known.{Known};
 ghost use Rattle.order_check.specs.Settled.{InFront};
 ghost use Rattle.settle.specs.Writers.{AreNoted, AreWritesOf, AreLastWriters, GainsWrites, HaveLastWriters, IsOverruled, NotesOne, Overrules};
 
-use forced_choices::Saturated;
+use clock_choices::Saturated;
 use order_check::{LastWriters, Parts};
 use std::alloc::Global;
 use txn::{NoMemory, TxnId};

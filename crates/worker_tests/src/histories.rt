@@ -1,7 +1,7 @@
 //! Histories with choices that a search splits: a worked one, and ones that are made from numbers.
 ghost use Rattle.std.specs.Prelude.{◌<◌};
 
-use forced_choices::Saturated;
+use clock_choices::Saturated;
 use order_check::{Base, LastWriters, Parts};
 use polygraph::Problem;
 use std::alloc::Global;

@@ -41,7 +41,6 @@ def _levels(command: argparse.ArgumentParser) -> None:
     from ._scripts import add_levels
 
     add_levels(command)
-    _shows_progress(command, "checking")
     command.epilog = "Exit status: 0 if they could be determined, 2 if the script is wrong."
 
 
@@ -75,7 +74,8 @@ def _shows_progress(command: argparse.ArgumentParser, what: str) -> None:
     run = command.get_default("run")
 
     def watched(asked: Any) -> int:
-        with Progress(what):
+        with Progress(what) as progress:
+            asked.progress = progress
             status: int = run(asked)
         return status
 

@@ -1,39 +1,44 @@
-"""Shows a command's progress on the last line of a terminal, and nothing if standard output is
-none."""
+"""Shows a command's progress on the last line of a terminal, by standard error, and nothing if that
+is no terminal."""
 
 from __future__ import annotations
 
+import contextlib
 import os
 import sys
 import threading
 import time
-from typing import Iterable, Iterator, Optional
+from typing import Callable, Iterator, Optional, Union
 
 from ..core import _visible
 
-FIRST, NEXT = 1.0, 0.5  # seconds before it is shown, and between two updates
+FIRST, NEXT = 2.0, 0.5  # seconds before it is shown, and between two updates
 ERASED = "\r\x1b[K"
+Doing = Union[str, Callable[[], str]]
 
 
 class Progress:
-    """A context around the work. The line is removed before something else is printed. `at` is for
-    the working thread."""
+    """A context around the work. `doing` says what is being done; as a function, it is called by
+    another thread. The line is removed before something else is printed."""
 
-    def __init__(self, what: str) -> None:
-        self._what = what
-        self._count: Optional[int] = None  # if something is counted
+    def __init__(self, doing: Doing) -> None:
+        self.doing = doing
         self._began = time.monotonic()
         self._turn, self._is_shown = threading.Lock(), False
         self._ends = threading.Event()
         self._thread: Optional[threading.Thread] = None
 
-    def of(self, lines: Iterable[bytes]) -> Iterator[bytes]:
-        """The same lines, counted."""
-        for self._count, line in enumerate(lines, 1):
-            yield line
+    @contextlib.contextmanager
+    def during(self, doing: Doing) -> Iterator[None]:
+        """A context in which something else is being done."""
+        before, self.doing = self.doing, doing
+        try:
+            yield
+        finally:
+            self.doing = before
 
     def __enter__(self) -> "Progress":
-        if is_terminal():
+        if _visible.is_terminal(sys.stderr):
             _visible.before_saying = self._take_away
             self._thread = threading.Thread(target=self._show, daemon=True)
             self._thread.start()
@@ -51,10 +56,10 @@ class Progress:
         while not self._ends.wait(pause):
             pause = NEXT
             seconds = time.monotonic() - self._began
+            doing = self.doing if isinstance(self.doing, str) else self.doing()
             with self._turn:
                 self._is_shown = True
-                count = f" {self._count:,}" if self._count is not None else ""
-                self._write(f"{ERASED}({self._what}{count}, {seconds:.0f} s)")
+                self._write(f"{ERASED}({doing}, {seconds:.0f} s)")
 
     def _take_away(self) -> None:
         with self._turn:
@@ -65,10 +70,6 @@ class Progress:
     def _write(self, text: str) -> None:
         """Ignores a terminal that is gone; the next output will report it."""
         try:
-            os.write(sys.stdout.fileno(), text.encode())
+            os.write(sys.stderr.fileno(), text.encode())
         except (OSError, ValueError):
             self._ends.set()
-
-
-def is_terminal() -> bool:
-    return _visible.is_terminal(sys.stdout)

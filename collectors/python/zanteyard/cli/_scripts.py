@@ -3,10 +3,13 @@
 from __future__ import annotations
 
 import argparse
+import io
 import os
+import shlex
 import sys
 from typing import Any, Iterator, List, Optional
 
+from ..core._garbage import no_collections
 from ..core._visible import say
 from ..core.errors import CantBeAskedError, ScriptMistakeError
 from ..explain._levels import Levels, levels_lines
@@ -19,6 +22,9 @@ from ..program._binaries import find_program
 from ..promises._kinds import ASKED, STRICT
 from ._progress import Progress
 from ._told import STATUSES, tell, tell_with_page
+
+
+READING, EXPLAINING = "reading", "explaining"  # what progress shows
 
 
 def add_check(command: argparse.ArgumentParser) -> None:
@@ -85,20 +91,24 @@ def _lines(path: str) -> Iterator[bytes]:
     if path == "-":
         if sys.stdin is None:  # Python's value if it is closed
             raise OSError("standard input is closed")
-        yield from sys.stdin.buffer
+        lines = sys.stdin.buffer
+        if isinstance(lines, io.BufferedReader):
+            _check_script("standard input", "FILE", lines.peek(FIRST)[:FIRST])
+        yield from lines
     else:
         with open(path, "rb") as file:
-            _check_script(path, file.peek(FIRST)[:FIRST])
+            _check_script(path, shlex.quote(path), file.peek(FIRST)[:FIRST])
             yield from file
 
 
-def _check_script(path: str, front: bytes) -> None:
-    """Raises CantBeAskedError if the file seems to be another tool's history."""
+def _check_script(called: str, named: str, front: bytes) -> None:
+    """Raises CantBeAskedError if the file seems to be another tool's history. `named` is how a
+    command names it."""
     form = history_form(front)
     if form is not None:
         raise CantBeAskedError(
-            f"{path} is a history, not a script: `zanteyard import {form} {path} -o SCRIPT` makes "
-            "one of it (docs/IMPORT.md)"
+            f"{called} is a history, not a script: `zanteyard import {form} {named} -o SCRIPT` "
+            "makes one of it (docs/IMPORT.md)"
         )
 
 
@@ -131,14 +141,17 @@ def _run_of(asked: Any) -> ScriptRun:
 
 def check(asked: Any) -> int:
     is_told = False
-    with _run_of(asked) as run, Progress("line") as progress:
-        for verdict in run.verdicts(progress.of(_lines(asked.script))):
+    with no_collections(), Progress(READING) as progress, _run_of(asked) as run:
+        progress.doing = run.doing
+        for verdict in run.verdicts(_lines(asked.script)):
             if verdict.kind == "violated":
                 asked.status = STATUSES[verdict.kind]  # this is final
             if verdict.kind == "violated" and is_told:
                 say(f"{_where(verdict)} still violated")
                 continue
-            tell(_story(verdict, run, asked.seconds), asked.all, _where(verdict))
+            with progress.during(EXPLAINING):
+                story = _story(verdict, run, asked.seconds)
+            tell(story, asked.all, _where(verdict))
             is_told = verdict.kind == "violated"
         _tell_no_cuts(run)
         _tell_resumed(run)
@@ -146,11 +159,13 @@ def check(asked: Any) -> int:
 
 
 def explain(asked: Any) -> int:
-    with _run_of(asked) as run, Progress("line") as progress:
-        for verdict in run.verdicts(progress.of(_lines(asked.script))):
+    with no_collections(), Progress(READING) as progress, _run_of(asked) as run:
+        progress.doing = run.doing
+        for verdict in run.verdicts(_lines(asked.script)):
             if verdict.kind == "violated":
                 break  # violated is final
         assert run.verdict is not None
+        progress.doing = EXPLAINING
         story = _story(run.verdict, run, asked.seconds)
         asked.status = _status(run)
         about = os.path.basename(asked.script) if asked.script != "-" else "a script"
@@ -160,11 +175,13 @@ def explain(asked: Any) -> int:
 
 
 def levels(asked: Any) -> int:
-    lines = [*_lines(asked.script)]
-    names, times = _names(asked.script), _times(asked.script)
-    more = (asked.nodes, asked.seconds)
-    for line in levels_lines(Levels(find_program(), lines, names, times, *more).found()):
-        say(line)
+    with no_collections(), Progress(READING) as progress:
+        lines = [*_lines(asked.script)]
+        names, times = _names(asked.script), _times(asked.script)
+        found = Levels(find_program(), lines, names, times, asked.nodes, asked.seconds)
+        progress.doing = found.doing
+        for line in levels_lines(found.found()):
+            say(line)
     return 0
 
 

@@ -6,7 +6,7 @@ from dataclasses import dataclass, field
 from typing import Dict, Iterator, List, Optional, Sequence, Tuple
 
 from ..core._records import History, Naming
-from ..core.errors import CantBeAskedError, ScriptMistakeError
+from ..core.errors import CantBeAskedError, ProgramTooOldError, ScriptMistakeError
 from ..promises._kinds import (
     ALL,
     GENERALIZED,
@@ -21,7 +21,7 @@ from ..promises._kinds import (
     stronger,
     weaker,
 )
-from ..promises._asking import LIMIT, SESSIONS
+from ..promises._asking import MOST, SESSIONS
 from ._arcs import table
 from ._report import EXPLAINED, SHOWN
 from ._script_names import ScriptNames
@@ -60,7 +60,13 @@ class Levels:
     _found: Dict[Promise, Level] = field(default_factory=dict)
     _history: ScriptHistory = field(default_factory=ScriptHistory)
     _small: Dict[Promise, History] = field(default_factory=dict)
+    _called: Dict[Promise, Naming] = field(default_factory=dict)  # the transactions in these
     _is_whole: bool = False  # nothing of it is forgotten, or was handed over
+    _asked: Promise = SERIALIZABLE  # the one that is being checked
+
+    def doing(self) -> str:
+        """What it is doing, for a person who waits. Any thread may call this."""
+        return f"checking {self._asked.title}"
 
     def found(self) -> List[Level]:
         """One level for each promise. Raises ScriptMistakeError if the script is wrong, and
@@ -72,6 +78,7 @@ class Levels:
         return [self._found[promise] for promise in ALL]
 
     def _ask(self, promise: Promise) -> None:
+        self._asked = promise
         if promise.is_timed and self.times is None:
             self._note(Level(promise, UNKNOWN, "the script has no times"))
             return
@@ -79,10 +86,10 @@ class Levels:
             level = self._by_lines(promise) if promise in BY_LINES else self._by_history(promise)
         except CantBeAskedError as error:
             level = Level(promise, UNKNOWN, str(error))
-        except ScriptMistakeError as error:
+        except (ProgramTooOldError, ScriptMistakeError) as error:
             if promise == SERIALIZABLE:
                 raise
-            level = Level(promise, UNKNOWN, str(error))
+            level = self._by_few(promise) or Level(promise, UNKNOWN, str(error))
         self._note(level)
 
     def _note(self, level: Level) -> None:
@@ -114,11 +121,22 @@ class Levels:
             return Level(promise, PENDING, "a read names a transaction that hasn't arrived")
         return Level(promise, UNKNOWN, "the search ran out of its budget")
 
+    def _by_few(self, promise: Promise) -> Optional[Level]:
+        """The level if a few transactions that break a stronger promise break this one, too: then
+        the whole history does. None if they don't, or there are none."""
+        for other in stronger(promise):
+            few = self._small.get(other)
+            if few is not None and len(Part.of(few).txns) <= SESSIONS:
+                if is_violated(few, self.program, promise):
+                    self._small[promise], self._called[promise] = few, self._called[other]
+                    return Level(promise, NO, _told(few, self._called[other]))
+        return None
+
     def _by_whom(self, promise: Promise, verdict: Verdict, history: ScriptHistory) -> str:
         whole, names = from_start(history)
         known = refuted(history, verdict.certificate)
         small = smaller(whole, self.program, self.seconds, known, promise)
-        self._small[promise] = small
+        self._small[promise], self._called[promise] = small, names
         return _told(small, names)
 
     def _by_history(self, promise: Promise) -> Level:
@@ -130,8 +148,8 @@ class Levels:
         whole, names = from_start(self._history)
         if not promise.keeps_sessions:
             return self._without_sessions(promise, whole, names)
-        if self._history.remaining > LIMIT // 2:
-            return Level(promise, UNKNOWN, f"the script has more than {LIMIT // 2:,} transactions")
+        if self._history.remaining > MOST // 2:  # each becomes two
+            return Level(promise, UNKNOWN, f"the script has more than {MOST // 2:,} transactions")
         report = audited(whole, self.program, promise)[0]
         verdict = Verdict(report.kind, 0, report.counts, report.certificate, 0)
         return self._level(promise, verdict, self._history)

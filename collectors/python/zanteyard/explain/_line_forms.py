@@ -188,12 +188,17 @@ ROUND = (EFFORT, (*EFFORT, _word("guided")))
 OPEN = (_whole("how many sessions"), _whole("how many transactions may remain"))
 
 
-def _two(part: Part) -> None:
-    if part.text != "2":
-        raise part.unexpected("2, the version of the script")
+def _version(*versions: str) -> Form:
+    """The version of a script, as a whole number without a fraction or an exponent."""
+
+    def check(part: Part) -> None:
+        if part.text not in versions:
+            raise part.unexpected(f"{' or '.join(versions)}, the version of the script")
+
+    return check
 
 
-OPENS = (OPEN, (*OPEN, _two), (*OPEN, _two, _word("snapshot")))
+OPENS = (OPEN, (*OPEN, _version("2", "3")), (*OPEN, _version("2"), _word("snapshot")))
 MARKS = (_each("the marks", NUMBER), _each("which sessions are closed", _flag))
 IDS = _each("the order", _row("a transaction: [session,number]", (SESSION, NUMBER)))
 LAST = _row("a last writer: [key,session,number]", (KEY, SESSION, NUMBER))

@@ -26,6 +26,7 @@ from ._words import words
 
 EXPLAINED = SECONDS  # seconds that reducing the history may take
 SHOWN = 12  # transactions of an order, and waiting reads, that are shown of a long list
+MOST_LINES = 240  # about the transactions of a violation that couldn't be made small
 
 
 @dataclass(frozen=True)
@@ -245,8 +246,10 @@ def _one_story(story: Story) -> Iterator[str]:
             f"  (it wasn't made smaller than {story.unnamed:,} transactions, and a name is looked "
             f"for among at most {NAMED})"
         )
-    for line in story.lines:
+    for line in story.lines[:MOST_LINES]:
         yield f"    {line}"
+    if len(story.lines) > MOST_LINES:
+        yield f"    and {len(story.lines) - MOST_LINES:,} more lines like these"
     if story.because:
         yield "because"
     for line in story.because:

@@ -11,7 +11,7 @@ from collections import Counter
 from dataclasses import dataclass, field, replace
 from typing import Any, Callable, Dict, Iterable, Iterator, List, Mapping, Optional, Sequence
 
-from ..core._own_keys import FENCE
+from ..core._own_keys import FENCE, FORM, LARGE_FORM
 from ..core._records import ABORTED, AuditId, Logged, Pending
 from ..core._tenancy import Tenancy
 from ..core.errors import (
@@ -21,8 +21,8 @@ from ..core.errors import (
     ScriptMistakeError,
 )
 from ..program._intake import EFFORTS, GUIDED, never_came
-from ..program._lines import TOO_OLD
-from ..promises._asking import KEYS, Asking, asked_in, begun_in, most_remaining
+from ..program._lines import too_old
+from ..promises._asking import KEYS, LIMIT, MOST, Asking, asked_in, begun_in, most_remaining
 from ..promises._kinds import SERIALIZABLE, SNAPSHOT, Promise
 from ._line_forms import mistake_of
 from ._script_names import NamedTransaction, ScriptNames
@@ -33,8 +33,14 @@ WORKERS = max(1, min(16, os.cpu_count() or 1))
 MORE = tuple((nodes, 4, WORKERS) for nodes in (1 << 16, 1 << 20, 1 << 24))
 WAITS = (0.1, 0.5)  # seconds until a line that was answered NoMemory is sent again
 SAVE_MARKS = b'["save","marks"]'
-OPENS_FORM = re.compile(rb'\["(open|resume)", ?\d+, ?\d+, ?2(, ?"snapshot")?\]$')  # of version 2
-MOST_OPEN = "a script has 1 to 64 sessions, and at most 4,096 transactions remain at a time"
+SEARCHES = re.compile(rb'\s*\[\s*"(?:round|finish|collect)"')  # whose reply may take long
+# An opening of a later version than the first, which an earlier program may not read.
+OPENS_FORM = re.compile(rb'\["(?:open|resume)", ?\d+, ?\d+, ?(2(?:, ?"snapshot")?|3)\]$')
+LARGE_OPEN = f'["open",sessions,limit,{LARGE_FORM}]'
+MOST_OPEN = (
+    f"a script has 1 to 64 sessions, and at most {LIMIT:,} transactions remain at a time, or "
+    f"{MOST:,} if it begins with {LARGE_OPEN}"
+)
 
 # What to do about a refusal, if its name doesn't say.
 ADVICE: Mapping[str, str] = {
@@ -46,8 +52,9 @@ ADVICE: Mapping[str, str] = {
     "Gap": "an earlier transaction of this session is missing",
     "Repeat": "this session has a transaction of that number already",
     "Closed": "that session was closed before; `join` reopens it",
-    "Backlog": "as many transactions remain as `open` has room for (at most 4,096): "
-    "fences make room, or audit it in parts",
+    "Backlog": "as many transactions remain as `open` has room for, which is at most "
+    f"{LIMIT:,}, or {MOST:,} if the script begins with {LARGE_OPEN}: give it more room, or let "
+    "`truncate` at fences make some, or check a part of the history",
     "TooLong": "a line has 1 to 256 transactions, each with at most 256 reads and 256 writes; "
     + MOST_OPEN,
     "RoundOpen": "a round is open: `finish` it first",
@@ -61,9 +68,10 @@ ADVICE: Mapping[str, str] = {
 BEGINS = 'a script begins with ["open",..], or by ["resume",..] up to ["resumed"]'
 # The same under snapshot isolation.
 OF_SNAPSHOTS: Mapping[str, str] = {
-    "Backlog": "under this promise each transaction takes the room of two, so at most "
-    f"{most_remaining(SNAPSHOT):,} remain at a time: fences and `truncate` make room, or check a "
-    "part of the history",
+    "Backlog": "snapshot isolation can be checked for at most "
+    f"{most_remaining(SNAPSHOT):,} transactions at a time, however many the script has room for, "
+    "since each takes the room of two: let `truncate` at fences make room, or check a part of the "
+    f"history; serializability can be checked for up to {MOST:,} (--promise serializable)",
     "BadTxn": ADVICE["BadTxn"] + f"; keys are below {KEYS} under this promise, and numbers below "
     f"{1 << 47}",
     "TooLong": ADVICE["TooLong"] + f"; under snapshot isolation {most_remaining(SNAPSHOT):,} "
@@ -225,10 +233,20 @@ class ScriptRun:
         self._round_is_open = False
         self._search: List[Any] = []  # the numbers of a search that isn't collected yet
         self._has_more = False  # something was accepted since the last verdict
+        self._offered, self._is_searching = 0, False  # for `doing`
         self.path = program
         self._program = subprocess.Popen(
             [program], stdin=subprocess.PIPE, stdout=subprocess.PIPE, stderr=subprocess.PIPE
         )
+
+    def doing(self) -> str:
+        """What it is doing, for a person who waits. Any thread may call this."""
+        if self._is_searching:
+            return "searching"
+        total = sum(map(len, self.history.names.transactions))
+        if total:
+            return f"{self._offered:,} of {total:,} transactions read"
+        return f"{self._offered:,} transaction{'' if self._offered == 1 else 's'} read"
 
     def verdicts(self, lines: Iterable[bytes]) -> Iterator[Verdict]:
         """Gives the lines to the auditor, and yields each round's verdict when it arrives. If
@@ -277,10 +295,10 @@ class ScriptRun:
             self._is_open = True
         elif command[0] == "offer":
             self.history.take_in(command[1], command[3])
-            self._has_more = True
+            self._has_more, self._offered = True, self._offered + len(command[3])
         elif command[0] == "join":
             self.history.join(command[1], command[-1])
-            self._has_more = True
+            self._has_more, self._offered = True, self._offered + len(command[-1])
         elif command[0] == "begin":
             self._round_is_open, self._has_more = True, False
         elif command[0] == "search":
@@ -336,12 +354,13 @@ class ScriptRun:
 
     def _ask(self, text: bytes, number: int) -> List[Any]:
         """The reply. A refusal that isn't a mistake of the script is returned, too."""
+        self._is_searching = SEARCHES.match(text) is not None
         for wait in (*WAITS, None):
             reply = self._reply_to(text)
             if reply[0] != "no" or reply[2] == "NoCut":
                 return reply
-            if reply[2] == "BadLine" and OPENS_FORM.match(self._given) and not self._is_open:
-                raise ProgramTooOldError(f"{self.path} {TOO_OLD}")
+            if reply[2] == "BadLine" and not self._is_open:
+                self._check_age()
             if reply[2] != "NoMemory":
                 raise ScriptMistakeError(number, reply[2], self._advice(reply[2], text))
             if self._search and _parts_of(text)[0] == "collect":  # the refusal has ended the search
@@ -349,6 +368,14 @@ class ScriptRun:
             if wait:
                 time.sleep(wait)
         raise ProgramEndedError(f"line {number} was refused memory, also when it was given again")
+
+    def _check_age(self) -> None:
+        """Raises ProgramTooOldError if the line that was refused is an opening of a version that
+        the program should know."""
+        opens = OPENS_FORM.match(self._given)
+        if opens and not mistake_of(self._given):
+            form = LARGE_FORM if opens[1] == b"3" else FORM
+            raise ProgramTooOldError(too_old(self.path, form))
 
     def _advice(self, refusal: str, text: bytes) -> str:
         if self.promise.asks_itself and refusal in OF_SNAPSHOTS:

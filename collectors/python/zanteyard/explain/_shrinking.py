@@ -12,14 +12,15 @@ from typing import Any, Callable, Container, Dict, Iterable, Iterator, List, Map
 from typing import Optional, Sequence, Set, Tuple, cast
 
 from ..core._outcome import VIOLATED
-from ..core._own_keys import FENCE, PLAIN_FENCE, is_own
-from ..core._records import AuditId, AuditNaming, History, Logged, Naming, Report, ShownId, Source
+from ..core._own_keys import FENCE, FORM, PLAIN_FENCE, is_own
+from ..core._records import AuditId, AuditNaming, History, Logged, Naming, Read, Report, ShownId
+from ..core._records import Source
 from ..core.errors import CantBeAskedError
 from ..program._auditor import Auditor
 from ..program._binaries import PROGRAM
 from ..program._intake import GUIDED
 from ..program._lines import written
-from ..promises._asking import LIMIT, SESSIONS, Asking, form_of, ids_of, longest
+from ..promises._asking import LIMIT, SESSIONS, Asking, form_of, ids_of, longest, most_remaining
 from ..promises._kinds import EVENTS, SERIALIZABLE, SNAPSHOT, Promise
 from ..promises._times import Timeline
 from ._anomalies import UNREPEATABLE, find_anomaly
@@ -30,6 +31,7 @@ SECONDS = 5.0  # seconds for reducing a history
 # Cycles that give way to a lost update, if there is one of at most the same size.
 LESS_PLAIN = (None, UNREPEATABLE, "fractured read", "stale read", "long fork", "write skew")
 NAMED = 40  # transactions of a part in which an anomaly is looked for, at most
+ABSENT = 1 << 32  # renumbered transactions that never arrive have numbers from here on
 SIDE_BY_SIDE = max(1, min(4, os.cpu_count() or 1))  # auditors
 START = "everything before the cut"  # a key that the first transaction after a cut writes
 
@@ -53,13 +55,13 @@ def _keys_of(logged: Logged) -> Set[str]:
 
 def apart_ids(history: History) -> List[ShownId]:
     """The transactions that did something, or that a read names as its source."""
-    did = [
+    did = dict.fromkeys(
         ShownId((session, number))
         for session, txns in enumerate(history)
         for number, logged in enumerate(txns)
         if logged.reads or logged.writes or logged.is_undone
-    ]
-    return did + [id for id in wrong_sources(history) if id not in did]
+    )
+    return [*(did | dict.fromkeys(wrong_sources(history)))]
 
 
 def each_apart(history: History) -> History:
@@ -89,6 +91,47 @@ def each_apart(history: History) -> History:
     return [[apart(history[session][number])] for session, number in did] or [[]]
 
 
+def renumbered(
+    txns: Mapping[ShownId, Logged], sessions: int
+) -> Tuple[History, List[List[ShownId]]]:
+    """These transactions as a history without gaps, and the ids that they had, by their new ones.
+    What they read from others still never arrives."""
+    old: List[List[ShownId]] = [[] for _ in range(sessions)]
+    for id in sorted(txns):
+        old[id[0]].append(id)
+    places: Dict[Source, Source] = {
+        id: (session, number) for session, ids in enumerate(old) for number, id in enumerate(ids)
+    }
+
+    def moved(reads: Iterable[Read]) -> List[Read]:
+        return [
+            (key, source if source == "init" else places.setdefault(source, absent(len(places))))
+            for key, source in reads
+        ]
+
+    def absent(number: int) -> Source:
+        return (SESSIONS - 1, ABSENT + number)
+
+    def one(logged: Logged) -> Logged:
+        reads, tried = moved(logged.reads), moved(logged.tried_reads)
+        return logged._replace(reads=reads, tried_reads=tried, statements=())
+
+    return [[one(txns[id]) for id in ids] for ids in old], old
+
+
+def without_idle(history: History) -> Tuple[History, List[List[ShownId]]]:
+    """The history without transactions that did nothing, as `renumbered` has it. Those with times
+    stay, since some order may follow from them."""
+    named = {*apart_ids(history)}
+    kept = {
+        id: logged
+        for session, txns in enumerate(history)
+        for number, logged in enumerate(txns)
+        if (id := ShownId((session, number))) in named or logged.span
+    }
+    return renumbered(kept, len(history))
+
+
 def in_halves(history: History) -> History:
     """Each transaction as two, one that does its reads and one that does its writes: some order
     explains these exactly if the history keeps prefix consistency. Raises CantBeAskedError if there
@@ -114,20 +157,25 @@ def in_halves(history: History) -> History:
 
 class Audited(NamedTuple):
     """A new auditor's report about a history, and a script that reproduces it. `keys` are the names
-    of keys by the report's numbers. `ids` are the transactions, if they were renumbered, each in a
-    session of its own; or they are `halved`."""
+    of keys by the report's numbers. `ids` are the transactions, if each is in a session of its own;
+    `places` are those of each session, if idle ones were left out; or they are `halved`."""
 
     report: Report
     script: str
     keys: Sequence[str]
     ids: Optional[Sequence[ShownId]] = None
+    places: Optional[Sequence[Sequence[ShownId]]] = None
     is_halved: bool = False
 
     def moved(self, id: ShownId) -> Node:
         """The transaction of the history that the report means, or its begin or commit."""
-        if self.is_halved:
-            return Event(ShownId((id[0], id[1] // 2)), EVENTS[id[1] % 2])
-        return id if self.ids is None else self.ids[id[0]]
+        session, number = id
+        if self.ids is not None:
+            return self.ids[session]
+        whole = ShownId((session, number // 2 if self.is_halved else number))
+        if self.places is not None:
+            whole = self.places[session][whole[1]]
+        return Event(whole, EVENTS[number % 2]) if self.is_halved else whole
 
 
 def audited(
@@ -142,33 +190,37 @@ def audited(
 def audited_apart(
     history: History, program: str = PROGRAM, promise: Promise = SERIALIZABLE
 ) -> Audited:
-    """The same, with what is needed to read the report."""
-    ids = None if promise.keeps_sessions else apart_ids(history)
-    asking = Asking(promise, timeline_of(history) if promise.is_timed else None)
+    """The same, with what is needed to read the report. Of a long history, idle transactions are
+    left out."""
+    ids, places = None if promise.keeps_sessions else apart_ids(history), None
     is_halved = promise.is_split and not promise.asks_itself
     if ids is not None:
         history = each_apart(history)
-    elif is_halved:
+    elif sum(map(len, history)) > (LIMIT // 2 if promise.is_split else LIMIT):
+        history, places = without_idle(history)
+    asking = Asking(promise, timeline_of(history) if promise.is_timed else None)
+    if is_halved:
         history = in_halves(history)
     count = max(1, sum(map(len, history)))
     told = SNAPSHOT if promise.asks_itself else SERIALIZABLE
-    with Auditor(len(history), min(count, LIMIT), program, promise=told.name) as auditor:
-        is_plain = told == SERIALIZABLE and not any(
-            logged.is_undone for txns in history for logged in txns
-        )
-        form = [] if is_plain else form_of(promise)
-        script: List[Any] = [["open", len(history), auditor.limit, *form]]
+    limit = min(count, most_remaining(told))
+    with Auditor(len(history), limit, program, promise=told.name) as auditor:
+        form = form_of(told, limit)
+        if form == [FORM] and not any(it.is_undone for txns in history for it in txns):
+            form = []
+        script: List[Any] = [["open", len(history), limit, *form]]
         for session, txns in enumerate(history):
             for first in range(0, len(txns), longest(told)):
                 fragment = txns[first : first + longest(told)]
                 line = ["offer", session, first, [*map(auditor.txn, fragment)]]
-                script += asking.asked(json.loads(written(line)))
+                is_added_to = promise.is_timed or promise.asks_itself
+                script += asking.asked(json.loads(written(line))) if is_added_to else [line]
         for line in script[1:]:
             auditor.ask(line)
         report = auditor.last_round()
         script.append(["round", *auditor.effort, GUIDED])
         text = "".join(written(line) + "\n" for line in script)
-        return Audited(report, text, tuple(auditor.names), ids, is_halved)
+        return Audited(report, text, tuple(auditor.names), ids, places, is_halved)
 
 
 def is_violated(
@@ -379,14 +431,26 @@ class Part:
         """The part as a history, with idle transactions in the gaps, so that all keep their
         numbers."""
         whole: History = [[] for _ in range(sessions)]
-        read = {(source, key) for logged in self.txns.values() for key, source in logged.reads}
-        for id, logged in sorted(self.txns.items(), key=lambda item: item[0]):
-            session, number = id
-            if logged.is_undone:  # keeps of its writes only those that somebody has read
-                keys = [key for key in logged.tried_writes if (id, key) in read]
-                logged = logged._replace(tried_reads=(), tried_writes=keys)
+        for (session, number), logged in sorted(self._plainly().items(), key=lambda item: item[0]):
             whole[session] += [Logged((), ())] * (number - len(whole[session])) + [logged]
         return whole
+
+    def dense_history(self) -> History:
+        """The same without these gaps, in which transactions have other numbers."""
+        return renumbered(self._plainly(), 1 + max(id[0] for id in self.txns))[0]
+
+    def _plainly(self) -> Dict[ShownId, Logged]:
+        """The transactions. An aborted one has only those of its writes that somebody has read."""
+        read = {(source, key) for logged in self.txns.values() for key, source in logged.reads}
+        return {
+            id: logged._replace(
+                tried_reads=(),
+                tried_writes=[key for key in logged.tried_writes if (id, key) in read],
+            )
+            if logged.is_undone
+            else logged
+            for id, logged in self.txns.items()
+        }
 
 
 def wrong_sources(history: History) -> Dict[ShownId, Logged]:
@@ -482,8 +546,7 @@ def _called(part: Part) -> Optional[str]:
     """The name of the anomaly in the part, if it has one."""
     if len(part.txns) > NAMED:
         return None
-    sessions = 1 + max(id[0] for id in part.txns)
-    anomaly = find_anomaly(part.history(sessions), promise=part.promise)
+    anomaly = find_anomaly(part.dense_history(), promise=part.promise)
     return anomaly.name if anomaly is not None else None
 
 
@@ -492,8 +555,10 @@ def next_smaller(
 ) -> Optional[Tuple[Part, Set[ShownId]]]:
     """A part with one thing less, and what its refutation names; None if everything is needed, or
     the time is up. A read or a write stays if leaving it out would lose the anomaly's name. Several
-    auditors run in parallel, since one takes longer to start than to check so few transactions."""
+    auditors run in parallel, since one takes longer to start than to check few transactions. Of a
+    large part, one at a time: so the last ends soon after the time is up."""
     called = _called(part)
+    side_by_side = SIDE_BY_SIDE if len(part.txns) <= LIMIT else 1
 
     def keeps_name(what: Any, candidate: Part) -> bool:
         is_of_transactions = isinstance(what, frozenset)
@@ -507,9 +572,9 @@ def next_smaller(
         for what, candidate in part.lesser()
         if what not in needed and keeps_name(what, candidate)
     )
-    with ThreadPoolExecutor(SIDE_BY_SIDE) as pool:
+    with ThreadPoolExecutor(side_by_side) as pool:
         while time.monotonic() < ends:
-            some = [*islice(left, SIDE_BY_SIDE)]
+            some = [*islice(left, side_by_side)]
             if not some:
                 break
             for (what, candidate), ids in zip(

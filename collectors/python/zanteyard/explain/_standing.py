@@ -108,13 +108,15 @@ class Apart:
     def others(self, first: History, seconds: float = SECONDS) -> Iterator[History]:
         """Violations other than the first, each reduced as far as possible; as many as are found
         within this many seconds. Afterwards `are_all_found` tells whether there are no more."""
-        ends, small = time.monotonic() + seconds, first
+        ends, small, took = time.monotonic() + seconds, first, 0.0
         while True:
+            began = time.monotonic()
             left = self._without(small)
-            if left is None or time.monotonic() > ends:
+            if left is None or began + took > ends:  # the next one will take as long as the last
                 return
             self._part = left
             ids = left.report(self._program)
+            took = time.monotonic() - began
             if ids is None:
                 self.are_all_found = True
                 return

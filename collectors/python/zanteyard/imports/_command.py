@@ -4,20 +4,21 @@ from __future__ import annotations
 
 import argparse
 import contextlib
-import gc
 import gzip
 import os
 import zlib
 from dataclasses import dataclass
-from typing import Any, Callable, Collection, Dict, Iterator, Mapping, Optional
+from typing import Any, Callable, Collection, Dict, Mapping, Optional
 
+from ..core._garbage import no_collections
 from ..core._private_files import private
 from ..core._visible import say
 from ..core.errors import ImportRefusedError
 from ..explain._script_names import write_names
 from ..explain._script_times import TIMES, write_times
+from ..promises._asking import MOST
 from ._jepsen import read_jepsen
-from ._recording import Recording
+from ._recording import Recording, counted
 from ._script import script_of
 from ._script_parts import Imported
 from ._sessions import read_csv, read_dbcop, read_polysi
@@ -105,7 +106,8 @@ def _add_strict(command: argparse.ArgumentParser) -> None:
         dest="strict",
         action="store_true",
         help="ask about strict serializability: clients may share sessions by real-time order, and "
-        "the file may have more than 4,096 transactions if there are moments with none in flight",
+        f"the file may have more than {MOST:,} transactions if there are moments with none in "
+        "flight",
     )
 
 
@@ -119,7 +121,11 @@ def _count(text: str) -> int:
 def run(asked: Any) -> int:
     """Writes the script and its names, and prints what was done; returns 0. Raises
     ImportRefusedError if the file can't be turned into a sound script, and writes nothing then."""
-    with _no_collections():
+    def tell(doing: str) -> None:
+        if hasattr(asked, "progress"):
+            asked.progress.doing = doing
+
+    with no_collections():
         text = _text_of(asked.file)
         imported = import_text(
             asked.form,
@@ -129,7 +135,9 @@ def run(asked: Any) -> int:
             asked.strict,
             asked.independent,
             asked.leave_out,
+            tell,
         )
+        tell(f"writing {asked.script}")
         _write(imported, asked.script)
     say(f"{asked.script}: {imported.about[0]}")
     for line in imported.about[1:]:
@@ -137,18 +145,6 @@ def run(asked: Any) -> int:
     if imported.times is not None:
         say(f"  begin and end times: {asked.script}{TIMES}")
     return 0
-
-
-@contextlib.contextmanager
-def _no_collections() -> Iterator[None]:
-    """Keeps Python from looking for cycles among millions of objects: an import makes none."""
-    is_on = gc.isenabled()
-    gc.disable()
-    try:
-        yield
-    finally:
-        if is_on:
-            gc.enable()
 
 
 def _write(imported: Imported, script: str) -> None:
@@ -171,9 +167,10 @@ def import_text(
     asks_time: bool = False,
     is_independent: bool = False,
     left_out: Collection[str] = (),
+    tell: Callable[[str], None] = lambda _: None,
 ) -> Imported:
     """The script for a file's text. `is_independent` and `left_out` are for Jepsen's forms, as
-    `read_jepsen` has them. Raises ImportRefusedError."""
+    `read_jepsen` has them. `tell` is called with what is being done. Raises ImportRefusedError."""
     chosen = FORMS[form]
     if initial is not None and not chosen.has_initial:
         raise ImportRefusedError(0, f"in {form} the initial value is always nil")
@@ -182,7 +179,9 @@ def import_text(
         if not chosen.is_jepsen:
             raise ImportRefusedError(0, "--independent and --leave-out are for Jepsen's histories")
         more.update(is_independent=is_independent, left_out=left_out)
-    return script_of(chosen.read(text, **more), first, asks_time, EVERY)
+    recording = chosen.read(text, **more)
+    tell(f"looking up what {counted(len(recording.attempts), 'attempt')} read")
+    return script_of(recording, first, asks_time, EVERY)
 
 
 def _text_of(path: str) -> str:

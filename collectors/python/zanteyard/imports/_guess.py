@@ -3,6 +3,7 @@
 from __future__ import annotations
 
 import re
+import zlib
 from typing import Optional
 
 from ._command import GZIP
@@ -15,7 +16,7 @@ def history_form(front: bytes) -> Optional[str]:
     """The FORM of `zanteyard import` that a file with this beginning seems to have; "FORM" if it
     has one of them and it is unclear which; None if it may be a script."""
     if front.startswith(GZIP):
-        return "FORM"
+        return history_form(_decompressed(front)) or "FORM"
     text = front.decode("utf-8-sig", "replace").lstrip()
     line = text.partition("\n")[0].strip()
     if line == ",".join(HEADER):
@@ -29,3 +30,11 @@ def history_form(front: bytes) -> Optional[str]:
             return "jepsen-lists"
         return "dbcop" if '"variable"' in text else "jepsen-registers"
     return None
+
+
+def _decompressed(front: bytes) -> bytes:
+    """What a compressed file begins with; empty if that can't be decompressed."""
+    try:
+        return zlib.decompressobj(zlib.MAX_WBITS | 16).decompress(front, FIRST)
+    except zlib.error:
+        return b""

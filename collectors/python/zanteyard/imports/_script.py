@@ -6,11 +6,12 @@ from __future__ import annotations
 import json
 from typing import Any, Dict, Iterator, List, Optional, Set, Tuple
 
-from ..core._own_keys import FORM
+from ..core._own_keys import FORM, LARGE_FORM
 from ..core._records import AuditId
 from ..core.errors import ImportRefusedError
 from ..explain._script_names import PART, REST, NamedTransaction, ScriptNames
 from ..explain._script_times import ScriptTimes
+from ..promises._asking import LIMIT, MOST, SESSIONS
 from ._recording import ABORTED, COMMITTED, UNKNOWN, Recording, counted
 from ._script_parts import (
     LONGEST,
@@ -27,8 +28,6 @@ from ._script_parts import (
 from ._sources import Absent, Origin, Sources, Stub
 from ._times import EVERY, Times, check_times, part_of, times_of
 
-SESSIONS = 64
-LIMIT = 4096  # transactions that remain at a time
 NEVER_OFFERED = 1_000_000_000  # numbers from here on are those of transactions that never arrive
 ROUND = ["round", 4096, 0, 1, "guided"]
 
@@ -38,9 +37,9 @@ def script_of(
 ) -> Imported:
     """The script of the whole recording, or of its first `first` attempts, and its times. With
     `asks_time` it will be checked for real-time order: then clients may share a session by time,
-    and if there are more transactions than may remain, fences are put at pauses that are at least
-    `every` transactions apart. Raises ImportRefusedError if there is no sound script, or none that
-    the auditor can take."""
+    and if there are more transactions than may remain (MOST), fences are put at pauses that are at
+    least `every` transactions apart: nothing else lets so many be checked. Raises
+    ImportRefusedError if there is no sound script, or none that the auditor can take."""
     if asks_time:
         check_times(recording)
     return _ScriptMaker(recording, first, asks_time, every).imported()
@@ -75,7 +74,7 @@ class _ScriptMaker:
     def imported(self) -> Imported:
         """The complete result."""
         self._plan = self._planned()
-        if self._times is not None and sum(map(len, self._plan.sessions)) > LIMIT:
+        if self._times is not None and sum(map(len, self._plan.sessions)) > MOST:
             self._pauses = self._times.pauses(self._every)
         self._put_fences()
         self._places = self._plan.places()
@@ -107,17 +106,19 @@ class _ScriptMaker:
         return times_of(self._recording, ids)
 
     def _lines(self, offered: List[List[Any]]) -> Iterator[List[Any]]:
-        """The lines of the script. If not everything fits, there is a round at each pause, after
-        which what is settled is forgotten; otherwise one round at the end."""
+        """The lines of the script, of the lowest version that has room for them. If not everything
+        fits, there is a round at each pause, after which what is settled is forgotten; otherwise
+        one round at the end."""
         count = sum(map(len, offered))
-        if count > LIMIT and not self._pauses:
-            raise ImportRefusedError(0, too_many(count))
+        if count > MOST and not self._pauses:
+            raise ImportRefusedError(0, self._too_many(count))
         tells_aborted = any(txn[2:] for transactions in offered for txn in transactions)
-        yield ["open", len(offered), min(LIMIT, count), *([FORM] if tells_aborted else [])]
+        form = [LARGE_FORM] if count > LIMIT else [FORM] if tells_aborted else []
+        yield ["open", len(offered), min(MOST, count), *form]
         given = [0] * len(offered)
         for pause, fences in enumerate(self._plan.fences):
             ends = {fence.session: self._places[fence][1] + 1 for fence in fences}
-            if count > LIMIT:
+            if count > MOST:
                 self._check_room(sum(ends[session] - given[session] for session in ends), pause)
             for session, end in ends.items():
                 yield from offers(session, given[session], offered[session][:end])
@@ -125,10 +126,10 @@ class _ScriptMaker:
             for session in {fence.session for fence in fences if fence.is_first}:
                 if given[session] == len(offered[session]):
                     yield ["close", session]
-            if count > LIMIT:
+            if count > MOST:
                 yield ROUND
                 yield ["truncate"]
-        if count > LIMIT:
+        if count > MOST:
             self._check_room(count - sum(given), len(self._pauses))
         for session, transactions in enumerate(offered):
             yield from offers(session, given[session], transactions)
@@ -137,13 +138,25 @@ class _ScriptMaker:
     def _check_room(self, count: int, pause: int) -> None:
         """Raises ImportRefusedError if there isn't room for this many transactions before this
         pause, counted from 0."""
-        if count > LIMIT - SESSIONS:  # the previous pause leaves second fences
+        if count > MOST - SESSIONS:  # the previous pause leaves second fences
             line = self._line_at(self._pauses[pause - 1]) if pause else 1
             raise ImportRefusedError(
                 line,
                 f"from here on, {count:,} transactions ran without a moment at which none was in "
-                f"flight; at most {LIMIT:,} can be held at a time",
+                f"flight; at most {MOST:,} can be held at a time",
             )
+
+    def _too_many(self, count: int) -> str:
+        """Says why this many transactions can't be checked, and what can be done."""
+        text = (
+            f"the file has {count:,} transactions, and at most {MOST:,} can be checked at once: "
+            "take the first of them (--first N)"
+        )
+        if self._times is not None:
+            return f"{text}; there is no moment with none in flight, at which it could be divided"
+        if self._recording.has_times and not self._recording.time_goes_back:
+            return f"{text}, or divide it at moments with none in flight (--strict)"
+        return text
 
     def _line_at(self, place: int) -> int:
         return next(attempt.line for attempt in self._attempts if attempt.began == place)
@@ -396,11 +409,3 @@ class _ScriptMaker:
         if self._pauses:
             pauses = counted(sum(map(bool, self._plan.fences)), "pause")
             yield f"fences at {pauses}, where settled transactions are forgotten"
-
-
-def too_many(count: int) -> str:
-    """Says why this many transactions can't be checked at once."""
-    return (
-        f"the file has {count:,} transactions, and at most {LIMIT:,} can be checked at once "
-        "without fences, which this history lacks: take the first of them (--first N)"
-    )

@@ -9,10 +9,11 @@ from typing import Dict, List, Mapping, Sequence
 from ..core._records import AuditId
 from ..core.errors import ImportRefusedError
 from ..explain._script_times import ScriptTimes
+from ..promises._asking import MOST
 from ._recording import NEVER, Attempt, Recording
 from ._sources import Sourced
 
-EVERY = 512  # transactions between two pauses, at least
+EVERY = MOST // 8  # transactions between two pauses, at least
 
 
 def check_times(recording: Recording) -> None:

@@ -26,7 +26,7 @@ from ..journal._entries import Head
 from ..promises._asking import begun_in, form_of
 from ._binaries import PROGRAM as PROGRAM
 from ._intake import Fragment
-from ._lines import ENDED, TOO_OLD, written
+from ._lines import ENDED, too_old, written
 from ._pipes import Pipes
 from ._resuming import Reopened, journaled, reopened
 from ._rounds import Rounds
@@ -43,15 +43,15 @@ class Auditor(Rounds):
     the program is gone and RefusedError if it refuses a line.
 
     `sessions` is the initial number of sessions, 1 to 64; `join` adds more. At most `limit`
-    transactions may remain, which is 4,096 at most. `program` is the file to start. `run_name` is
-    stored next to each value that sessions write; each run needs its own, and gets one by default.
-    `script` names a file for every line that the program is given, so that the lines can be
-    replayed. `policy` says how long sessions wait. `journal` names a file that doesn't exist yet
-    (docs/JOURNAL.md): if the program dies, another one is started and brought to the same state.
-    With a journal, all calls raise JournalError if it can't be written. A round whose search takes
-    longer than `round_seconds` (60 by default) is skipped and reported as spent. `promise` is
-    "serializable" or "snapshot" (docs/PROMISES.md). With "snapshot" there is room for half as many
-    transactions.
+    transactions may remain (4,096 by default, and 1,048,576 at most); with more, a round takes
+    longer. `program` is the file to start. `run_name` is stored next to each value that sessions
+    write; each run needs its own, and gets one by default. `script` names a file for every line
+    that the program is given, so that the lines can be replayed. `policy` says how long sessions
+    wait. `journal` names a file that doesn't exist yet (docs/JOURNAL.md): if the program dies,
+    another one is started and brought to the same state. With a journal, all calls raise
+    JournalError if it can't be written. A round whose search takes longer than `round_seconds` (60
+    by default) is skipped and reported as spent. `promise` is "serializable" or "snapshot"
+    (docs/PROMISES.md). With "snapshot" there is room for at most 2,048 transactions.
     """
 
     @classmethod
@@ -110,10 +110,11 @@ class Auditor(Rounds):
 
     def _open(self) -> None:
         """Raises ProgramTooOldError if the program can't read such scripts."""
+        form = form_of(self.promise, self.limit)
         try:
-            self.ask(["open", self.sessions, self.limit, *form_of(self.promise)])
+            self.ask(["open", self.sessions, self.limit, *form])
         except BadLineError as error:
-            raise ProgramTooOldError(f"{self.path} {TOO_OLD}") from error
+            raise ProgramTooOldError(too_old(self.path, form[0])) from error
 
     def _started(self, journal: Union[str, Reopened, None]) -> Union[Pipes, SupervisedProgram]:
         if journal is None:

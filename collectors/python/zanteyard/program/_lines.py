@@ -7,7 +7,7 @@ import logging
 import time
 from typing import Any, List, Mapping, Optional, Sequence, Tuple, Type, Union
 
-from ..core._own_keys import FORM
+from ..core._own_keys import LARGE_FORM
 from ..core._private_files import private
 from ..core.errors import (
     BadLineError,
@@ -21,14 +21,11 @@ from ..core.errors import (
     ProgramLateError,
     RefusedError,
 )
+from ..promises._asking import LIMIT
 from ._intake import SECONDS, Intake
 from ._pipes import Pipes
 from ._supervised import SupervisedProgram
 
-TOO_OLD = (
-    f"is older than this package: it doesn't read scripts of version {FORM}, which name aborted "
-    "writers. Rebuild it, or name another program"
-)
 SHOWN = 160  # characters of a refused line
 WAITS = (0.1, 0.5)  # seconds until a line that was answered NoMemory is sent again
 ENDED = "cobra_audit was closed"
@@ -41,6 +38,17 @@ KINDS: Mapping[str, Type[RefusedError]] = {
     "NoRound": NoRoundError,
     "NotAnchored": NotAnchoredError,
 }
+
+
+def too_old(path: str, form: int) -> str:
+    """Says that the program doesn't read scripts of this version."""
+    what = "name aborted writers"
+    if form == LARGE_FORM:
+        what = f"have room for more than {LIMIT:,} transactions"
+    return (
+        f"{path} is older than this package: it doesn't read scripts of version {form}, which "
+        f"{what}. Rebuild it, or name another program"
+    )
 
 
 def written(line: Sequence[Any]) -> str:

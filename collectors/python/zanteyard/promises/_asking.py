@@ -6,12 +6,14 @@ from __future__ import annotations
 
 from typing import Any, Iterator, List, Optional, Sequence
 
-from ..core._own_keys import FORM, LONGEST
+from ..core._own_keys import FORM, LARGE_FORM, LONGEST
 from ..core.errors import CantBeAskedError
 from ._kinds import EVENTS, SERIALIZABLE, SNAPSHOT, Promise
 from ._times import TIME_KEYS, Timeline
 
-LIMIT, SESSIONS = 4096, 64  # the auditor's limits
+SESSIONS = 64
+LIMIT = 4096  # transactions that may remain in a script of version 1 or 2
+MOST = 1 << 20  # and in one of version 3
 KEYS = 1 << 63  # keys of scripts about snapshots are below this
 OPENS = {"open", "resume"}
 PARTS = "a script that continues another one is about the promise that its first line asks for"
@@ -22,7 +24,7 @@ ANSWERS = (
 
 def most_remaining(promise: Promise) -> int:
     """How many transactions may remain at a time, at most."""
-    return LIMIT // 2 if promise.asks_itself else LIMIT
+    return LIMIT // 2 if promise.asks_itself else MOST
 
 
 def longest(promise: Promise) -> int:
@@ -30,9 +32,11 @@ def longest(promise: Promise) -> int:
     return LONGEST // 2 if promise.asks_itself else LONGEST
 
 
-def form_of(promise: Promise) -> List[Any]:
-    """The end of the line that opens a script about the promise."""
-    return [FORM, SNAPSHOT.name] if promise.asks_itself else [FORM]
+def form_of(promise: Promise, limit: int = LIMIT) -> List[Any]:
+    """The end of the line that opens a script about the promise, in which `limit` may remain."""
+    if promise.asks_itself:
+        return [FORM, SNAPSHOT.name]
+    return [LARGE_FORM if limit > LIMIT else FORM]
 
 
 def asked_in(line: Sequence[Any]) -> Optional[Promise]:
@@ -80,10 +84,11 @@ class Asking:
             raise CantBeAskedError(PARTS)
         if is_own:
             return line[:4]
-        if line[3:] not in ([], [FORM]) or not all(map(is_number, line[1:3])):
+        if line[3:] not in ([], [FORM], [LARGE_FORM]) or not all(map(is_number, line[1:3])):
             return line  # which the auditor refuses
         _, sessions, limit, *_ = line
-        limit = min(limit, most_remaining(self.promise)) if limit <= LIMIT else limit
+        if limit <= (MOST if line[3:] == [LARGE_FORM] else LIMIT):
+            limit = min(limit, most_remaining(self.promise))
         return ["open", sessions, limit, *form_of(self.promise)]
 
     def _offered(self, line: List[Any]) -> Iterator[List[Any]]:

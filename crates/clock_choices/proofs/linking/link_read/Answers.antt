@@ -39,3 +39,8 @@ returns-clause-brings c =
       brings_one parts graph.gone graph.received graph.arcs new c.args.due.now c.link.new.due arc arcs (is, are.each read.writer found) growth,
       λ written. by_last graph.gone graph.received graph.arcs new arc arcs,
     )) c.link.ensures.growth c.link.ensures.arcs
+
+pub returns-then-reaches-clause-brings : goal.returns-then-reaches-clause-brings
+returns-then-reaches-clause-brings c = λ parts are is.
+    let graph = c.args.graph.now in
+    (brings_none parts graph.gone graph.received graph.arcs c.args.due.now, λ written. c.reaches.ensures.exact.0 c.if-reaches.true)

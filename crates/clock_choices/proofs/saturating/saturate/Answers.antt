@@ -1,5 +1,4 @@
 use Rattle.std.proofs.Common.{◌≡◌, ◌∙◌, ℕ, [], ◌∷◌, List, length, refl, sym, subst, subst₂, arith, Contains, All}
-use Rattle.std.specs.Prelude.{vec_len}
 use Rattle.std.proofs.lemmas.Bool.{eqb-true}
 use Rattle.std.proofs.lemmas.List.Elements.{All-contains}
 use Rattle.txn.specs.declared.transactions.TxnId.{TxnId}
@@ -10,7 +9,7 @@ use Rattle.clock_choices.specs.Index.{IsRunThere, reads_of, runs_of}
 use Rattle.clock_choices.specs.Pending.{IsClosedBut}
 use Rattle.clock_choices.specs.Stages.{IsTxnSettled}
 use Rattle.clock_choices.proofs.Growths.{forces_both}
-use Rattle.clock_choices.proofs.Settled.{closed_but, closed_now}
+use Rattle.clock_choices.proofs.Settled.{closed_but, closed_now, closed_wider}
 use Rattle.clock_choices.proofs.saturating.saturate.Goals as goal
 
 pub loop-turn-init : goal.loop-turn-init
@@ -30,11 +29,11 @@ loop-turn-preserved c =
     let start = c.args.graph.now in
     let mid = c.loop-turn.graph in
     let new = c.settle_batch.new.graph in
-    let batch = c.loop-turn.batch.items in
-    let then = c.in_ok-batch.batch.items in
+    let batch = c.loop-turn.batch in
+    let then = c.in_ok-batch.batch in
     let growth : IsGrowth start.gone start.received mid.arcs [] new.arcs then =
     subst₂ (λ (gone received : List ℕ). IsGrowth gone received mid.arcs [] new.arcs then) was.gone was.received c.in_ok-batch.ensures.growth in
-    let settled = rw c.deref.ensures.value at c.in_ok-batch.ensures.settled in
+    let settled = c.in_ok-batch.ensures.settled in
     record {
       gone = c.settle_batch.ensures.gone ∙ was.gone;
       received = c.settle_batch.ensures.received ∙ was.received;
@@ -56,6 +55,8 @@ pub returns-then-is_empty-clause-closed : goal.returns-then-is_empty-clause-clos
 returns-then-is_empty-clause-closed c = λ parts are reads closed.
     let was = c.loop-turn.invariant in
     let batch = c.loop-turn.batch in
-    let empty : batch.items ≡ [] = none_left batch.items (sym batch.ok.0 ∙ eqb-true (vec_len batch) 0 (sym c.is_empty.ensures ∙ c.if-is_empty.true)) in
+    let empty : batch ≡ [] = none_left batch (eqb-true (length batch) 0 (sym (rw c.ids.ensures at c.is_empty.ensures) ∙ c.if-is_empty.true)) in
+    let here = rw c.deref.ensures.value at c.in_ok-noted.ensures in
     closed_now parts (Reaches c.args.graph.now.gone c.args.graph.now.received c.loop-turn.graph.arcs)
-    (subst (λ (some : List TxnId). IsClosedBut parts (Reaches c.args.graph.now.gone c.args.graph.now.received c.loop-turn.graph.arcs) (λ id. Contains some id)) empty (was.closed parts are reads closed))
+    (subst (λ (some : List TxnId). IsClosedBut parts (Reaches c.args.graph.now.gone c.args.graph.now.received c.loop-turn.graph.arcs) (λ id. Contains some id)) empty
+    (was.closed parts are reads (closed_wider parts (Reaches c.args.graph.now.gone c.args.graph.now.received c.args.graph.now.arcs) (λ id. Contains c.args.due.items id) (λ id. Contains c.in_ok-noted.noted id) here closed)))

@@ -14,6 +14,6 @@ invariant-loop-turn l = record {
   received : l.graph.received ≡ l.initial.graph.received;
   mark : last_mark l.graph ≡ last_mark l.initial.graph;
   forces : (parts : Parts) → ((key : ℕ) → AreRunsOf parts key (runs_of l.writers key)) → ((id : TxnId) → AreReadsOf parts id (reads_of l.reads id)) → Forces parts l.initial.graph.gone l.initial.graph.received l.initial.graph.arcs l.initial.steps.items l.graph.arcs l.steps.items;
-  closed : (parts : Parts) → ((key : ℕ) → AreRunsOf parts key (runs_of l.writers key)) → ((id : TxnId) → AreReadsOf parts id (reads_of l.reads id)) → IsClosedBut parts (Reaches l.initial.graph.gone l.initial.graph.received l.initial.graph.arcs) (λ id. Contains l.initial.batch.items id)
-      → IsClosedBut parts (Reaches l.initial.graph.gone l.initial.graph.received l.graph.arcs) (λ id. Contains l.batch.items id);
+  closed : (parts : Parts) → ((key : ℕ) → AreRunsOf parts key (runs_of l.writers key)) → ((id : TxnId) → AreReadsOf parts id (reads_of l.reads id)) → IsClosedBut parts (Reaches l.initial.graph.gone l.initial.graph.received l.initial.graph.arcs) (λ id. Contains l.initial.batch id)
+      → IsClosedBut parts (Reaches l.initial.graph.gone l.initial.graph.received l.graph.arcs) (λ id. Contains l.batch id);
 }

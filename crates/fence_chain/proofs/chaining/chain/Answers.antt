@@ -3,7 +3,7 @@ use Rattle.std.specs.Prelude.{◌↔◌, All, Contains}
 use Rattle.txn.specs.declared.transactions.TxnId.{TxnId}
 use Rattle.order_check.specs.declared.remainder.Parts.{Parts}
 use Rattle.order_check.specs.Based.{Remains}
-use Rattle.forced_choices.specs.OrderedAmong.{AreOrdered, IsOrderedAmong}
+use Rattle.clock_choices.specs.OrderedAmong.{AreOrdered, IsOrderedAmong}
 use Rattle.fence_chain.specs.Chains.{IsRemainingFence}
 use Rattle.fence_chain.specs.Picked.{AreInOrder, IsPicked, IsSorting}
 use Rattle.fence_chain.proofs.Chained.{is_chain, picked_ordered, picked_remain}

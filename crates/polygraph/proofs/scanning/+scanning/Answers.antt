@@ -1,7 +1,7 @@
-use Rattle.std.proofs.Common.{ap, ◌∙◌, arith, rules, subst, sym}
+use Rattle.std.proofs.Common.{ℕ, ◌+◌, ap, ◌∙◌, arith, rules, subst, sym}
 use Rattle.order_check.specs.Search.{has_order, no_order, used_up}
-use Rattle.forced_choices.specs.BranchState.{BranchState, arc_of, assumed, last_steps}
-use Rattle.polygraph.specs.Shown.{outcome_of, OrderKeeps, told_of}
+use Rattle.clock_choices.specs.BranchState.{BranchState, all_taken, arc_of, assumed, taken_before}
+use Rattle.polygraph.specs.Shown.{outcome_of, OrderKeeps, StandsAbove, told_of}
 use Rattle.polygraph.proofs.Scanned.{nothing_left, deep_scan, closed_scan, decided_scan, first_scan, both_scan, keeps_fewer, shown_beyond, leaf_shown, split_shown}
 use Rattle.polygraph.proofs.scanning.+scanning.Goals as goal
 
@@ -14,22 +14,21 @@ scan-returns-in_ok-explaining_order-in-None-clause-scans t c = rw c.in_ok-take.e
 
 pub scan_side-scan-requires : goal.scan_side-scan-requires
 scan_side-scan-requires t c =
-    let e = ap (λ (b : BranchState). b.parts) c.in_ok-assume.ensures.ok.2 in
+    let e = ap (λ (b : BranchState). b.parts) c.in_ok-assume.ensures.ok.1 in
     (search rules, rw e c.requires.bad)
 
 pub scan_side-returns-clause-sides : goal.scan_side-returns-clause-sides
 scan_side-returns-clause-sides t c =
     let sides = assumed c.args.branch.now.levels in
     let made = c.in_ok-assume.ensures.ok in
-    let found = subst (λ (b : BranchState). OrderKeeps (assumed b.levels) (told_of c.in_ok-found.found)) made.2 c.in_ok-found.ensures.sides in
+    let found = subst (λ (b : BranchState). OrderKeeps (assumed b.levels) (told_of c.in_ok-found.found)) made.1 c.in_ok-found.ensures.sides in
     c.in_ok-found-2.ensures.sides sides (keeps_fewer (arc_of c.args.choice c.args.side) sides (told_of c.in_ok-found.found) found)
 
 pub scan_side-returns-clause-shown : goal.scan_side-returns-clause-shown
 scan_side-returns-clause-shown t c =
     let made = c.in_ok-assume.ensures.ok in
-    let back = ap (λ (b : BranchState). last_steps b.log b.levels) (c.in_ok-found.ensures.kept ∙ made.2) in
-    let e = c.steps.ensures ∙ back in
-    shown_beyond c.args.branch.now c.assume.new.self c.args.choice c.args.side made.0 c.in_ok-found.found c.in_ok-found-2.found made.1 made.2 c.in_ok-found.ensures.shown (rw e at c.in_ok-found-2.ensures.above)
+    let above = subst (λ (b : BranchState). (more most : ℕ) → StandsAbove b.parts (all_taken b.log b.levels) more most c.in_ok-found.found → StandsAbove b.parts (taken_before b.log b.levels) more (most + 1) c.in_ok-found-2.found) c.in_ok-found.ensures.kept c.in_ok-found-2.ensures.above in
+    shown_beyond c.args.branch.now c.assume.new.self c.args.choice c.args.side made.0 c.in_ok-found.found c.in_ok-found-2.found made.1 c.in_ok-found.ensures.shown above
 
 pub split-returns-in-Yes-clause-scans : goal.split-returns-in-Yes-clause-scans
 split-returns-in-Yes-clause-scans t c = first_scan c.args.branch.now c.args.choice c.args.nodes.now _ (told_of c.in_ok-pruned.field-0) has_order (ap (λ f. outcome_of (told_of f)) c.in-Yes.is) (λ e. cc) c.requires.low c.requires.hopeful c.requires.first c.in_ok-pruned.ensures.scans

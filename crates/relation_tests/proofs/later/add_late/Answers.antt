@@ -2,7 +2,7 @@ use Rattle.std.proofs.Common.{◌≡◌, sym, subst}
 use Rattle.std.proofs.lemmas.Result.{on_ok_weaker}
 use Rattle.order_check.specs.Cuts.{IsKeptFront}
 use Rattle.order_check.specs.StandsFor.{parts_with}
-use Rattle.forced_choices.specs.SaturatedState.{fragment_of}
+use Rattle.clock_choices.specs.SaturatedState.{fragment_of}
 use Rattle.relation_tests.proofs.later.add_late.Goals as goal
 
 -- The parts are a front of themselves, and stay one when a fragment of an open session comes.

@@ -1,7 +1,7 @@
 use Rattle.std.proofs.Common.{sym, subst}
 use Rattle.std.specs.Prelude.{IfOk}
 use Rattle.order_check.specs.Explains.{Explains}
-use Rattle.forced_choices.specs.SaturatedState.{SaturatedState}
+use Rattle.clock_choices.specs.SaturatedState.{SaturatedState}
 use Rattle.settle.specs.Found.{IsFound}
 use Rattle.settle.proofs.finding.find.Goals as goal
 

@@ -4,7 +4,7 @@ use Rattle.std.specs.List.{AllPairs}
 use Rattle.txn.specs.declared.transactions.TxnId.{TxnId}
 use Rattle.order_check.specs.Based.{Remains}
 use Rattle.order_check.specs.Known.{Known}
-use Rattle.forced_choices.specs.OrderedAmong.{IsOrderedAmong}
+use Rattle.clock_choices.specs.OrderedAmong.{IsOrderedAmong}
 use Rattle.settle.proofs.Found.{chain_remains, ids_remain, ordered_chain_is}
 use Rattle.settle.proofs.finding.ordered_chain.Goals as goal
 

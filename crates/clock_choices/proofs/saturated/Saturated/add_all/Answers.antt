@@ -6,15 +6,18 @@ use Rattle.order_check.specs.declared.remainder.Parts.{Parts}
 use Rattle.order_check.specs.Based.{received_count}
 use Rattle.order_check.specs.Good.{IsGood}
 use Rattle.order_check.specs.StandsFor.{with_fragment}
-use Rattle.clock_choices.specs.declared.indexing.Index.{Index}
+use Rattle.clock_choices.specs.declared.sharing.SharedIndex.{SharedIndex}
 use Rattle.clock_choices.specs.declared.steps.Forced.{Forced}
 use Rattle.clock_choices.specs.Held.{IsHeld}
-use Rattle.clock_choices.specs.Indexing.{IsIndex}
+use Rattle.clock_choices.specs.KeptLists.{IsListed}
 use Rattle.clock_choices.specs.SaturatedState.{SaturatedState}
+use Rattle.clock_choices.specs.SharedIndexes.{IsIndexIn}
 use Rattle.clock_choices.specs.Steps.{bare}
 use Rattle.clock_choices.proofs.CutBack.{cut_back_to, if_none}
 use Rattle.clock_choices.proofs.saturated.Saturated.add_all.Goals as goal
-use Rattle.clock_choices.proofs.saturated.Saturated.add_all.Goals.{in-Some, in-None+in_ok-index-in-None}
+
+pub own_index-requires-clause-kept : goal.own_index-requires-clause-kept
+own_index-requires-clause-kept c = subst (λ (found : Option SharedIndex). IfSome found (IsIndexIn c.self.inside.parts)) (sym c.take.ensures.value) c.self.invariant.2
 
 pub invariant_of-self-in_err-append_at : goal.invariant_of-self-in_err-append_at
 invariant_of-self-in_err-append_at c =
@@ -22,7 +25,8 @@ invariant_of-self-in_err-append_at c =
     let graph = c.self.inside.graph in (
       subst (λ (remain : List (List Txn)). IsGood (record parts { remain = remain })) (sym c.in_err-append_at.ensures.err) c.self.invariant.0,
       subst (λ (remain : List (List Txn)). IsHeld (record parts { remain = remain }) graph.gone graph.received graph.arcs c.self.inside.steps.items) (sym c.in_err-append_at.ensures.err) c.self.invariant.1,
-      if_none c.take.new.self (λ (index : Index). IsIndex (record parts { remain = c.append_at.new.self }) index) c.take.ensures.after,
+      if_none c.take.new.self (λ (index : SharedIndex). IsIndexIn (record parts { remain = c.append_at.new.self }) index) c.take.ensures.after,
+      subst (λ (remain : List (List Txn)). IfSome c.self.inside.listed (IsListed (record parts { remain = remain }))) (sym c.in_err-append_at.ensures.err) c.self.invariant.3,
     )
 
 pub catch_up-requires-clause-next : goal.catch_up-requires-clause-next
@@ -38,10 +42,7 @@ catch_up-requires-clause-next c =
         is = ap (λ (remain : List (List Txn)). record parts { remain = remain }) grown;
       },
       c.self.invariant.1,
-      elim c.match-take.branch [
-        | in-Some w ↦ subst (λ (index : Index). IsIndex parts index) (sym w.index-is) (subst (λ (found : Option Index). IfSome found (IsIndex parts)) (sym w.in-Some.ensures.value) c.self.invariant.2)
-        | in-None+in_ok-index-in-None w ↦ subst (λ (index : Index). IsIndex parts index) (sym w.index-is) w.in_ok-index-in-None.ensures
-      ],
+      c.in_ok-index.ensures,
     )
 
 pub invariant_of-self-in-Err : goal.invariant_of-self-in-Err
@@ -59,7 +60,8 @@ invariant_of-self-in-Err c =
     (subst₂ (λ (arcs : List Arc) (some : List Forced). IsHeld parts graph.gone graph.received arcs some) (sym err.3) (sym steps) c.self.invariant.1) in (
       subst (λ (remain : List (List Txn)). IsGood (record parts { remain = remain })) (sym back) c.self.invariant.0,
       subst (λ (remain : List (List Txn)). IsHeld (record parts { remain = remain }) new.gone new.received new.arcs c.catch_up.new.steps.items) (sym back) held,
-      if_none c.take.new.self (λ (index : Index). IsIndex (record parts { remain = c.truncate_at.new.self }) index) c.take.ensures.after,
+      if_none c.take.new.self (λ (index : SharedIndex). IsIndexIn (record parts { remain = c.truncate_at.new.self }) index) c.take.ensures.after,
+      subst (λ (remain : List (List Txn)). IfSome c.self.inside.listed (IsListed (record parts { remain = remain }))) (sym back) c.self.invariant.3,
     )
 
 pub returns-in-Err-clause-err : goal.returns-in-Err-clause-err

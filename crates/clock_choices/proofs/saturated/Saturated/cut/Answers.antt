@@ -77,6 +77,7 @@ invariant_of-self c =
       subst (λ (p : Parts). IsGood p) (sym c.in_ok-copy.ensures) of_new,
       subst (λ (p : Parts). IsHeld p then.gone then.received then.arcs c.in_ok-steps.steps.items) (sym c.in_ok-copy.ensures) here,
       tt,
+      tt,
     )
 
 pub returns-clause-logged : goal.returns-clause-logged

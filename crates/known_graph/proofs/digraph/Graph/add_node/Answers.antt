@@ -1,42 +1,28 @@
-use Rattle.std.proofs.Common.{◌≡◌, ◌↔◌, ◌⊎◌, arith, ap, sym, ◌∙◌, subst, List, Option}
+use Rattle.std.proofs.Common.{◌≡◌, ◌↔◌, ◌⊎◌, ap, sym, ◌∙◌, subst, List, Option}
 use Rattle.txn.specs.declared.transactions.TxnId.{TxnId}
 use Rattle.known_graph.specs.Graphs.{GraphState, HasKey, IsPut}
-use Rattle.known_graph.specs.Marks.{IsMarkedGraph}
-use Rattle.known_graph.proofs.Marked.{IsMarkedGraph-grown, IsTrail-none}
-use Rattle.known_graph.proofs.Stored.{HasKey-added, IsKept-added}
+use Rattle.known_graph.specs.Kept.{IsKept}
+use Rattle.known_graph.proofs.Stored.{HasKey-added, IsKept-same, IsKept-added}
 use Rattle.known_graph.proofs.digraph.Graph.add_node.Goals as goal
 
-pub invariant_of-self-in_err-grow : goal.invariant_of-self-in_err-grow
-invariant_of-self-in_err-grow c =
+pub invariant_of-self : goal.invariant_of-self
+invariant_of-self c =
     let graph = c.self.inside in
-    IsMarkedGraph-grown graph.nodes.slots graph.arcs.items graph.onto.items graph.from.items c.grow.new.rows.items graph.from.items graph.trail c.self.invariant
-    c.grow.ensures.square c.grow.ensures.more c.grow.ensures.bits c.self.invariant.kept.backwards.square (omega arith) (λ i j. (λ is. is, λ is. is))
-
-pub invariant_of-self-in_err-grow-2 : goal.invariant_of-self-in_err-grow-2
-invariant_of-self-in_err-grow-2 c =
-    let graph = c.self.inside in
-    IsMarkedGraph-grown graph.nodes.slots graph.arcs.items graph.onto.items graph.from.items c.grow.new.rows.items c.grow-2.new.rows.items graph.trail c.self.invariant
-    c.grow.ensures.square c.grow.ensures.more c.grow.ensures.bits c.grow-2.ensures.square c.grow-2.ensures.more c.grow-2.ensures.bits
+    IsKept-same graph.nodes.slots graph.arcs.items graph.rows.items c.grow.new.rows.items c.grow.ensures.square c.grow.ensures.more c.grow.ensures.bits c.self.invariant
 
 pub invariant_of-self-in_err-insert : goal.invariant_of-self-in_err-insert
 invariant_of-self-in_err-insert c =
     let graph = c.self.inside in
-    let grown = IsMarkedGraph-grown graph.nodes.slots graph.arcs.items graph.onto.items graph.from.items c.grow.new.rows.items c.grow-2.new.rows.items graph.trail c.self.invariant
-    c.grow.ensures.square c.grow.ensures.more c.grow.ensures.bits c.grow-2.ensures.square c.grow-2.ensures.more c.grow-2.ensures.bits in
-    subst (λ (nodes : List (Option TxnId)). IsMarkedGraph nodes graph.arcs.items c.grow.new.rows.items c.grow-2.new.rows.items graph.trail) (sym (ap (λ s. s.slots) c.in_err-insert.ensures.err)) grown
+    let grown = IsKept-same graph.nodes.slots graph.arcs.items graph.rows.items c.grow.new.rows.items c.grow.ensures.square c.grow.ensures.more c.grow.ensures.bits c.self.invariant in
+    subst (λ (nodes : List (Option TxnId)). IsKept nodes graph.arcs.items c.grow.new.rows.items) (sym (ap (λ s. s.slots) c.in_err-insert.ensures.err)) grown
 
 pub invariant_of-self-2 : goal.invariant_of-self-2
 invariant_of-self-2 c =
     let graph = c.self.inside in
-    let grown = IsMarkedGraph-grown graph.nodes.slots graph.arcs.items graph.onto.items graph.from.items c.grow.new.rows.items c.grow-2.new.rows.items graph.trail c.self.invariant
-    c.grow.ensures.square c.grow.ensures.more c.grow.ensures.bits c.grow-2.ensures.square c.grow-2.ensures.more c.grow-2.ensures.bits in
+    let grown = IsKept-same graph.nodes.slots graph.arcs.items graph.rows.items c.grow.new.rows.items c.grow.ensures.square c.grow.ensures.more c.grow.ensures.bits c.self.invariant in
     let key_is = c.in_ok-insert.ensures.key ∙ sym c.vacant_key-key.ensures.value in
-    record {
-      kept = IsKept-added graph.nodes c.insert.new.self c.in_ok-insert.field-0 c.args.id graph.arcs.items c.grow.new.rows.items c.grow-2.new.rows.items
-          c.in_ok-insert.ensures.was_vacant c.in_ok-insert.ensures.updates (rw (← c.self.view_is) at c.requires)
-          (rw key_is c.in_ok-grow.ensures.enough) (rw key_is c.in_ok-grow-2.ensures.enough) grown.kept;
-      marked = IsTrail-none c.insert.new.self.slots graph.arcs.items c.grow.new.rows.items c.grow-2.new.rows.items c.clear.new.self c.clear.ensures.marks c.clear.ensures.onto c.clear.ensures.from;
-    }
+    IsKept-added graph.nodes c.insert.new.self c.in_ok-insert.field-0 c.args.id graph.arcs.items c.grow.new.rows.items
+    c.in_ok-insert.ensures.was_vacant c.in_ok-insert.ensures.updates (rw (← c.self.view_is) at c.requires) (rw key_is c.in_ok-grow.ensures.enough) grown
 
 pub returns-clause-nodes : goal.returns-clause-nodes
 returns-clause-nodes c = λ other.

@@ -5,33 +5,20 @@ use Rattle.std.proofs.lemmas.List.{with_items_is}
 use Rattle.known_graph.specs.Drops.{has_id, arc_stays}
 use Rattle.known_graph.specs.Graphs.{GraphState, IsAt}
 use Rattle.known_graph.proofs.Dropped.{IsKept-left, Reaches-left, Reaches-before, Reaches-stays, stay, is_not_gone, not_gone}
-use Rattle.known_graph.proofs.Marked.{IsTrail-none}
 use Rattle.known_graph.proofs.digraph.Graph.drop_nodes.Goals as goal
 
 -- the arcs left, as the clauses have them
-left : (c : goal.After-clear) → c.drop_arcs.new.arcs.items ≡ filter (arc_stays c.args.gone.now) c.args.self.now.arcs
+left : (c : goal.After-drop_arcs) → c.drop_arcs.new.arcs.items ≡ filter (arc_stays c.args.gone.now) c.args.self.now.arcs
 left c = c.drop_arcs.ensures ∙ ap (λ (graph : GraphState). filter (arc_stays c.args.gone.now) graph.arcs) c.self.view_is
-
-pub clear_gone-requires : goal.clear_gone-requires
-clear_gone-requires c = rw c.deref_mut.ensures.value c.self.invariant.kept.forwards.square
-
-pub clear_gone-requires-2 : goal.clear_gone-requires-2
-clear_gone-requires-2 c = rw c.deref_mut-2.ensures.value c.self.invariant.kept.backwards.square
 
 pub invariant_of-self : goal.invariant_of-self
 invariant_of-self c =
     let graph = c.self.inside in
     let before = rw (← c.self.view_is) at c.requires.before in
-    let onto_is = with_items_is graph.onto c.clear_gone.new.rows (omega (arith, c.clear_gone.ensures.lengths.0, ap length c.deref_mut.ensures.value, graph.onto.ok.0)) in
-    let from_is = with_items_is graph.from c.clear_gone-2.new.rows (omega (arith, c.clear_gone-2.ensures.lengths.0, ap length c.deref_mut-2.ensures.value, graph.from.ok.0)) in
-    let kept = IsKept-left c.args.gone.now graph.arcs.items before graph.nodes.slots c.remove_all.new.nodes.slots graph.onto.items graph.from.items c.clear_gone.new.rows c.clear_gone-2.new.rows c.remove_all.ensures
-    (rw c.deref_mut.ensures.value at c.clear_gone.ensures.lengths) (rw c.deref_mut.ensures.value at c.clear_gone.ensures.bits)
-    (rw c.deref_mut-2.ensures.value at c.clear_gone-2.ensures.lengths) (rw c.deref_mut-2.ensures.value at c.clear_gone-2.ensures.bits)
-    c.self.invariant.kept in
-    record {
-      kept = rw (c.drop_arcs.ensures, onto_is, from_is) kept;
-      marked = IsTrail-none _ _ _ _ c.clear.new.self c.clear.ensures.marks c.clear.ensures.onto c.clear.ensures.from;
-    }
+    let rows_is = with_items_is graph.rows c.clear_gone.new.rows (omega (arith, c.clear_gone.ensures.lengths.0, ap length c.deref_mut.ensures.value, graph.rows.ok.0)) in
+    rw (c.drop_arcs.ensures, rows_is)
+    (IsKept-left c.args.gone.now graph.arcs.items before graph.nodes.slots c.remove_all.new.nodes.slots graph.rows.items c.clear_gone.new.rows c.remove_all.ensures
+    (rw c.deref_mut.ensures.value at c.clear_gone.ensures.lengths) (rw c.deref_mut.ensures.value at c.clear_gone.ensures.bits) c.self.invariant)
 
 pub returns-clause-kept : goal.returns-clause-kept
 returns-clause-kept c = λ key id.

@@ -1,5 +1,5 @@
 use Rattle.std.proofs.Common.{◌∙◌, Some, ap, sym}
-use Rattle.forced_choices.specs.SaturatedState.{SaturatedState}
+use Rattle.clock_choices.specs.SaturatedState.{SaturatedState}
 use Rattle.round_state.specs.EngineState.{EngineState}
 use Rattle.round_state.proofs.OpenSnapshots.{relation_is, relation_seen}
 use Rattle.round_state.proofs.state.Engine.open_problem.Goals as goal

@@ -1,8 +1,0 @@
--- For private clauses: open choices that were listed, and are kept.
-use Rattle.order_check.specs.declared.remainder.Parts.{Parts}
-use Rattle.forced_choices.specs.CountedChoices.{AreFirstOpen}
-use Rattle.forced_choices.specs.declared.choices.counted.Listed.{Listed}
-
--- they are those of the parts, as many as were asked for
-abbrev pub IsListed : Parts → Listed → Type 0
-IsListed parts listed = AreFirstOpen parts listed.most listed.choices

@@ -1,0 +1,8 @@
+use Rattle.std.proofs.Common.{◌∙◌, sym, ap, length}
+use Rattle.std.proofs.lemmas.List.{length-map}
+use Rattle.clock_choices.specs.Steps.{bare}
+use Rattle.relation_tests.proofs.steps.count_logged.Goals as goal
+
+-- A list of steps without their cycles is as long as the steps.
+pub returns : goal.returns
+returns c = sym (length-map c.log.result.now bare) ∙ ap length c.log.ensures.value
