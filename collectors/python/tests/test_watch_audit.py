@@ -6,6 +6,7 @@ import sys
 import tempfile
 import threading
 import unittest
+from unittest import mock
 
 from tests import watch_feed as feed
 from tests.made_up_programs import made_up
@@ -146,6 +147,22 @@ class Audits(unittest.TestCase):
                 self.assertIn(wanted, text)
         asked = self.told_of("describe")
         self.assertEqual([sorted(its["transactions"]) for its in asked], [[[0, 0], [1, 0], [2, 0]]])
+
+    def test_all_of_a_large_violation_are_described_before_another_audit(self):
+        """Which makes the proxy forget them. Here another audit is due at once."""
+        patched = mock.patch("zanteyard.watch._watching.PAUSES", (0.0,))
+        patched.start()
+        self.addCleanup(patched.stop)
+        lines = [feed.offer(0, at, [[[5, 0, at - 1] if at else [5, "init"]], [5]]) for at in range(600)]
+        skew = [feed.offer(at, 0, [[[5, 0, 599], [6, "init"]], [at]]) for at in (5, 6)]
+        self.begin([feed.started(), feed.OPEN, *lines, *skew, *feed.ROUND, ("await", "restart")])
+        self.fake_has("restart")
+        (found,) = self.stop().violations
+        self.assertEqual([one.id for one in found.told], [(5, 0), (6, 0)])
+        for one in found.told:
+            self.assertTrue(one.its.statements)
+        sent = [its["command"] for its in self.told if its["command"] != "cut"]
+        self.assertEqual(sent, ["describe"] * 3 + ["restart", "stop"])
 
     def until(self, is_so):
         """Waits for it, two minutes at most."""

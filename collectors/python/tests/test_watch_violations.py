@@ -115,7 +115,9 @@ class Explained(unittest.TestCase):
         self.assertEqual(report[2], "violated", told)
         held = Held(retained, report, told[-1])
         self.involved = held.involved()
-        return explained(1, report, held, answered, PROGRAM, feed.AT)
+        found = explained(1, report, held, answered, PROGRAM, feed.AT)
+        self.assertLessEqual({one.id for one in found.told}, {*self.involved})
+        return found
 
     CUT = (  # 0.0 and 1.0 are forgotten, with the fences after them
         feed.offer(0, 0, [[], [5, 6]], FENCE),

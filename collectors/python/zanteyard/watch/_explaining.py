@@ -6,16 +6,16 @@ import logging
 import signal
 import threading
 import time
-from typing import Any, Callable, Dict, List, Optional, Sequence
+from typing import Any, Callable, Dict, List, Sequence
 
 from ..core._records import AuditId
 from ..promises._kinds import SERIALIZABLE, Promise
-from ._violations import EXPLAINING, NOTHING, Answered, Held, Violation, explained
+from ._describing import Describing
+from ._violations import EXPLAINING, Answered, Held, Violation, explained
 
-ANSWERING = 10.0  # seconds for the proxy to describe transactions
+ANSWERING = 60.0  # seconds for each of the proxy's answers
 MOST = 16  # violations that are explained; the rest are counted
 MOST_AT_ONCE = 2
-MOST_DESCRIBED = 256  # transactions of one violation
 logger = logging.getLogger("zanteyard")
 
 
@@ -32,7 +32,7 @@ class Explaining:
         self._program, self._told, self._promise = program, told, promise
         self._turn = threading.Lock()
         self._places = threading.BoundedSemaphore(MOST_AT_ONCE)
-        self._awaited: Dict[int, _Answer] = {}
+        self._asked: Dict[int, Describing] = {}
         self._threads: List[threading.Thread] = []
         self.count = 0
 
@@ -40,18 +40,19 @@ class Explaining:
         self,
         report: Sequence[Any],
         held: Held,
-        describe: Callable[[int, Sequence[AuditId]], object],
+        describe: Callable[[int, Sequence[AuditId]], bool],
     ) -> None:
-        """Begins to explain the violation of this report. Calls `describe` at once, which asks the
-        proxy to describe these transactions."""
+        """Begins to explain the violation of this report. Calls `describe` at once and after each
+        answer: it asks the proxy to describe these transactions, and returns whether it could."""
         self.count += 1
         if self.count > MOST:
             return
-        answer, now = _Answer(), time.time()
+        number, now = self.count, time.time()
+        asked = Describing(held.involved(), lambda some: describe(number, some))
         with self._turn:
-            self._awaited[self.count] = answer
-        describe(self.count, held.involved()[:MOST_DESCRIBED])
-        whole = (self.count, report, held, answer, now)
+            self._asked[number] = asked
+        asked.go_on()
+        whole = (number, report, held, asked, now)
         thread = threading.Thread(target=self._explain, args=whole, daemon=True)
         self._threads.append(thread)
         thread.start()
@@ -59,16 +60,28 @@ class Explaining:
     def answered(self, number: int, answered: Answered) -> None:
         """Takes the proxy's answer to `describe`."""
         with self._turn:
-            answer = self._awaited.get(number)
-        if answer is not None:
-            answer.put(answered)
+            asked = self._asked.get(number)
+        if asked is not None:
+            asked.put(answered)
+
+    @property
+    def is_asking(self) -> bool:
+        """Whether the proxy still has to describe something, and so mustn't forget it."""
+        with self._turn:
+            return any(asked.is_open for asked in self._asked.values())
+
+    def expect_no_answers(self) -> None:
+        """Goes on without answers that haven't arrived: the proxy has ended, or its audit has."""
+        with self._turn:
+            for asked in self._asked.values():
+                asked.close()
 
     def _explain(
-        self, number: int, report: Sequence[Any], held: Held, answer: "_Answer", now: float
+        self, number: int, report: Sequence[Any], held: Held, asked: Describing, now: float
     ) -> None:
         signal.pthread_sigmask(signal.SIG_BLOCK, {signal.SIGINT})  # programs it starts inherit this
         try:
-            answered = answer.take(ANSWERING)
+            answered = asked.take(ANSWERING)
             with self._places:
                 its = (self._program, now, EXPLAINING, self._promise)
                 found = explained(number, report, held, answered, *its)
@@ -77,28 +90,10 @@ class Explaining:
             logger.exception("can't explain violation %d", number)
         finally:
             with self._turn:
-                self._awaited.pop(number, None)
+                self._asked.pop(number, None)
 
     def wait(self, seconds: float) -> None:
         """Waits until all violations that were begun are explained, at most this many seconds."""
         ends = time.monotonic() + seconds
         for thread in self._threads:
             thread.join(max(0.0, ends - time.monotonic()))
-
-
-class _Answer:
-    """An answer of the proxy that is waited for."""
-
-    def __init__(self) -> None:
-        self._is_there = threading.Event()
-        self._found: Optional[Answered] = None
-
-    def put(self, answered: Answered) -> None:
-        self._found = answered
-        self._is_there.set()
-
-    def take(self, seconds: float) -> Answered:
-        """The answer; an empty one if none arrives within this many seconds."""
-        if not self._is_there.wait(seconds):
-            logger.warning("the proxy didn't describe a violation's transactions in time")
-        return self._found or NOTHING

@@ -28,7 +28,7 @@ from ._web import Tell, WebServer
 
 LOOKS = 0.1  # seconds between two checks whether it is over
 LAST_ROUND = 30.0  # seconds for the proxy's last meeting, in addition to the time of a round
-EXPLAINED = 90.0  # seconds for explanations that are still being prepared
+EXPLAINED = 240.0  # seconds for explanations that are still being prepared
 STOPS = (signal.SIGTERM, signal.SIGINT, signal.SIGHUP)
 logger = logging.getLogger("zanteyard")
 

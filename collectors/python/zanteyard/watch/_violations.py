@@ -165,10 +165,25 @@ class Held:
         return self.history[one[0]][one[1] - self.marks[one[0]]].did[0]
 
     def involved(self) -> List[AuditId]:
-        """The remaining transactions that an explanation may mention, the most likely first."""
+        """The remaining transactions that an explanation may mention, the most likely first: those
+        of a lost update, those that the refutation names, and all others that did something with
+        the same keys."""
         lost = [self.lost.one, self.lost.other] if self.lost is not None else []
-        rest = {one for one in named(self.certificate) if one[1] >= self.marks[one[0]]}
-        return [*lost, *sorted(rest - {*lost})]
+        did: Set[AuditId] = set()
+        for session, transactions in enumerate(self.history):
+            for number, logged in enumerate(transactions, self.marks[session]):
+                reads, writes = logged.did
+                if reads or writes:
+                    did.add(AuditId((session, number)))
+                did.update(AuditId(source) for _, source in reads if source != "init")
+        ordered = [*lost, *sorted(named(self.certificate)), *sorted(did)]
+        return [one for one in dict.fromkeys(ordered) if self._is_held(one)]
+
+    def _is_held(self, one: AuditId) -> bool:
+        session, number = one
+        if session >= len(self.marks):
+            return False
+        return 0 <= number - self.marks[session] < len(self.history[session])
 
     def lost_part(self, whole: History, program: str, promise: Promise) -> Optional[History]:
         """The lost update as a part of the whole that `from_start` made of this."""

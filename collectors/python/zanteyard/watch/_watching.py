@@ -32,7 +32,7 @@ CALM = 300.0  # seconds after which an audit's end counts as the first again
 PENDING = 5.0  # seconds between two lists of waiting reads
 TOLD = 60.0  # seconds between two log lines with the same text
 MOST_WARNINGS = 100  # that are remembered
-Tell = Callable[[bytes], object]
+Tell = Callable[[bytes], bool]
 logger = logging.getLogger("zanteyard")
 
 
@@ -42,7 +42,7 @@ class RefusedLineError(ZanteyardError):
 
 class Watching:
     """A running audit, with one thread that asks the auditor. `tell` sends a command to the current
-    proxy. With `redacts`, no values of statements are kept."""
+    proxy, and returns whether it could. With `redacts`, no values of statements are kept."""
 
     def __init__(
         self,
@@ -208,7 +208,9 @@ class Watching:
         self._restart_at = now + pause
 
     def _begin_anew_if_due(self) -> None:
-        if self._restart_at is not None and time.monotonic() >= self._restart_at:
+        if self._restart_at is None or self.explaining.is_asking:
+            return  # by another audit the proxy forgets what it is asked about
+        if time.monotonic() >= self._restart_at:
             self._restart_at = None
             if not self._is_stopping:
                 self._tell(command("restart"))
@@ -242,12 +244,14 @@ class Watching:
         elif name == "warning":
             self._warn(text(event.get("text")))
         elif name == "ended":
+            self.explaining.expect_no_answers()
             if not self.stopped.is_set():  # else it was told to end
                 self._has_given_up = True
                 self._given_up(event)
         elif name == "stopped":
             self.stopped.set()
         elif name == GONE:
+            self.explaining.expect_no_answers()
             self.gone += 1
             self._has_given_up = False
             self._lose(text(event.get("reason")))
