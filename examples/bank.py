@@ -33,7 +33,7 @@ from zanteyard.trial.postgres_server import PostgresServer, ended_by_signals
 
 CUSTOMERS, WORKERS = 20, 4
 PORT = 6432  # of the proxy's socket
-LISTENING, ENDING = 60.0, 180.0  # seconds for the audit to begin, and to end
+LISTENING, ENDING = 300.0, 600.0  # seconds for the audit to begin, and to end
 AGAIN = ("SerializationFailure", "DeadlockDetected", "UniqueViolation")  # of either driver
 SCHEMA = """
 CREATE TABLE accounts (customer int, kind text, balance int NOT NULL, PRIMARY KEY (customer, kind));

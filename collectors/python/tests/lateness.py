@@ -3,7 +3,7 @@ import threading
 import time
 
 BOUND = 0.25  # seconds that a client waits for the audit at most
-SLACK = 0.5  # more seconds, for delays of a single thread, such as a page that isn't in memory
+SLACK = 1.5  # more seconds, for delays of a single thread, such as a page that isn't in memory
 OTHERS = 1.0  # more seconds, if it also waits for other processes, each of which may be late
 
 

@@ -37,7 +37,7 @@ except ImportError:
 
 PLACE = os.path.join(os.path.dirname(os.path.abspath(__file__)), "..")
 CLIENT = os.path.join(PLACE, "tests", "killed_client.py")
-SOON = 120.0  # seconds, on a busy machine
+SOON = 300.0  # seconds, on a busy machine
 MOST = 4096  # transactions that remain
 ROUND = ["round", 65536, 4, 2]
 BETWEEN_ROUNDS = 400  # transactions, when the log is given as a whole with cuts
@@ -58,7 +58,7 @@ HAS_ALL = bool(redis and redis_server() and psycopg2 and program("initdb") and k
 class Machines(unittest.TestCase):
     level = "serializable"
     silence = 60.0  # seconds: a living process is never taken for a dead one
-    soon_silent = 8.0  # seconds, when a process is killed; a client gives a sign of life every second
+    soon_silent = 15.0  # seconds, when a process is killed; a client gives a sign of life every second
 
     @classmethod
     def setUpClass(cls):

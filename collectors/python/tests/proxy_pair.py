@@ -7,7 +7,6 @@ import glob
 import json
 import os
 import shutil
-import socket
 import subprocess
 import tempfile
 import threading
@@ -16,9 +15,11 @@ from typing import Any, Dict, List, Optional
 
 from zanteyard.trial.postgres_server import trusted_plugins
 
+from tests.waiting import at_a_free_port
+
 TOP = os.path.normpath(os.path.join(os.path.dirname(os.path.abspath(__file__)), "../../.."))
 DRIVERS = os.path.join(TOP, "proxy/drivers")
-LIMIT = 180.0  # seconds for whatever has to arrive
+LIMIT = 600.0  # seconds for whatever has to arrive
 SETTINGS = (
     *("fsync=off", "autovacuum=off", "wal_level=logical", "max_prepared_transactions=10"),
     *("shared_buffers=64MB", "jit=off", "max_parallel_workers_per_gather=0", "timezone=UTC"),
@@ -44,7 +45,7 @@ def proxy_program(folder: str) -> Optional[str]:
     if not shutil.which("go") or not all(map(os.path.exists, needed)):
         return None
     build = os.path.join(TOP, "proxy/build.sh")
-    done = subprocess.run([build, folder], capture_output=True, text=True, timeout=600)
+    done = subprocess.run([build, folder], capture_output=True, text=True, timeout=1800)
     if done.returncode:
         raise AssertionError(done.stdout + done.stderr)
     return os.path.join(folder, "zanteyard-proxy")
@@ -81,14 +82,13 @@ class Server:
     def start(self, port: Optional[int] = None) -> None:
         """Starts it at this port, or at a free one."""
         if port is None:
-            with socket.socket() as free:
-                free.bind(("127.0.0.1", 0))
-                port = free.getsockname()[1]
+            at_a_free_port(self.start)
+            return
         self.port = port
         more = " ".join(f"-c {each}" for each in (*SETTINGS, *trusted_plugins()))
         options = f"-p {self.port} -c unix_socket_directories={self.folder} {more}"
-        log = os.path.join(self.folder, "log")
-        self.run("pg_ctl", "-D", self.data, "-l", log, "-o", options, "-w", "start")
+        log, waits = os.path.join(self.folder, "log"), ("-w", "-t", str(int(LIMIT)))
+        self.run("pg_ctl", "-D", self.data, "-l", log, "-o", options, *waits, "start")
 
     def stop(self) -> None:
         try:

@@ -22,8 +22,8 @@ except ImportError:
     psycopg = None
 TOP = os.path.normpath(os.path.join(os.path.dirname(os.path.abspath(__file__)), "../../.."))
 BANK = f"{TOP}/examples/bank.py"
-ENOUGH = "100"  # seconds: a run ends with the first violation, after a few seconds
-LATE = 400  # seconds for the program, which starts a server, on a busy machine
+ENOUGH = "600"  # seconds: a run ends with the first violation, after a few seconds
+LATE = 1800  # seconds for the program, which starts a server, on a busy machine
 STATEMENT = re.compile(r" {8}[\d:.]+ ([A-Z]+) (.*)  \[(.*):(\d+)\]")
 TABLE = re.compile(r"\b(?:FROM|INTO|UPDATE) (\w+)")
 # Each kind of statement, by its table, with the function whose line sends it.
@@ -64,13 +64,14 @@ class Bank(unittest.TestCase):
         return ran.stdout, ran.returncode
 
     def overdraws(self, *how):
-        """Which part of the history is shown differs from run to run. In each, a withdrawal reads
-        what another one overwrote, and each statement appears with the application's line that sent
-        it."""
+        """Which part of the history is shown differs from run to run: mostly two withdrawals, each
+        of which reads what the other one overwrote; or a third transaction that saw the second one
+        and not the first. In each, a withdrawal reads what another one overwrote, and each
+        statement appears with the application's line that sent it."""
         told, status = self.told("--level", "repeatable", "--seconds", ENOUGH, *how)
         self.assertEqual(status, 1, told)
         self.assertTrue(told.startswith("violated: no serial order"), told)
-        self.assertRegex(told, r"\n  [\d,]+ violations? found: .*write skew")
+        self.assertRegex(told, r"\n  [\d,]+ violations? found: .*(write skew|G2)")
         kinds = set()
         for verb, text, path, line in STATEMENT.findall(told):
             kind = verb, TABLE.search(f"{verb} {text}")[1]

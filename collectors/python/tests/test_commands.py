@@ -92,7 +92,7 @@ class Commands(unittest.TestCase):
                 os.close(reading)
                 with open(writing, "wb") as nobody:
                     ended = self.unbuffered(command, nobody)
-                    _, errors = ended.communicate(timeout=120)
+                    _, errors = ended.communicate(timeout=600)
                 self.assertEqual((ended.returncode, errors), (wanted, told))
 
     @staticmethod
@@ -116,7 +116,7 @@ class Commands(unittest.TestCase):
                 running.stdout.close()
                 self.assertEqual(running.stderr.read(), b"")
                 running.stderr.close()
-                self.assertEqual(running.wait(120), 1)
+                self.assertEqual(running.wait(600), 1)
                 with open(page, encoding="utf-8") as file:
                     self.assertIn('<span class="verdict violated">', file.read())
                 os.remove(page)

@@ -317,7 +317,7 @@ class Shown(unittest.TestCase):
             stdout=subprocess.PIPE,
             stderr=subprocess.STDOUT,
             text=True,
-            timeout=120,
+            timeout=600,
         )
         return ended.stdout.splitlines()
 

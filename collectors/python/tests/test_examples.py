@@ -17,7 +17,7 @@ from zanteyard.stores.memory import MemoryStore
 TOP = os.path.normpath(os.path.join(os.path.dirname(os.path.abspath(__file__)), "../../.."))
 EXAMPLES = os.path.join(TOP, "examples")
 FAULTS = ("stale", "lost-update", "dirty-read", "lost-write")
-ENDING = 60.0  # seconds for a program to end
+ENDING = 150.0  # seconds for a program to end
 
 
 @unittest.skipUnless(os.path.isfile(PROGRAM), f"{PROGRAM} is not built")
@@ -44,7 +44,7 @@ class Examples(unittest.TestCase):
     def told(self, name, *arguments, **more):
         """The status, the lines, and what is left in the folder that it ran in."""
         running = self.begin(name, *arguments, **more)
-        text = running.communicate(timeout=200)[0]
+        text = running.communicate(timeout=900)[0]
         self.assertNotIn("Traceback", text)
         self.assertEqual(os.listdir(f"{self.folder}/tmp"), [])
         return running.returncode, text.splitlines(), sorted(os.listdir(f"{self.folder}/work"))

@@ -46,7 +46,7 @@ LACKING = [
 ]
 PLACE = os.path.join(os.path.dirname(os.path.abspath(__file__)), "..")
 CLIENTS = 4
-SOON = 120.0  # seconds, on a busy machine
+SOON = 300.0  # seconds, on a busy machine
 PACE = 0.02  # seconds between two transactions, if the auditor is to keep up with them
 
 CLIENT = """

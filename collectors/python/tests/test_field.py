@@ -28,7 +28,7 @@ from field_workloads import ListAppend, SESSIONS, Tpcc, WORKLOADS, dealt  # noqa
 
 HAS_COMPILER = any(map(shutil.which, field.COMPILERS))
 HAS_CLASP = bool(shutil.which("clasp"))
-ENDING = 60.0  # seconds for a program to end
+ENDING = 150.0  # seconds for a program to end
 
 
 def run_serially(name, count, seed=1, sessions=SESSIONS):
@@ -476,7 +476,7 @@ class Recorded(unittest.TestCase):
         )
 
     def told(self, *words):
-        out, err = (running := self.begin(*words)).communicate(timeout=600)
+        out, err = (running := self.begin(*words)).communicate(timeout=1800)
         self.assertEqual(running.returncode, 0, out + err)
         for line in err.splitlines():  # on a slow machine
             self.assertRegex(line, r"^(recording|cobra_audit judges|the peer judges) .*, \d+ s$")

@@ -117,11 +117,11 @@ class Forks(WithProgram):
         def hold():
             with self.session.gate, self.session.turn:
                 has.set()
-                ends.wait(30)
+                ends.wait(300)
 
         thread = threading.Thread(target=hold)
         thread.start()
-        has.wait(30)
+        has.wait(300)
         try:
             self.assertEqual(in_child(lambda: self.session.run(add_one("z"))), 0)
         finally:

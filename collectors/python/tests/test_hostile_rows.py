@@ -14,7 +14,7 @@ from judge import REFUSALS, Model, first_difference, txn_of  # noqa: E402
 from plain_proofs import check_order  # noqa: E402
 from plain_verdicts import SPENT, Parts, Relation, cubes, scan  # noqa: E402
 
-SECONDS = 60.0
+SECONDS = 300.0
 OK = b'["ok"]'
 BAD_LINE, BAD_SESSION = b'["no",1,"BadLine"]', b'["no",2,"BadSession"]'
 BAD_TXN, TOO_LONG, BAD_PARTS = b'["no",3,"BadTxn"]', b'["no",9,"TooLong"]', b'["no",14,"BadParts"]'

@@ -263,7 +263,7 @@ class Scripts(Outputs):
         script, replies = self.write(self.LOST), self.write(f"{EVIL}\n" * 4, "replies")
         command = [sys.executable, "-m", "zanteyard", "check-report", script, replies]
         environment = {**os.environ, "PYTHONPATH": os.path.dirname(PACKAGE)}
-        ended = subprocess.run(command, capture_output=True, env=environment, timeout=120)
+        ended = subprocess.run(command, capture_output=True, env=environment, timeout=600)
         self.check(ended.stdout + ended.stderr, names_it=False)
 
 

@@ -35,6 +35,7 @@ from zanteyard.trial.redis_server import redis_server
 
 from . import shared_key  # noqa: F401  (whose key all have)
 from .test_live import WithProgram, add_one
+from .waiting import SOON
 
 try:
     import redis
@@ -391,11 +392,11 @@ class GivenOut(unittest.TestCase):
         places.take(0.0)
         waits = threading.Thread(target=places.take, args=(60.0,))
         waits.start()
-        until = time.monotonic() + 60
+        until = time.monotonic() + SOON
         while not places.wants_meeting and time.monotonic() < until:
             time.sleep(0.001)
         places.let_join()
-        waits.join(60)
+        waits.join(SOON)
         self.assertEqual((places.sessions, places.wants_meeting), (2, False))
 
     def test_clients_by_what_they_did(self):
@@ -414,7 +415,7 @@ class Joins(WithProgram):
     """Clients of a live audit."""
 
     def wait_for(self, condition):
-        until = time.monotonic() + 60
+        until = time.monotonic() + SOON
         while not condition() and time.monotonic() < until:
             time.sleep(0.005)
         self.assertTrue(condition(), self.told[-3:])
@@ -485,9 +486,9 @@ class Joins(WithProgram):
         with mock.patch.object(live, "_give_back", later):
             thread = threading.Thread(target=leaves.close)
             thread.start()
-            leaving.wait(60)
+            leaving.wait(SOON)
             self.assertIsNone(live._coordinator.meet(60.0, 60.0).failure)
-            thread.join(60)
+            thread.join(SOON)
         self.assertEqual((self.ended(live).kind, live.cuts), ("serial", 1))
         self.assertEqual((self.auditor.closed, self.auditor.vacant), ([False, True], [1]))
 
@@ -500,9 +501,9 @@ class Joins(WithProgram):
         with comes_later(live, live._group, "zanteyard.live._quiesce_coordinator") as coming:
             thread = threading.Thread(target=live.session, args=(store.connect(),))
             thread.start()
-            self.assertTrue(coming.wait(60))
+            self.assertTrue(coming.wait(SOON))
             self.assertIsNone(live._coordinator.meet(60.0, 60.0).failure)
-            thread.join(60)
+            thread.join(SOON)
         self.assertEqual((self.ended(live).kind, live.cuts), ("serial", 1))
 
     def test_who_was_to_lead_a_meeting_may_leave(self):
@@ -567,7 +568,7 @@ def comes_later(live, group, *waiting):
 
     def later(session):
         coming.set()
-        is_waited_for.wait(60)
+        is_waited_for.wait(SOON)
         add(session)
 
     def looked(there):
@@ -713,7 +714,7 @@ class Fences(WithProgram):
         self.assertEqual((self.ended(live).kind, live.cuts), ("serial", 1))
 
     def wait_until_closed(self, session):
-        until = time.monotonic() + 60
+        until = time.monotonic() + SOON
         while not self.auditor.closed[session] and time.monotonic() < until:
             time.sleep(0.005)
         self.assertTrue(self.auditor.closed[session])
@@ -777,15 +778,15 @@ class Elsewhere(WithProgram):
         first.run(add_one("x")), leaves.run(add_one("y"))
         left = [leaves.number]
         leaves.close()
-        until = time.monotonic() + 60
+        until = time.monotonic() + SOON
         while live._pool.numbers() != left and time.monotonic() < until:
             time.sleep(0.005)
         with comes_later(live, comes._group, "zanteyard.live._quiesce_coordinator", "zanteyard.remote._quiesce_calls") as coming:
             thread = threading.Thread(target=comes.session, args=(store.connect(),))
             thread.start()
-            self.assertTrue(coming.wait(60))
+            self.assertTrue(coming.wait(SOON))
             self.assertIsNone(live._coordinator.meet(60.0, 60.0).failure)
-            thread.join(60)
+            thread.join(SOON)
         stays.leave(), comes.leave()
         self.server.close()
         self.assertEqual((self.ended(live).kind, live.cuts), ("serial", 1))

@@ -26,6 +26,7 @@ except ImportError:
     StreamProcess = None
 
 from .test_live import WithProgram, add_one
+from .waiting import SOON
 
 
 class Alone:
@@ -186,7 +187,7 @@ class Harmless(WithProgram):
         ended = live._pool.lend()
         live._pool.close(ended), live._pool.take_back(ended)
         running = sessions[1].begin()
-        until = time.monotonic() + 60
+        until = time.monotonic() + SOON
         while len(began) < 6 and time.monotonic() < until:
             time.sleep(0.005)
         running.commit()
@@ -201,7 +202,7 @@ class Harmless(WithProgram):
         stays.run(add_one("x"))
         self.assertIsNone(live._coordinator.meet(60.0, 60.0).failure)
         live.lose(AuditLostError("for a test"))
-        live._thread.join(60)
+        live._thread.join(SOON)
         fences, began = len(store.versions[FENCE]), time.monotonic()
         others = [live.session(store.connect()) for _ in range(63)]
         with self.assertRaisesRegex(ValueError, "64 clients have one each"):
@@ -217,7 +218,7 @@ class Harmless(WithProgram):
         stays = live.session(store.connect())
         stays.run(add_one("x"))
         live._hand_in(0.0, 5, 0, (), Logged([(FENCE, (4, 0))], [FENCE]))  # and 4.0 never arrives
-        until = time.monotonic() + 60
+        until = time.monotonic() + SOON
         while not live._audit._held and time.monotonic() < until:
             time.sleep(0.005)
         live.lose(AuditLostError("for a test"))
@@ -235,7 +236,7 @@ class Harmless(WithProgram):
             client.session(store.connect()).run(add_one("x"))
             client._deeds["left"] = lambda *_: None  # it arrives too late
             client._messages.tell("join", 99, True)
-            until = time.monotonic() + 60
+            until = time.monotonic() + SOON
             while live._pool.taken < 2 and time.monotonic() < until:
                 time.sleep(0.005)
             client.leave()
@@ -263,7 +264,7 @@ class Harmless(WithProgram):
 
                 with mock.patch.object(live._group, when, ended):
                     live.lose(AuditLostError("for a test"))
-                    until = time.monotonic() + 60
+                    until = time.monotonic() + SOON
                     while not live.earlier and time.monotonic() < until:
                         time.sleep(0.005)
                 for _ in range(3):
@@ -317,7 +318,7 @@ class Harmless(WithProgram):
                 with mock.patch.object(live._pool, "take", lambda *_: None):
                     comes = client.session(store.connect())
                 self.assertFalse(comes.place.is_audited)
-                running, until = stays.begin(), time.monotonic() + 60  # no meeting is possible
+                running, until = stays.begin(), time.monotonic() + SOON  # no meeting is possible
                 while not (live.earlier and comes.place.is_audited) and time.monotonic() < until:
                     comes.run(add_one("y"))
                 running.commit()
@@ -355,7 +356,7 @@ class Harmless(WithProgram):
         for session in others:
             session.run(add_one("x"))
         live._crash_searches.__exit__()
-        until = time.monotonic() + 60
+        until = time.monotonic() + SOON
         while not live.earlier and time.monotonic() < until:
             time.sleep(0.005)
         for session in (stays, *others):

@@ -16,6 +16,7 @@ from zanteyard.stores.memory import MemoryStore
 from .owed import Heard, are_right
 from .test_live import add_one
 from .test_restarting import PROGRAM, WithJournal
+from .waiting import SOON
 
 ONE = Logged((), ("x",))
 NOBODY = 65534
@@ -267,7 +268,7 @@ class Sessions(WithJournal):
             self.assertEqual((again.audits, sum(again.received)), (auditor.audits, 1))
 
     def wait(self, condition):
-        until = time.monotonic() + 60
+        until = time.monotonic() + SOON
         while not condition() and time.monotonic() < until:
             time.sleep(0.01)
         self.assertTrue(condition(), self.told[-3:])

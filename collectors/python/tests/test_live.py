@@ -164,7 +164,7 @@ class Meetings(WithProgram):
         self.assertEqual(live.cuts, live.meetings)
 
     def wait_for(self, condition):
-        until = time.monotonic() + 60  # on a busy machine
+        until = time.monotonic() + SOON
         while not condition() and time.monotonic() < until:
             time.sleep(0.01)
         self.assertTrue(condition())
@@ -290,12 +290,12 @@ class Meetings(WithProgram):
             reads.append(1)
             if len(reads) == 2:  # by the leader, which overwrites the mark twice
                 is_there.set()
-                may_go_on.wait(60)
+                may_go_on.wait(SOON)
 
         live, store = self.live(2, every=1), MemoryStore()
         a = self.with_read(live, store, wait_once)
         a.run(add_one("x"))
-        self.assertTrue(is_there.wait(60))
+        self.assertTrue(is_there.wait(SOON))
         comes = threading.Thread(target=lambda: came.append(live.session(store.connect())))
         comes.start()
         comes.join(0.1)

@@ -90,7 +90,7 @@ class Kills(Machines):
         self.wait_for(lambda: self.said().count("it sent nothing for") >= len(self.PLACES))
         self.wait_for(lambda: "cut at" in self.said().rsplit("it sent nothing for", 1)[1], 3 * SOON)
         said = self.ended(3)
-        self.assertIn("did is unknown: it sent nothing for 8 s", said)
+        self.assertIn(f"did is unknown: it sent nothing for {self.silence:g} s", said)
         self.assertEqual(self.missed, set())  # the store was asked about what was noted
 
 

@@ -25,7 +25,7 @@ from zanteyard.session._place import Place
 from .lateness import BOUND, Lateness
 from .test_live import add_one, set_to
 
-SOON = 120.0  # seconds, on a busy machine
+SOON = 300.0  # seconds, on a busy machine
 
 
 @unittest.skipUnless(os.path.isfile(PROGRAM), f"{PROGRAM} is not built")
@@ -49,12 +49,12 @@ class NoHarm(unittest.TestCase):
             time.sleep(0.01)
         self.assertTrue(condition(), self.told[-3:])
 
-    def bounded(self, session, seconds):
+    def bounded(self, session, seconds, least=0):
         """Checks that no call takes longer than a client may wait, plus the delays of threads that
-        only sleep meanwhile."""
+        only sleep meanwhile. It begins at least this many transactions."""
         with Lateness() as lateness:
-            ends, longest = time.monotonic() + seconds, 0.0
-            while time.monotonic() < ends:
+            began, longest, least = time.monotonic(), 0.0, session.begun + least
+            while time.monotonic() < began + (SOON if session.begun < least else seconds):
                 came = time.monotonic()
                 transaction = session.begin()
                 begun = time.monotonic()
@@ -183,8 +183,9 @@ class AfterTheCommit(NoHarm):
         auditor = self.auditor()
         session = Session(auditor, 0, MemoryStore().connect())
         os.kill(auditor.program.process.pid, signal.SIGSTOP)
-        self.bounded(session, 1.0)
+        self.bounded(session, 1.0, 11)
         self.assertGreater(session.begun, 10)  # a client that comes next doesn't wait
+        self.assertLess(session.waited, 10 * session.longest)
         os.kill(auditor.program.process.pid, signal.SIGCONT)
         outcome = auditor.outcome()
         self.assertEqual((outcome.kind, outcome.audited), ("serial", session.begun))

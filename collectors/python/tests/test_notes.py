@@ -366,9 +366,9 @@ os.kill(os.getpid(), signal.SIGKILL)
             live = LiveAuditor(auditor, policy=Policy(30.0, begins_anew=False))
             with AuditServer(live, f"{folder}/audit") as server:
                 call = [sys.executable, "-c", self.PROGRAM, PLACE, server.path, f"{folder}/store"]
-                ended = subprocess.run(call, stdout=subprocess.PIPE, timeout=120.0)
+                ended = subprocess.run(call, stdout=subprocess.PIPE, timeout=600.0)
                 self.assertEqual(ended.returncode, -signal.SIGKILL)
-                until = time.monotonic() + 60.0
+                until = time.monotonic() + 300.0
                 # its files are removed last
                 while not live.is_over or os.listdir(server.notes):
                     self.assertLess(time.monotonic(), until)
@@ -408,7 +408,7 @@ os.kill(os.getpid(), signal.SIGKILL)
         return live, server, AuditClient(server.path)
 
     def wait_for(self, condition):
-        until = time.monotonic() + 60.0
+        until = time.monotonic() + 300.0
         while not condition() and time.monotonic() < until:
             time.sleep(0.01)
         self.assertTrue(condition())

@@ -77,7 +77,7 @@ class Package(unittest.TestCase):
             stdout=subprocess.PIPE,
             stderr=subprocess.PIPE,
             text=True,
-            timeout=300,
+            timeout=900,
         )
 
     @classmethod
@@ -144,7 +144,7 @@ class Package(unittest.TestCase):
         its = {**self.environment, "COBRA_AUDIT": os.path.abspath(PROGRAM)}
         for _ in range(2):  # the second one makes its folder again
             ended = subprocess.run(
-                [f"{TOP}/try.sh", folder], env=its, capture_output=True, text=True, timeout=900
+                [f"{TOP}/try.sh", folder], env=its, capture_output=True, text=True, timeout=1800
             )
             self.assertEqual(ended.returncode, 0, ended.stdout + ended.stderr)
             self.assertRegex(ended.stdout, "(?m)^counter at autocommit: violated: ")

@@ -21,7 +21,7 @@ from zanteyard.core._version import FORM
 
 from .test_live import add_one
 
-SECONDS = 60.0
+SECONDS = 300.0
 
 
 class Nowhere:

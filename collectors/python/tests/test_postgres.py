@@ -184,7 +184,7 @@ class Postgres(unittest.TestCase):
     def test_what_clients_do_at_their_level_stays_at_it(self):
         auditor = Auditor(6, 4096, policy=RATHER_WAIT)
         self.addCleanup(auditor.end)
-        all_have_read = threading.Barrier(6, timeout=60)
+        all_have_read = threading.Barrier(6, timeout=SOON)
 
         def count(transaction):
             seen = int(transaction.get("x") or 0)
@@ -235,7 +235,7 @@ class Postgres(unittest.TestCase):
         store = PostgresStore(self.dsn)
         store.claim("run", "token", 60)
         store.close()  # it reports what it did
-        until = time.monotonic() + 60
+        until = time.monotonic() + SOON
         while True:
             admin.execute(scans)
             after = admin.fetchone()

@@ -246,6 +246,6 @@ class Elsewhere(TwoProcesses, test_live.Meetings):
             "    session = client.session(MemoryStore().connect())\n"
             "    for _ in range(50): session.run(lambda t: t.put('x', (t.get('x') or 0) + 1))\n"
         )
-        subprocess.run([sys.executable, "-I", "-c", program, PLACE, self.path], check=True, timeout=120)
+        subprocess.run([sys.executable, "-I", "-c", program, PLACE, self.path], check=True, timeout=600)
         self.assertEqual(self.ended(live).kind, "serial")
         self.assertGreaterEqual(live.taken_in, 50)

@@ -17,7 +17,7 @@ def text_of(*names):
 @unittest.skipUnless(os.path.isfile(PROGRAM), f"{PROGRAM} is not built")
 class Program(unittest.TestCase):
     def run_it(self, *arguments, script=""):
-        ended = subprocess.run([PROGRAM, *arguments], input=script, stdout=subprocess.PIPE, stderr=subprocess.PIPE, text=True, timeout=60)
+        ended = subprocess.run([PROGRAM, *arguments], input=script, stdout=subprocess.PIPE, stderr=subprocess.PIPE, text=True, timeout=300)
         return ended.returncode, ended.stdout, ended.stderr
 
     def test_arguments(self):

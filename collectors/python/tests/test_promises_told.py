@@ -297,7 +297,7 @@ class OfPostgres(unittest.TestCase):
             self.skipTest("PostgreSQL isn't installed")
         example = os.path.join(TOP, "examples/store_faults.py")
         asked = [sys.executable, example, "postgres", "--promises"]
-        ran = subprocess.run(asked, capture_output=True, text=True, timeout=600)
+        ran = subprocess.run(asked, capture_output=True, text=True, timeout=1800)
         if "psycopg2 is missing" in ran.stderr:
             self.skipTest("psycopg2 isn't installed")
         self.assertEqual((ran.returncode, ran.stderr), (0, ""))

@@ -220,7 +220,8 @@ class Killed(WithJournal):
                     self.assertEqual(auditor.round()[:3], (1, "serial", [1, 0, 0]))
                     auditor.offer(0, 1, ONE)
                     self.assertEqual(auditor.round()[:3], (2, "serial", [2, 0, 0]))
-                self.assertEqual(auditor.program.restarts, 1)
+                # more of them if the machine stands still for as long
+                self.assertGreaterEqual(auditor.program.restarts, 1)
 
 
 class Interrupted(WithJournal):
@@ -267,7 +268,7 @@ class Shown(WithJournal):
                 stdout=subprocess.PIPE,
                 stderr=subprocess.STDOUT,
                 text=True,
-                timeout=120,
+                timeout=600,
             )
             self.assertEqual(ended.stdout.splitlines(), printed)
 

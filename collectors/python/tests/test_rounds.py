@@ -34,7 +34,7 @@ from joins import verdict_of  # noqa: E402
 from judge import effect_of  # noqa: E402
 
 RUNS = int(os.environ.get("ZANTEYARD_RUNS", "40"))
-SECONDS = 60.0
+SECONDS = 300.0
 WRITES, READS = Logged([], ["x"]), Logged([("x", (0, 0))], [])
 STALE = Logged([("x", "init")], ["x"])  # two of these have no order
 FIRST_FENCE, NEXT_FENCE = Logged([(FENCE, "init")], [FENCE]), Logged([(FENCE, (0, 0))], [FENCE])

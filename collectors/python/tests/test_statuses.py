@@ -6,7 +6,7 @@ import unittest
 
 from .built import PATHS, TOP, bytes_of, by_turns, path_of
 
-SECONDS = 60.0
+SECONDS = 300.0
 ASKED = ("cobra_audit", "cobra_check")  # programs that look at their arguments
 FAILED = b"device failed\n"
 USAGE = {

@@ -202,7 +202,7 @@ class Each:
         self.addCleanup(shutil.rmtree, folder, ignore_errors=True)
         environment = {**os.environ, "PYTHONPATH": PLACE, "COBRA_AUDIT": os.path.abspath(PROGRAM)}
         more = {"cwd": folder, "env": environment, "stdout": subprocess.PIPE, "stderr": subprocess.STDOUT}
-        ended = subprocess.run([sys.executable, *words], text=True, timeout=300, **more)
+        ended = subprocess.run([sys.executable, *words], text=True, timeout=900, **more)
         return ended.returncode, ended.stdout
 
     def audit(self, *words, by=("zanteyard",)):

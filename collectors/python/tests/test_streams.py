@@ -110,6 +110,7 @@ class Behind(WithRedis, TwoProcesses, test_live.Meetings):
     def test_an_audit_has_one_auditor(self):
         self.live(1)
         self.server._held_at = time.monotonic() + SOON  # else it might renew its hold meanwhile
+        self.tells.persist(self.server.names.auditor)  # nor does it end
         with Auditor(1) as auditor, mock.patch("zanteyard.remote.streams.HELD", 0.5):
             live = LiveAuditor(auditor)
             with self.assertRaisesRegex(AuditTakenError, "another auditor has the audit"):
@@ -222,8 +223,8 @@ class Behind(WithRedis, TwoProcesses, test_live.Meetings):
         with mock.patch("zanteyard.remote.streams.WRITES", 2.0), mock.patch.object(process, "_bury") as bury:
             self.tells.config_set("maxmemory", "1mb")
             self.addCleanup(self.tells.config_set, "maxmemory", "0")
-            process._silence = 7.0  # a sign of life comes every second
-            time.sleep(9.0)
+            process._silence = 15.0  # a sign of life comes every second
+            time.sleep(18.0)
             bury.assert_not_called()
             self.tells.config_set("maxmemory", "0")
             a.run(add_one("x"))
@@ -254,7 +255,7 @@ class Behind(WithRedis, TwoProcesses, test_live.Meetings):
             a.run(add_one("x"))
             a.begin().rollback()
             (process,) = self.server._processes.values()
-            process._silence = 4.0
+            process._silence = 30.0
             self.wait_for(lambda: process._held)
             kept = process.kept
             self.wait_for(lambda: process._at > kept + 30 or process.is_over)
@@ -352,7 +353,7 @@ class GoneOnWith(WithRedis, unittest.TestCase):
 
     def test_what_is_not_taken_in_of_who_was_given_up_is_heard_again(self):
         """And its notes are evaluated again."""
-        self.silence = 8.0  # a sign of life comes every second
+        self.silence = 15.0  # a sign of life comes every second
         with tempfile.TemporaryDirectory() as folder:
             live, server = self.begun(Auditor(2, journal=f"{folder}/journal"))
             store, lasts = MemoryStore(), threading.Event()

@@ -102,11 +102,11 @@ class OnATerminal(unittest.TestCase):
     def test_how_far_it_is(self):
         """While it waits for the rest of a script; afterwards the line is cleared. Nothing is shown
         of what takes less than two seconds."""
+        began = time.monotonic()
         running = self.begin("check", "-")
         first, second, third = LOST.splitlines(True)
         running.stdin.write((first + second).encode())
         running.stdin.flush()
-        began = time.monotonic()
         self.assertIn("(1 transaction read, ", self.read("(1 transaction read, "))
         self.assertGreater(time.monotonic() - began, 1.0)
         running.stdin.write(third.encode())

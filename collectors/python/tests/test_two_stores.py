@@ -3,7 +3,6 @@ wherever its client is, and one store that is reached in two ways is accepted.""
 import json
 import logging
 import os
-import socket
 import subprocess
 import sys
 import tempfile
@@ -20,12 +19,12 @@ from zanteyard.remote._live_state import StateFile
 from zanteyard.stores import sqlite
 from zanteyard.stores.memory import MemoryStore
 from zanteyard.trial.mariadb_server import OPTIONS, MariaDBServer, mariadbd
-from zanteyard.trial.postgres_server import PostgresServer, program
+from zanteyard.trial.postgres_server import STARTING, PostgresServer, program
 from zanteyard.trial.redis_server import RedisServer, redis_server
 
 from . import shared_key  # noqa: F401  (whose key both processes have)
 from .store_client import count, store_of
-from .waiting import SOON, wait_until
+from .waiting import SOON, at_a_free_port, wait_until
 
 try:
     import psycopg2
@@ -49,12 +48,6 @@ except ImportError:
 HERE = os.path.dirname(os.path.abspath(__file__))
 PLAIN = os.path.join(HERE, "plain_auditor.py")  # it answers as cobra_audit does
 PATIENT = Policy(SOON, begins_anew=False)
-
-
-def free_port():
-    with socket.socket() as sock:
-        sock.bind(("127.0.0.1", 0))
-        return sock.getsockname()[1]
 
 
 class Quiet(unittest.TestCase):
@@ -191,10 +184,13 @@ class Postgres(Pairs, Quiet):
         """At localhost, too."""
 
         def start(self):
-            self.port = free_port()
-            options = f"-c listen_addresses=localhost -c port={self.port} -c unix_socket_directories={self.folder} -c fsync=off"
-            self.run("pg_ctl", "-D", self.data, "-l", f"{self.folder}/log", "-o", options, "-w", "start")
-            self.dsn = f"host={self.folder} port={self.port} user=postgres dbname=postgres"
+            at_a_free_port(self.start_at)
+
+        def start_at(self, port):
+            options = f"-c listen_addresses=localhost -c port={port} -c unix_socket_directories={self.folder} -c fsync=off"
+            waits = ("-w", "-t", str(STARTING))
+            self.run("pg_ctl", "-D", self.data, "-l", f"{self.folder}/log", "-o", options, *waits, "start")
+            self.port, self.dsn = port, f"host={self.folder} port={port} user=postgres dbname=postgres"
 
     @classmethod
     def setUpClass(cls):
@@ -298,12 +294,16 @@ class Redis(Pairs, Quiet):
 
     def setUp(self):
         super().setUp()
-        self.port = free_port()
-        self.one = RedisServer("--port", str(self.port), keeps=True)
+        self.one, self.port = at_a_free_port(self.begun)
         self.other = RedisServer()
-        for server in (self.one, self.other):
-            server.__enter__()
-            self.addCleanup(server.__exit__)
+        self.other.__enter__()
+        self.addCleanup(self.other.__exit__)
+
+    def begun(self, port):
+        server = RedisServer("--port", str(port), keeps=True)
+        server.__enter__()
+        self.addCleanup(server.__exit__)
+        return server, port
 
     def pairs(self):
         one = self.one.dsn
@@ -395,14 +395,16 @@ class MariaDB(Pairs, Quiet):
     class Server(MariaDBServer):
         """At localhost, too."""
 
+        def __init__(self, port):
+            super().__init__()
+            self.port = port
+
         def call(self):
-            self.port = free_port()
             return [*super().call(), "--skip-networking=0", "--bind-address=127.0.0.1", f"--port={self.port}"]
 
     @classmethod
     def setUpClass(cls):
-        cls.server = cls.Server()
-        cls.server.__enter__()
+        cls.server = at_a_free_port(lambda port: cls.Server(port).__enter__())
         cls.addClassCleanup(cls.server.__exit__)
         cls.other = {**cls.server.dsn, "database": "other"}
         connection = pymysql.connect(**cls.server.dsn)
@@ -705,6 +707,7 @@ class InMemory(Quiet):
         with AuditServer(live, f"{self.folder}/audit") as server:
             with AuditClient(server.path) as one, AuditClient(server.path) as other:
                 one.session(first.connect()).run(count)
+                self.assertTrue(wait_until(lambda: live.taken_in == 1))
                 session, never = other.session(second or first.connect()), {"store": lambda *_: None}
                 with mock.patch.dict(server._processes[1]._deeds, never):
                     for _ in range(3):

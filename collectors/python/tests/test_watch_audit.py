@@ -84,7 +84,7 @@ class Audits(unittest.TestCase):
         """Stops, and returns the status after the last round."""
         self.watching.stop()
         self.watching.stopped.wait()
-        self.explaining.wait(60)
+        self.explaining.wait(600)
         return self.board.status()
 
     def told_of(self, name):

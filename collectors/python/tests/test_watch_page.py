@@ -283,7 +283,7 @@ class InABrowser(unittest.TestCase):
             f"--user-data-dir={self.folder}/user", *words, self.server.url.rstrip("/") + path,
         ]
         ended = subprocess.run(
-            whole, stdout=subprocess.PIPE, stderr=subprocess.DEVNULL, timeout=120
+            whole, stdout=subprocess.PIPE, stderr=subprocess.DEVNULL, timeout=600
         )
         self.assertEqual(ended.returncode, 0)
         return ended.stdout.decode()

@@ -138,7 +138,7 @@ class Supervised(InAFolder):
     def test_one_after_another(self):
         found = self.supervisor([feed.started(), feed.OPEN, ("exit", 3)])
         found.begin()
-        self.assertTrue(found.has_started.wait(60))
+        self.assertTrue(found.has_started.wait(300))
         with self.assertRaisesRegex(ProgramEndedError, "10 proxies ended in quick succession"):
             self.look(found, lambda: False)
         self.assertEqual(len(self.gone), supervising.MOST)
@@ -151,13 +151,13 @@ class Supervised(InAFolder):
         runs = [feed.started(), ("exit", 3)], [feed.started(), feed.OPEN]
         found = self.supervisor(*runs)
         found.begin()
-        self.assertTrue(found.has_started.wait(60))
+        self.assertTrue(found.has_started.wait(300))
         self.look(found, lambda: found.ended == 1)
         self.look(found, lambda: found.has_started.is_set())
         self.assertTrue(found.tell(command("stop")))
         items = []
         while not any(isinstance(it, dict) and it["event"] == "stopped" for it in items):
-            items += self.intake.take(60)
+            items += self.intake.take(300)
         self.assertEqual([json.loads(it) for it in items if isinstance(it, bytes)][0], feed.OPEN)
 
 

@@ -177,7 +177,7 @@ class Runs(InAFolder):
                 return False
             for name, server in zip(("page", "metrics"), self.servers):
                 path = "metrics" if name == "metrics" else ""
-                with urllib.request.urlopen(server.url + path, timeout=60) as answer:
+                with urllib.request.urlopen(server.url + path, timeout=300) as answer:
                     seen[name] = answer.read().decode()
             return True
 
@@ -259,7 +259,7 @@ class Command(InAFolder):
 
     def test_1_a_server_that_lacks_something(self):
         ended = self.begin(self.url)
-        out, errors = ended.communicate(timeout=120)
+        out, errors = ended.communicate(timeout=600)
         self.assertEqual((ended.returncode, out), (2, ""))
         first, second, *_ = errors.splitlines()  # a line for each thing that is missing
         self.assertEqual(
@@ -282,7 +282,7 @@ class Command(InAFolder):
                 run = self.begin(self.url, "--listen", "127.0.0.1:7777", "--sample", "0.5", "--tables", "public.*")
                 self.wait_for_round(run)
                 run.send_signal(number)
-                out, errors = run.communicate(timeout=120)
+                out, errors = run.communicate(timeout=600)
                 self.assertEqual(run.returncode, 0, errors)
                 self.assertIn("serial: 8 of 11 transactions were checked", out)
                 self.assertNotIn("secret", out + errors)
@@ -302,14 +302,14 @@ class Command(InAFolder):
 
     def test_3_a_server_that_isnt_there(self):
         ended = self.begin("postgresql://nobody@127.0.0.1:1/nothing")
-        out, errors = ended.communicate(timeout=120)
+        out, errors = ended.communicate(timeout=600)
         self.assertEqual((ended.returncode, out), (2, ""))
         self.assertIn("can't query the server", errors)
 
     def test_4_wrong_words(self):
         for words in (["--listen", "x"], ["--sample", "2"], ["--page", "1:2:3"], ["--tables", "a,"], []):
             ended = self.begin(*words)
-            ended.communicate(timeout=120)
+            ended.communicate(timeout=600)
             self.assertEqual(ended.returncode, 2, words)
 
     def test_4_b_an_address_that_is_taken(self):
@@ -320,7 +320,7 @@ class Command(InAFolder):
             for option in ("--page", "--metrics"):
                 with self.subTest(option=option):
                     ended = self.begin(self.url, option, address)
-                    out, errors = ended.communicate(timeout=120)
+                    out, errors = ended.communicate(timeout=600)
                     self.assertEqual((ended.returncode, out), (2, ""))
                     self.assertEqual(errors, f"mistake: {address}: Address already in use\n")
 
@@ -328,7 +328,7 @@ class Command(InAFolder):
         with Database(self.url) as database:
             database.run("CREATE TABLE no_key (a int)")
         words = [sys.executable, "-m", "zanteyard", "prepare", self.url]
-        ended = subprocess.run(words, cwd=TOP, capture_output=True, text=True, timeout=120)
+        ended = subprocess.run(words, cwd=TOP, capture_output=True, text=True, timeout=600)
         self.assertIn("public.no_key: no primary key", ended.stdout)
         self.assertIn("ready: an audit can begin", ended.stdout)
         self.assertNotIn("secret", ended.stdout + ended.stderr)

@@ -61,7 +61,7 @@ class Served(unittest.TestCase):
         self.addCleanup(self.server.close)
 
     def ask(self, path="/", method="GET", host=None):
-        asked = http.client.HTTPConnection("127.0.0.1", self.server.port, timeout=20)
+        asked = http.client.HTTPConnection("127.0.0.1", self.server.port, timeout=300)
         self.addCleanup(asked.close)
         asked.putrequest(method, path, skip_host=True)
         asked.putheader("Host", f"127.0.0.1:{self.server.port}" if host is None else host)
@@ -105,7 +105,7 @@ class Served(unittest.TestCase):
         while len(taken) < web.MOST_AT_ONCE:
             taken.append(socket.create_connection(("127.0.0.1", self.server.port)))
         self.wait_for(lambda: places._value == 0)
-        with socket.create_connection(("127.0.0.1", self.server.port), timeout=20) as one:
+        with socket.create_connection(("127.0.0.1", self.server.port), timeout=300) as one:
             self.assertIn(b"503", one.recv(1000))
         for each in taken:
             each.close()

@@ -10,7 +10,7 @@ from typing import Any, Dict, List, Optional
 
 from ._throwaway_folder import PID, ThrowawayFolder
 
-STARTING = 60.0  # seconds for a server to take connections
+STARTING = 300.0  # seconds for a server to take connections
 
 
 class CantStartError(OSError):

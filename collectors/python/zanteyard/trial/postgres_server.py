@@ -14,6 +14,7 @@ from contextlib import contextmanager
 from typing import Any, Dict, Iterator, Optional, Sequence
 
 INITIAL = ("-A", "trust", "-U", "postgres", "-E", "UTF8", "--locale=C", "--no-sync")
+STARTING = 300  # seconds for a server to take connections
 STOPPING = 20  # seconds for a server to stop
 TRIES = 50  # attempts to remove its folder
 
@@ -93,8 +94,8 @@ class PostgresServer:
         """Starts the server, also after `stop`."""
         options = f"-c listen_addresses='' -c unix_socket_directories={self.folder} -c fsync=off"
         options += "".join(f" -c {each}" for each in trusted_plugins())
-        log = f"{self.folder}/log"
-        self.run("pg_ctl", "-D", self.data, "-l", log, "-o", options, "-w", "start")
+        log, waits = f"{self.folder}/log", ("-w", "-t", str(STARTING))
+        self.run("pg_ctl", "-D", self.data, "-l", log, "-o", options, *waits, "start")
 
     def stop(self) -> None:
         """Ends the server at once, as if it had crashed. Does nothing if it isn't running."""

@@ -15,7 +15,7 @@ from ..remote._client import AuditClient
 from ..session._session import Session
 
 PAIRS = 8  # of keys
-READY = 60.0  # seconds for all client processes to start
+READY = 300.0  # seconds for all client processes to start
 SHORT = 0.002  # seconds between a write and its rollback
 LOOKS = 0.2  # seconds between two checks whether client processes should end
 LIFE = 2.0  # seconds until a client is replaced by another one
@@ -91,8 +91,8 @@ class Nothing:
 
 
 class Clients:
-    """Clients in threads, each with its own session, until the time is up or `is_over()`. The first
-    one has the number `first`."""
+    """Clients in threads, each with its own session, until the time is up or `is_over()`. Each of
+    them begins a transaction, however late it starts. The first one has the number `first`."""
 
     def __init__(
         self,
@@ -131,7 +131,7 @@ class Clients:
         due = time.monotonic() + random.random() * self.pause  # not all at once
         longest = 0.0
         try:
-            while time.monotonic() < until and not self.is_over():
+            while not self.is_over():
                 due = self.wait(due)
                 began = time.monotonic()
                 try:
@@ -139,7 +139,10 @@ class Clients:
                     committed += 1
                 except AbortedError:
                     aborted += 1
-                longest = max(longest, time.monotonic() - began)
+                ended = time.monotonic()
+                longest = max(longest, ended - began)
+                if ended >= until:
+                    break
         except Exception as error:  # raised by the main thread
             self.failures.append(error)
         with self.lock:
@@ -184,7 +187,7 @@ class ChurningClients(Clients):
     def client(self, number: int, session: Any) -> None:
         # So that they don't all change at once.
         until, life = self.until, random.uniform(0.5, 1.0) * self.life
-        while time.monotonic() < until and not (self.is_over() or self.failures):
+        while not (self.is_over() or self.failures):
             store = self.make_store()
             try:
                 with self.live.session(store) as own:
@@ -195,6 +198,8 @@ class ChurningClients(Clients):
                 self.failures.append(error)
             finally:
                 store.close()
+            if time.monotonic() >= until:
+                break
             life = self.life
 
 
