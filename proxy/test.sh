@@ -23,7 +23,8 @@ if [ -n "$unformatted" ]; then
     exit 1
 fi
 go vet zanteyard/...
-go test -race "$@" zanteyard/...
+# A package that hangs fails after 40 minutes; on a busy machine the usual ten may be too short for one that doesn't.
+go test -race -timeout 40m "$@" zanteyard/...
 # Sessions again, served by goroutines, as with TLS.
-go test -race "$@" zanteyard/session -without-loop
+go test -race -timeout 40m "$@" zanteyard/session -without-loop
 ./build.sh

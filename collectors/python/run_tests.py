@@ -142,7 +142,7 @@ class Worker(threading.Thread):
         assert self.process is not None and self.process.stdin is not None
         self.process.stdin.close()
         try:
-            self.process.wait(6 * ENDING)
+            self.process.wait(30 * ENDING)
         except subprocess.TimeoutExpired:
             self.results[f"process {self.number}"] = LATE
 

@@ -51,7 +51,7 @@ func await(t *testing.T, events <-chan map[string]any, event string) map[string]
 			if strings.HasPrefix(it["event"].(string), event) {
 				return it
 			}
-		case <-time.After(time.Minute):
+		case <-time.After(5 * time.Minute):
 			t.Fatalf("%s doesn't come", event)
 		}
 	}

@@ -32,7 +32,7 @@ func (h heard) next(t *testing.T) record.Commit {
 			if len(it.Writes)+len(it.Emptied) > 0 || it.Fence {
 				return it
 			}
-		case <-time.After(time.Minute):
+		case <-time.After(5 * time.Minute):
 			t.Fatal("the slot doesn't tell of a commit")
 		}
 	}

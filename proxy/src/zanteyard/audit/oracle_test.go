@@ -141,7 +141,7 @@ func waitFor[T join.Event](t *testing.T, out *output) T {
 			if ended, is := it.(join.Ended); is {
 				t.Fatalf("the audit has ended: %s", ended.Reason)
 			}
-		case <-time.After(time.Minute):
+		case <-time.After(5 * time.Minute):
 			t.Fatal("an event doesn't come")
 		}
 	}

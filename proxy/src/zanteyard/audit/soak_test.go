@@ -344,7 +344,7 @@ func runSoak(t *testing.T, s *server, work func(*member) record.Transaction, bes
 	fmt.Fprintln(commandsIn, `{"command":"stop"}`)
 	select {
 	case <-stopped:
-	case <-time.After(2 * time.Minute):
+	case <-time.After(5 * time.Minute):
 		t.Error("the audit doesn't stop")
 	}
 	cancel()

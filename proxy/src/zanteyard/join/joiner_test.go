@@ -13,7 +13,7 @@ import (
 
 // often are options of an audit whose sessions meet as often as they can.
 var often = Options{
-	Sessions: 4, Reserve: 1, Every: 1, Between: 30 * time.Millisecond, Within: 30 * time.Millisecond, Late: 30 * time.Millisecond,
+	Sessions: 4, Reserve: 1, Every: 1, Between: 30 * time.Millisecond, Within: 30 * time.Millisecond, Late: time.Minute,
 	Stale: time.Hour, Idle: time.Hour,
 }
 

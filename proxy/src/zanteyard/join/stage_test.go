@@ -215,7 +215,7 @@ func (s *stage) Event(it Event) {
 // until waits until something has happened.
 func (s *stage) until(what string, is func() bool) {
 	s.t.Helper()
-	for end := time.Now().Add(time.Minute); ; {
+	for end := time.Now().Add(5 * time.Minute); ; {
 		s.lock.Lock()
 		came := is()
 		s.lock.Unlock()

@@ -13,7 +13,7 @@ import (
 )
 
 // enough is a bound for things that take no time, even on a busy machine.
-const enough = time.Minute
+const enough = 5 * time.Minute
 
 // pair returns a connection over a TCP listener, or a Unix socket.
 func pair(t testing.TB, network string) (near, far net.Conn) {

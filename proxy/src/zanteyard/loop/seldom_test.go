@@ -99,7 +99,7 @@ func TestHastily(t *testing.T) {
 			}
 		}
 		if time.Now().After(end) {
-			t.Fatalf("%d collections took a minute", i)
+			t.Fatalf("%d collections took five minutes", i)
 		}
 	}
 }

@@ -261,7 +261,7 @@ func (someRoom) Fence(context.Context, uint64) error { return nil }
 
 // TestMeeting: a proxy elsewhere that doesn't answer delays nobody, here or there, for longer than the bound.
 func TestMeeting(t *testing.T) {
-	const bound, busy = 100 * time.Millisecond, 2 * time.Second // the second one is for a machine that is
+	const bound, busy = 100 * time.Millisecond, time.Minute // the second one is for a machine that is
 	h := newTestHub(t, newHeard())
 	h.greet(someHello(h, "p", 1), time.Now())
 	h.greet(someHello(h, "q", 1), time.Now())

@@ -30,7 +30,7 @@ func TestLink(t *testing.T) {
 	// again repeats f on a machine that is so busy that Redis doesn't answer in time.
 	again := func(f func() error) {
 		t.Helper()
-		for end := time.Now().Add(time.Minute); ; time.Sleep(10 * time.Millisecond) {
+		for end := time.Now().Add(5 * time.Minute); ; time.Sleep(10 * time.Millisecond) {
 			if err := f(); err == nil {
 				return
 			} else if time.Now().After(end) {

@@ -71,7 +71,7 @@ func TestMark(t *testing.T) {
 		}
 	}
 	audit.close()
-	for end := time.Now().Add(time.Minute); ; time.Sleep(10 * time.Millisecond) {
+	for end := time.Now().Add(5 * time.Minute); ; time.Sleep(10 * time.Millisecond) {
 		if sees, err := same.sees(ctx, mark); err == nil && !sees {
 			break
 		} else if time.Now().After(end) {

@@ -166,7 +166,7 @@ func proxy(t *testing.T, target string, change func(*Options)) (int, *counted) {
 
 // ask connects and asks for a value; it returns the value or the error.
 func ask(connection, sql string) (string, error) {
-	ctx, cancel := context.WithTimeout(context.Background(), time.Minute)
+	ctx, cancel := context.WithTimeout(context.Background(), 5*time.Minute)
 	defer cancel()
 	conn, err := pgconn.Connect(ctx, connection)
 	if err != nil {
@@ -258,7 +258,7 @@ func tlsCluster(t *testing.T) *cluster.Cluster {
 			t.Fatal(err)
 		}
 	}
-	for end := time.Now().Add(time.Minute); ; time.Sleep(10 * time.Millisecond) {
+	for end := time.Now().Add(5 * time.Minute); ; time.Sleep(10 * time.Millisecond) {
 		if _, err := ask(url("scram", c.Port, "sslmode=require"), "SELECT 1"); err == nil {
 			return c
 		} else if time.Now().After(end) {
@@ -333,7 +333,7 @@ func psqlWithTLS(t *testing.T, server int, own *tls.Config) {
 func TestCancel(t *testing.T) {
 	needServer(t)
 	port, _ := proxy(t, url("postgres", theCluster.Port, "sslmode=disable"), nil)
-	ctx, cancel := context.WithTimeout(context.Background(), time.Minute)
+	ctx, cancel := context.WithTimeout(context.Background(), 5*time.Minute)
 	defer cancel()
 	conn, err := pgconn.Connect(ctx, url("scram", port, "sslmode=disable"))
 	if err != nil {
@@ -403,7 +403,7 @@ func TestStartup(t *testing.T) {
 		if err != nil {
 			t.Fatal(err)
 		}
-		c.SetDeadline(time.Now().Add(time.Minute))
+		c.SetDeadline(time.Now().Add(5 * time.Minute))
 		return c
 	}
 	request := func(length, code uint32) []byte {
@@ -455,7 +455,7 @@ func TestNoServer(t *testing.T) {
 func TestServerEnds(t *testing.T) {
 	needServer(t)
 	port, sink := proxy(t, url("postgres", theCluster.Port, "sslmode=disable"), nil)
-	ctx, cancel := context.WithTimeout(context.Background(), time.Minute)
+	ctx, cancel := context.WithTimeout(context.Background(), 5*time.Minute)
 	defer cancel()
 	conn, err := pgconn.Connect(ctx, url("scram", port, "sslmode=disable"))
 	if err != nil {
@@ -465,7 +465,7 @@ func TestServerEnds(t *testing.T) {
 		conn.PID())); err != nil {
 		t.Fatal(err)
 	}
-	for end := time.Now().Add(time.Minute); ; time.Sleep(time.Millisecond) {
+	for end := time.Now().Add(5 * time.Minute); ; time.Sleep(time.Millisecond) {
 		n, err := ask(url("postgres", theCluster.Port, "sslmode=disable"),
 			fmt.Sprintf("SELECT count(*) FROM pg_stat_activity WHERE pid = %d", conn.PID()))
 		if err != nil || time.Now().After(end) {
@@ -480,7 +480,7 @@ func TestServerEnds(t *testing.T) {
 	if !errors.As(err, &server) || server.Code != "57P01" {
 		t.Errorf("ended by %v", err)
 	}
-	for end := time.Now().Add(time.Minute); sink.ended.Load() != 1; time.Sleep(time.Millisecond) {
+	for end := time.Now().Add(5 * time.Minute); sink.ended.Load() != 1; time.Sleep(time.Millisecond) {
 		if time.Now().After(end) {
 			t.Fatal("the end of the connection wasn't told")
 		}

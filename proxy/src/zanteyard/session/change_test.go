@@ -85,7 +85,7 @@ func TestChangesBeforeSync(t *testing.T) {
 	p := through(t, "postgres", func(o *Options) { o.Plans, o.Generation = d, d.Generation })
 	p.warm("SELECT v FROM r WHERE true")
 	sql(t, "ALTER TABLE r DROP COLUMN id")
-	p.conn.SetDeadline(time.Now().Add(time.Minute))
+	p.conn.SetDeadline(time.Now().Add(5 * time.Minute))
 	p.do(messages('E', &pgproto3.Parse{Query: "SELECT v FROM r WHERE true"}, &pgproto3.Query{String: "SELECT 1"}))
 	if !p.session.Busy() {
 		t.Error("the server waits for a Sync, and the session takes it for idle")

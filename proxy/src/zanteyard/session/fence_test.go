@@ -26,7 +26,7 @@ func fences(all []record.Transaction) int {
 func TestMeeting(t *testing.T) {
 	needServer(t)
 	sql(t, fill)
-	room := meeting.NewRoom(10 * time.Second)
+	room := meeting.NewRoom(time.Minute)
 	var all []*proxied
 	for i := 0; i < 3; i++ {
 		p := through(t, "postgres", nil)
@@ -112,7 +112,7 @@ func TestMeetingFails(t *testing.T) {
 func TestFenceFails(t *testing.T) {
 	needServer(t)
 	sql(t, fill)
-	room := meeting.NewRoom(10 * time.Second)
+	room := meeting.NewRoom(time.Minute)
 	p := through(t, "limited", func(o *Options) { o.Fence = NewFence("public.zanteyard_fence", 10) })
 	room.Enter(p.session)
 	if _, _, err := room.Meet(context.Background()); err == nil {
@@ -165,7 +165,7 @@ func TestMeetingInTheMidst(t *testing.T) {
 // TestFenceOfOne makes one session make a fence.
 func TestFenceOfOne(t *testing.T) {
 	needServer(t)
-	room := meeting.NewRoom(10 * time.Second)
+	room := meeting.NewRoom(time.Minute)
 	p := through(t, "postgres", nil)
 	room.Enter(p.session)
 	if err := room.Fence(context.Background(), p.session.Number()); err != nil {

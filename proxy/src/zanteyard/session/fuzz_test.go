@@ -102,7 +102,7 @@ func TestNonsense(t *testing.T) {
 			if err != nil && strings.Contains(err.Error(), "fault") {
 				t.Fatal(err)
 			}
-		case <-time.After(time.Minute):
+		case <-time.After(5 * time.Minute):
 			t.Fatal("the session doesn't end")
 		}
 		p.session.state.Lock()

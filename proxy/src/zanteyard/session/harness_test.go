@@ -220,7 +220,7 @@ func through(t testing.TB, user string, change func(*Options)) *proxied {
 		Plans: definitions_, Sink: p.sink, Policy: Policy{true, true}, ReadLimit: 10000,
 		Fence: NewFence("public.zanteyard_fence", 1000), Auditing: func() bool { return true },
 		Generation: definitions_.Generation, Defined: func() {}, Log: func(s string) { t.Log(s) },
-		Bound: 5 * time.Second, Shared: shared_,
+		Bound: time.Minute, Shared: shared_,
 	}
 	if change != nil {
 		change(options)
@@ -297,7 +297,7 @@ func (p *proxied) settle() {
 
 func until(t testing.TB, what string, f func() bool) {
 	t.Helper()
-	for end := time.Now().Add(time.Minute); !f(); time.Sleep(time.Millisecond) {
+	for end := time.Now().Add(5 * time.Minute); !f(); time.Sleep(time.Millisecond) {
 		if time.Now().After(end) {
 			t.Fatalf("waited in vain until %s", what)
 		}

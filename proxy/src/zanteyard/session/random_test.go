@@ -102,7 +102,7 @@ func forward(t *testing.T, change func(*Options)) (dial func() (*pgconn.PgConn, 
 
 // run runs a statement in one of the protocol's ways, and returns its rows as text.
 func (w *walker) run(r *rand.Rand, text string, parameters ...string) ([][]string, error) {
-	ctx, cancel := context.WithTimeout(context.Background(), time.Minute)
+	ctx, cancel := context.WithTimeout(context.Background(), 5*time.Minute)
 	defer cancel()
 	var values [][]byte
 	for _, p := range parameters {

@@ -105,7 +105,7 @@ func begin(t *testing.T, c *cluster.Cluster, more ...string) *program {
 // until returns the line that begins with a text, or the event of that name.
 func (p *program) until(what string) string {
 	p.t.Helper()
-	for end := time.After(2 * time.Minute); ; {
+	for end := time.After(5 * time.Minute); ; {
 		select {
 		case line, ok := <-p.lines:
 			var event struct{ Event string }
@@ -124,7 +124,7 @@ func (p *program) until(what string) string {
 func (p *program) connect() *pgconn.PgConn {
 	p.t.Helper()
 	var last error
-	for end := time.Now().Add(time.Minute); time.Now().Before(end); time.Sleep(5 * time.Millisecond) {
+	for end := time.Now().Add(5 * time.Minute); time.Now().Before(end); time.Sleep(5 * time.Millisecond) {
 		conn, err := pgconn.Connect(context.Background(),
 			fmt.Sprintf("host=127.0.0.1 port=%d user=postgres dbname=postgres sslmode=disable", p.port))
 		if err == nil {

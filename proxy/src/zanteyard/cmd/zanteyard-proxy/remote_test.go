@@ -55,7 +55,7 @@ func (r *redisServer) start() {
 	if err := r.process.Start(); err != nil {
 		r.t.Fatal(err)
 	}
-	for end := time.Now().Add(time.Minute); ; time.Sleep(10 * time.Millisecond) {
+	for end := time.Now().Add(5 * time.Minute); ; time.Sleep(10 * time.Millisecond) {
 		if conn, err := redis.DialURL(r.url()); err == nil {
 			conn.Close()
 			return
@@ -131,7 +131,7 @@ type coverageEvent struct {
 // covered waits for a coverage event for which holds returns true.
 func (p *program) covered(what string, holds func(coverageEvent) bool) coverageEvent {
 	p.t.Helper()
-	for end := time.Now().Add(time.Minute); time.Now().Before(end); {
+	for end := time.Now().Add(5 * time.Minute); time.Now().Before(end); {
 		var it coverageEvent
 		if err := json.Unmarshal([]byte(p.until("coverage")), &it); err != nil {
 			p.t.Fatal(err)
@@ -162,7 +162,7 @@ func offered(t *testing.T, p *program, a, b *pgconn.PgConn) {
 	t.Helper()
 	read, write := "SELECT balance FROM account WHERE id = 1", "UPDATE account SET balance = balance + 1 WHERE id = 1"
 	before := p.covered("any", whatever).Reads.Offered
-	for end := time.Now().Add(time.Minute); time.Now().Before(end); {
+	for end := time.Now().Add(5 * time.Minute); time.Now().Before(end); {
 		for i := 0; i < 20; i++ {
 			for _, conn := range []*pgconn.PgConn{a, b} {
 				sql(t, conn, read)
@@ -244,7 +244,7 @@ func refused(t *testing.T, p *program, source string, more ...string) {
 	source = strings.Replace(source, source[strings.Index(source, "port="):strings.Index(source, " user=")], fmt.Sprint("port=", other.port), 1)
 	var conn *pgconn.PgConn
 	var err error
-	for until := time.Now().Add(time.Minute); conn == nil && time.Now().Before(until); time.Sleep(10 * time.Millisecond) {
+	for until := time.Now().Add(5 * time.Minute); conn == nil && time.Now().Before(until); time.Sleep(10 * time.Millisecond) {
 		conn, err = pgconn.Connect(context.Background(), source)
 	}
 	if err != nil {

@@ -176,7 +176,7 @@ func (w *watched) next(end <-chan time.Time) (line string, it event) {
 // much waits until enough transactions and reads are offered.
 func (w *watched) much(least int) {
 	w.t.Helper()
-	for end := time.After(2 * time.Minute); ; {
+	for end := time.After(5 * time.Minute); ; {
 		_, it := w.next(end)
 		if it.Event == "coverage" && it.Offered-it.Fences >= least && it.Reads.Offered >= least {
 			return
@@ -188,7 +188,7 @@ func (w *watched) much(least int) {
 func (w *watched) offered() (its []described) {
 	w.t.Helper()
 	asked := 0
-	for end := time.After(2 * time.Minute); ; {
+	for end := time.After(5 * time.Minute); ; {
 		_, it := w.next(end)
 		if it.Event == "coverage" && it.Pending == 0 && asked == 0 || it.Event == "transactions" {
 			its = append(its, it.Transactions...)

@@ -30,7 +30,7 @@ func dialRaw(port int) (raw, error) {
 	if err != nil {
 		return raw{}, err
 	}
-	conn.SetDeadline(time.Now().Add(time.Minute))
+	conn.SetDeadline(time.Now().Add(5 * time.Minute))
 	r := raw{conn, pgproto3.NewFrontend(pgproto3.NewChunkReader(conn), conn)}
 	return r, r.say(1, &pgproto3.StartupMessage{ProtocolVersion: pgproto3.ProtocolVersionNumber,
 		Parameters: map[string]string{"user": "postgres", "database": "postgres"}})
@@ -159,7 +159,7 @@ func TestShortConnections(t *testing.T) {
 // stopped returns the last coverage before the audit stopped.
 func (p *program) stopped() (last coverage) {
 	p.t.Helper()
-	for end := time.After(2 * time.Minute); ; {
+	for end := time.After(5 * time.Minute); ; {
 		var it coverage
 		select {
 		case line := <-p.lines:
