@@ -18,7 +18,7 @@ from .test_examples import EXAMPLES
 
 FEW, MOST = 1024, 4096  # transactions
 SECONDS = 5.0
-SLOW = 12.0  # factor for a busy machine
+SLOW = 60.0  # factor for a busy machine
 
 
 def workloads():
@@ -119,12 +119,12 @@ class Shrinking(unittest.TestCase):
         history = history_of(workloads()["counter"], "lost-update", 20, count=100)
         known = named(audited(history)[0].certificate)
         shrinking.audited_apart = audited_here
-        wanted = smaller(history, seconds=60.0)
+        wanted = smaller(history, seconds=SLOW * SECONDS)
         whole, sizes[:] = sizes[0], []
-        self.assertEqual(smaller(history, seconds=60.0, known=known), wanted)
+        self.assertEqual(smaller(history, seconds=SLOW * SECONDS, known=known), wanted)
         self.assertLess(max(sizes), whole // 2)
         sizes.clear()
-        self.assertEqual(smaller(history, seconds=60.0, known={(0, 0)}), wanted)  # these aren't violated by themselves
+        self.assertEqual(smaller(history, seconds=SLOW * SECONDS, known={(0, 0)}), wanted)  # these aren't violated by themselves
         self.assertEqual(sizes[1], whole)
 
     def test_what_a_refutation_names_behind_a_cut(self):
@@ -141,7 +141,7 @@ class Shrinking(unittest.TestCase):
         other = Logged((("y", "init"),), ("y",))
         history = [[Logged((), ("x",)), aborted, other, lost], [aborted, lost], [aborted]]
         self.assertEqual(
-            smaller(history, seconds=60.0),
+            smaller(history, seconds=SLOW * SECONDS),
             [[Logged((), ("x",)), Logged((), ()), Logged((), ()), lost], [Logged((), ()), lost], []],
         )
 
