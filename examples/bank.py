@@ -17,6 +17,7 @@ import importlib
 import os
 import random
 import signal
+import socket
 import subprocess
 import sys
 import threading
@@ -172,10 +173,15 @@ class Watch:
     def wait(self):
         """Waits until it listens. Ends the program if it can't begin, after it has said why."""
         ends = time.monotonic() + LISTENING
-        while not os.path.exists(self.socket):
+        while not self.listens():
             if self.process.poll() is not None or time.monotonic() > ends:
                 sys.exit("the audit didn't begin")
             time.sleep(0.05)
+
+    def listens(self):
+        """Whether it accepts connections; its socket is there a moment earlier."""
+        with socket.socket(socket.AF_UNIX) as probe:
+            return probe.connect_ex(self.socket) == 0
 
     def end(self):
         """Ends it after a last round, and the proxy, too. Returns its status."""

@@ -55,7 +55,9 @@ from contextlib import suppress
 sys.path.insert(0, sys.argv[1])
 import logging; logging.getLogger("zanteyard").setLevel(logging.CRITICAL)
 from zanteyard import AbortedError, AuditClient
+from zanteyard.remote import _client, _connecting
 from zanteyard.stores.postgres import PostgresStore
+_client.ANSWERING = _connecting.ANSWERING = 120.0  # seconds to begin on a busy machine
 from tests.lateness import Lateness
 from tests.test_faults import add_one
 with AuditClient(sys.argv[2]) as audit:

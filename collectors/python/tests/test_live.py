@@ -342,7 +342,7 @@ class Meetings(WithProgram):
         self.assertEqual(self.ended(live).kind, "violated")
         self.assertLess(live.taken_in, 800)
         history, called = from_start(self.auditor)
-        small = smaller(history, seconds=60)
+        small = smaller(history, seconds=SOON)
         self.assertEqual(audited(small)[0].kind, "violated")
         self.assertIn(" can come first", reasons(small, called)[-1])
 

@@ -306,7 +306,7 @@ class Explained(unittest.TestCase):
                 self.assertEqual(its.report.kind, owed)
         told = explain_history(part, program=AUDITOR).lines
         self.assertEqual(told[-1], "so neither 0.70000 nor 1.70000 can come first")
-        found = standing(part, AUDITOR, seconds=60.0)
+        found = standing(part, AUDITOR, seconds=600.0)
         self.assertIn(SNAPSHOT, found.broken)
         self.assertIn(PREFIX, found.kept)
         its = audited_apart(part, AUDITOR, PREFIX)
@@ -343,7 +343,7 @@ class Halves(WithFolder):
         lines = self.imported(history(2100, ends="lost update"))
         self.assertEqual(lines[0], ["open", 16, 2102])
         given = [json.dumps(each).encode() for each in lines]
-        levels = Levels(AUDITOR, given, seconds=60.0).found()
+        levels = Levels(AUDITOR, given, seconds=600.0).found()
         self.assertIn((PREFIX, "yes"), [(each.promise, each.answer) for each in levels])
 
 

@@ -18,7 +18,7 @@ FEEDER = os.path.join(os.path.dirname(os.path.abspath(__file__)), "journal_feede
 ONE = Logged((), ("x",))
 
 
-def child_of(pid, seconds=30):
+def child_of(pid, seconds=300):
     ends = time.monotonic() + seconds
     while time.monotonic() < ends:
         with open(f"/proc/{pid}/task/{pid}/children") as file:
