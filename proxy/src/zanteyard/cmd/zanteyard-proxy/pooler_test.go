@@ -7,6 +7,7 @@ import (
 	"strings"
 	"sync"
 	"testing"
+	"time"
 
 	"github.com/jackc/pgconn"
 
@@ -14,7 +15,8 @@ import (
 )
 
 // TestPoolerInFront: the clients of a pooler that shares two connections among them, transaction by transaction, are
-// audited as two connections.
+// audited as two connections. How soon their statements are seen depends on how fast the machine is: one client goes on
+// until enough is.
 func TestPoolerInFront(t *testing.T) {
 	c := start(t)
 	p := begin(t, c)
@@ -27,38 +29,48 @@ func TestPoolerInFront(t *testing.T) {
 		t.Fatal(err)
 	}
 	defer stop()
-	const clients, each = 6, 10
+	const clients, each, enough = 6, 10, 6
+	client := func(times int) {
+		conn, err := pgconn.Connect(context.Background(),
+			fmt.Sprintf("host=127.0.0.1 port=%d user=postgres dbname=postgres sslmode=disable", port))
+		if err != nil {
+			t.Error(err)
+			return
+		}
+		defer conn.Close(context.Background())
+		for n := 0; n < times; n++ {
+			for _, text := range []string{"BEGIN", "SELECT balance FROM account WHERE id = 1",
+				"UPDATE account SET balance = balance + 1 WHERE id = 1", "COMMIT"} {
+				if _, err := conn.Exec(context.Background(), text).ReadAll(); err != nil {
+					t.Errorf("%s: %v", text, err)
+					return
+				}
+			}
+		}
+	}
 	var all sync.WaitGroup
 	for i := 0; i < clients; i++ {
 		all.Add(1)
 		go func() {
 			defer all.Done()
-			conn, err := pgconn.Connect(context.Background(),
-				fmt.Sprintf("host=127.0.0.1 port=%d user=postgres dbname=postgres sslmode=disable", port))
-			if err != nil {
-				t.Error(err)
-				return
-			}
-			defer conn.Close(context.Background())
-			for n := 0; n < each; n++ {
-				for _, text := range []string{"BEGIN", "SELECT balance FROM account WHERE id = 1",
-					"UPDATE account SET balance = balance + 1 WHERE id = 1", "COMMIT"} {
-					if _, err := conn.Exec(context.Background(), text).ReadAll(); err != nil {
-						t.Errorf("%s: %v", text, err)
-						return
-					}
-				}
-			}
+			client(each)
 		}()
 	}
 	all.Wait()
-	if got := sql(t, p.connect(), "SELECT balance FROM account WHERE id = 1"); got != fmt.Sprint(100+clients*each) {
+	done := clients * each
+	for end := time.Now().Add(5 * time.Minute); time.Now().Before(end); done += each {
+		if it := p.counts(); it.Offered-it.Fences >= enough && it.Reads.Seen >= enough {
+			break
+		}
+		client(each)
+	}
+	if got := sql(t, p.connect(), "SELECT balance FROM account WHERE id = 1"); got != fmt.Sprint(100+done) {
 		t.Errorf("the clients have counted up to %s", got)
 	}
 	fmt.Fprintln(p.say, `{"command":"stop"}`)
 	at := p.stopped()
 	t.Logf("offered %d, fences %d, folded %v, reads %+v", at.Offered, at.Fences, at.Folded, at.Reads)
-	if at.Offered-at.Fences < clients*each/10 || at.Reads.Seen < clients*each/10 {
+	if at.Offered-at.Fences < enough || at.Reads.Seen < enough {
 		t.Error("too little of it was audited")
 	}
 	for reason := range at.Folded {

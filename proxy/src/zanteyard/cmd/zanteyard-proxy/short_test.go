@@ -104,7 +104,8 @@ func life(port, n int) error {
 
 // TestShortConnections: connections of one transaction each, which end in all ways, are handed the auditor's sessions,
 // and some of their first statements are seen. What isn't offered is counted. How much that is depends on how fast the
-// machine is: what runs across a meeting isn't offered, and a connection's first message isn't held for long.
+// machine is: what runs across a meeting isn't offered, and a connection's first message isn't held for long. So more of
+// them come, one at a time, until something is seen.
 func TestShortConnections(t *testing.T) {
 	c := start(t)
 	p := begin(t, c)
@@ -136,8 +137,16 @@ func TestShortConnections(t *testing.T) {
 		}()
 	}
 	all.Wait()
-	took := time.Since(began)
-	if got := sql(t, first, "SELECT sum(balance) FROM account"); got != fmt.Sprint(*short) {
+	took, done := time.Since(began), *short
+	for end := time.Now().Add(5 * time.Minute); time.Now().Before(end); done++ {
+		if it := p.counts(); it.Offered > it.Fences && it.Reads.Seen > 0 {
+			break
+		}
+		if err := life(p.port, done); err != nil {
+			t.Errorf("connection %d: %v", done, err)
+		}
+	}
+	if got := sql(t, first, "SELECT sum(balance) FROM account"); got != fmt.Sprint(done) {
 		t.Errorf("the connections have counted up to %s", got)
 	}
 	fmt.Fprintln(p.say, `{"command":"stop"}`)
@@ -148,12 +157,21 @@ func TestShortConnections(t *testing.T) {
 	}
 	t.Logf("%d connections in %v: offered %d, fences %d, folded %v, reads %+v, unseen %v", *short, took, at.Offered, at.Fences,
 		at.Folded, at.Reads, at.Unseen)
-	if offered := at.Offered - at.Fences; offered+left < uint64(*short) || offered == 0 {
+	if offered := at.Offered - at.Fences; offered+left < uint64(done) || offered == 0 {
 		t.Errorf("%d transactions were offered, and %d folded", offered, left)
 	}
 	if at.Reads.Seen == 0 {
 		t.Error("no row read was seen")
 	}
+}
+
+// counts returns the next coverage, which comes within a second.
+func (p *program) counts() (it coverage) {
+	p.t.Helper()
+	if err := json.Unmarshal([]byte(p.until("coverage")), &it); err != nil {
+		p.t.Fatal(err)
+	}
+	return it
 }
 
 // stopped returns the last coverage before the audit stopped.
