@@ -45,7 +45,7 @@ step "an audit: four clients count in SQLite, each statement a transaction of it
 cd "$folder"
 status=0
 venv/bin/zanteyard audit sqlite --level autocommit --workload counter --clients 4 --rate 400 --every 60 \
-    --seconds 120 --unaudited 0 --rather-wait --html violation.html || status=$?
+    --seconds 600 --unaudited 0 --rather-wait --html violation.html || status=$?
 [ "$status" -eq 1 ] || fail "the audit ended with status $status, but should have found a violation (status 1)"
 
 step "what next"

@@ -114,7 +114,7 @@ class Each:
             for level in (*serial, *violated):
                 with self.subTest(workload=workload, level=level):
                     # a violation ends it
-                    kind = self.load(workload, level, 0.5 if level in serial else 60.0)
+                    kind = self.load(workload, level, 0.5 if level in serial else 300.0)
                     self.assertEqual(kind, "serial" if level in serial else "violated")
 
     def load(self, workload, level, seconds):
