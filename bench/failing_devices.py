@@ -89,7 +89,7 @@ class Devices:
         settings = {"LD_PRELOAD": self.shim, "MOST": str(most), "FAILING_READ": str(read),
                     "FAILING_WRITE": str(write), "ERROR": str(error)}
         ended = subprocess.run([self.program], input=script, env=settings, stdout=subprocess.PIPE,
-                               stderr=subprocess.PIPE, timeout=60, check=False)
+                               stderr=subprocess.PIPE, timeout=300, check=False)
         return ended.stdout, (ended.returncode, ended.stderr)
 
 
@@ -138,7 +138,7 @@ def cut_off(program, script):
     """Cuts the script off at every byte; yields as above."""
     for length in range(len(script) + 1):
         ended = subprocess.run([program], input=script[:length], stdout=subprocess.PIPE,
-                               stderr=subprocess.PIPE, timeout=60, check=False)
+                               stderr=subprocess.PIPE, timeout=300, check=False)
         found = first_difference(script[:length], ended.stdout)
         if found or (ended.returncode, ended.stderr) != (0, b""):
             yield f"cut off at byte {length}: {found}, {ended}"
