@@ -1,8 +1,9 @@
 """Kinds of anomalies get their names. No program is needed."""
+import random
 import unittest
 
 from zanteyard import Logged
-from zanteyard.explain._anomalies import MEANINGS, find_anomaly, name_circle
+from zanteyard.explain._anomalies import MEANINGS, _shortest_circle, find_anomaly, name_circle
 from zanteyard.explain._arcs import IN_SESSION, IN_TIME, READ, READ_BEFORE, WRITTEN, Arc
 from zanteyard.promises._kinds import SNAPSHOT, STRICT
 
@@ -12,6 +13,20 @@ def txn(*reads, writes="", outcome="committed"):
 
 
 FIRST = (0, 0)
+
+
+def first_circle(start, after):
+    """The first of all ways back to `start` over later ones, the shortest first."""
+    ways = [(start,)]
+    while ways:
+        way = ways.pop(0)
+        for following in after[way[-1]]:
+            if following == start:
+                return way
+            if following > start and following not in way:
+                ways.append((*way, following))
+    return ()
+
 
 # Each row: what it shows, the expected name, and the history.
 ROWS = (
@@ -134,6 +149,25 @@ class Anomalies(unittest.TestCase):
     def test_snapshot_isolation_has_no_write_skew(self):
         (skew,) = [history for shows, _, history in ROWS if shows == "of two"]
         self.assertIsNone(find_anomaly(skew, promise=SNAPSHOT))
+
+    def test_many_that_overwrite_each_other(self):
+        """As many as a part may have, of which each has read what all later ones overwrote: there
+        are too many ways among them to try."""
+        chain = [txn(("x", (0, at - 1) if at else "init"), writes="x") for at in range(39)]
+        self.assertIsNone(find_anomaly([chain]))
+        last = (0, len(chain) - 1)
+        skew = [[txn(("x", last), ("y", "init"), writes=key)] for key in "xy"]
+        found = find_anomaly([chain, *skew])
+        self.assertEqual((found.name, found.transactions), ("write skew", ((1, 0), (2, 0))))
+
+    def test_the_shortest_circle_is_the_first_of_all_ways(self):
+        rng = random.Random(1)
+        for _ in range(2000):
+            ids = [(at, 0) for at in range(rng.randrange(1, 7))]
+            after = {it: rng.sample(ids, rng.randrange(len(ids))) for it in ids}
+            for its in after:
+                after[its] = [it for it in after[its] if it != its]
+                self.assertEqual(_shortest_circle(its, after), first_circle(its, after))
 
     def test_a_read_that_its_clock_excludes(self):
         """A read that the times exclude is reported only if the promise includes time."""

@@ -158,7 +158,7 @@ class Audits(unittest.TestCase):
         self.begin([feed.started(), feed.OPEN, *lines, *skew, *feed.ROUND, ("await", "restart")])
         self.fake_has("restart")
         (found,) = self.stop().violations
-        self.assertEqual([one.id for one in found.told], [(5, 0), (6, 0)])
+        self.assertLessEqual({(5, 0), (6, 0)}, {one.id for one in found.told})
         for one in found.told:
             self.assertTrue(one.its.statements)
         sent = [its["command"] for its in self.told if its["command"] != "cut"]

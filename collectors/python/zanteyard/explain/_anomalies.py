@@ -8,8 +8,9 @@ the violation. This is an aid; the verdict doesn't depend on it.
 
 from __future__ import annotations
 
+from collections import deque
 from dataclasses import dataclass
-from typing import Dict, Iterator, List, Mapping, Optional, Sequence, Set, Tuple
+from typing import Dict, Iterable, Iterator, List, Mapping, Optional, Sequence, Set, Tuple
 
 from ..core._own_keys import FENCE, PLAIN_FENCE
 from ..core._records import Logged, Naming, ShownId, Source, Transactions
@@ -344,21 +345,34 @@ def _long_forks(
 def _write_skews(
     table: Transactions, behind: Mapping[ShownId, Set[ShownId]], name: Naming
 ) -> Iterator[Anomaly]:
-    """Cycles in which each transaction read what the next one overwrote."""
+    """Cycles in which each transaction read what the next one overwrote: for each transaction the
+    shortest one of which it is the first."""
     after: Dict[ShownId, Dict[ShownId, str]] = {}
     for reader, key, _, other in _overwritten(table, behind):
         after.setdefault(reader, {}).setdefault(other, key)
     for start in after:
-        ways = [[start]]
-        while ways:
-            way = ways.pop(0)
-            for following in after.get(way[-1], {}):
-                if following == start:
-                    circle = [*way, start]
-                    sentence = ", and ".join(
-                        f"{name(id)} read {_told(after[id][two])}, which {name(two)} overwrote"
-                        for id, two in zip(circle, circle[1:])
-                    )
-                    yield Anomaly("write skew", sentence, tuple(way))
-                elif following not in way and following > start and len(way) < 8:
-                    ways.append([*way, following])
+        way = _shortest_circle(start, after)
+        if way:
+            sentence = ", and ".join(
+                f"{name(id)} read {_told(after[id][two])}, which {name(two)} overwrote"
+                for id, two in zip(way, [*way[1:], start])
+            )
+            yield Anomaly("write skew", sentence, way)
+
+
+def _shortest_circle(
+    start: ShownId, after: Mapping[ShownId, Iterable[ShownId]]
+) -> Tuple[ShownId, ...]:
+    """The shortest way from `start` back to it, over at most 7 later transactions; empty if there
+    is none."""
+    ways: Dict[ShownId, Tuple[ShownId, ...]] = {start: (start,)}  # the shortest to each
+    waiting = deque(ways)
+    while waiting:
+        way = ways[waiting.popleft()]
+        for following in after.get(way[-1], ()):
+            if following == start:
+                return way
+            if following > start and following not in ways and len(way) < 8:
+                ways[following] = (*way, following)
+                waiting.append(following)
+    return ()
