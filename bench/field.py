@@ -10,12 +10,15 @@ isolation (repeatable read) if that may violate serializability. The operations 
 --judge judges stored ones again.
 
 The peer (bench/field_peer.cpp) is compiled when the program begins. It prunes by what is known, and
-leaves the rest to the SAT solver clasp. Each history is judged twice:
+leaves the rest to the SAT solver clasp. Each history is judged in two ways for serializability, and
+one that was recorded at snapshot isolation in a third way:
 
-- in rounds: with the clients' meetings in between, at which cobra_audit cuts. The peer judges the
-  same transactions without cuts.
-- at once: without what the recorder added for the meetings, in one round, and so at most 4,096
-  transactions. A larger history is refused, and the row says so.
+- rounds: with the clients' meetings in between, at which cobra_audit cuts. The peer judges the same
+  transactions without cuts.
+- at once: without what the recorder added for the meetings, in one round, in a script of version 3:
+  1,048,576 transactions at most. A larger history is refused, and the row says so.
+- snapshot: the same, but asked whether it keeps snapshot isolation: 524,288 at most. The peer knows
+  nothing of that.
 
 A row has processor seconds, peak memory in MiB, and the verdict of each judge, with the anomaly
 that `zanteyard check` names, or with where the peer found it. If both decide and the verdicts
@@ -48,7 +51,19 @@ from zanteyard import ZanteyardError  # noqa: E402
 from zanteyard.program._binaries import find_program  # noqa: E402
 from zanteyard.trial.postgres_server import ended_by_signals  # noqa: E402
 
-MOST = 4096  # transactions that may remain at a time, and so the most at once
+@dataclass(frozen=True)
+class Way:
+    """A way to judge a history: its name, how many transactions may remain at a time, whether the
+    recorder's own are in it, and the promise, if that isn't serializability."""
+
+    name: str
+    most: int
+    has_own: bool = False
+    promise: str = ""
+
+
+ROUNDS, ONCE = Way("rounds", 4096, True), Way("at once", 1 << 20)
+SNAPSHOT = Way("snapshot", 1 << 19, promise="snapshot")
 SIZES = (10_000, 100_000)
 LEVELS = ("serializable", "snapshot")
 PEER = os.path.join(TOP, "bench/field_peer.cpp")
@@ -289,26 +304,29 @@ class Table:
 
     def take(self, history: History) -> None:
         if None in history.records:
-            self.row(history, "rounds", True)
-        self.row(history, "at once", False)
+            self.row(history, ROUNDS)
+        self.row(history, ONCE)
+        if history.level == SNAPSHOT.promise:
+            self.row(history, SNAPSHOT)
 
-    def row(self, history: History, way: str, has_own: bool) -> None:
+    def row(self, history: History, way: Way) -> None:
         path = os.path.join(self.folder, "script.jsonl")
+        lines = script(history, way.most, way.has_own, self.nodes, way.promise)
         with open(path, "w", encoding="ascii") as file:
-            file.writelines(f"{line}\n" for line in script(history, MOST, has_own, self.nodes))
-        about = f"{history.workload} at {history.level}, {history.transactions:,} {way}"
-        if has_own or history.transactions <= MOST:
+            file.writelines(f"{line}\n" for line in lines)
+        about = f"{history.workload} at {history.level}, {history.transactions:,} {way.name}"
+        if way.has_own or history.transactions <= way.most:
             with Progress(f"cobra_audit judges {about}"):
                 ours = self.auditor.judge(path)
                 if ours.verdict == "violated":
                     ours.found = self.auditor.name(path, ours)
         else:
-            ours = Judged("refused", f"at most {MOST:,} at once")
+            ours = Judged("refused", f"at most {way.most:,} at once")
         judged = [ours, None]
-        if self.peer is not None:
+        if self.peer is not None and not way.promise:
             with Progress(f"the peer judges {about}"):
                 judged[1] = self.peer.judge(path)
-        print(told_row(history, way, judged), flush=True)
+        print(told_row(history, way.name, judged), flush=True)
         if difference(judged):
             self.differences += 1
             told = " and ".join(each.text for each in judged if each)

@@ -211,10 +211,15 @@ class Lists:
 
 class Scripts:
     """Lines of a script. With `has_own`, the recorder's own transactions are in it, and a round and
-    a cut wherever clients had met; else there is one round at the end."""
+    a cut wherever clients had met; else there is one round at the end, in a script of version 3.
+    `limit` is how many transactions may remain. `promise` is "snapshot", or empty for
+    serializability."""
 
-    def __init__(self, history: History, limit: int, has_own: bool, nodes: int = NODES) -> None:
-        self.sessions, self.limit = history.sessions, limit
+    def __init__(
+        self, history: History, limit: int, has_own: bool, nodes: int = NODES, promise: str = ""
+    ) -> None:
+        self.sessions = history.sessions
+        self.room = [limit, 2 if has_own else 3, *([promise] if promise else [])]
         self.round = ["round", nodes, 0, 1, "guided"]
         self.records = [
             each for each in history.records if each is None and has_own
@@ -234,7 +239,7 @@ class Scripts:
     def lines(self) -> Iterator[str]:
         body = [*self.body()]
         sessions = self.sessions + bool(self.of_nobody)
-        yield encode(["open", sessions, self.limit, 2])
+        yield encode(["open", sessions, *self.room])
         keys = [*self.of_nobody]
         for number, first in enumerate(range(0, len(keys), MOST)):
             its = sorted(keys[first : first + MOST])  # an aborted attempt stands for nobody
@@ -291,5 +296,7 @@ def by_source(read: List[Any]) -> Any:
     return (read[0], -1, -1) if len(read) == 2 else tuple(read)
 
 
-def script(history: History, limit: int, has_own: bool, nodes: int = NODES) -> Iterator[str]:
-    return Scripts(history, limit, has_own, nodes).lines()
+def script(
+    history: History, limit: int, has_own: bool, nodes: int = NODES, promise: str = ""
+) -> Iterator[str]:
+    return Scripts(history, limit, has_own, nodes, promise).lines()

@@ -6,13 +6,14 @@ model for what has been taken in so far; within a chunk it assumes that everythi
 """
 from collections import defaultdict
 
-from judge import (ABORTED, ISOLATED, LARGE, LONGEST, NUMBERS, ORDERED, WHOLE, command_of, decode,
+from judge import (ABORTED, ISOLATED, LARGE, LARGE_ISOLATED, LONGEST, NUMBERS, ORDERED, WHOLE, command_of, decode,
                    effect_of, encode, is_aborted)
 from plain_snapshots import split_command
 from plain_verdicts import is_fence
 
 EDGES = (0, 1, 2, 3, 5, 6, 7, 8, 15, 16, 17, 63, 64, 65, 127, 128, 129, 255, 256, 257, 2048, 2049,
-         4095, 4096, 4097, 2**20 - 1, 2**20, 2**20 + 1, 2**31 - 1, 2**31, 2**32 - 1, 2**32, 2**32 + 1, 2**47 - 1, 2**47,
+         4095, 4096, 4097, 2**19, 2**19 + 1, 2**20 - 1, 2**20, 2**20 + 1, 2**31 - 1,
+         2**31, 2**32 - 1, 2**32, 2**32 + 1, 2**47 - 1, 2**47,
          NUMBERS - 257, NUMBERS - 256, NUMBERS - 1, NUMBERS, NUMBERS + 1, 2**53, 2**53 + 1,
          2**63 - 1, 2**63, WHOLE - 1, WHOLE, WHOLE + 1)
 NO_NUMBERS = ("-0", "-1", "-5", "00", "01", "007", "+1", "5.0", "0.0", "5e0", "5E0", "5e-1", "1e1",
@@ -39,8 +40,10 @@ class Raw(str):
     """A piece of a line that is written unchanged."""
 
 
-SNAPSHOT = "snapshot"  # in place of a script's version: one of version 2 that asks for this
-MORE = {1: [], 2: [2], 3: [3], SNAPSHOT: [2, SNAPSHOT]}  # in openings
+# In place of a script's version: one of version 2, or of version 3, that asks for snapshot isolation.
+SNAPSHOT, LARGE_SNAPSHOT = "snapshot", "snapshot by version 3"
+ISOLATED_AT = {2: SNAPSHOT, 3: LARGE_SNAPSHOT}
+MORE = {1: [], 2: [2], 3: [3], SNAPSHOT: [2, SNAPSHOT], LARGE_SNAPSHOT: [3, SNAPSHOT]}  # in openings
 VERSIONS = (2, 2, 2, 3, 3, 1, 0, 4, 256, WHOLE, "2", "", None, True, [], [2], [3], Raw("2.0"),
             Raw("-2"), Raw("02"), Raw("2e0"), Raw("3.0"), Raw("03"), Raw('"\\u0032"'))
 OUTCOMES = (*[ABORTED] * 4, "Aborted", "abort", "aborted ", "committed", "", None, False, 0, 2, [],
@@ -81,7 +84,7 @@ def versioned(dice, line):
         line = line[:3] if dice.random() < 0.8 else line
         if dice.random() < 0.2:
             words = (SNAPSHOT, SNAPSHOT, SNAPSHOT[:-1], "serializable")
-            line = [*line[:3], dice.choice((2, 2, 3)), dice.choice(words)]
+            line = [*line[:3], dice.choice((2, 3, 3, 4)), dice.choice(words)]
         holder, more = line, dice.choice(VERSIONS)
     elif line[0] in ("offer", "join") and type(line[-1]) is list and line[-1]:
         holder, more = dice.choice(line[-1]), dice.choice(OUTCOMES)
@@ -141,7 +144,7 @@ def handing_halves(dice, handed):
 
 def saved(model):
     """The lines by which another run goes on with what the model keeps."""
-    version = SNAPSHOT if model.is_isolated else model.version
+    version = ISOLATED_AT[model.version] if model.is_isolated else model.version
 
     def ask(*wanted):
         return decode(model.owed(["save", *wanted]).decode())
@@ -156,7 +159,7 @@ def saved(model):
         while ask("remain", session, first)[3]:
             lines.append(ask("remain", session, first))
             first = lines[-1][2] + len(lines[-1][3])
-    limit = model.limit // (2 if version == SNAPSHOT else 1)
+    limit = model.limit // (2 if model.is_isolated else 1)
     return [opening("resume", sessions, limit, version), *lines, ["resumed"]]
 
 
@@ -237,7 +240,7 @@ class Store:
 
     def fit(self, version):
         """Runs what fits scripts of this version."""
-        self.is_isolated = version == SNAPSHOT
+        self.is_isolated = version in (SNAPSHOT, LARGE_SNAPSHOT)
         if self.is_isolated:
             self.keys[-1] = min(self.keys[-1], ISOLATED.keys - 1)
             self.stays = self.dice.choice((0.0, 0.1, 0.5))
@@ -340,23 +343,33 @@ class Store:
             self.first[session] = count
 
 
+def many(dice, version, chance=1.0, few=0):
+    """As many sessions as scripts of this version may have, or a little more than those of others;
+    with a chance, and else few."""
+    if dice.random() >= chance:
+        return few
+    return dice.choice((65, 256)) if version in (3, LARGE_SNAPSHOT) else 64
+
+
 class Scripts:
     """Whole scripts: several sessions, whose fragments come in any order, with rounds and cuts."""
 
     def __init__(self, dice):
         self.dice = dice
-        self.sessions = dice.choice((1, 2, 2, 3, 3, 4, 6, 12, 16, 64 if dice.random() < 0.1 else 5))
+        self.version = dice.choice((1, 2, 3, SNAPSHOT, LARGE_SNAPSHOT))
+        self.sessions = dice.choice((1, 2, 2, 3, 3, 4, 6, 12, 16, many(dice, self.version, 0.1, 5)))
         self.limit = dice.choice((1, 4, 8, 16, 20, 30, 40, 50, 4096, 4096))
         self.store = Store(dice, self.sessions)
         self.most = dice.choice((8, 12, 16, 30))  # what remains is at most a little more
         if self.store.torn:
             self.most = dice.choice((12, 16))
-        self.version = dice.choice((1, 2, 3, SNAPSHOT))
         self.store.fit(self.version)
-        if self.version == SNAPSHOT:
+        if self.store.is_isolated:
             self.limit, self.most = min(self.limit, ISOLATED.limit), self.most // 2 + 2
         if self.version == 3 and dice.random() < 0.5:
             self.limit = dice.choice((ORDERED.limit + 1, LARGE.limit))
+        if self.version == LARGE_SNAPSHOT and dice.random() < 0.5:
+            self.limit = dice.choice((ISOLATED.limit + 1, LARGE_ISOLATED.limit))
         if self.version != 1:
             self.store.aborts = dice.choice((0.0, 0.1, 0.3))
         self.is_open, self.odd = False, dice.choice((0.0, 0.0, 0.05, 0.2))
@@ -521,10 +534,10 @@ class Mutated:
 
     def __init__(self, dice):
         self.dice = dice
-        self.sessions = dice.choice((1, 2, 3, 64))
+        self.version = dice.choice((1, 2, 3, SNAPSHOT, LARGE_SNAPSHOT))
+        self.sessions = dice.choice((1, 2, 3, many(dice, self.version)))
         self.limit = dice.choice((1, 5, 10, 16))
         self.store = Store(dice, self.sessions)
-        self.version = dice.choice((1, 2, 3, SNAPSHOT))
         self.store.fit(self.version)
         self.store.aborts = 0.0 if self.version == 1 else 0.3
         self.count = dice.choice((16, 100))

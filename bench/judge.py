@@ -13,7 +13,7 @@ import json
 import os
 import subprocess
 import sys
-from dataclasses import dataclass
+from dataclasses import dataclass, replace
 
 from plain_proofs import check_order, check_tree
 from plain_snapshots import (STARS, check_events, half_report, has_events, is_proper, split,
@@ -85,9 +85,10 @@ def is_offer(parts):
 
 
 def is_opening(parts):
-    """Two numbers, followed by the version if that is 2 or 3, and after 2 perhaps by a promise;
+    """Two numbers, followed by the version if that is 2 or 3, and then perhaps by a promise;
     version 1 isn't stated."""
-    return are_wholes(parts[:3]) and parts[2:] in ([], [2], [3], [2, "snapshot"])
+    is_versioned = parts[2:3] in ([2], [3]) and parts[3:] in ([], ["snapshot"])
+    return are_wholes(parts[:3]) and (not parts[2:] or is_versioned)
 
 
 def is_nothing(parts):
@@ -249,16 +250,26 @@ def rises(items):
 
 @dataclass(frozen=True)
 class Bounds:
-    """How many transactions a fragment has at most, and what keys and numbers are below."""
+    """How many transactions a fragment has at most, what keys and numbers are below, how many
+    transactions may remain, and how many sessions there may be."""
 
     txns: int = 256
     numbers: int = NUMBERS
     keys: int = WHOLE
-    limit: int = 4096  # of what remains
+    limit: int = 4096
+    sessions: int = 64
 
 
 ORDERED, ISOLATED = Bounds(), Bounds(128, NUMBERS // 2, STARS, 2048)
-LARGE = Bounds(limit=2**20)  # of version 3
+# Those of version 3.
+LARGE = replace(ORDERED, limit=2**20, sessions=256)
+LARGE_ISOLATED = replace(ISOLATED, limit=2**19, sessions=256)
+
+
+def bounds_of(version, is_isolated):
+    if version == 3:
+        return LARGE_ISOLATED if is_isolated else LARGE
+    return ISOLATED if is_isolated else ORDERED
 
 
 def is_low(txn, bounds):
@@ -274,7 +285,7 @@ def txn_fault(me, txn, bounds=ORDERED):
     if not rises(reads) or not rises(writes) or not is_low(txn, bounds):
         return 3
     for _, source in reads:
-        if source != INIT and (source == me or source[0] > 63):
+        if source != INIT and (source == me or source[0] >= bounds.sessions):
             return 3
     touches = (writes and writes[0] == 0) or (reads and reads[0][0] == 0)
     return 4 if touches and not is_fence(txn) else None
@@ -282,7 +293,7 @@ def txn_fault(me, txn, bounds=ORDERED):
 
 def fragment_fault(session, first, txns, bounds=ORDERED):
     """The number of the refusal of a fragment that is wrong by itself; else None."""
-    if session > 63:
+    if session >= bounds.sessions:
         return 2
     if not 1 <= len(txns) <= bounds.txns or first + len(txns) > bounds.numbers:
         return 9
@@ -319,8 +330,9 @@ class HandOver:
 
     marks_parts = 2  # of a line of marks
 
-    def __init__(self, sessions, limit):
+    def __init__(self, sessions, limit, version):
         self.sessions, self.limit = sessions, limit
+        self.bounds = bounds_of(version, False)
         self.parts, self.writers = None, []
 
     def owed(self, command):
@@ -364,7 +376,7 @@ class HandOver:
                 and all(received <= NUMBERS for received in parts.received())
                 and all(map(parts.is_gone, parts.base.values()))
                 and not any(len(part) > 256 for me in parts.ids() for part in parts.get(me))
-                and not any(txn_fault(me, parts.get(me)) for me in parts.ids()))
+                and not any(txn_fault(me, parts.get(me), self.bounds) for me in parts.ids()))
 
 
 class SplitHandOver(HandOver):
@@ -372,8 +384,8 @@ class SplitHandOver(HandOver):
 
     marks_parts = 3
 
-    def __init__(self, sessions, limit):
-        super().__init__(sessions, 2 * limit)
+    def __init__(self, sessions, limit, version):
+        super().__init__(sessions, 2 * limit, version)
 
     def marks(self, marks, closed, begun):
         if len(begun) != len(marks) or any(mark > ISOLATED.numbers for mark in marks):
@@ -457,7 +469,8 @@ class Model:
         word, *its = command
         if word in ("offer", "join"):
             session, first, txns = its if len(its) == 3 else (its[0], 0, its[1])
-            fault = fragment_fault(session, first, list(map(txn_of, txns)), ISOLATED)
+            bounds = bounds_of(self.version, True)
+            fault = fragment_fault(session, first, list(map(txn_of, txns)), bounds)
             if fault:
                 return REFUSALS[fault]
         elif word == "answer":
@@ -507,13 +520,13 @@ class Model:
         if refused:
             return refused
         handed = SplitHandOver if promise else HandOver
-        self.version, self.handed = version, handed(sessions, limit)
+        self.version, self.handed = version, handed(sessions, limit, version)
         return OK
 
     def refused_opening(self, sessions, limit, version, promise):
-        if not 1 <= sessions <= 64:
+        bounds = bounds_of(version, promise is not None)
+        if not 1 <= sessions <= bounds.sessions:
             return REFUSALS[2]
-        bounds = ISOLATED if promise else LARGE if version == 3 else ORDERED
         return None if 1 <= limit <= bounds.limit else REFUSALS[9]
 
     def hand_over(self, command):
@@ -526,7 +539,7 @@ class Model:
 
     def offer(self, session, first, told):
         parts, txns = self.parts, list(map(txn_of, told))
-        fault = fragment_fault(session, first, txns) or self.place_fault(session, first)
+        fault = self.fragment_fault(session, first, txns) or self.place_fault(session, first)
         if not fault and sum(map(len, parts.remaining)) + len(txns) > self.limit:
             fault = 8
         if fault:
@@ -539,7 +552,7 @@ class Model:
         parts, txns = self.parts, list(map(txn_of, told[-1]))
         first = told[0] if len(told) == 2 else 0
         effects = list(map(effect_of, told[-1]))
-        fault = fragment_fault(session, first, txns)
+        fault = self.fragment_fault(session, first, txns)
         if not fault:
             fault = 10 if self.snapshot else self.joining_fault(session, first, effects)
         if not fault and sum(map(len, parts.remaining)) + len(txns) > self.limit:
@@ -575,6 +588,10 @@ class Model:
         source = txn[0][0][1]
         remains = source in self.parts.ids() and is_fence(self.parts.get(source))
         return source != INIT and (remains or source == self.parts.base.get(0))
+
+    def fragment_fault(self, session, first, txns):
+        """The same of a fragment of halves, if transactions are split."""
+        return fragment_fault(session, first, txns, bounds_of(self.version, False))
 
     def place_fault(self, session, first):
         if session < len(self.parts.gone) and self.parts.closed[session]:

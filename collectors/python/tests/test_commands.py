@@ -204,10 +204,14 @@ class Commands(unittest.TestCase):
         self.assertEqual(run("demo", "no-such-fault")[0], 2)
 
     def test_limits_are_told(self):
-        for line in ('["open",65,8]', '["open",2,4097]', '["open",2,4097,2]', '["open",2,1048577,3]'):
+        for line in (
+            '["open",65,8]', '["open",2,4097]', '["open",65,8,2]', '["open",2,4097,2]',
+            '["open",257,8,3]', '["open",2,1048577,3]',
+        ):
             status, _, err = self.check(line)
             self.assertEqual(status, 2)
             self.assertIn("1 to 64 sessions, and at most 4,096 transactions", err)
+            self.assertIn('begins with ["open",sessions,limit,3], up to 256 and 1,048,576', err)
 
     def test_a_cut_that_is_not_found_is_no_mistake(self):
         status, out, _ = self.check('["open",1,8]', '["round",9,0,1]', '["truncate"]')

@@ -14,6 +14,7 @@ import sys
 import tempfile
 import time
 import unittest
+from unittest import mock
 
 from zanteyard.program._auditor import PROGRAM
 from zanteyard.trial.postgres_server import program
@@ -173,7 +174,7 @@ class Scripts(unittest.TestCase):
         """Attempts that aborted have no place in it."""
         records = [Record(0, 2, [["x"]], ["x", "y"]), Record(1, 0, [["y", 0, 2], ["z"]], [])]
         self.assertEqual(self.lines(records), [
-            ["open", 2, 16, 2],
+            ["open", 2, 16, 3],
             ["offer", 0, 0, [[[[1, "init"]], [1, 2]]]],
             ["offer", 1, 0, [[[[2, 0, 0], [3, "init"]], []]]],
             *self.END,
@@ -182,7 +183,7 @@ class Scripts(unittest.TestCase):
     def test_a_read_of_an_attempt_that_aborted(self):
         lines = self.lines([Record(0, 2, [["x", 1, 7]], []), Record(1, 0, [], ["x"])])
         self.assertEqual(lines[:3], [
-            ["open", 3, 16, 2], ["offer", 2, 0, [[[], [1], "aborted"]]],
+            ["open", 3, 16, 3], ["offer", 2, 0, [[[], [1], "aborted"]]],
             ["offer", 0, 0, [[[[1, 2, 0]], []]]],
         ])
 
@@ -226,7 +227,7 @@ class Scripts(unittest.TestCase):
             *self.END, ["offer", 1, 1, [[[[1, 0, 0]], []]]], *self.END,
         ])
         self.assertEqual(self.lines(records), [
-            ["open", 2, 16, 2], ["offer", 0, 0, [[[], [1]]]], ["offer", 1, 0, [[[[1, 0, 0]], []]]],
+            ["open", 2, 16, 3], ["offer", 0, 0, [[[], [1]]]], ["offer", 1, 0, [[[[1, 0, 0]], []]]],
             *self.END,
         ])
 
@@ -375,9 +376,11 @@ class Says:
     """A judge that always says the same."""
 
     def __init__(self, verdict, found=""):
-        self.told = (verdict, found, 1.234, 56.7)
+        self.told, self.openings = (verdict, found, 1.234, 56.7), []
 
     def judge(self, path):
+        with open(path, encoding="ascii") as file:
+            self.openings.append(next(file))
         return field.Judged(*self.told)
 
     def name(self, path, judged):
@@ -385,13 +388,15 @@ class Says:
 
 
 class TheTable(unittest.TestCase):
-    def rows(self, ours, theirs, count=20, has_round=True):
+    def rows(self, ours, theirs, count=20, has_round=True, level="serial"):
+        self.openings = ours.openings
         with tempfile.TemporaryDirectory() as folder:
             out = io.StringIO()
             with contextlib.redirect_stdout(out), contextlib.redirect_stderr(io.StringIO()):
                 table = field.Table(ours, theirs, folder, 9)
                 history = run_serially("C-RUBiS", count)
                 history.records += [None] * has_round
+                history.level = level
                 table.take(history)
             return out.getvalue().splitlines(), table.differences
 
@@ -410,11 +415,24 @@ class TheTable(unittest.TestCase):
         self.assertEqual(differences, 0)
 
     def test_what_is_too_large_at_once_has_a_row(self):
-        lines, differences = self.rows(Says("serial"), Says("serial"), 4100)
+        with mock.patch.object(field, "ONCE", field.Way("at once", 40)):
+            lines, differences = self.rows(Says("serial"), Says("serial"), 41)
         self.assertEqual(self.cells(lines[3])[2:7], [
-            "4,100", "at once", "-", "-", "refused: at most 4,096 at once",
+            "41", "at once", "-", "-", "refused: at most 40 at once",
         ])
         self.assertEqual((len(lines), differences), (4, 0))
+
+    def test_what_was_recorded_at_snapshot_isolation_is_asked_about_that(self):
+        """By one judge, so that there is nothing to compare."""
+        lines, differences = self.rows(Says("serial"), Says("violated"), level="snapshot")
+        rows = [self.cells(line) for line in lines[2:] if line.startswith("|")]
+        self.assertEqual([row[3] for row in rows], ["rounds", "at once", "snapshot"])
+        self.assertEqual([row[6:] for row in rows][2], ["serial", "-", "-", "-"])
+        self.assertEqual(differences, 2)
+        opened = ["open", 24, 1 << 19, 3, "snapshot"]
+        self.assertEqual([json.loads(line) for line in self.openings], [
+            ["open", 24, 4096, 2], ["open", 24, 1 << 20, 3], opened,
+        ])
 
     def test_verdicts_that_differ_are_shouted(self):
         for ours, theirs, are_different in (
@@ -493,13 +511,15 @@ class Recorded(unittest.TestCase):
         self.assertEqual([row[:4] for row in rows], [
             [name, level, "240", way]
             for name, levels in zip(names, (["serializable"], ["serializable", "snapshot"]))
-            for level in levels for way in ("rounds", "at once")
+            for level in levels
+            for way in ("rounds", "at once", "snapshot")[:3 if level == "snapshot" else 2]
         ])
         for row in rows:
             with self.subTest(row=row):
                 verdict = row[6].split(":")[0]
-                self.assertEqual(verdict, row[9].split(":")[0])
-                if row[1] == "serializable":
+                is_alone = row[3] == "snapshot"  # which the peer isn't asked about
+                self.assertEqual("-" if is_alone else verdict, row[9].split(":")[0])
+                if row[1] == "serializable" or is_alone:
                     self.assertEqual(verdict, "serial")
         again = self.told("--judge", *sorted(glob.glob(f"{self.folder}/kept/*-serializable-*")))
         whole = [[cell.strip() for cell in line[1:-1].split("|")] for line in again[2:]]

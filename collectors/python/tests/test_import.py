@@ -586,8 +586,8 @@ class Limits(unittest.TestCase):
 
     def test_few_sessions_are_shared_by_who_comes_behind(self):
         """If there are too many clients; the verdict stays the same."""
-        self.addCleanup(setattr, import_script, "SESSIONS", import_script.SESSIONS)
-        import_script.SESSIONS = 2
+        self.addCleanup(setattr, import_script, "MOST_SESSIONS", import_script.MOST_SESSIONS)
+        import_script.MOST_SESSIONS = 2
         shared = Counter()
         for told, (form, written) in WRITERS.items():
             for seed in range(120):
@@ -605,18 +605,24 @@ class Limits(unittest.TestCase):
         self.assertGreaterEqual(shared["shared"], 20)
         self.assertGreaterEqual(shared[True], 20)
 
-    def test_seventy_clients(self):
+    def test_more_clients_than_sessions(self):
         head = "session,number,operation,key,value\n"
         chain = "".join(
-            f"s{at},0,read,x,{at or ''}\ns{at},0,write,x,{at + 1}\n" for at in range(70)
+            f"s{at},0,read,x,{at or ''}\ns{at},0,write,x,{at + 1}\n" for at in range(262)
         )
         imported = import_text("csv", head + chain)
         self.assertIn("6 clients put into the session of a client", " ".join(imported.about))
-        self.assertEqual(json.loads(imported.lines[0])[1], 64)
-        apart = "".join(f"s{at},0,write,x,{at + 1}\n" for at in range(70))
-        with self.assertRaisesRegex(ImportRefusedError, "70 clients .* at most 64"):
+        self.assertEqual(json.loads(imported.lines[0])[1:], [256, 262, 3])
+        apart = "".join(f"s{at},0,write,x,{at + 1}\n" for at in range(262))
+        refused = "262 clients need 262 sessions, of which there are at most 256"
+        with self.assertRaisesRegex(ImportRefusedError, refused):
             import_text("csv", head + apart)
-        self.assertEqual(json.loads(import_text("csv", head + apart, 60).lines[0])[1], 60)
+        for first, opened in ((60, [60, 61]), (64, [64, 65]), (65, [65, 66, 3])):
+            with self.subTest(first=first):
+                lines = import_text("csv", head + apart, first).lines
+                self.assertEqual(json.loads(lines[0])[1:], opened)
+                *_, rest = json.loads(lines[1])[3]  # which waits for a session that isn't open
+                self.assertEqual(rest[0][0][1], min(first, 63) if first <= 64 else first)
 
     def test_what_a_failed_attempt_wrote_is_in_the_script_where_it_was_read(self):
         """With its keys, so that the read can be explained; otherwise the script has version 1."""

@@ -35,7 +35,7 @@ WRONG = (
     ('["offer",0,0,[],7]', 17, '3 parts in "offer" after its name', "4"),
     ('["open",2,8,2,"snap"]', 15, '"snapshot"', '"snap"'),
     ('["open",2,8,4]', 13, "2 or 3, the version of the script", "4"),
-    ('["open",2,8,3,"snapshot"]', 13, "2, the version of the script", "3"),
+    ('["open",2,8,4,"snapshot"]', 13, "2 or 3, the version of the script", "4"),
     ('["close",256]', 10, "a session (a whole number, 0 to 255)", "256"),
     ('{"a":1}', 1, 'a list, as ["round",4096,0,1]', '{"a":1}'),
     ('["begin"] x', 11, "the end of the line", "x"),
@@ -66,7 +66,7 @@ class Forms(unittest.TestCase):
             ' [ "open" , 2 , 8 , 2 ]\r', '["\\u0073how"]', '["join",2,[]]', '["join",2,0,[[[],[]]]]',
             '["save","remain",0,18446744073709551615]', '["answer","refuted",[["nowrite",1,0,5]]]',
             '["open",2,8,2,"snapshot"]', '["collect","wait"]', '["last",[[0,0,1]]]',
-            '["open",64,1048576,3]', '["resume",2,8,3]',
+            '["open",256,1048576,3]', '["resume",2,8,3]', '["open",256,524288,3,"snapshot"]',
             '["marks",[2,0],[false,true]]', '["rebuild"]', '["resume",2,8,2,"snapshot"]',
             '["marks",[2,0],[false,true],[true,false]]',
         ):

@@ -79,10 +79,10 @@ def history(count=COUNT, ends="", processes=16, keys=300):
     return "".join(lines)
 
 
-def run(*words):
+def run(*words, program=AUDITOR):
     out, err = io.StringIO(), io.StringIO()
     with contextlib.redirect_stdout(out), contextlib.redirect_stderr(err):
-        with mock.patch.dict(os.environ, COBRA_AUDIT=AUDITOR):
+        with mock.patch.dict(os.environ, COBRA_AUDIT=program):
             status = main(words)
     return status, out.getvalue(), err.getvalue()
 
@@ -149,11 +149,23 @@ class Scripts(WithFolder):
         self.assertEqual(run("check", self.script)[0], 3)
 
     def test_snapshot_isolation(self):
-        """At most 2,048, which is said; and what follows from serializability is known."""
-        self.imported(history())
+        """Of the same script."""
+        for ends, status, kind in (("", 0, "serial"), ("lost update", 1, "violated")):
+            with self.subTest(ends=ends):
+                self.imported(history(ends=ends))
+                told = run("check", self.script, "--promise", "snapshot", "--seconds", "60")
+                self.assertEqual((told[0], told[2]), (status, ""), told[1])
+                self.assertIn(f"{kind}: ", told[1])
+                self.assertIn("snapshot isolation", told[1])
+
+    def test_more_than_snapshot_isolation_can_be_checked_for(self):
+        """Is refused, with what can be."""
+        offers = [["offer", 0, 256 * at, [[[], []]] * 256] for at in range(2049)]
+        self.written(["open", 1, MOST, 3], *offers, ROUND)
         status, _, err = run("check", self.script, "--promise", "snapshot")
         self.assertEqual(status, 2)
-        self.assertIn("can be checked for at most 2,048 transactions", err)
+        self.assertIn("line 2050 was refused: Backlog", err)
+        self.assertIn("can be checked for at most 524,288 at a time", err)
         self.assertIn("up to 1,048,576 (--promise serializable)", err)
 
     def test_levels(self):
@@ -186,12 +198,12 @@ class Openings(WithFolder):
         for word in ("open", "resume"):
             for more, reply in (
                 ([LIMIT + 1], long), ([LIMIT + 1, 2], long), ([0, 3], long), ([MOST + 1, 3], long),
-                ([MOST, 3, "snapshot"], wrong), ([2049, 2, "snapshot"], long), ([8, 4], wrong),
-                ([LIMIT, 3], ok), ([1, 3], ok), ([MOST, 3], ok),
+                ([MOST // 2 + 1, 3, "snapshot"], long), ([2049, 2, "snapshot"], long),
+                ([0, 3, "snapshot"], long), ([8, 4], wrong), ([8, 4, "snapshot"], wrong),
+                ([LIMIT, 3], ok), ([1, 3], ok), ([MOST, 3], ok), ([MOST // 2, 3, "snapshot"], ok),
             ):
                 with self.subTest(word=word, more=more):
                     self.assertEqual(self.replies([word, 64, *more]), [reply])
-        self.assertEqual(self.replies(["open", 65, MOST, 3]), [["no", 2, "BadSession"]])
 
     def test_aborted_transactions(self):
         """As in version 2."""
@@ -240,7 +252,7 @@ class Openings(WithFolder):
             self.assertIn(f"line {limit // 256 + 2} was refused: Backlog", err)
             self.assertIn('1,048,576 if the script begins with ["open",sessions,limit,3]', err)
         self.written(["open", 1, LIMIT + 1], *offers, ROUND)
-        self.assertIn("4,096 transactions remain at a time, or 1,048,576 if", run("check", self.script)[2])
+        self.assertIn("4,096 transactions remain at a time; if it", run("check", self.script)[2])
         self.written(["open", 1, 5000, 3], *offers, ROUND)
         self.assertEqual(run("check", self.script)[0], 0)
 

@@ -87,19 +87,29 @@ class Rules(unittest.TestCase):
 
     def test_lines(self):
         """Of a script that asks for serializability, if it is asked about snapshot isolation."""
-        asking, form = Asking(SNAPSHOT), [2, "snapshot"]
+        asking, form, large = Asking(SNAPSHOT), [2, "snapshot"], [3, "snapshot"]
         offer, fence = ["offer", 1, 3, [[[], [5]], [[], []]]], [[[0, 0, 1]], [0]]
         many, longer = [[[], []]] * 200, ["offer", 0, 2, [[[], []]] * 257]
         for line, *asked in (
             (["open", 2, 16, 2], ["open", 2, 16, *form]),
-            (["open", 2, 4000], ["open", 2, 2048, *form]),
-            (["open", 2, 100000, 3], ["open", 2, 2048, *form]),
-            (["open", 2, 1048577, 3], ["open", 2, 1048577, *form]),  # which is refused
+            (["open", 64, 2048], ["open", 64, 2048, *form]),
+            (["open", 2, 2049], ["open", 2, 2049, *large]),
+            (["open", 2, 100, 3], ["open", 2, 100, *large]),
+            (["open", 65, 100, 3], ["open", 65, 100, *large]),
+            (["open", 256, 100000, 3], ["open", 256, 100000, *large]),
+            (["open", 2, 1048576, 3], ["open", 2, 524288, *large]),
+            # These are refused, as the script's own lines are.
+            (["open", 2, 1048577, 3], ["open", 2, 1048577, *large]),
+            (["open", 257, 8, 3], ["open", 257, 8, *large]),
+            (["open", 65, 8, 2], ["open", 65, 8, *form]),
+            (["open", 65, 8], ["open", 65, 8, *form]),
+            (["open", 2, 4097], ["open", 2, 4097, *form]),
             (["offer", 0, 2, many], ["offer", 0, 2, many[:128]], ["offer", 0, 130, many[128:]]),
             (["join", 2, many], ["join", 2, many[:128]], ["offer", 2, 128, many[128:]]),
             *((line, line) for line in (
                 offer, ["join", 2, 5, [fence]], ["save", "marks"], ["round", 1, 0, 1], longer,
-                ["open", 2, 4097, *form], ["open", 2, 8, 4], ["offer", 0, 0, "x"],
+                ["open", 2, 4097, *form], ["open", 2, 8, *large], ["open", 2, 8, 4],
+                ["open", 2, 8, 4, "snapshot"], ["offer", 0, 0, "x"],
                 ["offer", 0, 0, [[[[5]], []]]], [],
             )),
         ):
@@ -111,7 +121,10 @@ class Rules(unittest.TestCase):
                 Asking(SNAPSHOT).asked(line)
         with self.assertRaises(CantBeAskedError):
             Asking(SERIALIZABLE).asked(["resume", 2, 16, *form])
+        live = Asking(SNAPSHOT, keeps_version=True)
+        self.assertEqual(live.asked(["open", 64, 4096, 2]), [["open", 64, 2048, *form]])
         self.assertEqual(Asking(STRICT).asked(["open", 2, 8, *form]), [["open", 2, 8, 2]])
+        self.assertEqual(Asking(STRICT).asked(["open", 99, 8, *large]), [["open", 99, 8, 3]])
         self.assertEqual(Asking(STRICT).asked(["open", 2, 5000, 3]), [["open", 2, 5000, 3]])
 
     def test_there_is_an_order_where_the_promise_is_kept(self):
@@ -243,8 +256,11 @@ class ByTheAuditor(unittest.TestCase):
             (SERIALIZABLE, [["resume", 2, 8, 2, "snapshot"]], "continues another one"),
             (SNAPSHOT, [opened, ["begin"], ["answer", "order", []]], "from elsewhere"),
             (SNAPSHOT, [opened, ["offer", 0, 0, [[[], [KEYS]]]]], "below 9223372036854775808"),
-            (None, [["open", 2, 2049, 2, "snapshot"]], "2,048 remain"),
-            (SNAPSHOT, [opened, *too_many()], "at most 2,048"),
+            (None, [["open", 2, 2049, 2, "snapshot"]], "2,048 remain, in version 3 524,288"),
+            (None, [["open", 2, 524289, 3, "snapshot"]], "2,048 remain, in version 3 524,288"),
+            (None, [["open", 257, 9, 3, "snapshot"]], "up to 256"),
+            (None, [["open", 2, 2048, 2, "snapshot"], *too_many()], "at most 524,288 at a time"),
+            (SNAPSHOT, [["open", 2, 2048], *too_many()], "give it more room"),
             (STRICT, [opened, ["offer", 0, 0, [[[], [TIME_KEYS]]]]], "below 4611686018427387904"),
         )
         for promise, lines, words in rows:
@@ -299,9 +315,9 @@ class ByTheAuditor(unittest.TestCase):
             self.assertEqual([its.did for its in run.history.history[2]], [((), ("key 9",))])
 
     def test_half_the_room_suffices_for_half_as_many(self):
-        lines = [["open", 1, 4096], *too_many()[:-1], ["show"], ROUND]
-        verdict = kind_told(lines, SNAPSHOT)
-        self.assertEqual((verdict.kind, verdict.counts), ("serial", [2048]))
+        for limit, lines in ((2048, too_many()[:-1]), (4096, too_many())):
+            verdict = kind_told([["open", 1, limit], *lines, ["show"], ROUND], SNAPSHOT)
+            self.assertEqual((verdict.kind, verdict.counts), ("serial", [256 * len(lines)]))
 
 
 def lines_of(folder, name):

@@ -14,7 +14,14 @@ fn numbers_of(command: &Command) -> (&'static str, [u64; 3]) {
             limit,
             version,
         } => ("open", [*sessions, *limit, version_number(*version)]),
-        Command::StartIsolated { sessions, limit } => ("open isolated", [*sessions, *limit, 0]),
+        Command::StartIsolated {
+            sessions,
+            limit,
+            version,
+        } => (
+            "open isolated",
+            [*sessions, *limit, version_number(*version)],
+        ),
         Command::Offer(logged) => ("offer", fragment_numbers(logged)),
         Command::Join(logged) => ("join", fragment_numbers(logged)),
         Command::Close(session) => ("close", [u64::from(*session), 0, 0]),
@@ -86,7 +93,7 @@ fn numbers_of(command: &Command) -> (&'static str, [u64; 3]) {
 fn opening_number(opening: Opening) -> u64 {
     match opening {
         Opening::Ordered(version) => version_number(version),
-        Opening::Isolated => 9,
+        Opening::Isolated(version) => version_number(version).wrapping_add(10),
     }
 }
 
@@ -128,7 +135,7 @@ struct Row {
     numbers: [u64; 3],
 }
 
-static COMMANDS: [Row; 37] = [
+static COMMANDS: [Row; 39] = [
     Row {
         line: "[\"search\",4294967296,6,16]",
         name: "search",
@@ -182,7 +189,12 @@ static COMMANDS: [Row; 37] = [
     Row {
         line: "[\"open\",2,16,2,\"\\u0073napshot\"]",
         name: "open isolated",
-        numbers: [2, 16, 0],
+        numbers: [2, 16, 2],
+    },
+    Row {
+        line: "[\"open\",256,524288,3,\"snapshot\"]",
+        name: "open isolated",
+        numbers: [256, 524288, 3],
     },
     Row {
         line: "[\"resume\",2,16,2]",
@@ -192,7 +204,12 @@ static COMMANDS: [Row; 37] = [
     Row {
         line: "[\"resume\",2,16,2,\"snapshot\"]",
         name: "resume",
-        numbers: [2, 16, 9],
+        numbers: [2, 16, 12],
+    },
+    Row {
+        line: "[\"resume\",2,16,3,\"snapshot\"]",
+        name: "resume",
+        numbers: [2, 16, 13],
     },
     Row {
         line: "[\"join\",1,[[[],[],\"\\u0061borted\"]]]",
@@ -372,7 +389,7 @@ fn aborted_transactions(rt: HostRuntime) -> Result<(), Fail> {
 }
 
 // Texts that are no JSON, or no array of a known word and its parts; other parts; offers and joins with other parts.
-static BAD_LINES: [&str; 97] = [
+static BAD_LINES: [&str; 99] = [
     "",
     " ",
     "null",
@@ -408,7 +425,9 @@ static BAD_LINES: [&str; 97] = [
     "[\"open\",2,16,4]",
     "[\"open\",2,16,3.0]",
     "[\"open\",2,16,\"3\"]",
-    "[\"open\",2,16,3,\"snapshot\"]",
+    "[\"open\",2,16,4,\"snapshot\"]",
+    "[\"open\",2,16,3,\"snapshots\"]",
+    "[\"open\",2,16,3,\"snapshot\",3]",
     "[\"open\",2,16,3,3]",
     "[\"open\",2,16,\"2\"]",
     "[\"open\",2,16,2.0]",

@@ -25,6 +25,7 @@ pub good_closed : (parts : Parts) (s : ℕ) → IsGood parts → IsGood (parts_c
 good_closed parts s good = record {
   some_sessions = good.some_sessions;
   few_sessions = good.few_sessions;
+  low_sessions = good.low_sessions;
   marks = good.marks;
   closed = length-set parts.closed s true ∙ good.closed;
   some_limit = good.some_limit;

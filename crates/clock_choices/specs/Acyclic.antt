@@ -5,6 +5,7 @@ use Rattle.txn.specs.declared.choices.Arc.{Arc}
 use Rattle.txn.specs.Arcs.{start_of, end_of}
 use Rattle.order_check.specs.declared.remainder.Parts.{Parts}
 use Rattle.order_check.specs.Cycles.{IsCycle, Sides}
+use Rattle.session_clocks.specs.Paths.{IsPathOf}
 use Rattle.session_clocks.specs.Reach.{IsThere, Reaches}
 use Rattle.clock_choices.specs.Logging.{AreRight}
 
@@ -15,6 +16,10 @@ HasNoCycle gone received arcs = (id : TxnId) → IsThere gone received id → ¬
 -- it is there, and reaches itself
 abbrev pub IsOnCycle : List ℕ → List ℕ → List Arc → TxnId → Type 0
 IsOnCycle gone received arcs id = IsThere gone received id × Reaches gone received arcs id id
+
+-- the path leads from a transaction to itself, along arcs at the front
+abbrev pub IsRound : List ℕ → List ℕ → List Arc → List Arc → Type 0
+IsRound gone received arcs path = (front : ℕ) × (id : TxnId) × IsPathOf gone received (take front arcs) id path id
 
 -- there are so many arcs at the front, and by these alone nothing reaches itself
 pub record AreAcyclic (gone received : List ℕ) (arcs : List Arc) (front : ℕ) : Type 0 where

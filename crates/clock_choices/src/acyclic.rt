@@ -1,17 +1,17 @@
 // Who is on a cycle. Steps along sessions make none by themselves, and a branch knows how many arcs at the front make none, so that only
 // what came since is looked at.
-ghost use Rattle.std.specs.Prelude.{◌≡◌, ◌<◌, IfOk, MatchOption, length};
+ghost use Rattle.std.specs.Prelude.{◌≡◌, ◌<◌, ◌≤◌, IfOk, IfSome, MatchOption, length};
 ghost use Rattle.txn.specs.declared.transactions.TxnId.{TxnId};
 ghost use Rattle.order_check.specs.Cycles.{IsCycle, Sides};
 ghost use Rattle.session_clocks.specs.Graphs.{HasNode};
 ghost use Rattle.session_clocks.specs.Reach.{Reaches};
-ghost use Rattle.clock_choices.specs.Acyclic.{AddsNoCycle, AreAcyclic, HasNoCycle, IsCycleOf, IsOnCycle};
+ghost use Rattle.clock_choices.specs.Acyclic.{AddsNoCycle, AreAcyclic, HasNoCycle, IsCycleOf, IsOnCycle, IsRound};
 ghost use Rattle.clock_choices.specs.Logging.{AreRight};
 ghost use Rattle.clock_choices.specs.Over.{IsOver};
 
 use crate::cycles::push_right_arcs;
 use order_check::Parts;
-use session_clocks::Graph;
+use session_clocks::{Graph, PathFinder};
 use std::alloc::Global;
 use txn::{Arc, NoMemory, Sequence, TxnId};
 
@@ -89,7 +89,80 @@ pub(crate) fn acyclic_in(graph: &Graph, front: usize) -> usize
     }
 }
 
-/// A cycle of right arcs through the transaction.
+/// The lowest id from which an arc leads.
+fn lowest(path: &[Arc]) -> Option<TxnId> {
+    let mut found = path.first()?.start();
+    for arc in path {
+        found = found.min(arc.start());
+    }
+    Some(found)
+}
+
+/// A way round from the lowest id on the way, if one is found, so that a cycle that is told begins there; else the way itself.
+fn from_lowest(
+    alloc: Global,
+    graph: &Graph,
+    finder: &mut PathFinder,
+    front: usize,
+    path: Sequence<Arc>,
+) -> Result<Sequence<Arc>, NoMemory>
+    requires front { front ≤ length graph.now.arcs }
+    requires round { IsRound graph.now.gone graph.now.received graph.now.arcs path }
+    ensures { IfOk result (IsRound graph.now.gone graph.now.received graph.now.arcs) }
+{
+    let Some(low) = lowest(path.as_slice()) else {
+        return Ok(path);
+    };
+    if !graph.contains(low) {
+        return Ok(path);
+    }
+    match graph.path_within(alloc, finder, front, low, low)? {
+        Some(better) => Ok(better),
+        None => Ok(path),
+    }
+}
+
+/// A way round along the arcs up to the first that closed one, if it is remembered. What came behind these isn't needed to refute anything.
+fn first_round(
+    alloc: Global,
+    graph: &Graph,
+    finder: &mut PathFinder,
+) -> Result<Option<Sequence<Arc>>, NoMemory>
+    ensures { IfOk result (λ found. IfSome found (IsRound graph.now.gone graph.now.received graph.now.arcs)) }
+{
+    let Some(place) = graph.closing() else {
+        return Ok(None);
+    };
+    let start = graph.arcs()[place].start();
+    if !graph.contains(start) {
+        return Ok(None);
+    }
+    match graph.path_within(alloc, finder, place + 1, start, start)? {
+        Some(path) => {
+            let path = from_lowest(alloc, graph, finder, place + 1, path)?;
+            Ok(Some(path))
+        }
+        None => Ok(None),
+    }
+}
+
+/// A way round, along few arcs if the first one that closed one is remembered.
+fn way_round(alloc: Global, graph: &Graph, id: TxnId) -> Result<Sequence<Arc>, NoMemory>
+    requires { IsOnCycle graph.now.gone graph.now.received graph.now.arcs id }
+    ensures { IfOk result (IsRound graph.now.gone graph.now.received graph.now.arcs) }
+{
+    let mut finder = PathFinder::new();
+    if let Some(path) = first_round(alloc, graph, &mut finder)? {
+        return Ok(path);
+    }
+    let len = graph.arcs().len();
+    let Some(path) = graph.path_within(alloc, &mut finder, len, id, id)? else {
+        unreachable!()
+    };
+    Ok(path)
+}
+
+/// A cycle of right arcs, where one is on a cycle.
 fn cycle_through(
     alloc: Global,
     parts: &Parts,
@@ -100,10 +173,7 @@ fn cycle_through(
     requires on { IsOnCycle graph.now.gone graph.now.received graph.now.arcs id }
     ensures { IfOk result (λ cycle. (sides : Sides) → AreRight parts.now sides graph.now.arcs → IsCycle parts.now sides cycle) }
 {
-    let len = graph.arcs().len();
-    let Some(path) = graph.path_within(alloc, len, id, id)? else {
-        unreachable!()
-    };
+    let path = way_round(alloc, graph, id)?;
     let mut cycle = Vec::new(alloc);
     push_right_arcs(&mut cycle, parts, path.as_slice())?;
     Ok(Sequence::new(cycle))

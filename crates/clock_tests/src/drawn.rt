@@ -55,7 +55,11 @@ pub(crate) fn add_arc(
 ) -> Result<bool, Fail>
     ensures { graph.new.marks ≡ graph.old.marks }
 {
-    let arc = Arc::Taken { from, to };
+    let arc = if from.number % 3 == 0 {
+        Arc::Read { key: 1, from, to }
+    } else {
+        Arc::Taken { from, to }
+    };
     assert!(rt; graph.contains(arc.start()) && graph.contains(arc.end()));
     Ok(graph.add_arc(alloc, arc, told)? == Addition::Cycle)
 }

@@ -25,8 +25,9 @@ use Rattle.log_text.specs.declared.versions.Opening.TheVariants.{Ordered}
 use Rattle.log_text.specs.declared.versions.Version.{Version}
 use Rattle.log_text.specs.declared.versions.Version.TheVariants.{One}
 use Rattle.log_text.specs.Saved.{untold}
-use Rattle.log_text.specs.Versions.{has_form}
-use Rattle.cobra.specs.HandOver.{IsNextOffer, handed_offer}
+use Rattle.log_text.specs.Versions.{has_form, most_sessions}
+use Rattle.round_state.specs.Opening.{IsSessions}
+use Rattle.cobra.specs.HandOver.{IsNextOffer, handed_first, handed_offer}
 use Rattle.cobra.specs.Saving.{first_told, fragment_told, handing_of, saved_told, writers_from}
 use Rattle.cobra.specs.Checkpoints.{AreSessionsTold, AreTaken, AreTxnsTold, AreWritersTold, GivenOutIsTaken, IsCheckpoint, IsLast}
 use Rattle.cobra.specs.declared.handing.Handing.{Handing}
@@ -183,22 +184,22 @@ rest_taken version parts writers remain told_writers told_remain =
     let one = subst (λ (ws : List (ℕ × TxnId)). AreTaken (stage.Handing (hand parts [] none) (Ordered version)) (map saved.Last writers) (stage.Handing (hand parts ws none) (Ordered version))) (from_zero entries) (writers_taken version parts 0 writers [] none told_writers) in
     taken_append (stage.Handing (hand parts [] none) (Ordered version)) (stage.Handing (hand parts entries none) (Ordered version)) (stage.Handing (handing_of parts) (Ordered version)) (map saved.Last writers) (flat_map (map saved.Offer) remain) one (sessions_taken version parts entries [] parts.remain remain refl told_remain)
 
-checkpoint_taken : (parts : Parts) (version : Version) (given : List Saved) → IsGood parts → IsCheckpoint (saved_told parts) (length parts.remain) given → AreTaken (stage.Resuming (length parts.remain) parts.limit (Ordered version)) given (stage.Handing (handing_of parts) (Ordered version))
-checkpoint_taken parts version given good is =
+checkpoint_taken : (parts : Parts) (version : Version) (given : List Saved) → IsGood parts → parts.most_sessions ≡ most_sessions version → IsCheckpoint (saved_told parts) (length parts.remain) given → AreTaken (stage.Resuming (length parts.remain) parts.limit (Ordered version)) given (stage.Handing (handing_of parts) (Ordered version))
+checkpoint_taken parts version given good many is =
     let begun : Stage = stage.Resuming (length parts.remain) parts.limit (Ordered version) in
     let rest : List Saved = map saved.Last is.writers ++ flat_map (map saved.Offer) is.remain in
     let end : Stage = stage.Handing (handing_of parts) (Ordered version) in
     subst (λ (all : List Saved). AreTaken begun all end) (sym is.given_is)
     (subst (λ (marks : Saved). AreTaken begun (marks ∷ rest) end) (ap saved_in is.marks_told) (
       stage.Handing (hand parts [] (replicate (length parts.base.marks) [])) (Ordered version),
-      ((good.marks, good.closed), refl),
+      ((good.marks, good.closed), ap (λ (n : ℕ). stage.Handing (handed_first n parts.limit parts.base.marks parts.closed) (Ordered version)) many),
       subst (λ (n : ℕ). AreTaken (stage.Handing (hand parts [] (replicate n [])) (Ordered version)) rest end) (sym good.marks) (rest_taken version parts is.writers is.remain is.writers_told is.remain_told),
     ))
 
 pub given_out_is_taken : GivenOutIsTaken
-given_out_is_taken parts version given good within is = record {
-  resumes = ((good.some_sessions, good.few_sessions), within, refl);
-  taken = checkpoint_taken parts version given good is;
+given_out_is_taken parts version given good many within is = record {
+  resumes = (subst (λ (n : ℕ). IsSessions n (length parts.remain)) many (good.some_sessions, good.few_sessions, good.low_sessions), within, refl);
+  taken = checkpoint_taken parts version given good many is;
   good = good_again parts good;
   same = parts_again parts;
 }

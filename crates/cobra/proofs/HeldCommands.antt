@@ -19,7 +19,7 @@ use Rattle.log_text.specs.declared.versions.Opening.TheVariants.{Ordered, Isolat
 use Rattle.log_text.specs.declared.versions.Version.{Version}
 use Rattle.log_text.specs.declared.versions.Version.TheVariants.{One, Two, Three}
 use Rattle.log_text.specs.Held.{held}
-use Rattle.log_text.specs.Versions.{has_form}
+use Rattle.log_text.specs.Versions.{has_form, most_sessions}
 use Rattle.round_state.specs.EngineState.{EngineState}
 use Rattle.round_state.specs.Steps.{IsOfferRefusal, IsJoinRefusal}
 use Rattle.round_state.specs.declared.steps.Step.{Step}
@@ -45,22 +45,22 @@ no_good_lengths : (fragment : Fragment) → 256 < length fragment.txns → HasGo
 no_good_lengths fragment long good = let few : length fragment.txns ≤ 256 = good.few in omega arith
 
 -- neither of them is well formed, and each is refused for the same
-long_fault : (front whole : LoggedFragment) (refusal : Refusal) → AreTooLong front whole → FragmentFault front.fragment refusal → FragmentFault whole.fragment refusal
-long_fault front whole BadSession long fault = subst (λ (s : ℕ). 64 ≤ s) long.session fault
-long_fault front whole TooLong long fault = (subst (λ (s : ℕ). s < 64) long.session fault.0, no_good_lengths whole.fragment long.whole_long)
-long_fault front whole refusal long fault = absurd (no_good_lengths front.fragment long.front_long fault.1)
+long_fault : (sessions : ℕ) (front whole : LoggedFragment) (refusal : Refusal) → AreTooLong front whole → FragmentFault sessions front.fragment refusal → FragmentFault sessions whole.fragment refusal
+long_fault sessions front whole BadSession long fault = subst (λ (s : ℕ). sessions ≤ s) long.session fault
+long_fault sessions front whole TooLong long fault = (subst (λ (s : ℕ). s < sessions) long.session fault.0, no_good_lengths whole.fragment long.whole_long)
+long_fault sessions front whole refusal long fault = absurd (no_good_lengths front.fragment long.front_long fault.1)
 
 -- no step takes a fragment in that is too long, and each is refused as the other
 offer_refusal : (parts : Parts) (front whole : LoggedFragment) (refusal : Refusal) → AreTooLong front whole → IsOfferRefusal parts front refusal → IsOfferRefusal parts whole refusal
 offer_refusal parts front whole NoMemory long why = absurd (no_good_lengths front.fragment long.front_long why.0.lengths)
 offer_refusal parts front whole refusal long why =
-    ⊎_elim (λ fault. inl (long_fault front whole refusal long fault)) (λ good. absurd (no_good_lengths front.fragment long.front_long good.0.lengths)) why
+    ⊎_elim (λ fault. inl (long_fault parts.most_sessions front whole refusal long fault)) (λ good. absurd (no_good_lengths front.fragment long.front_long good.0.lengths)) why
 
 join_refusal : (engine : EngineState) (front whole : LoggedFragment) (refusal : Refusal) → AreTooLong front whole → IsJoinRefusal engine front refusal → IsJoinRefusal engine whole refusal
 join_refusal engine front whole RoundOpen long why = absurd (no_good_lengths front.fragment long.front_long why.0.lengths)
 join_refusal engine front whole NoMemory long why = absurd (no_good_lengths front.fragment long.front_long why.0.lengths)
 join_refusal engine front whole refusal long why =
-    ⊎_elim (λ fault. inl (long_fault front whole refusal long fault)) (λ good. absurd (no_good_lengths front.fragment long.front_long good.0.lengths)) why
+    ⊎_elim (λ fault. inl (long_fault engine.parts.most_sessions front whole refusal long fault)) (λ good. absurd (no_good_lengths front.fragment long.front_long good.0.lengths)) why
 
 offer_goes : (old new : EngineState) (front whole : LoggedFragment) (said : StepReply) → AreTooLong front whole → Goes old (step.Offer front) said new → Goes old (step.Offer whole) said new
 offer_goes old new front whole reply.Done long goes = absurd (no_good_lengths front.fragment long.front_long goes.right.0.lengths)
@@ -156,30 +156,30 @@ beside_answers most version old new command answer above is = is
 no_offered_lengths : (fragment : Fragment) → 256 < length fragment.txns → HasOfferedLengths fragment → ⊥
 no_offered_lengths fragment long good = let few : length fragment.txns ≤ 128 = good.few in omega arith
 
-long_offer : (front whole : LoggedFragment) (refusal : Refusal) → AreTooLong front whole → OfferedFault front.fragment refusal → OfferedFault whole.fragment refusal
-long_offer front whole BadSession long fault = subst (λ (s : ℕ). 64 ≤ s) long.session fault
-long_offer front whole TooLong long fault = (subst (λ (s : ℕ). s < 64) long.session fault.0, no_offered_lengths whole.fragment long.whole_long)
-long_offer front whole refusal long fault = absurd (no_offered_lengths front.fragment long.front_long fault.1)
+long_offer : (sessions : ℕ) (front whole : LoggedFragment) (refusal : Refusal) → AreTooLong front whole → OfferedFault sessions front.fragment refusal → OfferedFault sessions whole.fragment refusal
+long_offer sessions front whole BadSession long fault = subst (λ (s : ℕ). sessions ≤ s) long.session fault
+long_offer sessions front whole TooLong long fault = (subst (λ (s : ℕ). s < sessions) long.session fault.0, no_offered_lengths whole.fragment long.whole_long)
+long_offer sessions front whole refusal long fault = absurd (no_offered_lengths front.fragment long.front_long fault.1)
 
-no_long_offer : (fragment : Fragment) → 256 < length fragment.txns → CanBeOffered fragment → ⊥
-no_long_offer fragment long can = let few : length fragment.txns ≤ 128 = can.few in omega arith
+no_long_offer : (sessions : ℕ) (fragment : Fragment) → 256 < length fragment.txns → CanBeOffered sessions fragment → ⊥
+no_long_offer sessions fragment long can = let few : length fragment.txns ≤ 128 = can.few in omega arith
 
-isolated_offer : (most : ℕ) (logged : LoggedFragment) (old new : AuditState) (answer : Reply) → 256 < most → AnswersIsolated old (Offer (front_of most logged)) answer new → AnswersIsolated old (Offer logged) answer new
-isolated_offer most logged old new answer above is =
-    ⊎_elim (λ same. subst (λ (given : LoggedFragment). AnswersIsolated old (Offer given) answer new) same is)
-    (λ long. ⊎_elim (λ fault. inl (fault.0, long_offer (front_of most logged) logged fault.0 long fault.1, fault.2, fault.3)) (λ split. absurd (no_long_offer (front_of most logged).fragment long.front_long split.0)) is)
+isolated_offer : (most : ℕ) (logged : LoggedFragment) (version : Version) (old new : AuditState) (answer : Reply) → 256 < most → AnswersIsolated version old (Offer (front_of most logged)) answer new → AnswersIsolated version old (Offer logged) answer new
+isolated_offer most logged version old new answer above is =
+    ⊎_elim (λ same. subst (λ (given : LoggedFragment). AnswersIsolated version old (Offer given) answer new) same is)
+    (λ long. ⊎_elim (λ fault. inl (fault.0, long_offer (most_sessions version) (front_of most logged) logged fault.0 long fault.1, fault.2, fault.3)) (λ split. absurd (no_long_offer (most_sessions version) (front_of most logged).fragment long.front_long split.0)) is)
     (held_or_long most logged above)
 
-isolated_join : (most : ℕ) (logged : LoggedFragment) (old new : AuditState) (answer : Reply) → 256 < most → AnswersIsolated old (Join (front_of most logged)) answer new → AnswersIsolated old (Join logged) answer new
-isolated_join most logged old new answer above is =
-    ⊎_elim (λ same. subst (λ (given : LoggedFragment). AnswersIsolated old (Join given) answer new) same is)
-    (λ long. ⊎_elim (λ fault. inl (fault.0, long_offer (front_of most logged) logged fault.0 long fault.1, fault.2, fault.3)) (λ split. absurd (no_long_offer (front_of most logged).fragment long.front_long split.0)) is)
+isolated_join : (most : ℕ) (logged : LoggedFragment) (version : Version) (old new : AuditState) (answer : Reply) → 256 < most → AnswersIsolated version old (Join (front_of most logged)) answer new → AnswersIsolated version old (Join logged) answer new
+isolated_join most logged version old new answer above is =
+    ⊎_elim (λ same. subst (λ (given : LoggedFragment). AnswersIsolated version old (Join given) answer new) same is)
+    (λ long. ⊎_elim (λ fault. inl (fault.0, long_offer (most_sessions version) (front_of most logged) logged fault.0 long fault.1, fault.2, fault.3)) (λ split. absurd (no_long_offer (most_sessions version) (front_of most logged).fragment long.front_long split.0)) is)
     (held_or_long most logged above)
 
-isolated_answers : (most : ℕ) (old new : AuditState) (command : Command) (answer : Reply) → 256 < most → AnswersIsolated old (held (Some most) command) answer new → AnswersIsolated old command answer new
-isolated_answers most old new (Offer logged) answer above is = isolated_offer most logged old new answer above is
-isolated_answers most old new (Join logged) answer above is = isolated_join most logged old new answer above is
-isolated_answers most old new command answer above is = is
+isolated_answers : (most : ℕ) (version : Version) (old new : AuditState) (command : Command) (answer : Reply) → 256 < most → AnswersIsolated version old (held (Some most) command) answer new → AnswersIsolated version old command answer new
+isolated_answers most version old new (Offer logged) answer above is = isolated_offer most logged version old new answer above is
+isolated_answers most version old new (Join logged) answer above is = isolated_join most logged version old new answer above is
+isolated_answers most version old new command answer above is = is
 
 -- where no engine is open, no offer and no join is taken
 anew_answers : (most : ℕ) (old : Stage) (command : Command) (answer : Reply) (new : Stage) → BeginsAnew old (held (Some most) command) answer new → BeginsAnew old command answer new
@@ -189,12 +189,12 @@ anew_answers most old command answer new is = is
 resuming_answers : (most sessions limit : ℕ) (opening : Opening) (command : Command) (answer : Reply) (new : Stage) → AnswersResuming sessions limit opening (held (Some most) command) answer new → AnswersResuming sessions limit opening command answer new
 resuming_answers most sessions limit (Ordered version) (Offer logged) answer new is = is
 resuming_answers most sessions limit (Ordered version) command answer new is = is
-resuming_answers most sessions limit Isolated (Offer logged) answer new is = is
-resuming_answers most sessions limit Isolated command answer new is = is
+resuming_answers most sessions limit (Isolated version) (Offer logged) answer new is = is
+resuming_answers most sessions limit (Isolated version) command answer new is = is
 
 pub enough_held : (most : ℕ) (old : Stage) → 256 < most → ((handed : Handing) (opening : Opening) → old ≢ stage.Handing handed opening) → IsEnough old (Some most)
 enough_held most stage.Nothing above none command answer new is = anew_answers most stage.Nothing command answer new is
 enough_held most (stage.Resuming sessions limit opening) above none command answer new is = resuming_answers most sessions limit opening command answer new is
 enough_held most (stage.Handing handed opening) above none command answer new is = absurd (none handed opening refl)
 enough_held most (stage.Open old version) above none command answer new is = (is.0, beside_answers most version old is.0 command answer above is.1, is.2)
-enough_held most (stage.Isolated old) above none command answer new is = (is.0, isolated_answers most old is.0 command answer above is.1, is.2)
+enough_held most (stage.Isolated old version) above none command answer new is = (is.0, isolated_answers most version old is.0 command answer above is.1, is.2)

@@ -27,14 +27,17 @@ use Rattle.log_text.specs.declared.replies.Reply.TheVariants as told
 use Rattle.log_text.specs.declared.saved.Saved.{Saved}
 use Rattle.log_text.specs.declared.saved.Saved.TheVariants as saved
 use Rattle.log_text.specs.declared.versions.Opening.TheVariants.{Isolated}
+use Rattle.log_text.specs.declared.versions.Version.{Version}
 use Rattle.log_text.specs.Saved.{untold}
+use Rattle.log_text.specs.Versions.{most_sessions}
+use Rattle.round_state.specs.Opening.{IsSessions}
 use Rattle.snapshot_scripts.specs.Given.{GivenIsTaken, IsPlace, IsTakenBack, halves_from}
 use Rattle.snapshot_scripts.specs.Handed.{taken_fragment, taken_half}
 use Rattle.snapshot_scripts.specs.Isolated.{halved, half_begun, isolated_of, whole_writer}
 use Rattle.snapshot_scripts.specs.SplitParts.{AreHalvesFrom, AreSplitParts, IsKeyOf}
 use Rattle.snapshot_scripts.specs.Wholes.{whole_fragment}
 use Rattle.cobra.specs.Checkpoints.{AreSessionsTold, AreTaken, AreTxnsTold, AreWritersTold, IsCheckpoint, IsLast, IsolatedOutIsTaken}
-use Rattle.cobra.specs.HandOver.{IsNextOffer, handed_offer}
+use Rattle.cobra.specs.HandOver.{IsNextOffer, handed_first, handed_offer}
 use Rattle.cobra.specs.Saving.{first_told, handing_of, isolated_told, writers_from}
 use Rattle.cobra.specs.Scripts.{Answers, HandsMarks}
 use Rattle.cobra.specs.declared.stages.Stage.{Stage}
@@ -101,9 +104,9 @@ low_page : (es : List (ℕ × TxnId)) → All IsKeyed es → All (λ entry. entr
 low_page [] all = All-nil (λ entry. entry.1.number < 2 ^ 47)
 low_page (e ∷ es) all = All-cons (λ entry. entry.1.number < 2 ^ 47) (whole_writer e) (map whole_writer es) (let high = (All-head IsKeyed e es all).1 in omega (arith, high)) (low_page es (All-tail IsKeyed e es all))
 
-module _ (laws : GivenIsTaken) (parts : Parts) (good : IsGood parts) (split : AreSplitParts parts) where
+module _ (laws : GivenIsTaken) (parts : Parts) (version : Version) (good : IsGood parts) (split : AreSplitParts parts) (many : parts.most_sessions ≡ most_sessions version) where
   abbrev at : List (ℕ × TxnId) → List (List Txn) → Stage
-  at last remain = stage.Handing (hand parts last remain) Isolated
+  at last remain = stage.Handing (hand parts last remain) (Isolated version)
 
   back_page : (es : List (ℕ × TxnId)) → All IsKeyed es → map taken_half (map whole_writer es) ≡ es
   back_page [] all = refl
@@ -199,7 +202,7 @@ module _ (laws : GivenIsTaken) (parts : Parts) (good : IsGood parts) (split : Ar
             none_told (piece j),
             (
               subst (λ (f : Fragment). IsNextOffer handed f) (sym same) (record { session = within_seam done (take j halves) empties; next = sym (next_there j within) }),
-              sym (ap (λ (f : Fragment). stage.Handing (handed_offer handed f) Isolated) same ∙ ap (λ (h : List (List Txn)). at last h) (more_there j back.count)),
+              sym (ap (λ (f : Fragment). stage.Handing (handed_offer handed f) (Isolated version)) same ∙ ap (λ (h : List (List Txn)). at last h) (more_there j back.count)),
             ),
           ),
         )
@@ -248,23 +251,23 @@ module _ (laws : GivenIsTaken) (parts : Parts) (good : IsGood parts) (split : Ar
   low_marks : All (λ mark. mark ≤ 2 ^ 48) parts.base.marks
   low_marks = λ s d within. let most = good.numbers s in let is = get_or_default_zero parts.base.marks s d within in omega (arith, most, is)
 
-  marks_taken : Answers (stage.Resuming (length parts.remain) parts.limit Isolated) (command.MarksBegun (halved parts.base.marks) parts.closed (half_begun parts.base.marks)) told.Done (at [] (replicate (length parts.base.marks) []))
+  marks_taken : Answers (stage.Resuming (length parts.remain) parts.limit (Isolated version)) (command.MarksBegun (halved parts.base.marks) parts.closed (half_begun parts.base.marks)) told.Done (at [] (replicate (length parts.base.marks) []))
   marks_taken =
       let law = laws.marks parts.base.marks low_marks in
-      inr (law.0, subst (λ (ms : List ℕ). HandsMarks (length parts.remain) parts.limit Isolated ms parts.closed told.Done (at [] (replicate (length parts.base.marks) []))) (sym law.1) ((good.marks, good.closed), refl))
+      inr (law.0, subst (λ (ms : List ℕ). HandsMarks (length parts.remain) parts.limit (Isolated version) ms parts.closed told.Done (at [] (replicate (length parts.base.marks) []))) (sym law.1) ((good.marks, good.closed), ap (λ (n : ℕ). stage.Handing (handed_first n parts.limit parts.base.marks parts.closed) (Isolated version)) many))
 
-  rest_taken : (writers : List (List (ℕ × TxnId))) (remain : List (List Fragment)) → AreWritersTold (isolated_told parts) 0 writers → AreSessionsTold (isolated_told parts) (length parts.remain) 0 remain → AreTaken (at [] (replicate (length parts.remain) [])) (map saved.Last writers ++ flat_map (map saved.Offer) remain) (stage.Handing (handing_of parts) Isolated)
+  rest_taken : (writers : List (List (ℕ × TxnId))) (remain : List (List Fragment)) → AreWritersTold (isolated_told parts) 0 writers → AreSessionsTold (isolated_told parts) (length parts.remain) 0 remain → AreTaken (at [] (replicate (length parts.remain) [])) (map saved.Last writers ++ flat_map (map saved.Offer) remain) (stage.Handing (handing_of parts) (Isolated version))
   rest_taken writers remain told_writers told_remain =
       let entries : List (ℕ × TxnId) = finite.entries parts.base.last in
       let none : List (List Txn) = replicate (length parts.remain) [] in
       let one = subst (λ (ws : List (ℕ × TxnId)). AreTaken (at [] none) (map saved.Last writers) (at ws none)) (from_zero entries) (isolated_writers 0 writers [] none told_writers) in
-      taken_append (at [] none) (at entries none) (stage.Handing (handing_of parts) Isolated) (map saved.Last writers) (flat_map (map saved.Offer) remain) one (isolated_sessions entries [] parts.remain remain refl told_remain)
+      taken_append (at [] none) (at entries none) (stage.Handing (handing_of parts) (Isolated version)) (map saved.Last writers) (flat_map (map saved.Offer) remain) one (isolated_sessions entries [] parts.remain remain refl told_remain)
 
-  checkpoint_taken : (given : List Saved) → IsCheckpoint (isolated_told parts) (length parts.remain) given → AreTaken (stage.Resuming (length parts.remain) parts.limit Isolated) given (stage.Handing (handing_of parts) Isolated)
+  checkpoint_taken : (given : List Saved) → IsCheckpoint (isolated_told parts) (length parts.remain) given → AreTaken (stage.Resuming (length parts.remain) parts.limit (Isolated version)) given (stage.Handing (handing_of parts) (Isolated version))
   checkpoint_taken given is =
-      let begun : Stage = stage.Resuming (length parts.remain) parts.limit Isolated in
+      let begun : Stage = stage.Resuming (length parts.remain) parts.limit (Isolated version) in
       let rest : List Saved = map saved.Last is.writers ++ flat_map (map saved.Offer) is.remain in
-      let end : Stage = stage.Handing (handing_of parts) Isolated in
+      let end : Stage = stage.Handing (handing_of parts) (Isolated version) in
       subst (λ (all : List Saved). AreTaken begun all end) (sym is.given_is)
       (subst (λ (marks : Saved). AreTaken begun (marks ∷ rest) end) (ap saved_in is.marks_told) (
         at [] (replicate (length parts.base.marks) []),
@@ -273,13 +276,13 @@ module _ (laws : GivenIsTaken) (parts : Parts) (good : IsGood parts) (split : Ar
       ))
 
 pub isolated_out_is_taken : GivenIsTaken → IsolatedOutIsTaken
-isolated_out_is_taken laws parts limit given good split within room is = record {
+isolated_out_is_taken laws parts version limit given good split many within room is = record {
   resumes = (
-    (good.some_sessions, good.few_sessions),
+    subst (λ (n : ℕ). IsSessions n (length parts.remain)) many (good.some_sessions, good.few_sessions, good.low_sessions),
     within,
-    ap (λ (n : ℕ). Some (stage.Resuming (length parts.remain) n Isolated)) room,
+    ap (λ (n : ℕ). Some (stage.Resuming (length parts.remain) n (Isolated version))) room,
   );
-  taken = checkpoint_taken laws parts good split given is;
+  taken = checkpoint_taken laws parts version good split many given is;
   good = good_again parts good;
   same = parts_again parts;
 }

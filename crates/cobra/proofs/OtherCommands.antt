@@ -7,6 +7,7 @@ use Rattle.log_text.specs.declared.commands.Command.TheVariants.{Offer, Marks, M
 use Rattle.log_text.specs.declared.replies.Reply.{Reply}
 use Rattle.log_text.specs.declared.versions.Opening.{Opening}
 use Rattle.log_text.specs.declared.versions.Opening.TheVariants.{Isolated}
+use Rattle.log_text.specs.declared.versions.Version.{Version}
 use Rattle.cobra.specs.Scripts.{AnswersFirst, BeginsAnew, TakesHalves, TakesMarks, TakesOver, stage_after}
 use Rattle.cobra.specs.declared.handing.Handing.{Handing}
 use Rattle.cobra.specs.declared.stages.Stage.{Stage}
@@ -24,9 +25,9 @@ pub first_resuming : (sessions limit : ℕ) (opening : Opening) (command : Comma
 first_resuming sessions limit opening (Marks marks closed) answer new no_marks is = absurd (no_marks marks closed refl)
 first_resuming sessions limit opening command answer new no_marks is = is
 
-pub first_halves : (sessions limit : ℕ) (command : Command) (answer : Reply) (new : Stage) → ((marks : List ℕ) (closed begun : List Bool) → command ≢ MarksBegun marks closed begun) → BeginsAnew (stage.Resuming sessions limit Isolated) command answer new → TakesHalves sessions limit command answer new
-first_halves sessions limit (MarksBegun marks closed begun) answer new no_marks is = absurd (no_marks marks closed begun refl)
-first_halves sessions limit command answer new no_marks is = is
+pub first_halves : (sessions limit : ℕ) (version : Version) (command : Command) (answer : Reply) (new : Stage) → ((marks : List ℕ) (closed begun : List Bool) → command ≢ MarksBegun marks closed begun) → BeginsAnew (stage.Resuming sessions limit (Isolated version)) command answer new → TakesHalves sessions limit version command answer new
+first_halves sessions limit version (MarksBegun marks closed begun) answer new no_marks is = absurd (no_marks marks closed begun refl)
+first_halves sessions limit version command answer new no_marks is = is
 
 pub first_handing : (handed : Handing) (opening : Opening) (command : Command) (answer : Reply) (new : Stage) → ((more : List (ℕ × TxnId)) → command ≢ Last more) → ((logged : LoggedFragment) → command ≢ Offer logged) → command ≢ Resumed → BeginsAnew (stage.Handing handed opening) command answer new → TakesOver handed opening command answer new
 first_handing handed opening (Last more) answer new no_last no_offer not_resumed is = absurd (no_last more refl)

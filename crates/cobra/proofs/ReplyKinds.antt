@@ -33,7 +33,7 @@ use Rattle.log_text.specs.declared.searches.Search.{Search}
 use Rattle.log_text.specs.declared.versions.Opening.{Opening}
 use Rattle.log_text.specs.declared.versions.Opening.TheVariants.{Ordered, Isolated}
 use Rattle.log_text.specs.declared.versions.Version.{Version}
-use Rattle.log_text.specs.declared.versions.Version.TheVariants.{One, Two}
+use Rattle.log_text.specs.declared.versions.Version.TheVariants.{One}
 use Rattle.logged_fragments.specs.declared.logged.LoggedFragment.{LoggedFragment}
 use Rattle.log_text.specs.declared.commands.Effort.{Effort}
 use Rattle.snapshot_scripts.specs.Handed.{half_command, half_marks}
@@ -122,7 +122,7 @@ open_kind version old new Show answer is = subst HasKindOfOrder (sym is.0) tt
 open_kind version old new (Close session) answer is = told_kind is.0 answer is.2 (step_kind old new (step.Close session) is.0 is.1)
 open_kind version old new (Save wanted) answer is = subst HasKindOfOrder (sym is.0) (saved_kind old.parts wanted)
 open_kind version old new (Start sessions limit begun) answer is = bad_line_kind old new answer is
-open_kind version old new (StartIsolated sessions limit) answer is = bad_line_kind old new answer is
+open_kind version old new (StartIsolated sessions limit begun) answer is = bad_line_kind old new answer is
 open_kind version old new (Resume sessions limit begun) answer is = bad_line_kind old new answer is
 open_kind version old new (Marks marks closed) answer is = bad_line_kind old new answer is
 open_kind version old new (MarksBegun marks closed begun) answer is = bad_line_kind old new answer is
@@ -173,14 +173,14 @@ isolated_kind (told.Cut fence gone last) of = tt
 isolated_kind (told.Show marks received closed last remaining) of = tt
 isolated_kind reply of = of
 
-isolates_kind : (old new : AuditState) (command : Command) (answer : Reply) → AnswersIsolated old command answer new → HasKindOfOrder answer
-isolates_kind old new command answer is =
-    ⊎_elim (λ fault. subst HasKindOfOrder (sym fault.2) tt) (λ split. subst HasKindOfOrder (sym split.3) (isolated_kind split.1 (beside_kind Two old new (split_command command) split.1 split.2))) is
+isolates_kind : (version : Version) (old new : AuditState) (command : Command) (answer : Reply) → AnswersIsolated version old command answer new → HasKindOfOrder answer
+isolates_kind version old new command answer is =
+    ⊎_elim (λ fault. subst HasKindOfOrder (sym fault.2) tt) (λ split. subst HasKindOfOrder (sym split.3) (isolated_kind split.1 (beside_kind version old new (split_command command) split.1 split.2))) is
 
-opens_isolated_kind : (sessions limit : ℕ) (answer : Reply) (begun : Option Stage) → OpensIsolated sessions limit answer begun → HasKindOfOrder answer
-opens_isolated_kind sessions limit told.Done begun is = tt
-opens_isolated_kind sessions limit (told.No refusal) begun is = tt
-opens_isolated_kind sessions limit answer begun is = absurd is
+opens_isolated_kind : (sessions limit : ℕ) (version : Version) (answer : Reply) (begun : Option Stage) → OpensIsolated sessions limit version answer begun → HasKindOfOrder answer
+opens_isolated_kind sessions limit version told.Done begun is = tt
+opens_isolated_kind sessions limit version (told.No refusal) begun is = tt
+opens_isolated_kind sessions limit version answer begun is = absurd is
 
 opens_kind : (sessions limit : ℕ) (version : Version) (answer : Reply) (begun : Option Stage) → Opens sessions limit version answer begun → HasKindOfOrder answer
 opens_kind sessions limit version told.Done begun is = tt
@@ -191,13 +191,13 @@ resumes_kind : (sessions limit : ℕ) (opening : Opening) (answer : Reply) (begu
 resumes_kind sessions limit (Ordered version) told.Done begun is = tt
 resumes_kind sessions limit (Ordered version) (told.No refusal) begun is = tt
 resumes_kind sessions limit (Ordered version) answer begun is = absurd is
-resumes_kind sessions limit Isolated told.Done begun is = tt
-resumes_kind sessions limit Isolated (told.No refusal) begun is = tt
-resumes_kind sessions limit Isolated answer begun is = absurd is
+resumes_kind sessions limit (Isolated version) told.Done begun is = tt
+resumes_kind sessions limit (Isolated version) (told.No refusal) begun is = tt
+resumes_kind sessions limit (Isolated version) answer begun is = absurd is
 
 first_kind : (command : Command) (answer : Reply) (begun : Option Stage) → AnswersFirst command answer begun → HasKindOfOrder answer
 first_kind (Start sessions limit version) answer begun is = opens_kind sessions limit version answer begun is
-first_kind (StartIsolated sessions limit) answer begun is = opens_isolated_kind sessions limit answer begun is
+first_kind (StartIsolated sessions limit version) answer begun is = opens_isolated_kind sessions limit version answer begun is
 first_kind (Resume sessions limit opening) answer begun is = resumes_kind sessions limit opening answer begun is
 first_kind command answer begun is = subst HasKindOfOrder (sym is.0) tt
 
@@ -213,14 +213,14 @@ takes_marks_kind : (sessions limit : ℕ) (opening : Opening) (command : Command
 takes_marks_kind sessions limit opening (Marks marks closed) answer new is = marks_kind sessions limit opening marks closed answer new is
 takes_marks_kind sessions limit opening command answer new is = anew_kind (stage.Resuming sessions limit opening) command answer new is
 
-takes_halves_kind : (sessions limit : ℕ) (command : Command) (answer : Reply) (new : Stage) → TakesHalves sessions limit command answer new → HasKindOfOrder answer
-takes_halves_kind sessions limit (MarksBegun marks closed begun) answer new is =
-    ⊎_elim (λ bad. subst HasKindOfOrder (sym bad.1) tt) (λ good. marks_kind sessions limit Isolated (half_marks marks begun) closed answer new good.1) is
-takes_halves_kind sessions limit command answer new is = anew_kind (stage.Resuming sessions limit Isolated) command answer new is
+takes_halves_kind : (sessions limit : ℕ) (version : Version) (command : Command) (answer : Reply) (new : Stage) → TakesHalves sessions limit version command answer new → HasKindOfOrder answer
+takes_halves_kind sessions limit version (MarksBegun marks closed begun) answer new is =
+    ⊎_elim (λ bad. subst HasKindOfOrder (sym bad.1) tt) (λ good. marks_kind sessions limit (Isolated version) (half_marks marks begun) closed answer new good.1) is
+takes_halves_kind sessions limit version command answer new is = anew_kind (stage.Resuming sessions limit (Isolated version)) command answer new is
 
 resuming_kind : (sessions limit : ℕ) (opening : Opening) (command : Command) (answer : Reply) (new : Stage) → AnswersResuming sessions limit opening command answer new → HasKindOfOrder answer
 resuming_kind sessions limit (Ordered version) command answer new is = takes_marks_kind sessions limit (Ordered version) command answer new is
-resuming_kind sessions limit Isolated command answer new is = takes_halves_kind sessions limit command answer new is
+resuming_kind sessions limit (Isolated version) command answer new is = takes_halves_kind sessions limit version command answer new is
 
 writers_kind : (handed : Handing) (opening : Opening) (more : List (ℕ × TxnId)) (answer : Reply) (new : Stage) → HandsWriters handed opening more answer new → HasKindOfOrder answer
 writers_kind handed opening more told.Done new is = tt
@@ -245,12 +245,12 @@ takes_over_kind handed opening command answer new is = anew_kind (stage.Handing 
 
 handing_kind : (handed : Handing) (opening : Opening) (command : Command) (answer : Reply) (new : Stage) → AnswersHanding handed opening command answer new → HasKindOfOrder answer
 handing_kind handed (Ordered version) command answer new is = takes_over_kind handed (Ordered version) command answer new is
-handing_kind handed Isolated command answer new is =
-    ⊎_elim (λ bad. subst HasKindOfOrder (sym bad.1) tt) (λ good. takes_over_kind handed Isolated (half_command handed.parts command) answer new good.1) is
+handing_kind handed (Isolated version) command answer new is =
+    ⊎_elim (λ bad. subst HasKindOfOrder (sym bad.1) tt) (λ good. takes_over_kind handed (Isolated version) (half_command handed.parts command) answer new good.1) is
 
 pub answer_kind : (old : Stage) (command : Command) (answer : Reply) (new : Stage) → Answers old command answer new → HasKindOfOrder answer
 answer_kind stage.Nothing command answer new is = anew_kind stage.Nothing command answer new is
 answer_kind (stage.Resuming sessions limit opening) command answer new is = resuming_kind sessions limit opening command answer new is
 answer_kind (stage.Handing handed opening) command answer new is = handing_kind handed opening command answer new is
 answer_kind (stage.Open old version) command answer new is = beside_kind version old is.0 command answer is.1
-answer_kind (stage.Isolated old) command answer new is = isolates_kind old is.0 command answer is.1
+answer_kind (stage.Isolated old version) command answer new is = isolates_kind version old is.0 command answer is.1

@@ -14,7 +14,8 @@ use Rattle.log_text.specs.declared.commands.Command.TheVariants.{Start, StartIso
 use Rattle.log_text.specs.declared.replies.Reply.{Reply}
 use Rattle.log_text.specs.declared.replies.Reply.TheVariants as told
 use Rattle.log_text.specs.declared.searches.Search.{Search}
-use Rattle.log_text.specs.declared.versions.Version.TheVariants.{Two}
+use Rattle.log_text.specs.declared.versions.Version.{Version}
+use Rattle.log_text.specs.Versions.{most_sessions}
 use Rattle.round_state.specs.EngineState.{EngineState}
 use Rattle.round_state.specs.Opening.{fresh, no_history}
 use Rattle.round_state.specs.declared.steps.Step.{Step}
@@ -53,8 +54,8 @@ no_halves s = record { txns = []; low = All-nil HasLowNumbers; are = refl }
 none_or_some : {X : Type 0} (x : X) → None ≡ Some x → ⊥
 none_or_some x e = cc
 
-fresh_split : (sessions limit : ℕ) → IsSplitEngine (fresh sessions limit)
-fresh_split sessions limit = record {
+fresh_split : (most sessions limit : ℕ) → IsSplitEngine (fresh most sessions limit)
+fresh_split most sessions limit = record {
   parts = record {
     sessions = as_many sessions;
     remain = λ s.
@@ -67,11 +68,11 @@ fresh_split sessions limit = record {
 
 -- ---- steps
 
-module _ (stays : SplitEnginesStay) where
-  stepped : (old new : EngineState) (asked : Step) (said : StepReply) → CanBeMade asked → Goes old (split_step asked) said new → IsSplitEngine old → IsSplitEngine new
-  stepped old new asked said can goes is = stays old new asked said can goes.right is
+module _ (stays : SplitEnginesStay) (version : Version) where
+  stepped : (old new : EngineState) (asked : Step) (said : StepReply) → CanBeMade (most_sessions version) asked → Goes old (split_step asked) said new → IsSplitEngine old → IsSplitEngine new
+  stepped old new asked said can goes is = stays (most_sessions version) old new asked said can goes.right is
 
-  taken : (logged : LoggedFragment) (old new : EngineState) (answer : Reply) (asked : Step) → CanBeMade asked → IsTakenIn Two logged old answer new (IsStep old (split_step asked) answer new) → IsSplitEngine old → IsSplitEngine new
+  taken : (logged : LoggedFragment) (old new : EngineState) (answer : Reply) (asked : Step) → CanBeMade (most_sessions version) asked → IsTakenIn version logged old answer new (IsStep old (split_step asked) answer new) → IsSplitEngine old → IsSplitEngine new
   taken logged old new answer asked can is split =
       ⊎_elim (λ one. stepped old new asked one.1.0 can one.1.1 split) (λ bad. subst IsSplitEngine (sym bad.1.1) split) is
 
@@ -92,7 +93,7 @@ module _ (stays : SplitEnginesStay) where
   same old new is split = subst IsSplitEngine (sym is) split
 
   -- all other commands are as they are
-  open_stays : (old new : EngineState) (command : Command) (answer : Reply) → CanBeAsked command → AnswersOpen Two old (split_command command) answer new → IsSplitEngine old → IsSplitEngine new
+  open_stays : (old new : EngineState) (command : Command) (answer : Reply) → CanBeAsked (most_sessions version) command → AnswersOpen version old (split_command command) answer new → IsSplitEngine old → IsSplitEngine new
   open_stays old new (Offer logged) answer can is split = taken (split_logged logged) old new answer (step.Offer logged) can is split
   open_stays old new (Join logged) answer can is split = taken (split_logged logged) old new answer (step.Join logged) can is split
   open_stays old new (Close session) answer can is split = stepped old new (step.Close session) is.0 tt is.1 split
@@ -104,8 +105,8 @@ module _ (stays : SplitEnginesStay) where
   open_stays old new Rebuild answer can is split = stepped old new step.Rebuild is.0 tt is.1 split
   open_stays old new Show answer can is split = same old new is.1 split
   open_stays old new (Save wanted) answer can is split = same old new is.1 split
-  open_stays old new (Start sessions limit version) answer can is split = same old new is.1 split
-  open_stays old new (StartIsolated sessions limit) answer can is split = same old new is.1 split
+  open_stays old new (Start sessions limit begun) answer can is split = same old new is.1 split
+  open_stays old new (StartIsolated sessions limit begun) answer can is split = same old new is.1 split
   open_stays old new (Resume sessions limit opening) answer can is split = same old new is.1 split
   open_stays old new (Marks marks closed) answer can is split = same old new is.1 split
   open_stays old new (MarksBegun marks closed begun) answer can is split = same old new is.1 split
@@ -134,12 +135,12 @@ module _ (stays : SplitEnginesStay) where
       (λ got. stepped old.engine new.engine (step.Finish effort.budget effort.depth effort.workers) got.0 tt got.1.goes split) is
 
   finished : (search : Option Effort) (old new : AuditState) (budget depth workers : ℕ) (kind : Search) (answer : Reply)
-      → MatchOption search (AnswersOpen Two old.engine (Finish budget depth workers kind) answer new.engine × (new.search ≡ None)) (λ effort. (answer ≡ told.No RoundOpen) × (new ≡ old))
+      → MatchOption search (AnswersOpen version old.engine (Finish budget depth workers kind) answer new.engine × (new.search ≡ None)) (λ effort. (answer ≡ told.No RoundOpen) × (new ≡ old))
       → IsSplitEngine old.engine → IsSplitEngine new.engine
   finished None old new budget depth workers kind answer is split = open_stays old.engine new.engine (Finish budget depth workers kind) answer tt is.0 split
   finished (Some effort) old new budget depth workers kind answer is split = quiet old new (ap (λ (audit : AuditState). audit.engine) is.1) split
 
-  beside_stays : (old new : AuditState) (command : Command) (answer : Reply) → CanBeAsked command → AnswersBeside Two old (split_command command) answer new → IsSplitEngine old.engine → IsSplitEngine new.engine
+  beside_stays : (old new : AuditState) (command : Command) (answer : Reply) → CanBeAsked (most_sessions version) command → AnswersBeside version old (split_command command) answer new → IsSplitEngine old.engine → IsSplitEngine new.engine
   beside_stays old new (BeginSearch budget depth workers search) answer can is split = search_begun old.engine.asked old.search old new (record { budget = budget; depth = depth; workers = workers; search = search }) answer is split
   beside_stays old new (Collect waits) answer can is split = collected old.search old new waits answer is split
   beside_stays old new Skip answer can is split = stepped old.engine new.engine step.Abandon is.0.0 tt is.0.1 split
@@ -150,7 +151,7 @@ module _ (stays : SplitEnginesStay) where
   beside_stays old new (Answer shown) answer can is split = absurd can
   beside_stays old new command answer can is split = open_stays old.engine new.engine command answer can is.0 split
 
-  isolated_stays : (old new : AuditState) (command : Command) (answer : Reply) → AnswersIsolated old command answer new → IsSplitEngine old.engine → IsSplitEngine new.engine
+  isolated_stays : (old new : AuditState) (command : Command) (answer : Reply) → AnswersIsolated version old command answer new → IsSplitEngine old.engine → IsSplitEngine new.engine
   isolated_stays old new command answer is split =
       ⊎_elim (λ fault. quiet old new (ap (λ (audit : AuditState). audit.engine) fault.3) split) (λ asked. beside_stays old new command asked.1 asked.0 asked.2 split) is
 

@@ -24,8 +24,8 @@ use Rattle.log_text.specs.declared.searches.Search.{Search}
 use Rattle.log_text.specs.declared.versions.Opening.{Opening}
 use Rattle.log_text.specs.declared.versions.Opening.TheVariants.{Ordered, Isolated}
 use Rattle.log_text.specs.declared.versions.Version.{Version}
-use Rattle.log_text.specs.declared.versions.Version.TheVariants.{Two}
 use Rattle.log_text.specs.Replies.{line_of}
+use Rattle.log_text.specs.Versions.{most_sessions}
 use Rattle.polygraph.specs.declared.solving.Answer as solved
 use Rattle.polygraph.specs.declared.solving.Answer.TheVariants as answers
 use Rattle.round_state.specs.EngineState.{EngineState}
@@ -69,8 +69,8 @@ state_of engine accepted = record { engine = engine; whole = accepted.whole; ask
 abbrev Fits : Stage → Option Accepted → Type 0
 Fits (stage.Open audit version) (Some accepted) = Holds audit.engine (state_of audit.engine accepted)
 Fits (stage.Open audit version) None = ⊥
-Fits (stage.Isolated audit) (Some accepted) = HoldsSplit audit.engine (state_of audit.engine accepted)
-Fits (stage.Isolated audit) None = ⊥
+Fits (stage.Isolated audit version) (Some accepted) = HoldsSplit audit.engine (state_of audit.engine accepted)
+Fits (stage.Isolated audit version) None = ⊥
 Fits stage.Nothing None = ⊤
 Fits (stage.Resuming sessions limit opening) None = ⊤
 Fits (stage.Handing handed opening) None = ⊤
@@ -276,7 +276,7 @@ open_on version old new accepted Rebuild answer is holds =
 open_on version old new accepted Show answer is holds = record { is_true = subst (λ (a : Reply). TellsByOrder accepted.asked a) (sym is.0) tt; holds = same_on old new accepted is.1 holds }
 open_on version old new accepted (Save wanted) answer is holds = record { is_true = subst (λ (a : Reply). TellsByOrder accepted.asked a) (sym is.0) (saved_true accepted.asked old.parts wanted); holds = same_on old new accepted is.1 holds }
 open_on version old new accepted (Start sessions limit other) answer is holds = bad_on old new accepted (Start sessions limit other) answer is holds
-open_on version old new accepted (StartIsolated sessions limit) answer is holds = bad_on old new accepted (StartIsolated sessions limit) answer is holds
+open_on version old new accepted (StartIsolated sessions limit other) answer is holds = bad_on old new accepted (StartIsolated sessions limit other) answer is holds
 open_on version old new accepted (Resume sessions limit other) answer is holds = bad_on old new accepted (Resume sessions limit other) answer is holds
 open_on version old new accepted (Marks marks closed) answer is holds = bad_on old new accepted (Marks marks closed) answer is holds
 open_on version old new accepted (MarksBegun marks closed begun) answer is holds = bad_on old new accepted (MarksBegun marks closed begun) answer is holds
@@ -377,9 +377,9 @@ isolated_told : (accepted : Accepted) (command : Command) (answer inner : Reply)
 isolated_told accepted command answer inner new is on = subst (λ (a : Reply). IsIsolatedOn accepted command a new) (sym is) on
 
 -- a step takes what it offers in
-isolated_step : Laws → (old new : EngineState) (accepted next : Accepted) (asked : Step) (said : StepReply) → CanBeMade asked → Goes old (split_step asked) said new → HoldsSplit old (state_of old accepted) → whole_after (state_of old accepted) asked said ≡ next.whole → asked_after (state_of old accepted) asked said ≡ next.asked → HoldsSplit new (state_of new next)
-isolated_step laws old new accepted next asked said can goes holds whole_is asked_is =
-    let after = laws.steps old new asked said can goes.right goes.legal (state_of old accepted) holds in
+isolated_step : Laws → (sessions : ℕ) (old new : EngineState) (accepted next : Accepted) (asked : Step) (said : StepReply) → CanBeMade sessions asked → Goes old (split_step asked) said new → HoldsSplit old (state_of old accepted) → whole_after (state_of old accepted) asked said ≡ next.whole → asked_after (state_of old accepted) asked said ≡ next.asked → HoldsSplit new (state_of new next)
+isolated_step laws sessions old new accepted next asked said can goes holds whole_is asked_is =
+    let after = laws.steps sessions old new asked said can goes.right goes.legal (state_of old accepted) holds in
     let whole : after.0.whole ≡ next.whole = after.1.whole ∙ whole_is in
     let asked_then : after.0.asked ≡ next.asked = after.1.asked ∙ asked_is in
     record {
@@ -392,35 +392,31 @@ isolated_step laws old new accepted next asked said can goes holds whole_is aske
       asked = subst HistoryCanBeSplit asked_then after.2.asked;
     }
 
-isolated_offer : Laws → (old new : EngineState) (accepted : Accepted) (logged : LoggedFragment) (said : StepReply) → CanBeOffered logged.fragment → Goes old (step.Offer (split_logged logged)) said new → HoldsSplit old (state_of old accepted) → IsIsolatedOn accepted (Offer logged) (isolated_of (reply_of said)) new
-isolated_offer laws old new accepted logged reply.Done can goes holds = record {
+isolated_offer : Laws → (sessions : ℕ) (old new : EngineState) (accepted : Accepted) (logged : LoggedFragment) (said : StepReply) → CanBeOffered sessions logged.fragment → Goes old (step.Offer (split_logged logged)) said new → HoldsSplit old (state_of old accepted) → IsIsolatedOn accepted (Offer logged) (isolated_of (reply_of said)) new
+isolated_offer laws sessions old new accepted logged reply.Done can goes holds = record {
   is_true = tt;
-  holds = isolated_step laws old new accepted (record accepted { whole = with_fragment accepted.whole (effects logged) }) (step.Offer logged) reply.Done can goes holds refl refl;
+  holds = isolated_step laws sessions old new accepted (record accepted { whole = with_fragment accepted.whole (effects logged) }) (step.Offer logged) reply.Done can goes holds refl refl;
 }
-isolated_offer laws old new accepted logged (reply.Refused refusal) can goes holds = record { is_true = tt; holds = isolated_step laws old new accepted accepted (step.Offer logged) (reply.Refused refusal) can goes holds refl refl }
-isolated_offer laws old new accepted logged (reply.Report report) can goes holds = absurd goes.right
-isolated_offer laws old new accepted logged (reply.Cut cut) can goes holds = absurd goes.right
+isolated_offer laws sessions old new accepted logged (reply.Refused refusal) can goes holds = record { is_true = tt; holds = isolated_step laws sessions old new accepted accepted (step.Offer logged) (reply.Refused refusal) can goes holds refl refl }
+isolated_offer laws sessions old new accepted logged (reply.Report report) can goes holds = absurd goes.right
+isolated_offer laws sessions old new accepted logged (reply.Cut cut) can goes holds = absurd goes.right
 
-isolated_join : Laws → (old new : EngineState) (accepted : Accepted) (logged : LoggedFragment) (said : StepReply) → CanBeOffered logged.fragment → Goes old (step.Join (split_logged logged)) said new → HoldsSplit old (state_of old accepted) → IsIsolatedOn accepted (Join logged) (isolated_of (reply_of said)) new
-isolated_join laws old new accepted logged reply.Done can goes holds = record {
+isolated_join : Laws → (sessions : ℕ) (old new : EngineState) (accepted : Accepted) (logged : LoggedFragment) (said : StepReply) → CanBeOffered sessions logged.fragment → Goes old (step.Join (split_logged logged)) said new → HoldsSplit old (state_of old accepted) → IsIsolatedOn accepted (Join logged) (isolated_of (reply_of said)) new
+isolated_join laws sessions old new accepted logged reply.Done can goes holds = record {
   is_true = tt;
-  holds = isolated_step laws old new accepted (record accepted { whole = history_after accepted.whole (arrival_of (length accepted.whole) (effects logged)) }) (step.Join logged) reply.Done can goes holds refl refl;
+  holds = isolated_step laws sessions old new accepted (record accepted { whole = history_after accepted.whole (arrival_of (length accepted.whole) (effects logged)) }) (step.Join logged) reply.Done can goes holds refl refl;
 }
-isolated_join laws old new accepted logged (reply.Refused refusal) can goes holds = record { is_true = tt; holds = isolated_step laws old new accepted accepted (step.Join logged) (reply.Refused refusal) can goes holds refl refl }
-isolated_join laws old new accepted logged (reply.Report report) can goes holds = absurd goes.right
-isolated_join laws old new accepted logged (reply.Cut cut) can goes holds = absurd goes.right
-
--- in version 2 each fragment has a form
-taken_in_two : {X : Type 0} (logged : LoggedFragment) (old new : X) (answer : Reply) (Taken : Type 0) → IsTakenIn Two logged old answer new Taken → Taken
-taken_in_two logged old new answer Taken is = ⊎_elim (λ taken. taken.1) (λ bad. absurd (let no : true ≡ false = bad.0 in cc)) is
+isolated_join laws sessions old new accepted logged (reply.Refused refusal) can goes holds = record { is_true = tt; holds = isolated_step laws sessions old new accepted accepted (step.Join logged) (reply.Refused refusal) can goes holds refl refl }
+isolated_join laws sessions old new accepted logged (reply.Report report) can goes holds = absurd goes.right
+isolated_join laws sessions old new accepted logged (reply.Cut cut) can goes holds = absurd goes.right
 
 -- any other command, where nothing was taken in
-isolated_rest : Laws → (old new : AuditState) (accepted next : Accepted) (command : Command) (inner : Reply) (history : History) → AnswersBeside Two old command inner new → HoldsSplit old.engine (state_of old.engine accepted)
+isolated_rest : Laws → (version : Version) (old new : AuditState) (accepted next : Accepted) (command : Command) (inner : Reply) (history : History) → AnswersBeside version old command inner new → HoldsSplit old.engine (state_of old.engine accepted)
     → reported_on accepted command ≡ history → reported_on (split_accepted accepted) command ≡ split_history history → HistoryCanBeSplit history
     → accepted_more accepted command (isolated_of inner) ≡ next → accepted_more (split_accepted accepted) command inner ≡ split_accepted next → HistoryCanBeSplit next.whole → HistoryCanBeSplit next.asked
     → IsIsolatedOn accepted command (isolated_of inner) new.engine
-isolated_rest laws old new accepted next command inner history is holds about about_split can more more_split whole asked =
-    let on : IsOn (split_accepted accepted) command inner new.engine = beside_on Two old new (split_accepted accepted) command inner is holds.holds in
+isolated_rest laws version old new accepted next command inner history is holds about about_split can more more_split whole asked =
+    let on : IsOn (split_accepted accepted) command inner new.engine = beside_on version old new (split_accepted accepted) command inner is holds.holds in
     let tells : TellsByOrder (split_history history) inner = subst (λ (h : History). TellsByOrder h inner) about_split on.is_true in
     let stands : Holds new.engine (state_of new.engine (split_accepted next)) = subst (λ (a : Accepted). Holds new.engine (state_of new.engine a)) more_split on.holds in
     record {
@@ -429,47 +425,53 @@ isolated_rest laws old new accepted next command inner history is holds about ab
     }
 
 -- a round may begin
-begun_on : Laws → (old new : AuditState) (accepted : Accepted) (inner : Reply) → AnswersBeside Two old Begin inner new → HoldsSplit old.engine (state_of old.engine accepted) → IsIsolatedOn accepted Begin (isolated_of inner) new.engine
-begun_on laws old new accepted told.Done is holds = isolated_rest laws old new accepted (record accepted { asked = accepted.whole }) Begin told.Done accepted.asked is holds refl refl holds.asked refl refl holds.whole holds.whole
-begun_on laws old new accepted (told.Order round kind counts order) is holds = isolated_rest laws old new accepted accepted Begin (told.Order round kind counts order) accepted.asked is holds refl refl holds.asked refl refl holds.whole holds.asked
-begun_on laws old new accepted (told.Violated round counts tree) is holds = isolated_rest laws old new accepted accepted Begin (told.Violated round counts tree) accepted.asked is holds refl refl holds.asked refl refl holds.whole holds.asked
-begun_on laws old new accepted (told.Spent round counts) is holds = isolated_rest laws old new accepted accepted Begin (told.Spent round counts) accepted.asked is holds refl refl holds.asked refl refl holds.whole holds.asked
-begun_on laws old new accepted (told.Cut fence gone last) is holds = isolated_rest laws old new accepted accepted Begin (told.Cut fence gone last) accepted.asked is holds refl refl holds.asked refl refl holds.whole holds.asked
-begun_on laws old new accepted (told.Show marks received closed last remaining) is holds = isolated_rest laws old new accepted accepted Begin (told.Show marks received closed last remaining) accepted.asked is holds refl refl holds.asked refl refl holds.whole holds.asked
-begun_on laws old new accepted inner is holds = isolated_rest laws old new accepted accepted Begin inner accepted.asked is holds refl refl holds.asked refl refl holds.whole holds.asked
+begun_on : Laws → (version : Version) (old new : AuditState) (accepted : Accepted) (inner : Reply) → AnswersBeside version old Begin inner new → HoldsSplit old.engine (state_of old.engine accepted) → IsIsolatedOn accepted Begin (isolated_of inner) new.engine
+begun_on laws version old new accepted told.Done is holds = isolated_rest laws version old new accepted (record accepted { asked = accepted.whole }) Begin told.Done accepted.asked is holds refl refl holds.asked refl refl holds.whole holds.whole
+begun_on laws version old new accepted (told.Order round kind counts order) is holds = isolated_rest laws version old new accepted accepted Begin (told.Order round kind counts order) accepted.asked is holds refl refl holds.asked refl refl holds.whole holds.asked
+begun_on laws version old new accepted (told.Violated round counts tree) is holds = isolated_rest laws version old new accepted accepted Begin (told.Violated round counts tree) accepted.asked is holds refl refl holds.asked refl refl holds.whole holds.asked
+begun_on laws version old new accepted (told.Spent round counts) is holds = isolated_rest laws version old new accepted accepted Begin (told.Spent round counts) accepted.asked is holds refl refl holds.asked refl refl holds.whole holds.asked
+begun_on laws version old new accepted (told.Cut fence gone last) is holds = isolated_rest laws version old new accepted accepted Begin (told.Cut fence gone last) accepted.asked is holds refl refl holds.asked refl refl holds.whole holds.asked
+begun_on laws version old new accepted (told.Show marks received closed last remaining) is holds = isolated_rest laws version old new accepted accepted Begin (told.Show marks received closed last remaining) accepted.asked is holds refl refl holds.asked refl refl holds.whole holds.asked
+begun_on laws version old new accepted inner is holds = isolated_rest laws version old new accepted accepted Begin inner accepted.asked is holds refl refl holds.asked refl refl holds.whole holds.asked
 
-asked_on : Laws → (old new : AuditState) (accepted : Accepted) (command : Command) (inner : Reply) → CanBeAsked command → AnswersBeside Two old (split_command command) inner new → HoldsSplit old.engine (state_of old.engine accepted) → IsIsolatedOn accepted command (isolated_of inner) new.engine
-asked_on laws old new accepted (Offer logged) inner can is holds =
-    let taken = taken_in_two (split_logged logged) old.engine new.engine inner (IsStep old.engine (step.Offer (split_logged logged)) inner new.engine) is.0 in
-    subst (λ (a : Reply). IsIsolatedOn accepted (Offer logged) (isolated_of a) new.engine) (sym taken.2) (isolated_offer laws old.engine new.engine accepted logged taken.0 can taken.1 holds)
-asked_on laws old new accepted (Join logged) inner can is holds =
-    let taken = taken_in_two (split_logged logged) old.engine new.engine inner (IsStep old.engine (step.Join (split_logged logged)) inner new.engine) is.0 in
-    subst (λ (a : Reply). IsIsolatedOn accepted (Join logged) (isolated_of a) new.engine) (sym taken.2) (isolated_join laws old.engine new.engine accepted logged taken.0 can taken.1 holds)
-asked_on laws old new accepted Begin inner can is holds = begun_on laws old new accepted inner is holds
-asked_on laws old new accepted (Round budget depth workers search) inner can is holds =
-    isolated_rest laws old new accepted accepted (Round budget depth workers search) inner accepted.whole is holds refl refl holds.whole refl refl holds.whole holds.asked
-asked_on laws old new accepted (Save wanted) inner can is holds =
-    let on = isolated_rest laws old new accepted accepted (Save (split_wanted wanted)) inner accepted.asked is holds refl refl holds.asked refl refl holds.whole holds.asked in
-    record { is_true = on.is_true; holds = on.holds }
-asked_on laws old new accepted (Answer shown) inner can is holds = absurd can
-asked_on laws old new accepted command inner can is holds = isolated_rest laws old new accepted accepted command inner accepted.asked is holds refl refl holds.asked refl refl holds.whole holds.asked
-
--- a command that is refused before it is asked
+-- a command that is refused for what it offers, or that has no form
 no_more_by : (accepted : Accepted) (command : Command) (refusal : Refusal) → accepted_more accepted command (told.No refusal) ≡ accepted
 no_more_by accepted (Offer logged) refusal = refl
 no_more_by accepted (Join logged) refusal = refl
 no_more_by accepted Begin refusal = refl
 no_more_by accepted command refusal = refl
 
-faulty_on : (old new : AuditState) (accepted : Accepted) (command : Command) (answer : Reply) (refusal : Refusal) → answer ≡ told.No refusal → new ≡ old → HoldsSplit old.engine (state_of old.engine accepted) → IsIsolatedOn accepted command answer new.engine
+faulty_on : (old new : AuditState) (accepted : Accepted) (command : Command) (answer : Reply) (refusal : Refusal) → answer ≡ told.No refusal → new.engine ≡ old.engine → HoldsSplit old.engine (state_of old.engine accepted) → IsIsolatedOn accepted command answer new.engine
 faulty_on old new accepted command answer refusal is same holds =
     let more : HoldsSplit old.engine (state_of old.engine (accepted_more accepted command (told.No refusal))) = subst (λ (a : Accepted). HoldsSplit old.engine (state_of old.engine a)) (sym (no_more_by accepted command refusal)) holds in
     subst (λ (a : Reply). IsIsolatedOn accepted command a new.engine) (sym is)
-    (subst (λ (audit : AuditState). IsIsolatedOn accepted command (told.No refusal) audit.engine) (sym same) (record { is_true = tt; holds = more }))
+    (subst (λ (engine : EngineState). IsIsolatedOn accepted command (told.No refusal) engine) (sym same) (record { is_true = tt; holds = more }))
 
-isolated_on : Laws → (old new : AuditState) (accepted : Accepted) (command : Command) (answer : Reply) → AnswersIsolated old command answer new → HoldsSplit old.engine (state_of old.engine accepted) → IsIsolatedOn accepted command answer new.engine
-isolated_on laws old new accepted command answer is holds =
-    ⊎_elim (λ fault. faulty_on old new accepted command answer fault.0 fault.2 fault.3 holds) (λ split. isolated_told accepted command answer split.1 new.engine split.3 (asked_on laws old new accepted command split.1 split.0 split.2 holds)) is
+-- what is offered, where it has a form
+isolated_taken : Laws → (version : Version) (old new : AuditState) (accepted : Accepted) (command : Command) (logged : LoggedFragment) (inner : Reply) (asked : Step)
+    → ((said : StepReply) → Goes old.engine asked said new.engine → IsIsolatedOn accepted command (isolated_of (reply_of said)) new.engine)
+    → IsTakenIn version logged old.engine inner new.engine (IsStep old.engine asked inner new.engine) → HoldsSplit old.engine (state_of old.engine accepted) → IsIsolatedOn accepted command (isolated_of inner) new.engine
+isolated_taken laws version old new accepted command logged inner asked on is holds =
+    ⊎_elim (λ one. subst (λ (a : Reply). IsIsolatedOn accepted command (isolated_of a) new.engine) (sym one.1.2) (on one.1.0 one.1.1))
+    (λ bad. faulty_on old new accepted command (isolated_of inner) BadLine (ap isolated_of bad.1.0) bad.1.1 holds) is
+
+asked_on : Laws → (version : Version) (old new : AuditState) (accepted : Accepted) (command : Command) (inner : Reply) → CanBeAsked (most_sessions version) command → AnswersBeside version old (split_command command) inner new → HoldsSplit old.engine (state_of old.engine accepted) → IsIsolatedOn accepted command (isolated_of inner) new.engine
+asked_on laws version old new accepted (Offer logged) inner can is holds =
+    isolated_taken laws version old new accepted (Offer logged) (split_logged logged) inner (step.Offer (split_logged logged)) (λ said goes. isolated_offer laws (most_sessions version) old.engine new.engine accepted logged said can goes holds) is.0 holds
+asked_on laws version old new accepted (Join logged) inner can is holds =
+    isolated_taken laws version old new accepted (Join logged) (split_logged logged) inner (step.Join (split_logged logged)) (λ said goes. isolated_join laws (most_sessions version) old.engine new.engine accepted logged said can goes holds) is.0 holds
+asked_on laws version old new accepted Begin inner can is holds = begun_on laws version old new accepted inner is holds
+asked_on laws version old new accepted (Round budget depth workers search) inner can is holds =
+    isolated_rest laws version old new accepted accepted (Round budget depth workers search) inner accepted.whole is holds refl refl holds.whole refl refl holds.whole holds.asked
+asked_on laws version old new accepted (Save wanted) inner can is holds =
+    let on = isolated_rest laws version old new accepted accepted (Save (split_wanted wanted)) inner accepted.asked is holds refl refl holds.asked refl refl holds.whole holds.asked in
+    record { is_true = on.is_true; holds = on.holds }
+asked_on laws version old new accepted (Answer shown) inner can is holds = absurd can
+asked_on laws version old new accepted command inner can is holds = isolated_rest laws version old new accepted accepted command inner accepted.asked is holds refl refl holds.asked refl refl holds.whole holds.asked
+
+isolated_on : Laws → (version : Version) (old new : AuditState) (accepted : Accepted) (command : Command) (answer : Reply) → AnswersIsolated version old command answer new → HoldsSplit old.engine (state_of old.engine accepted) → IsIsolatedOn accepted command answer new.engine
+isolated_on laws version old new accepted command answer is holds =
+    ⊎_elim (λ fault. faulty_on old new accepted command answer fault.0 fault.2 (ap (λ (audit : AuditState). audit.engine) fault.3) holds) (λ split. isolated_told accepted command answer split.1 new.engine split.3 (asked_on laws version old new accepted command split.1 split.0 split.2 holds)) is
 
 -- ---- scripts
 
@@ -484,15 +486,16 @@ first_fits : Laws → (whole : History) (old : Stage) (command : Command) (answe
 first_fits laws whole old (Start sessions limit version) told.Done begun none first = along_begun whole old (Start sessions limit version) told.Done begun _ first.2 first.3
 first_fits laws whole old (Start sessions limit version) (told.No refusal) begun none first = along_begun whole old (Start sessions limit version) (told.No refusal) begun None first.1 none
 first_fits laws whole old (Start sessions limit version) answer begun none first = absurd first
-first_fits laws whole old (StartIsolated sessions limit) told.Done begun none first = along_begun whole old (StartIsolated sessions limit) told.Done begun _ first.2 (laws.fresh sessions (2 * limit) first.3)
-first_fits laws whole old (StartIsolated sessions limit) (told.No refusal) begun none first = along_begun whole old (StartIsolated sessions limit) (told.No refusal) begun None first.1 none
-first_fits laws whole old (StartIsolated sessions limit) answer begun none first = absurd first
+first_fits laws whole old (StartIsolated sessions limit version) told.Done begun none first =
+    along_begun whole old (StartIsolated sessions limit version) told.Done begun _ first.2 (laws.fresh (most_sessions version) sessions (2 * limit) first.3)
+first_fits laws whole old (StartIsolated sessions limit version) (told.No refusal) begun none first = along_begun whole old (StartIsolated sessions limit version) (told.No refusal) begun None first.1 none
+first_fits laws whole old (StartIsolated sessions limit version) answer begun none first = absurd first
 first_fits laws whole old (Resume sessions limit (Ordered version)) told.Done begun none first = along_begun whole old (Resume sessions limit (Ordered version)) told.Done begun _ first.2 tt
 first_fits laws whole old (Resume sessions limit (Ordered version)) (told.No refusal) begun none first = along_begun whole old (Resume sessions limit (Ordered version)) (told.No refusal) begun None first.1 none
 first_fits laws whole old (Resume sessions limit (Ordered version)) answer begun none first = absurd first
-first_fits laws whole old (Resume sessions limit Isolated) told.Done begun none first = along_begun whole old (Resume sessions limit Isolated) told.Done begun _ first.2 tt
-first_fits laws whole old (Resume sessions limit Isolated) (told.No refusal) begun none first = along_begun whole old (Resume sessions limit Isolated) (told.No refusal) begun None first.1 none
-first_fits laws whole old (Resume sessions limit Isolated) answer begun none first = absurd first
+first_fits laws whole old (Resume sessions limit (Isolated version)) told.Done begun none first = along_begun whole old (Resume sessions limit (Isolated version)) told.Done begun _ first.2 tt
+first_fits laws whole old (Resume sessions limit (Isolated version)) (told.No refusal) begun none first = along_begun whole old (Resume sessions limit (Isolated version)) (told.No refusal) begun None first.1 none
+first_fits laws whole old (Resume sessions limit (Isolated version)) answer begun none first = absurd first
 first_fits laws whole old Resumed answer begun none first = subst (λ (a : Reply). Begun whole old Resumed a begun) (sym first.0) (along_begun whole old Resumed (told.No BadLine) begun None first.1 none)
 first_fits laws whole old command answer begun none first = along_begun whole old command answer begun None first.1 none
 
@@ -513,14 +516,14 @@ takes_marks_fit : Laws → (whole : History) (sessions limit : ℕ) (opening : O
 takes_marks_fit laws whole sessions limit opening new (Marks marks closed) answer is = marks_fit whole sessions limit opening marks closed new answer is
 takes_marks_fit laws whole sessions limit opening new command answer is = anew_fits laws whole (stage.Resuming sessions limit opening) new command answer tt is
 
-takes_halves_fit : Laws → (whole : History) (sessions limit : ℕ) (new : Stage) (command : Command) (answer : Reply) → TakesHalves sessions limit command answer new → Fits new (accepted_after whole None command answer)
-takes_halves_fit laws whole sessions limit new (MarksBegun marks closed begun) answer is =
-    ⊎_elim (λ bad. along_new new (stage.Resuming sessions limit Isolated) bad.2 tt) (λ good. marks_fit whole sessions limit Isolated (half_marks marks begun) closed new answer good.1) is
-takes_halves_fit laws whole sessions limit new command answer is = anew_fits laws whole (stage.Resuming sessions limit Isolated) new command answer tt is
+takes_halves_fit : Laws → (whole : History) (sessions limit : ℕ) (version : Version) (new : Stage) (command : Command) (answer : Reply) → TakesHalves sessions limit version command answer new → Fits new (accepted_after whole None command answer)
+takes_halves_fit laws whole sessions limit version new (MarksBegun marks closed begun) answer is =
+    ⊎_elim (λ bad. along_new new (stage.Resuming sessions limit (Isolated version)) bad.2 tt) (λ good. marks_fit whole sessions limit (Isolated version) (half_marks marks begun) closed new answer good.1) is
+takes_halves_fit laws whole sessions limit version new command answer is = anew_fits laws whole (stage.Resuming sessions limit (Isolated version)) new command answer tt is
 
 resuming_fits : Laws → (whole : History) (sessions limit : ℕ) (opening : Opening) (new : Stage) (command : Command) (answer : Reply) → AnswersResuming sessions limit opening command answer new → Fits new (accepted_after whole None command answer)
 resuming_fits laws whole sessions limit (Ordered version) new command answer is = takes_marks_fit laws whole sessions limit (Ordered version) new command answer is
-resuming_fits laws whole sessions limit Isolated new command answer is = takes_halves_fit laws whole sessions limit new command answer is
+resuming_fits laws whole sessions limit (Isolated version) new command answer is = takes_halves_fit laws whole sessions limit version new command answer is
 
 hands_fits : (handed : Handing) (opening : Opening) (fragment : Fragment) (answer : Reply) (new : Stage) → HandsOffer handed opening fragment answer new → Fits new None
 hands_fits handed opening fragment told.Done new is = along_new new _ is.1 tt
@@ -530,7 +533,7 @@ hands_fits handed opening fragment answer new is = absurd is
 -- a hand-over that ends leads to an engine that stands for the history with which the script begins
 ended_fits : (whole : History) (handed : Handing) (opening : Opening) (new : Stage) → EndsHandOver handed opening told.Done new → BeginsWith whole (stage.Handing handed opening) Resumed told.Done → Fits new (accepted_after whole None Resumed told.Done)
 ended_fits whole handed (Ordered version) new is begins = subst (λ (s : Stage). Fits s (accepted_after whole None Resumed told.Done)) (sym is.1) (is.2 whole begins)
-ended_fits whole handed Isolated new is begins =
+ended_fits whole handed (Isolated version) new is begins =
     subst (λ (s : Stage). Fits s (accepted_after whole None Resumed told.Done)) (sym is.1) (record { holds = is.2 (split_history whole) begins.0; whole = begins.1; asked = begins.1 })
 
 takes_over_fit : Laws → (whole : History) (handed : Handing) (opening : Opening) (new : Stage) (command : Command) (answer : Reply) → TakesOver handed opening command answer new → BeginsWith whole (stage.Handing handed opening) command answer → Fits new (accepted_after whole None command answer)
@@ -545,10 +548,10 @@ takes_over_fit laws whole handed opening new Resumed answer is begins = absurd i
 takes_over_fit laws whole handed opening new command answer is begins = anew_fits laws whole (stage.Handing handed opening) new command answer tt is
 
 -- the halves of a command begin nothing that it doesn't begin
-halves_fit : (whole : History) (handed : Handing) (command : Command) (answer : Reply) → BeginsWith whole (stage.Handing handed Isolated) command answer → BeginsWith whole (stage.Handing handed Isolated) (half_command handed.parts command) answer
-halves_fit whole handed (Last more) answer begins = tt
-halves_fit whole handed (Offer logged) answer begins = tt
-halves_fit whole handed command answer begins = begins
+halves_fit : (whole : History) (handed : Handing) (version : Version) (command : Command) (answer : Reply) → BeginsWith whole (stage.Handing handed (Isolated version)) command answer → BeginsWith whole (stage.Handing handed (Isolated version)) (half_command handed.parts command) answer
+halves_fit whole handed version (Last more) answer begins = tt
+halves_fit whole handed version (Offer logged) answer begins = tt
+halves_fit whole handed version command answer begins = begins
 
 halves_after : (whole : History) (handed : Handing) (command : Command) (answer : Reply) → accepted_after whole None (half_command handed.parts command) answer ≡ accepted_after whole None command answer
 halves_after whole handed (Last more) answer = refl
@@ -557,46 +560,46 @@ halves_after whole handed command answer = refl
 
 handing_fits : Laws → (whole : History) (handed : Handing) (opening : Opening) (new : Stage) (command : Command) (answer : Reply) → AnswersHanding handed opening command answer new → BeginsWith whole (stage.Handing handed opening) command answer → Fits new (accepted_after whole None command answer)
 handing_fits laws whole handed (Ordered version) new command answer is begins = takes_over_fit laws whole handed (Ordered version) new command answer is begins
-handing_fits laws whole handed Isolated new command answer is begins = ⊎_elim (bad new answer) good is
+handing_fits laws whole handed (Isolated version) new command answer is begins = ⊎_elim (bad new answer) good is
   where
     none : (c : Command) → accepted_after whole None c (told.No BadParts) ≡ None
-    none (Start sessions limit version) = refl
-    none (StartIsolated sessions limit) = refl
+    none (Start sessions limit other) = refl
+    none (StartIsolated sessions limit other) = refl
     none Resumed = refl
     none c = refl
 
-    bad : (s : Stage) (a : Reply) → (¬ CanBeHanded command) × (a ≡ told.No BadParts) × (s ≡ stage.Handing handed Isolated) → Fits s (accepted_after whole None command a)
+    bad : (s : Stage) (a : Reply) → (¬ CanBeHanded command) × (a ≡ told.No BadParts) × (s ≡ stage.Handing handed (Isolated version)) → Fits s (accepted_after whole None command a)
     bad s a refused =
         subst (λ (r : Reply). Fits s (accepted_after whole None command r)) (sym refused.1)
-        (subst (λ (o : Option Accepted). Fits s o) (sym (none command)) (along_new s (stage.Handing handed Isolated) refused.2 tt))
+        (subst (λ (o : Option Accepted). Fits s o) (sym (none command)) (along_new s (stage.Handing handed (Isolated version)) refused.2 tt))
 
-    good : CanBeHanded command × TakesOver handed Isolated (half_command handed.parts command) answer new → Fits new (accepted_after whole None command answer)
+    good : CanBeHanded command × TakesOver handed (Isolated version) (half_command handed.parts command) answer new → Fits new (accepted_after whole None command answer)
     good taken =
         subst (λ (o : Option Accepted). Fits new o) (halves_after whole handed command answer)
-        (takes_over_fit laws whole handed Isolated new (half_command handed.parts command) answer taken.1 (halves_fit whole handed command answer begins))
+        (takes_over_fit laws whole handed (Isolated version) new (half_command handed.parts command) answer taken.1 (halves_fit whole handed version command answer begins))
 
 open_fits : (old : AuditState) (version : Version) (new : Stage) (accepted : Accepted) (command : Command) (answer : Reply) → Answers (stage.Open old version) command answer new → Holds old.engine (state_of old.engine accepted) → TellsTrueOf (reported_on accepted command) answer × Fits new (Some (accepted_more accepted command answer))
 open_fits old version new accepted command answer is holds =
     let on = beside_on version old is.0 accepted command answer is.1 holds in
     (truly (reported_on accepted command) answer on.is_true, subst (λ (s : Stage). Fits s (Some (accepted_more accepted command answer))) (sym is.2) on.holds)
 
-isolated_fits : Laws → (old : AuditState) (new : Stage) (accepted : Accepted) (command : Command) (answer : Reply) → Answers (stage.Isolated old) command answer new → HoldsSplit old.engine (state_of old.engine accepted) → TellsTrueOf (reported_on accepted command) answer × Fits new (Some (accepted_more accepted command answer))
-isolated_fits laws old new accepted command answer is holds =
-    let on = isolated_on laws old is.0 accepted command answer is.1 holds in
+isolated_fits : Laws → (old : AuditState) (version : Version) (new : Stage) (accepted : Accepted) (command : Command) (answer : Reply) → Answers (stage.Isolated old version) command answer new → HoldsSplit old.engine (state_of old.engine accepted) → TellsTrueOf (reported_on accepted command) answer × Fits new (Some (accepted_more accepted command answer))
+isolated_fits laws old version new accepted command answer is holds =
+    let on = isolated_on laws version old is.0 accepted command answer is.1 holds in
     (on.is_true, subst (λ (s : Stage). Fits s (Some (accepted_more accepted command answer))) (sym is.2) on.holds)
 
 answers_true : Laws → (old new : Stage) (accepted : Option Accepted) (command : Command) (answer : Reply) → Answers old command answer new → Fits old accepted → IsTrueTold accepted command answer
 answers_true laws old new None command answer is fits = tt
 answers_true laws (stage.Open engine version) new (Some accepted) command answer is fits = (open_fits engine version new accepted command answer is fits).0
-answers_true laws (stage.Isolated audit) new (Some accepted) command answer is fits = (isolated_fits laws audit new accepted command answer is fits).0
+answers_true laws (stage.Isolated audit version) new (Some accepted) command answer is fits = (isolated_fits laws audit version new accepted command answer is fits).0
 answers_true laws stage.Nothing new (Some accepted) command answer is fits = absurd fits
 answers_true laws (stage.Resuming sessions limit opening) new (Some accepted) command answer is fits = absurd fits
 answers_true laws (stage.Handing handed opening) new (Some accepted) command answer is fits = absurd fits
 
 answers_fit : Laws → (whole : History) (old new : Stage) (accepted : Option Accepted) (command : Command) (answer : Reply) → Answers old command answer new → Fits old accepted → BeginsWith whole old command answer → Fits new (accepted_after whole accepted command answer)
 answers_fit laws whole (stage.Open engine version) new (Some accepted) command answer is fits begins = (open_fits engine version new accepted command answer is fits).1
-answers_fit laws whole (stage.Isolated audit) new (Some accepted) command answer is fits begins = (isolated_fits laws audit new accepted command answer is fits).1
-answers_fit laws whole (stage.Isolated audit) new None command answer is fits begins = absurd fits
+answers_fit laws whole (stage.Isolated audit version) new (Some accepted) command answer is fits begins = (isolated_fits laws audit version new accepted command answer is fits).1
+answers_fit laws whole (stage.Isolated audit version) new None command answer is fits begins = absurd fits
 answers_fit laws whole (stage.Open engine version) new None command answer is fits begins = absurd fits
 answers_fit laws whole stage.Nothing new None command answer is fits begins = anew_fits laws whole stage.Nothing new command answer tt is
 answers_fit laws whole (stage.Resuming sessions limit opening) new None command answer is fits begins = resuming_fits laws whole sessions limit opening new command answer is

@@ -15,6 +15,7 @@ use Rattle.log_text.specs.declared.versions.Opening.{Opening}
 use Rattle.log_text.specs.declared.versions.Opening.TheVariants.{Ordered, Isolated}
 use Rattle.log_text.specs.declared.versions.Version.{Version}
 use Rattle.log_text.specs.Saved.{handed_by}
+use Rattle.log_text.specs.Versions.{most_sessions}
 use Rattle.snapshot_scripts.specs.SplitParts.{AreSplitParts}
 use Rattle.cobra.specs.HandOver.{AreGoodParts, handed_parts}
 use Rattle.cobra.specs.Saving.{handing_of, isolated_told, saved_told}
@@ -68,12 +69,12 @@ pub record IsResumed (parts : Parts) (limit : ℕ) (opening : Opening) (given : 
   pub good : AreGoodParts (handing_of parts)
   pub same : handed_parts (handing_of parts) ≡ parts
 
--- Whatever good parts give out is taken where it is handed over, for lines of each version that lets as many remain, and comes to these very
--- parts.
+-- Whatever good parts give out is taken where it is handed over, for lines of each version that has their bound of sessions and lets as many
+-- transactions remain, and comes to these very parts.
 abbrev pub GivenOutIsTaken : Type 0
-GivenOutIsTaken = (parts : Parts) (version : Version) (given : List Saved) → IsGood parts → IsVersionLimit version parts.limit → IsCheckpoint (saved_told parts) (length parts.remain) given → IsResumed parts parts.limit (Ordered version) given
+GivenOutIsTaken = (parts : Parts) (version : Version) (given : List Saved) → IsGood parts → parts.most_sessions ≡ most_sessions version → IsVersionLimit version parts.limit → IsCheckpoint (saved_told parts) (length parts.remain) given → IsResumed parts parts.limit (Ordered version) given
 
 -- The same of parts whose transactions are split, which have room for two of each: what they give out is told by transactions as they were
 -- offered, and comes to these very parts again.
 abbrev pub IsolatedOutIsTaken : Type 0
-IsolatedOutIsTaken = (parts : Parts) (limit : ℕ) (given : List Saved) → IsGood parts → AreSplitParts parts → IsIsolatedLimit limit → parts.limit ≡ 2 * limit → IsCheckpoint (isolated_told parts) (length parts.remain) given → IsResumed parts limit Isolated given
+IsolatedOutIsTaken = (parts : Parts) (version : Version) (limit : ℕ) (given : List Saved) → IsGood parts → AreSplitParts parts → parts.most_sessions ≡ most_sessions version → IsIsolatedLimit version limit → parts.limit ≡ 2 * limit → IsCheckpoint (isolated_told parts) (length parts.remain) given → IsResumed parts limit (Isolated version) given

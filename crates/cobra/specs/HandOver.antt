@@ -19,12 +19,13 @@ abbrev pub AreOfSessions : ℕ → List ℕ → List Bool → Type 0
 AreOfSessions sessions marks closed = (length marks ≡ sessions) × (length closed ≡ sessions)
 
 -- What is handed over once the marks and the flags are: nothing remains yet, and no last writer is known.
-abbrev pub handed_first : ℕ → List ℕ → List Bool → Handing
-handed_first limit marks closed = record {
+abbrev pub handed_first : ℕ → ℕ → List ℕ → List Bool → Handing
+handed_first most limit marks closed = record {
   parts = record {
     base = record { last = map.empty; marks = marks };
     remain = no_history (length marks);
     closed = closed;
+    most_sessions = most;
     limit = limit;
   };
   last = [];
@@ -65,6 +66,7 @@ handed_parts handed = record {
   base = record { last = map.from_entries handed.last; marks = handed.parts.base.marks };
   remain = handed.parts.remain;
   closed = handed.parts.closed;
+  most_sessions = handed.parts.most_sessions;
   limit = handed.parts.limit;
 }
 

@@ -17,8 +17,8 @@ use Rattle.log_text.specs.declared.searches.Search.{Search}
 use Rattle.log_text.specs.declared.versions.Opening.{Opening}
 use Rattle.log_text.specs.declared.versions.Opening.TheVariants.{Ordered, Isolated}
 use Rattle.log_text.specs.declared.versions.Version.{Version}
-use Rattle.log_text.specs.declared.versions.Version.TheVariants.{One, Two}
-use Rattle.log_text.specs.Versions.{greatest_limit, has_form}
+use Rattle.log_text.specs.declared.versions.Version.TheVariants.{One}
+use Rattle.log_text.specs.Versions.{greatest_limit, greatest_split_limit, has_form, most_sessions}
 use Rattle.logged_fragments.specs.declared.logged.LoggedFragment.{LoggedFragment}
 use Rattle.round_state.specs.EngineState.{EngineState, engine_over}
 use Rattle.round_state.specs.Opening.{IsSessions, fresh, fresh_state}
@@ -137,63 +137,68 @@ AnswersBeside version old (Finish budget depth workers search) answer new = Fini
 AnswersBeside version old command answer new = AnswersOpen version old.engine command answer new.engine × (new.search ≡ search_after old.search new.engine.asked)
 
 -- The reply to a command of a script that asks for snapshot isolation: it is refused for what is wrong with it as it was given; or its
--- transactions are split, and what is replied to that, in lines of version 2, is told of begins and commits.
-abbrev pub AnswersIsolated : AuditState → Command → Reply → AuditState → Type 0
-AnswersIsolated old command answer new =
-    ((refusal : Refusal) × IsAskedFault command refusal × (answer ≡ told.No refusal) × (new ≡ old))
-    ⊎ (CanBeAsked command × (inner : Reply) × AnswersBeside Two old (split_command command) inner new × (answer ≡ isolated_of inner))
+-- transactions are split, and what is replied to that, in lines of the same version, is told of begins and commits.
+abbrev pub AnswersIsolated : Version → AuditState → Command → Reply → AuditState → Type 0
+AnswersIsolated version old command answer new =
+    ((refusal : Refusal) × IsAskedFault (most_sessions version) command refusal × (answer ≡ told.No refusal) × (new ≡ old))
+    ⊎ (CanBeAsked (most_sessions version) command × (inner : Reply) × AnswersBeside version old (split_command command) inner new × (answer ≡ isolated_of inner))
 
 -- so many transactions may be let remain, where at most this many may
 abbrev pub IsLimitWithin : ℕ → ℕ → Type 0
 IsLimitWithin most limit = (1 ≤ limit) × (limit ≤ most)
 
--- Why no script begins, where at most so many transactions may be let remain: the number of sessions is judged before the limit, and memory is
--- asked for last.
-abbrev pub IsBeginningRefusal : ℕ → ℕ → ℕ → Refusal → Type 0
-IsBeginningRefusal most sessions limit BadSession = ¬ IsSessions sessions
-IsBeginningRefusal most sessions limit TooLong = IsSessions sessions × (¬ IsLimitWithin most limit)
-IsBeginningRefusal most sessions limit NoMemory = IsSessions sessions × IsLimitWithin most limit
-IsBeginningRefusal most sessions limit refusal = ⊥
+-- Why no script begins, where there may be at most so many sessions, and at most so many transactions may be let remain: the number of sessions
+-- is judged before the limit, and memory is asked for last.
+abbrev pub IsBeginningRefusal : ℕ → ℕ → ℕ → ℕ → Refusal → Type 0
+IsBeginningRefusal many most sessions limit BadSession = ¬ IsSessions many sessions
+IsBeginningRefusal many most sessions limit TooLong = IsSessions many sessions × (¬ IsLimitWithin most limit)
+IsBeginningRefusal many most sessions limit NoMemory = IsSessions many sessions × IsLimitWithin most limit
+IsBeginningRefusal many most sessions limit refusal = ⊥
 
--- the same in a script of this version
+-- there may be so many sessions in a script of this version
+abbrev pub AreVersionSessions : Version → ℕ → Type 0
+AreVersionSessions version = IsSessions (most_sessions version)
+
+-- so many transactions may be let remain in it
 abbrev pub IsVersionLimit : Version → ℕ → Type 0
 IsVersionLimit version = IsLimitWithin (greatest_limit version)
 
+-- why none begins
 abbrev pub IsVersionRefusal : Version → ℕ → ℕ → Refusal → Type 0
-IsVersionRefusal version = IsBeginningRefusal (greatest_limit version)
+IsVersionRefusal version = IsBeginningRefusal (most_sessions version) (greatest_limit version)
 
 -- An engine is opened: it is a fresh one, which stands for the history in which nothing was received. Where it isn't, no stage begins.
 abbrev pub Opens : ℕ → ℕ → Version → Reply → Option Stage → Type 0
-Opens sessions limit version told.Done begun = IsSessions sessions × IsVersionLimit version limit × (begun ≡ Some (stage.Open (unsearched (fresh sessions limit)) version)) × Holds (fresh sessions limit) (fresh_state sessions limit)
+Opens sessions limit version told.Done begun = AreVersionSessions version sessions × IsVersionLimit version limit × (begun ≡ Some (stage.Open (unsearched (fresh (most_sessions version) sessions limit)) version)) × Holds (fresh (most_sessions version) sessions limit) (fresh_state (most_sessions version) sessions limit)
 Opens sessions limit version (told.No refusal) begun = IsVersionRefusal version sessions limit refusal × (begun ≡ None)
 Opens sessions limit version answer begun = ⊥
 
--- so many transactions may be let remain where each is split
-abbrev pub IsIsolatedLimit : ℕ → Type 0
-IsIsolatedLimit = IsLimitWithin 2048
+-- so many transactions may be let remain in a script of this version where each is split
+abbrev pub IsIsolatedLimit : Version → ℕ → Type 0
+IsIsolatedLimit version = IsLimitWithin (greatest_split_limit version)
 
 -- why no engine is given for them
-abbrev pub IsIsolatedRefusal : ℕ → ℕ → Refusal → Type 0
-IsIsolatedRefusal = IsBeginningRefusal 2048
+abbrev pub IsIsolatedRefusal : Version → ℕ → ℕ → Refusal → Type 0
+IsIsolatedRefusal version = IsBeginningRefusal (most_sessions version) (greatest_split_limit version)
 
 -- An engine is opened whose transactions are split: it has room for two of each.
-abbrev pub OpensIsolated : ℕ → ℕ → Reply → Option Stage → Type 0
-OpensIsolated sessions limit told.Done begun = IsSessions sessions × IsIsolatedLimit limit × (begun ≡ Some (stage.Isolated (unsearched (fresh sessions (2 * limit))))) × Holds (fresh sessions (2 * limit)) (fresh_state sessions (2 * limit))
-OpensIsolated sessions limit (told.No refusal) begun = IsIsolatedRefusal sessions limit refusal × (begun ≡ None)
-OpensIsolated sessions limit answer begun = ⊥
+abbrev pub OpensIsolated : ℕ → ℕ → Version → Reply → Option Stage → Type 0
+OpensIsolated sessions limit version told.Done begun = AreVersionSessions version sessions × IsIsolatedLimit version limit × (begun ≡ Some (stage.Isolated (unsearched (fresh (most_sessions version) sessions (2 * limit))) version)) × Holds (fresh (most_sessions version) sessions (2 * limit)) (fresh_state (most_sessions version) sessions (2 * limit))
+OpensIsolated sessions limit version (told.No refusal) begun = IsIsolatedRefusal version sessions limit refusal × (begun ≡ None)
+OpensIsolated sessions limit version answer begun = ⊥
 
 -- A hand-over begins, where an engine may be opened: of parts with room for two of each, where transactions are split.
 abbrev pub Resumes : ℕ → ℕ → Opening → Reply → Option Stage → Type 0
-Resumes sessions limit (Ordered version) told.Done begun = IsSessions sessions × IsVersionLimit version limit × (begun ≡ Some (stage.Resuming sessions limit (Ordered version)))
+Resumes sessions limit (Ordered version) told.Done begun = AreVersionSessions version sessions × IsVersionLimit version limit × (begun ≡ Some (stage.Resuming sessions limit (Ordered version)))
 Resumes sessions limit (Ordered version) (told.No refusal) begun = IsVersionRefusal version sessions limit refusal × (begun ≡ None)
-Resumes sessions limit Isolated told.Done begun = IsSessions sessions × IsIsolatedLimit limit × (begun ≡ Some (stage.Resuming sessions (2 * limit) Isolated))
-Resumes sessions limit Isolated (told.No refusal) begun = IsIsolatedRefusal sessions limit refusal × (begun ≡ None)
+Resumes sessions limit (Isolated version) told.Done begun = AreVersionSessions version sessions × IsIsolatedLimit version limit × (begun ≡ Some (stage.Resuming sessions (2 * limit) (Isolated version)))
+Resumes sessions limit (Isolated version) (told.No refusal) begun = IsIsolatedRefusal version sessions limit refusal × (begun ≡ None)
 Resumes sessions limit opening answer begun = ⊥
 
 -- the reply to a command with which a script begins, and the stage that begins, where one does
 abbrev pub AnswersFirst : Command → Reply → Option Stage → Type 0
 AnswersFirst (Start sessions limit version) answer begun = Opens sessions limit version answer begun
-AnswersFirst (StartIsolated sessions limit) answer begun = OpensIsolated sessions limit answer begun
+AnswersFirst (StartIsolated sessions limit version) answer begun = OpensIsolated sessions limit version answer begun
 AnswersFirst (Resume sessions limit opening) answer begun = Resumes sessions limit opening answer begun
 AnswersFirst command answer begun = (answer ≡ told.No BadLine) × (begun ≡ None)
 
@@ -207,9 +212,14 @@ stage_after old (Some begun) = begun
 abbrev pub BeginsAnew : Stage → Command → Reply → Stage → Type 0
 BeginsAnew old command answer new = (begun : Option Stage) × AnswersFirst command answer begun × (new ≡ stage_after old begun)
 
+-- the version in whose lines something is opened
+abbrev pub version_of : Opening → Version
+version_of (Ordered version) = version
+version_of (Isolated version) = version
+
 -- marks and flags are handed over
 abbrev pub HandsMarks : ℕ → ℕ → Opening → List ℕ → List Bool → Reply → Stage → Type 0
-HandsMarks sessions limit opening marks closed told.Done new = AreOfSessions sessions marks closed × (new ≡ stage.Handing (handed_first limit marks closed) opening)
+HandsMarks sessions limit opening marks closed told.Done new = AreOfSessions sessions marks closed × (new ≡ stage.Handing (handed_first (most_sessions (version_of opening)) limit marks closed) opening)
 HandsMarks sessions limit opening marks closed (told.No refusal) new = IsMarksRefusal sessions marks closed refusal × (new ≡ stage.Resuming sessions limit opening)
 HandsMarks sessions limit opening marks closed answer new = ⊥
 
@@ -219,15 +229,15 @@ TakesMarks sessions limit opening (Marks marks closed) answer new = HandsMarks s
 TakesMarks sessions limit opening command answer new = BeginsAnew (stage.Resuming sessions limit opening) command answer new
 
 -- The same where transactions are split: the marks are those of halves.
-abbrev pub TakesHalves : ℕ → ℕ → Command → Reply → Stage → Type 0
-TakesHalves sessions limit (MarksBegun marks closed begun) answer new =
-    ((¬ HaveHalves marks begun) × (answer ≡ told.No BadParts) × (new ≡ stage.Resuming sessions limit Isolated))
-    ⊎ (HaveHalves marks begun × HandsMarks sessions limit Isolated (half_marks marks begun) closed answer new)
-TakesHalves sessions limit command answer new = BeginsAnew (stage.Resuming sessions limit Isolated) command answer new
+abbrev pub TakesHalves : ℕ → ℕ → Version → Command → Reply → Stage → Type 0
+TakesHalves sessions limit version (MarksBegun marks closed begun) answer new =
+    ((¬ HaveHalves marks begun) × (answer ≡ told.No BadParts) × (new ≡ stage.Resuming sessions limit (Isolated version)))
+    ⊎ (HaveHalves marks begun × HandsMarks sessions limit (Isolated version) (half_marks marks begun) closed answer new)
+TakesHalves sessions limit version command answer new = BeginsAnew (stage.Resuming sessions limit (Isolated version)) command answer new
 
 abbrev pub AnswersResuming : ℕ → ℕ → Opening → Command → Reply → Stage → Type 0
 AnswersResuming sessions limit (Ordered version) command answer new = TakesMarks sessions limit (Ordered version) command answer new
-AnswersResuming sessions limit Isolated command answer new = TakesHalves sessions limit command answer new
+AnswersResuming sessions limit (Isolated version) command answer new = TakesHalves sessions limit version command answer new
 
 -- last writers are handed over; memory may be wanting
 abbrev pub HandsWriters : Handing → Opening → List (ℕ × TxnId) → Reply → Stage → Type 0
@@ -252,7 +262,7 @@ HoldsAll parts = (whole : History) → StandsFor parts whole → Holds (engine_o
 -- what is open for this then
 abbrev pub opened : Opening → AuditState → Stage
 opened (Ordered version) audit = stage.Open audit version
-opened Isolated audit = stage.Isolated audit
+opened (Isolated version) audit = stage.Isolated audit version
 
 -- The hand-over ends: the parts that were handed over are good, and the engine has these and nothing else.
 abbrev pub EndsHandOver : Handing → Opening → Reply → Stage → Type 0
@@ -270,14 +280,14 @@ TakesOver handed opening command answer new = BeginsAnew (stage.Handing handed o
 -- The same, where transactions are split: halves of what is handed over are, and what leaves no room for these is refused.
 abbrev pub AnswersHanding : Handing → Opening → Command → Reply → Stage → Type 0
 AnswersHanding handed (Ordered version) command answer new = TakesOver handed (Ordered version) command answer new
-AnswersHanding handed Isolated command answer new =
-    ((¬ CanBeHanded command) × (answer ≡ told.No BadParts) × (new ≡ stage.Handing handed Isolated))
-    ⊎ (CanBeHanded command × TakesOver handed Isolated (half_command handed.parts command) answer new)
+AnswersHanding handed (Isolated version) command answer new =
+    ((¬ CanBeHanded command) × (answer ≡ told.No BadParts) × (new ≡ stage.Handing handed (Isolated version)))
+    ⊎ (CanBeHanded command × TakesOver handed (Isolated version) (half_command handed.parts command) answer new)
 
--- The reply to a command, and what it leads to. Once an engine is open, one stays open, for lines of the same version or of the same promise.
+-- The reply to a command, and what it leads to. Once an engine is open, one stays open, for lines of the same version and for the same promise.
 abbrev pub Answers : Stage → Command → Reply → Stage → Type 0
 Answers stage.Nothing command answer new = BeginsAnew stage.Nothing command answer new
 Answers (stage.Resuming sessions limit opening) command answer new = AnswersResuming sessions limit opening command answer new
 Answers (stage.Handing handed opening) command answer new = AnswersHanding handed opening command answer new
 Answers (stage.Open old version) command answer new = (audit : AuditState) × AnswersBeside version old command answer audit × (new ≡ stage.Open audit version)
-Answers (stage.Isolated old) command answer new = (audit : AuditState) × AnswersIsolated old command answer audit × (new ≡ stage.Isolated audit)
+Answers (stage.Isolated old version) command answer new = (audit : AuditState) × AnswersIsolated version old command answer audit × (new ≡ stage.Isolated audit version)

@@ -2,6 +2,7 @@
 use Rattle.std.specs.Prelude.{ℕ}
 use Rattle.log_text.specs.declared.commands.Command.{Command}
 use Rattle.log_text.specs.declared.replies.Reply.{Reply}
+use Rattle.log_text.specs.declared.versions.Version.{Version}
 use Rattle.round_state.specs.Opening.{fresh}
 use Rattle.snapshot_scripts.specs.SplitParts.{IsSplitEngine}
 use Rattle.cobra.specs.Audits.{AuditState}
@@ -9,5 +10,5 @@ use Rattle.cobra.specs.Scripts.{AnswersIsolated}
 
 -- a fresh engine has no others, and each command leaves it such
 pub record IsolatedStays : Type 0 where
-  pub opened : (sessions limit : ℕ) → IsSplitEngine (fresh sessions limit)
-  pub answered : (old new : AuditState) (command : Command) (answer : Reply) → AnswersIsolated old command answer new → IsSplitEngine old.engine → IsSplitEngine new.engine
+  pub opened : (most sessions limit : ℕ) → IsSplitEngine (fresh most sessions limit)
+  pub answered : (version : Version) (old new : AuditState) (command : Command) (answer : Reply) → AnswersIsolated version old command answer new → IsSplitEngine old.engine → IsSplitEngine new.engine

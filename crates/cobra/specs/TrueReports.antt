@@ -39,7 +39,7 @@ accepted_more old command answer = old
 -- The same of a script: nothing was accepted where one is opened. One that resumes another begins with the whole history of that.
 abbrev pub accepted_after : History → Option Accepted → Command → Reply → Option Accepted
 accepted_after whole None (Start sessions limit version) told.Done = Some (record { whole = no_history sessions; asked = no_history sessions })
-accepted_after whole None (StartIsolated sessions limit) told.Done = Some (record { whole = no_history sessions; asked = no_history sessions })
+accepted_after whole None (StartIsolated sessions limit version) told.Done = Some (record { whole = no_history sessions; asked = no_history sessions })
 accepted_after whole None Resumed told.Done = Some (record { whole = whole; asked = whole })
 accepted_after whole None command answer = None
 accepted_after whole (Some old) command answer = Some (accepted_more old command answer)
@@ -68,7 +68,7 @@ IsTrueTold (Some accepted) command answer = TellsTrueOf (reported_on accepted co
 -- split, for the split one.
 abbrev pub BeginsWith : History → Stage → Command → Reply → Type 0
 BeginsWith whole (stage.Handing handed (Ordered version)) Resumed told.Done = StandsFor (handed_parts handed) whole
-BeginsWith whole (stage.Handing handed Isolated) Resumed told.Done = StandsFor (handed_parts handed) (split_history whole) × HistoryCanBeSplit whole
+BeginsWith whole (stage.Handing handed (Isolated version)) Resumed told.Done = StandsFor (handed_parts handed) (split_history whole) × HistoryCanBeSplit whole
 BeginsWith whole old command answer = ⊤
 
 -- Line after line, from where the script stands and what was accepted by then: each line is answered as it may be, and each report is true of

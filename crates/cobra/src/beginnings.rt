@@ -2,7 +2,7 @@
 ghost use Rattle.std.specs.Prelude.{◌≡◌, ◌≢◌, IfOk, IfErr, OnOk};
 ghost use Rattle.txn.specs.declared.refusals.Refusal.{Refusal};
 ghost use Rattle.round_state.specs.Opening.{IsSessions};
-ghost use Rattle.cobra.specs.Scripts.{IsLimitWithin, IsBeginningRefusal, IsTakenIn, Opens, OpensIsolated, Resumes, AnswersFirst, BeginsAnew, AnswersResuming, AnswersHanding, HandsMarks, HandsWriters, HandsOffer, EndsHandOver, TakesHalves, TakesMarks, TakesOver, opened};
+ghost use Rattle.cobra.specs.Scripts.{AreVersionSessions, IsLimitWithin, IsBeginningRefusal, IsIsolatedLimit, IsIsolatedRefusal, IsTakenIn, IsVersionLimit, IsVersionRefusal, Opens, OpensIsolated, Resumes, AnswersFirst, BeginsAnew, AnswersResuming, AnswersHanding, HandsMarks, HandsWriters, HandsOffer, EndsHandOver, TakesHalves, TakesMarks, TakesOver, opened, version_of};
 ghost use Rattle.cobra.specs.declared.stages.Stage.{Stage};
 ghost use Rattle.log_text.specs.declared.commands.Command.{Command};
 ghost use Rattle.log_text.specs.declared.versions.Opening.{Opening};
@@ -19,16 +19,13 @@ use snapshot_scripts::{half_command, half_marks, have_halves};
 use std::alloc::Global;
 use txn::{Fragment, NoMemory, Refusal, Sequence, TxnId};
 
-/// How many transactions may be let remain where each is split.
-const ISOLATED_LIMIT: u64 = 2048;
-
-/// Whether a script may begin with these numbers, where at most so many transactions may be let remain.
-pub fn may_begin(most: u64, sessions: u64, limit: u64) -> Result<(), Refusal>
-    ensures ok { OnOk result (IsSessions sessions × IsLimitWithin most limit) }
-    ensures err { IfErr result (IsBeginningRefusal most sessions limit) }
+/// Whether a script may begin with these numbers, where there may be at most so many sessions, and at most so many transactions may be let remain.
+fn may_begin(many: u64, most: u64, sessions: u64, limit: u64) -> Result<(), Refusal>
+    ensures ok { OnOk result (IsSessions many sessions × IsLimitWithin most limit) }
+    ensures err { IfErr result (IsBeginningRefusal many most sessions limit) }
     ensures memory { IfErr result (λ refusal. refusal ≢ Refusal.NoMemory) }
 {
-    if !is_sessions(sessions) {
+    if !is_sessions(many, sessions) {
         return Err(Refusal::BadSession);
     }
     if limit < 1 || limit > most {
@@ -37,13 +34,41 @@ pub fn may_begin(most: u64, sessions: u64, limit: u64) -> Result<(), Refusal>
     Ok(())
 }
 
+/// Whether a script of this version may begin with these numbers.
+pub fn may_begin_ordered(version: Version, sessions: u64, limit: u64) -> Result<(), Refusal>
+    ensures ok { OnOk result (AreVersionSessions version sessions × IsVersionLimit version limit) }
+    ensures err { IfErr result (IsVersionRefusal version sessions limit) }
+    ensures memory { IfErr result (λ refusal. refusal ≢ Refusal.NoMemory) }
+{
+    may_begin(
+        version.most_sessions(),
+        version.greatest_limit(),
+        sessions,
+        limit,
+    )
+}
+
+/// The same, where each transaction is split.
+pub fn may_begin_isolated(version: Version, sessions: u64, limit: u64) -> Result<(), Refusal>
+    ensures ok { OnOk result (AreVersionSessions version sessions × IsIsolatedLimit version limit) }
+    ensures err { IfErr result (IsIsolatedRefusal version sessions limit) }
+    ensures memory { IfErr result (λ refusal. refusal ≢ Refusal.NoMemory) }
+{
+    may_begin(
+        version.most_sessions(),
+        version.greatest_split_limit(),
+        sessions,
+        limit,
+    )
+}
+
 fn open(alloc: Global, sessions: u64, limit: u64, version: Version) -> (Reply, Option<Stage>)
     ensures { Opens sessions limit version result.0 result.1 }
 {
-    if let Err(refusal) = may_begin(version.greatest_limit(), sessions, limit) {
+    if let Err(refusal) = may_begin_ordered(version, sessions, limit) {
         return (Reply::No(refusal), None);
     }
-    match OpenEngine::open(alloc, sessions, limit) {
+    match OpenEngine::open(alloc, version.most_sessions(), sessions, limit) {
         Ok(engine) => {
             let audit = Audit::new(engine);
             (Reply::Done, Some(Stage::Open { audit, version }))
@@ -53,16 +78,21 @@ fn open(alloc: Global, sessions: u64, limit: u64, version: Version) -> (Reply, O
 }
 
 /// Opens an engine whose transactions are split: it has room for two of each.
-fn open_isolated(alloc: Global, sessions: u64, limit: u64) -> (Reply, Option<Stage>)
-    ensures { OpensIsolated sessions limit result.0 result.1 }
+fn open_isolated(
+    alloc: Global,
+    sessions: u64,
+    limit: u64,
+    version: Version,
+) -> (Reply, Option<Stage>)
+    ensures { OpensIsolated sessions limit version result.0 result.1 }
 {
-    if let Err(refusal) = may_begin(ISOLATED_LIMIT, sessions, limit) {
+    if let Err(refusal) = may_begin_isolated(version, sessions, limit) {
         return (Reply::No(refusal), None);
     }
-    match OpenEngine::open(alloc, sessions, 2 * limit) {
+    match OpenEngine::open(alloc, version.most_sessions(), sessions, 2 * limit) {
         Ok(engine) => {
             let audit = Audit::new(engine);
-            (Reply::Done, Some(Stage::Isolated { audit }))
+            (Reply::Done, Some(Stage::Isolated { audit, version }))
         }
         Err(refusal) => (Reply::No(refusal), None),
     }
@@ -71,7 +101,7 @@ fn open_isolated(alloc: Global, sessions: u64, limit: u64) -> (Reply, Option<Sta
 fn begin_ordered(sessions: u64, limit: u64, version: Version) -> (Reply, Option<Stage>)
     ensures { Resumes sessions limit (Opening.Ordered version) result.0 result.1 }
 {
-    if let Err(refusal) = may_begin(version.greatest_limit(), sessions, limit) {
+    if let Err(refusal) = may_begin_ordered(version, sessions, limit) {
         return (Reply::No(refusal), None);
     }
     let begun = Stage::Resuming {
@@ -83,16 +113,16 @@ fn begin_ordered(sessions: u64, limit: u64, version: Version) -> (Reply, Option<
 }
 
 /// Of parts with room for two of each transaction.
-fn begin_isolated(sessions: u64, limit: u64) -> (Reply, Option<Stage>)
-    ensures { Resumes sessions limit Opening.Isolated result.0 result.1 }
+fn begin_isolated(sessions: u64, limit: u64, version: Version) -> (Reply, Option<Stage>)
+    ensures { Resumes sessions limit (Opening.Isolated version) result.0 result.1 }
 {
-    if let Err(refusal) = may_begin(ISOLATED_LIMIT, sessions, limit) {
+    if let Err(refusal) = may_begin_isolated(version, sessions, limit) {
         return (Reply::No(refusal), None);
     }
     let begun = Stage::Resuming {
         sessions,
         limit: 2 * limit,
-        opening: Opening::Isolated,
+        opening: Opening::Isolated(version),
     };
     (Reply::Done, Some(begun))
 }
@@ -102,7 +132,7 @@ fn begin_hand_over(sessions: u64, limit: u64, opening: Opening) -> (Reply, Optio
 {
     match opening {
         Opening::Ordered(version) => begin_ordered(sessions, limit, version),
-        Opening::Isolated => begin_isolated(sessions, limit),
+        Opening::Isolated(version) => begin_isolated(sessions, limit, version),
     }
 }
 
@@ -116,7 +146,11 @@ fn answer_first(alloc: Global, command: Command) -> (Reply, Option<Stage>)
             limit,
             version,
         } => open(alloc, sessions, limit, version),
-        Command::StartIsolated { sessions, limit } => open_isolated(alloc, sessions, limit),
+        Command::StartIsolated {
+            sessions,
+            limit,
+            version,
+        } => open_isolated(alloc, sessions, limit, version),
         Command::Resume {
             sessions,
             limit,
@@ -176,6 +210,15 @@ fn leave_handing(
     }
 }
 
+/// The version in whose lines something is opened.
+fn version_of(opening: Opening) -> Version
+    ensures { result ≡ version_of opening }
+{
+    match opening {
+        Opening::Ordered(version) | Opening::Isolated(version) => version,
+    }
+}
+
 fn hand_marks(
     alloc: Global,
     sessions: u64,
@@ -186,7 +229,8 @@ fn hand_marks(
 ) -> (Reply, Stage)
     ensures { HandsMarks sessions limit opening marks closed result.0 result.1 }
 {
-    match Handing::new(alloc, sessions, limit, marks, closed) {
+    let most = version_of(opening).most_sessions();
+    match Handing::new(alloc, most, sessions, limit, marks, closed) {
         Ok(handed) => (Reply::Done, Stage::Handing { handed, opening }),
         Err(refusal) => {
             let stage = Stage::Resuming {
@@ -221,31 +265,40 @@ fn hand_halves(
     alloc: Global,
     sessions: u64,
     limit: u64,
+    version: Version,
     marks: &[u64],
     closed: Sequence<bool>,
     begun: &[bool],
 ) -> Result<(Reply, Stage), NoMemory>
-    ensures { IfOk result (λ answered. TakesHalves sessions limit (Command.MarksBegun marks.now closed begun.now) answered.0 answered.1) }
+    ensures { IfOk result (λ answered. TakesHalves sessions limit version (Command.MarksBegun marks.now closed begun.now) answered.0 answered.1) }
 {
     if !have_halves(marks, begun) {
         let stage = Stage::Resuming {
             sessions,
             limit,
-            opening: Opening::Isolated,
+            opening: Opening::Isolated(version),
         };
         return Ok((Reply::No(Refusal::BadParts), stage));
     }
     let halves = half_marks(alloc, marks, begun)?;
-    Ok(hand_marks(alloc, sessions, limit, Opening::Isolated, halves, closed))
+    Ok(hand_marks(
+        alloc,
+        sessions,
+        limit,
+        Opening::Isolated(version),
+        halves,
+        closed,
+    ))
 }
 
 fn take_halves(
     alloc: Global,
     sessions: u64,
     limit: u64,
+    version: Version,
     command: Command,
 ) -> Result<(Reply, Stage), NoMemory>
-    ensures { IfOk result (λ answered. TakesHalves sessions limit command answered.0 answered.1) }
+    ensures { IfOk result (λ answered. TakesHalves sessions limit version command answered.0 answered.1) }
 {
     match command {
         Command::MarksBegun {
@@ -256,11 +309,12 @@ fn take_halves(
             alloc,
             sessions,
             limit,
+            version,
             marks.as_slice(),
             closed,
             begun.as_slice(),
         ),
-        _ => Ok(leave_resuming(alloc, sessions, limit, Opening::Isolated, command)),
+        _ => Ok(leave_resuming(alloc, sessions, limit, Opening::Isolated(version), command)),
     }
 }
 
@@ -275,7 +329,7 @@ pub(crate) fn answer_resuming(
 {
     match opening {
         Opening::Ordered(_) => Ok(take_marks(alloc, sessions, limit, opening, command)),
-        Opening::Isolated => take_halves(alloc, sessions, limit, command),
+        Opening::Isolated(version) => take_halves(alloc, sessions, limit, version, command),
     }
 }
 
@@ -322,7 +376,7 @@ fn opened(opening: Opening, audit: Audit) -> Stage
 {
     match opening {
         Opening::Ordered(version) => Stage::Open { audit, version },
-        Opening::Isolated => Stage::Isolated { audit },
+        Opening::Isolated(version) => Stage::Isolated { audit, version },
     }
 }
 
@@ -360,15 +414,9 @@ pub(crate) fn answer_handing(
 {
     match opening {
         Opening::Ordered(_) => Ok(take_over(alloc, handed, opening, command)),
-        Opening::Isolated => match half_command(alloc, &handed.parts, command)? {
-            Ok(half) => Ok(take_over(alloc, handed, Opening::Isolated, half)),
-            Err(refusal) => {
-                let stage = Stage::Handing {
-                    handed,
-                    opening: Opening::Isolated,
-                };
-                Ok((Reply::No(refusal), stage))
-            }
+        Opening::Isolated(_) => match half_command(alloc, &handed.parts, command)? {
+            Ok(half) => Ok(take_over(alloc, handed, opening, half)),
+            Err(refusal) => Ok((Reply::No(refusal), Stage::Handing { handed, opening })),
         },
     }
 }

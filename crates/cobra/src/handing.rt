@@ -53,11 +53,12 @@ fn writers_of(alloc: Global, entries: &[(u64, TxnId)]) -> Result<Option<LastWrit
 impl Handing {
     fn first(
         alloc: Global,
+        most_sessions: u64,
         limit: u64,
         marks: Sequence<u64>,
         closed: Sequence<bool>,
     ) -> Result<Handing, NoMemory>
-        ensures { IfOk result (λ handed. handed ≡ handed_first limit marks closed) }
+        ensures { IfOk result (λ handed. handed ≡ handed_first most_sessions limit marks closed) }
     {
         let remain = empty_sessions(alloc, marks.len())?;
         let base = Base {
@@ -69,27 +70,29 @@ impl Handing {
                 base,
                 remain,
                 closed,
+                most_sessions,
                 limit,
             },
             last: Sequence::new(Vec::new(alloc)),
         })
     }
 
-    /// What is handed over once the marks and the flags are.
+    /// What is handed over once the marks and the flags are, where sessions are numbered below this.
     pub(crate) fn new(
         alloc: Global,
+        most_sessions: u64,
         sessions: u64,
         limit: u64,
         marks: Sequence<u64>,
         closed: Sequence<bool>,
     ) -> Result<Handing, Refusal>
-        ensures ok { IfOk result (λ handed. AreOfSessions sessions marks closed × (handed ≡ handed_first limit marks closed)) }
+        ensures ok { IfOk result (λ handed. AreOfSessions sessions marks closed × (handed ≡ handed_first most_sessions limit marks closed)) }
         ensures err { IfErr result (IsMarksRefusal sessions marks closed) }
     {
         if !are_of_sessions(sessions, marks.as_slice(), closed.as_slice()) {
             return Err(Refusal::BadParts);
         }
-        Ok(Handing::first(alloc, limit, marks, closed)?)
+        Ok(Handing::first(alloc, most_sessions, limit, marks, closed)?)
     }
 
     /// Takes last writers, all of them or none.
@@ -191,6 +194,7 @@ fn with_writers(parts: Parts, last: LastWriters) -> (Parts, LastWriters)
         base,
         remain,
         closed,
+        most_sessions,
         limit,
     } = parts;
     let Base {
@@ -201,6 +205,7 @@ fn with_writers(parts: Parts, last: LastWriters) -> (Parts, LastWriters)
         base: Base { last, marks },
         remain,
         closed,
+        most_sessions,
         limit,
     };
     (parts, before)

@@ -1,5 +1,5 @@
 //! Laws of scripts. The functions do nothing.
-ghost use Rattle.cobra.specs.Limits.{LimitsStay};
+ghost use Rattle.cobra.specs.Limits.{BoundsStay};
 ghost use Rattle.cobra.specs.SplitStages.{IsolatedStays};
 ghost use Rattle.cobra.specs.TrueReports.{EachReportIsTrue};
 
@@ -18,9 +18,9 @@ pub fn each_report_is_true()
     split_doubles_counts();
 }
 
-/// A script keeps the limit that it was opened with, which is one of its version.
-pub fn limits_stay()
-    ensures { LimitsStay }
+/// A script keeps the bounds of its version: how many sessions there may be, and how many transactions may remain.
+pub fn bounds_stay()
+    ensures { BoundsStay }
 {}
 
 /// A script that asks for snapshot isolation keeps parts of split transactions.

@@ -18,13 +18,13 @@ mod serving;
 mod showing;
 mod stages;
 
-pub use beginnings::may_begin;
+pub use beginnings::{may_begin_isolated, may_begin_ordered};
 pub use byte_lines::{
     ByteSink, ByteSource, DeviceFault, Exit, Failure, LONGEST_LINE, LineReader, MemorySink,
     MemorySource, Next, Pace, ReaderSource, StandardInput, StandardOutput, WriterSink, write_all,
 };
 pub use handing::Handing;
-pub use laws::{each_report_is_true, isolated_stays, limits_stay};
+pub use laws::{bounds_stay, each_report_is_true, isolated_stays};
 pub use means::Means;
 pub use programs::{Asked, asked_in, asked_of, exit_of, tell};
 pub use replies::{certificate_of, cut_of, reply_of, report_of};

@@ -66,14 +66,19 @@ impl Model for OpenEngine {
 }
 
 impl OpenEngine {
-    pub(crate) fn open(alloc: Global, sessions: u64, limit: u64) -> Result<OpenEngine, Refusal>
-        ensures ok { IfOk result (λ engine. engine ≡ fresh sessions limit) }
-        ensures holds { OnOk result (Holds (fresh sessions limit) (fresh_state sessions limit)) }
-        ensures numbers { OnOk result (IsSessions sessions × IsLimit limit) }
-        ensures err { IfErr result (IsOpenRefusal sessions limit) }
+    pub(crate) fn open(
+        alloc: Global,
+        most_sessions: u64,
+        sessions: u64,
+        limit: u64,
+    ) -> Result<OpenEngine, Refusal>
+        ensures ok { IfOk result (λ engine. engine ≡ fresh most_sessions sessions limit) }
+        ensures holds { OnOk result (Holds (fresh most_sessions sessions limit) (fresh_state most_sessions sessions limit)) }
+        ensures numbers { OnOk result (IsSessions most_sessions sessions × IsLimit limit) }
+        ensures err { IfErr result (IsOpenRefusal most_sessions sessions limit) }
     {
         Ok(OpenEngine {
-            engine: Engine::open(alloc, sessions, limit)?,
+            engine: Engine::open(alloc, most_sessions, sessions, limit)?,
             kept: None,
             last: LastTold::nothing(),
         })

@@ -204,16 +204,17 @@ fn answer_open<'s, E, R: Threads, P: PlainSolver + Sync, S: Solver + Sync>(
 fn answer_isolated<'s, E, R: Threads, P: PlainSolver + Sync, S: Solver + Sync>(
     audit: &mut Audit,
     means: &Means<'_, 's, E, R, P, S>,
+    version: Version,
     command: Command,
 ) -> Result<Reply, NoMemory>
     requires plain { P.ready }
     requires guided { S.ready }
     requires limits { HasLimits command }
-    ensures { IfOk result (λ answer. AnswersIsolated audit.old command answer audit.new) }
+    ensures { IfOk result (λ answer. AnswersIsolated version audit.old command answer audit.new) }
 {
-    match split_command(means.alloc, command)? {
+    match split_command(means.alloc, version.most_sessions(), command)? {
         Ok(split) => {
-            let reply = answer_open(audit, means, Version::Two, split)?;
+            let reply = answer_open(audit, means, version, split)?;
             isolated_of(means.alloc, reply)
         }
         Err(refusal) => Ok(Reply::No(refusal)),
@@ -245,10 +246,10 @@ fn answered<'s, E, R: Threads, P: PlainSolver + Sync, S: Solver + Sync>(
             let reply = answer_open(&mut audit, means, version, command)?;
             Ok((reply, Stage::Open { audit, version }))
         }
-        Stage::Isolated { audit } => {
+        Stage::Isolated { audit, version } => {
             let mut audit = audit;
-            let reply = answer_isolated(&mut audit, means, command)?;
-            Ok((reply, Stage::Isolated { audit }))
+            let reply = answer_isolated(&mut audit, means, version, command)?;
+            Ok((reply, Stage::Isolated { audit, version }))
         }
     }
 }

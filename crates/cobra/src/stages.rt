@@ -30,9 +30,10 @@ pub(crate) enum Stage {
         audit: Audit,
         version: Version,
     },
-    /// An engine is open whose transactions are split, for lines of version 2 that ask for snapshot isolation.
+    /// An engine is open whose transactions are split, for lines of this version that ask for snapshot isolation.
     Isolated {
         audit: Audit,
+        version: Version,
     },
 }
 

@@ -26,7 +26,7 @@ demo_search = record { budget = 4096; depth = 2 }
 -- The auditor of four sessions took these parcels, an end of each collector among them, and sent these entries: each report is true of what was
 -- accepted, and the last counts all of it.
 pub record HasAudited (taken : List Parcel) (sent : List Entry) : Type 0 where
-  pub live : Live 4 4096 demo_search taken sent
+  pub live : Live 64 4 4096 demo_search taken sent
   pub ends : (collector : ℕ) → collector < 4 → HasEnded collector taken
   pub reports : All (IsTrueEntry (accepted_history 4 taken sent)) sent
   pub last : IsLastCount (map length (accepted_history 4 taken sent)) sent

@@ -31,7 +31,7 @@ pub fn audit<'s, E, R: Threads + Wait, S: Solver + Sync>(
 ) -> Result<(), Refusal>
     requires ready { S.ready }
     requires none_open { engine.asked ≡ None }
-    requires holds { Holds engine (fresh_state 4 4096) }
+    requires holds { Holds engine (fresh_state 64 4 4096) }
     requires side { IsFreshSide hall.now side.old }
     ensures same { IsSameSide side.old side.new }
     ensures audited { OnOk result (HasAudited side.new.pass.1 side.new.sender.sent) }

@@ -22,12 +22,15 @@ use std::sync::{Mutex, Wait};
 use std::thread::Threads;
 use txn::{NoMemory, Sequence};
 
+/// How many sessions there may be.
+const MOST_SESSIONS: u64 = 64;
+
 /// An engine of four sessions.
 fn open_engine(alloc: Global) -> Result<Engine, NoMemory>
     ensures none_open { IfOk result (λ engine. engine.asked ≡ None) }
-    ensures holds { IfOk result (λ engine. Holds engine (fresh_state 4 4096)) }
+    ensures holds { IfOk result (λ engine. Holds engine (fresh_state 64 4 4096)) }
 {
-    match Engine::open(alloc, 4, 4096) {
+    match Engine::open(alloc, MOST_SESSIONS, 4, 4096) {
         Ok(engine) => Ok(engine),
         Err(_) => Err(AllocError),
     }

@@ -286,7 +286,7 @@ fn outcome_of<R: Wait>(rt: &R, hall: Hall, returned: Returned) -> Played
 fn open_engine(alloc: Global, sessions: u64) -> Result<Engine, NoMemory>
     ensures { IfOk result (λ engine. engine.asked ≡ None) }
 {
-    match Engine::open(alloc, sessions, 4096) {
+    match Engine::open(alloc, 64, sessions, 4096) {
         Ok(engine) => Ok(engine),
         Err(_) => Err(AllocError),
     }

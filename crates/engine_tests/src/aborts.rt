@@ -206,7 +206,7 @@ fn three(alloc: Global) -> Result<LoggedFragment, txn::NoMemory> {
 }
 
 fn report_on_three(alloc: Global) -> Result<Report, Refusal> {
-    let mut engine = Engine::open(alloc, 1, 8)?;
+    let mut engine = Engine::open(alloc, 64, 1, 8)?;
     engine.offer(alloc, three(alloc)?)?;
     let problem = engine.begin(alloc)?;
     let answer = Single.solve(alloc, &problem, 8, 0, 1);

@@ -323,7 +323,7 @@ fn histories() -> &'static [History] {
 }
 
 pub fn assert_history(rt: &impl Abort, alloc: Global, history: &History) -> Result<(), Refusal> {
-    let mut engine = Engine::open(alloc, history.sessions, 16)?;
+    let mut engine = Engine::open(alloc, 64, history.sessions, 16)?;
     assert_run(rt, alloc, &mut engine, history.row)?;
     assert_eq!(rt; engine.remaining(), history.left, "{}", history.name);
     Ok(())

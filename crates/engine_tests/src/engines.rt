@@ -63,7 +63,7 @@ fn rows() -> &'static [Row] {
 }
 
 fn assert_fresh(rt: &impl Abort, alloc: Global, row: Row) -> Result<(), Refusal> {
-    let mut engine = Engine::open(alloc, 2, 8)?;
+    let mut engine = Engine::open(alloc, 64, 2, 8)?;
     Ok(assert_run(rt, alloc, &mut engine, row)?)
 }
 
@@ -87,7 +87,7 @@ fn open_round(alloc: Global, engine: &mut Engine) -> Result<(), Refusal> {
 
 /// An engine with such a round.
 fn reader_first(alloc: Global) -> Result<Engine, Refusal> {
-    let mut engine = Engine::open(alloc, 2, 8)?;
+    let mut engine = Engine::open(alloc, 64, 2, 8)?;
     open_round(alloc, &mut engine)?;
     Ok(engine)
 }
@@ -200,28 +200,37 @@ fn what_an_engine_shows(rt: HostRuntime) -> Result<(), Fail> {
     Ok(assert_seen(&rt, rt.alloc())?)
 }
 
-/// Sessions, a limit, and how an engine of them is refused.
-static NUMBERS: [(u64, u64, Option<Refusal>); 7] = [
-    (1, 1, None),
-    (64, 4097, None),
-    (64, 1_048_576, None),
-    (0, 1_048_577, Some(BadSession)),
-    (65, 1_048_576, Some(BadSession)),
-    (1, 0, Some(TooLong)),
-    (64, 1_048_577, Some(TooLong)),
+/// How many sessions there may be, how many there are, a limit, and how an engine of them is refused.
+static NUMBERS: [(u64, u64, u64, Option<Refusal>); 16] = [
+    (64, 1, 1, None),
+    (64, 64, 4097, None),
+    (64, 64, 1_048_576, None),
+    (64, 0, 1_048_577, Some(BadSession)),
+    (64, 65, 1_048_576, Some(BadSession)),
+    (64, 1, 0, Some(TooLong)),
+    (64, 64, 1_048_577, Some(TooLong)),
+    (256, 65, 1, None),
+    (256, 256, 1_048_576, None),
+    (256, 257, 1, Some(BadSession)),
+    (256, 256, 1_048_577, Some(TooLong)),
+    (255, 256, 1, Some(BadSession)),
+    (257, 1, 1, Some(BadSession)),
+    (257, 257, 1, Some(BadSession)),
+    (u64::MAX, 1, 1, Some(BadSession)),
+    (0, 1, 1, Some(BadSession)),
 ];
 
-fn numbers() -> &'static [(u64, u64, Option<Refusal>)] {
+fn numbers() -> &'static [(u64, u64, u64, Option<Refusal>)] {
     &NUMBERS
 }
 
-fn refusal_of(alloc: Global, sessions: u64, limit: u64) -> Option<Refusal> {
-    Engine::open(alloc, sessions, limit).err()
+fn refusal_of(alloc: Global, most_sessions: u64, sessions: u64, limit: u64) -> Option<Refusal> {
+    Engine::open(alloc, most_sessions, sessions, limit).err()
 }
 
 #[test]
 fn engines_of_such_numbers(rt: HostRuntime) {
-    for (sessions, limit, wanted) in numbers() {
-        assert_eq!(rt; refusal_of(rt.alloc(), *sessions, *limit), *wanted);
+    for (most, sessions, limit, wanted) in numbers() {
+        assert_eq!(rt; refusal_of(rt.alloc(), *most, *sessions, *limit), *wanted);
     }
 }

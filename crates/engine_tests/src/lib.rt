@@ -10,6 +10,8 @@ mod engines;
 #[cfg(test)]
 mod joins;
 #[cfg(test)]
+mod many_sessions;
+#[cfg(test)]
 mod parts;
 #[cfg(test)]
 mod runs;

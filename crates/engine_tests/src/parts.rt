@@ -6,7 +6,7 @@ use round_state::Engine;
 use std::alloc::Global;
 use std::process::Abort;
 use std::test::*;
-use txn::Refusal::{self, BadParts, NoCut, NoRound, Repeat, TooLong};
+use txn::Refusal::{self, BadParts, BadSession, NoCut, NoRound, Repeat, TooLong};
 use txn::Source::{By, Init};
 use txn::{NoMemory, Sequence, Txn, TxnId};
 
@@ -30,6 +30,7 @@ struct Case {
     last: &'static [(u64, TxnId)],
     remain: &'static [Content],
     closed: &'static [bool],
+    most_sessions: u64,
     limit: u64,
     steps: Option<Row>,
 }
@@ -41,14 +42,25 @@ const EMPTY: Case = Case {
     last: &[],
     remain: &[],
     closed: &[false],
+    most_sessions: 64,
     limit: 16,
     steps: None,
 };
 
-static CASES: [Case; 12] = [
+static CASES: [Case; 15] = [
     Case {
         name: "a flag too many",
         closed: &[false, false],
+        ..EMPTY
+    },
+    Case {
+        name: "there may be no session",
+        most_sessions: 0,
+        ..EMPTY
+    },
+    Case {
+        name: "there may be 257 sessions",
+        most_sessions: 257,
         ..EMPTY
     },
     Case {
@@ -87,6 +99,15 @@ static CASES: [Case; 12] = [
     Case {
         name: "a read from itself",
         remain: &[READS_5_OF_0_0],
+        ..EMPTY
+    },
+    Case {
+        name: "there may be one session",
+        most_sessions: 1,
+        steps: Some(&[
+            (Act::Offer(0, 0, FENCE_OF_INIT), Want::Done),
+            (Act::Join(1, 0, FENCE_OF_0_0), Want::No(BadSession)),
+        ]),
         ..EMPTY
     },
     Case {
@@ -175,6 +196,7 @@ fn parts_of(alloc: Global, case: &Case) -> Result<Parts, NoMemory> {
         base: base_of(alloc, case)?,
         remain: Sequence::new(vec![in alloc; txns]?),
         closed: Sequence::new(case.closed.to_vec(alloc)?),
+        most_sessions: case.most_sessions,
         limit: case.limit,
     })
 }
@@ -187,6 +209,7 @@ fn are_of(alloc: Global, parts: &Parts, case: &Case) -> Result<bool, NoMemory> {
             && parts.mark_of(0) == case.mark
             && parts.remaining_of(0).len() == case.remain.len()
             && parts.closed.as_slice() == case.closed
+            && parts.most_sessions == case.most_sessions
             && parts.limit == case.limit,
     )
 }
@@ -232,6 +255,8 @@ fn bad_parts_come_back(rt: HostRuntime) -> Result<(), Fail> {
 
 const FENCE_OF_INIT: Content = (&[(0, Init)], &[0]);
 
+const FENCE_OF_0_0: Content = (&[(0, By(ID_0_0))], &[0]);
+
 const FENCE_OF_0_1: Content = (&[(0, By(ID_0_1))], &[0]);
 
 /// A cut is held, and the next round is open.
@@ -274,7 +299,7 @@ fn after() -> Row {
 
 /// What is left of an engine with an open round and a held cut.
 fn handed_on(rt: &impl Abort, alloc: Global) -> Result<Parts, Refusal> {
-    let mut engine = Engine::open(alloc, 2, 8)?;
+    let mut engine = Engine::open(alloc, 64, 2, 8)?;
     assert_run(rt, alloc, &mut engine, before())?;
     Ok(engine.into_parts())
 }

@@ -58,13 +58,14 @@ fn nothing(alloc: Global) -> Result<Parts, NoMemory> {
         },
         remain,
         closed: Sequence::new([false, false].to_vec(alloc)?),
+        most_sessions: 64,
         limit: 8,
     })
 }
 
 /// An engine of two sessions that has taken in nothing.
 fn audit_beside(alloc: Global, whole: Parts) -> Result<Audit, Refusal> {
-    match Engine::open(alloc, 2, 8) {
+    match Engine::open(alloc, 64, 2, 8) {
         Ok(engine) => Ok(Audit {
             engine,
             whole,

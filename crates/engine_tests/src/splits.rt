@@ -217,7 +217,7 @@ fn assert_finishes(rt: &impl Abort, alloc: Global, engine: &mut Engine) {
 }
 
 fn assert_refuted(rt: &impl Abort, alloc: Global) -> Result<(), Refusal> {
-    let mut engine = Engine::open(alloc, 8, 16)?;
+    let mut engine = Engine::open(alloc, 64, 8, 16)?;
     assert_eq!(rt; begin(alloc, &mut engine)?, 4);
     assert_finishes(rt, alloc, &mut engine);
     Ok(())

@@ -3,7 +3,7 @@ ghost use Rattle.std.specs.Prelude.{◌≡◌, ◌<◌, length};
 ghost use Rattle.clock_choices.specs.BranchState.{last_steps};
 
 use crate::choosing::Recent;
-use clock_choices::Branch;
+use clock_choices::{Branch, PathFinder};
 use refutation::{Leaf, Tree};
 use std::alloc::Global;
 use std::collections::BTreeSet;
@@ -58,6 +58,7 @@ fn count_steps(branch: &Branch) -> usize
 fn used_step(
     alloc: Global,
     branch: &Branch,
+    finder: &mut PathFinder,
     place: usize,
     used: &mut BTreeSet<(TxnId, TxnId)>,
 ) -> Result<Option<ForceStep>, NoMemory>
@@ -70,7 +71,7 @@ fn used_step(
         return Ok(None);
     }
     let against = arc_of(step.choice, other_side(step.side));
-    let cycle = branch.cycle_of(alloc, place)?;
+    let cycle = branch.cycle_of(alloc, finder, place)?;
     note_used(used, cycle.as_slice(), Some(against))?;
     Ok(Some(ForceStep {
         choice: step.choice,
@@ -87,8 +88,9 @@ fn used_steps(
     used: &mut BTreeSet<(TxnId, TxnId)>,
 ) -> Result<Vec<ForceStep>, NoMemory> {
     let mut kept = Vec::new(alloc);
+    let mut finder = PathFinder::new();
     for place in (0..count_steps(branch)).rev() {
-        if let Some(step) = used_step(alloc, branch, place, used)? {
+        if let Some(step) = used_step(alloc, branch, &mut finder, place, used)? {
             recent.note(step.choice)?;
             kept.push(step)?;
         }

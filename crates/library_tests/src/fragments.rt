@@ -242,6 +242,20 @@ static SIZES: [Size; 11] = [
     },
 ];
 
+/// How many sessions there may be, a session, and what is found in a fragment of it, and in one that reads from it.
+type Bound = (u64, u8, Result<(), Refusal>, Result<(), Refusal>);
+
+static BOUNDS: [Bound; 8] = [
+    (64, 63, Ok(()), Ok(())),
+    (64, 64, Err(Refusal::BadSession), Err(Refusal::BadTxn)),
+    (64, 255, Err(Refusal::BadSession), Err(Refusal::BadTxn)),
+    (65, 64, Ok(()), Ok(())),
+    (255, 254, Ok(()), Ok(())),
+    (255, 255, Err(Refusal::BadSession), Err(Refusal::BadTxn)),
+    (256, 64, Ok(()), Ok(())),
+    (256, 255, Ok(()), Ok(())),
+];
+
 static TEXTS: [(Refusal, &str); 4] = [
     (
         Refusal::BadLine,
@@ -261,6 +275,10 @@ fn list_rows() -> &'static [Lists] {
 
 fn size_rows() -> &'static [Size] {
     &SIZES
+}
+
+fn bounds() -> &'static [Bound] {
+    &BOUNDS
 }
 
 fn texts() -> &'static [(Refusal, &'static str)] {
@@ -293,7 +311,7 @@ fn writers(alloc: Global, row: &Size) -> Result<Sequence<Txn>, NoMemory> {
 }
 
 fn assert_found(rt: &impl Abort, fragment: &Fragment, wanted: Result<(), Refusal>, row: &str) {
-    assert_eq!(rt; check_fragment(fragment), wanted, "{row}");
+    assert_eq!(rt; check_fragment(64, fragment), wanted, "{row}");
 }
 
 #[test]
@@ -313,6 +331,42 @@ fn good_and_faulty_sizes(rt: HostRuntime) -> Result<(), Fail> {
             txns: writers(rt.alloc(), row)?,
         };
         assert_found(&rt, &fragment, row.found, row.name);
+    }
+    Ok(())
+}
+
+/// The transaction 0 of this session, which reads key 3 from 5 of that one.
+fn reader(alloc: Global, session: u8, of: u8) -> Result<Fragment, NoMemory> {
+    let source = By(TxnId {
+        session: of,
+        number: 5,
+    });
+    let txn = Txn {
+        reads: Sequence::new(vec![in alloc; (3, source)]?),
+        writes: Sequence::new(Vec::new(alloc)),
+    };
+    Ok(Fragment {
+        session,
+        first: 0,
+        txns: Sequence::new(vec![in alloc; txn]?),
+    })
+}
+
+#[test]
+fn sessions_below_the_bound(rt: HostRuntime) -> Result<(), Fail> {
+    for (sessions, session, own, other) in bounds() {
+        let of_it = reader(rt.alloc(), *session, 0)?;
+        assert_eq!(rt;
+            check_fragment(*sessions, &of_it),
+            *own,
+            "{session} of {sessions}"
+        );
+        let from_it = reader(rt.alloc(), 0, *session)?;
+        assert_eq!(rt;
+            check_fragment(*sessions, &from_it),
+            *other,
+            "{session} of {sessions}"
+        );
     }
     Ok(())
 }

@@ -36,7 +36,7 @@ fn fragment(alloc: Global, session: u8, first: u64) -> Result<Fragment, NoMemory
 }
 
 fn assert_admits(rt: &impl Abort, marks: &Marks, fragment: &Fragment, wanted: Result<(), Refusal>) {
-    let checked = check_fragment(fragment);
+    let checked = check_fragment(256, fragment);
     assert!(rt; checked.is_ok());
     let (session, first) = (fragment.session, fragment.first);
     assert_eq!(rt; marks.admit(fragment), wanted, "{session}.{first}");
@@ -51,6 +51,19 @@ fn admits_what_is_next(rt: HostRuntime) -> Result<(), Fail> {
         let fragment = fragment(rt.alloc(), *session, *first)?;
         assert_admits(&rt, &marks, &fragment, *wanted);
     }
+    Ok(())
+}
+
+#[test]
+fn the_last_of_256_sessions(rt: HostRuntime) -> Result<(), Fail> {
+    let mut marks = Marks::new(rt.alloc(), 256)?;
+    let first = fragment(rt.alloc(), 255, 0)?;
+    assert_admits(&rt, &marks, &first, Ok(()));
+    let later = fragment(rt.alloc(), 255, 1)?;
+    assert_admits(&rt, &marks, &later, Err(Refusal::Gap));
+    marks.close(255)?;
+    assert_admits(&rt, &marks, &first, Err(Refusal::Closed));
+    assert_eq!(rt; marks.received_counts(rt.alloc())?.len(), 256);
     Ok(())
 }
 

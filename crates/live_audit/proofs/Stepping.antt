@@ -24,11 +24,11 @@ use Rattle.live_audit.proofs.Answering.{for_memory, none_or_some}
 abbrev pub RightIsLegal : EngineState → Type 0
 RightIsLegal old = (asked : Step) (said : StepReply) (new : EngineState) → StepsTo old asked said new → StepsLegally old asked said new
 
-pub offered : (old new : EngineState) (logged : LoggedFragment) (said : Result (Unit {0}) Refusal) → RightIsLegal old → OnOk said (IsWellFormedFragment logged.fragment × IsAdmitted old.parts (effects logged) × (new ≡ engine_offered old (effects logged))) → IfErr said (λ refusal. IsOfferRefusal old.parts logged refusal × (new ≡ old)) → TakesIn old (item.Fragment logged) said new
+pub offered : (old new : EngineState) (logged : LoggedFragment) (said : Result (Unit {0}) Refusal) → RightIsLegal old → OnOk said (IsWellFormedFragment old.parts.most_sessions logged.fragment × IsAdmitted old.parts (effects logged) × (new ≡ engine_offered old (effects logged))) → IfErr said (λ refusal. IsOfferRefusal old.parts logged refusal × (new ≡ old)) → TakesIn old (item.Fragment logged) said new
 offered old new logged (Ok done) legal ok err = (step.Offer logged, refl, legal (step.Offer logged) reply.Done new ok)
 offered old new logged (Err refusal) legal ok err = (step.Offer logged, refl, legal (step.Offer logged) (reply.Refused refusal) new err)
 
-pub joined : (old new : EngineState) (logged : LoggedFragment) (said : Result (Unit {0}) Refusal) → RightIsLegal old → OnOk said (IsWellFormedFragment logged.fragment × (old.asked ≡ None) × IsLetIn old.parts (effects logged) × (new ≡ engine_joined old (effects logged))) → IfErr said (λ refusal. IsJoinRefusal old logged refusal × (new ≡ old)) → TakesIn old (item.Join logged) said new
+pub joined : (old new : EngineState) (logged : LoggedFragment) (said : Result (Unit {0}) Refusal) → RightIsLegal old → OnOk said (IsWellFormedFragment old.parts.most_sessions logged.fragment × (old.asked ≡ None) × IsLetIn old.parts (effects logged) × (new ≡ engine_joined old (effects logged))) → IfErr said (λ refusal. IsJoinRefusal old logged refusal × (new ≡ old)) → TakesIn old (item.Join logged) said new
 joined old new logged (Ok done) legal ok err = (step.Join logged, refl, legal (step.Join logged) reply.Done new ok)
 joined old new logged (Err refusal) legal ok err = (step.Join logged, refl, legal (step.Join logged) (reply.Refused refusal) new err)
 

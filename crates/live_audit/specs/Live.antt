@@ -77,8 +77,8 @@ abbrev pub MovesOn : Search → EngineState → List Parcel → List Entry → E
 MovesOn search old taken sent new = (before : State) → Holds old before → (after : State) × Moves search before taken sent after × Holds new after
 
 -- From a fresh engine: what was taken, and what was sent for it, with an end behind it and nothing else.
-pub record Live (sessions limit : ℕ) (search : Search) (taken : List Parcel) (sent : List Entry) : Type 0 where
+pub record Live (most sessions limit : ℕ) (search : Search) (taken : List Parcel) (sent : List Entry) : Type 0 where
   pub front : List Entry
   pub after : State
-  pub moves : Moves search (fresh_state sessions limit) taken front after
+  pub moves : Moves search (fresh_state most sessions limit) taken front after
   pub end : sent ≡ front ++ End ∷ []

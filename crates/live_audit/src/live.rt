@@ -315,12 +315,12 @@ pub fn audit_live<'s, E, R: Threads + Wait, S: Solver + Sync>(
     requires desk { side.old.pass.0 ≡ means.now.desk.now.0 }
     requires word { side.old.seat.word ≡ means.now.latest.now }
     requires fresh { (side.old.pass.1 ≡ []) × (side.old.sender.sent ≡ []) × (side.old.seat.published ≡ []) }
-    ensures live { (sessions limit : ℕ) → Holds engine (fresh_state sessions limit) → Live sessions limit (record { budget = means.now.effort.budget; depth = means.now.effort.depth }) side.new.pass.1 side.new.sender.sent }
+    ensures live { (most sessions limit : ℕ) → Holds engine (fresh_state most sessions limit) → Live most sessions limit (record { budget = means.now.effort.budget; depth = means.now.effort.depth }) side.new.pass.1 side.new.sender.sent }
     // Each report is true of what was accepted.
-    ensures true_reports { (sessions limit : ℕ) → Holds engine (fresh_state sessions limit) → All (IsTrueEntry (accepted_history sessions side.new.pass.1 side.new.sender.sent)) side.new.sender.sent }
+    ensures true_reports { (most sessions limit : ℕ) → Holds engine (fresh_state most sessions limit) → All (IsTrueEntry (accepted_history sessions side.new.pass.1 side.new.sender.sent)) side.new.sender.sent }
     ensures ended { (collector : ℕ) → collector < 4 → HasEnded collector side.new.pass.1 }
     // The last report counts all that was accepted.
-    ensures last { (sessions limit : ℕ) → Holds engine (fresh_state sessions limit) → MatchResult result (λ _. IsLastCount (map length (accepted_history sessions side.new.pass.1 side.new.sender.sent)) side.new.sender.sent) (λ refusal. IsLastSkipped refusal side.new.sender.sent) }
+    ensures last { (most sessions limit : ℕ) → Holds engine (fresh_state most sessions limit) → MatchResult result (λ _. IsLastCount (map length (accepted_history sessions side.new.pass.1 side.new.sender.sent)) side.new.sender.sent) (λ refusal. IsLastSkipped refusal side.new.sender.sent) }
     // Rounds are made when they are to be, and the last one at the end.
     ensures timed { IsTimed side.new.pass.1 side.new.sender.sent }
     ensures published { side.new.seat.published ≡ reports_in side.new.sender.sent }

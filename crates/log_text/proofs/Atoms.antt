@@ -9,7 +9,8 @@ use Rattle.log_text.specs.Numbers.{whole_number, if_within, number_within, sessi
 use Rattle.log_text.specs.Refutations.{id_at, choice_in, ends_in, keyed_ends_in, arc_named, arc_in, reader_in}
 use Rattle.log_text.specs.Searches.{search_in, search_of}
 use Rattle.log_text.specs.Streams.{is_atom, is_few, TakesFew}
-use Rattle.log_text.specs.Versions.{version_in, promise_of, opening_in}
+use Rattle.log_text.specs.Versions.{version_in, version_numbered, promise_of, opening_in}
+use Rattle.log_text.specs.declared.versions.Version.{Version}
 use Rattle.log_text.specs.declared.commands.Command.TheVariants.{Begin, Skip, Truncate, Rebuild, Show, Resumed}
 
 abbrev IsThere : {X : Type 0} → Option X → Type 0
@@ -176,18 +177,23 @@ read_few (item a rest) there = let both = both_there _ (whole_number a) (source_
 pub read_takes_few : TakesFew 3 read_in
 read_takes_few = of_few 3 read_in read_few
 
-promise_atom : (given : Data) → IsThere (promise_of given) → IsAtom given
-promise_atom null never = absurd never
-promise_atom (boolean b) never = absurd never
-promise_atom (number n) never = absurd never
-promise_atom (string word) there = tt
-promise_atom (array items) never = absurd never
-promise_atom (object ms) never = absurd never
+promise_atom : (version : Version) (given : Data) → IsThere (promise_of given version) → IsAtom given
+promise_atom version null never = absurd never
+promise_atom version (boolean b) never = absurd never
+promise_atom version (number n) never = absurd never
+promise_atom version (string word) there = tt
+promise_atom version (array items) never = absurd never
+promise_atom version (object ms) never = absurd never
+
+-- what is promised of whichever number
+promised_atom : (found : Option ℕ) (given : Data) → IsThere (option_and_then (λ n. promise_of given (version_numbered n)) found) → IsAtom given
+promised_atom None given never = absurd never
+promised_atom (Some n) given there = promise_atom (version_numbered n) given there
 
 opening_few : (given : Items) → IsThere (opening_in given) → AreFewAtoms 2 given
 opening_few no_items there = tt
 opening_few (item a no_items) there = (within_atom 2 3 a (map_there _ (number_within 2 3 a) (map_there _ (version_in (item a no_items)) there)), tt)
-opening_few (item a (item b no_items)) there = let both = both_there _ (number_within 2 2 a) (promise_of b) there in (within_atom 2 2 a both.0, (promise_atom b both.1, tt))
+opening_few (item a (item b no_items)) there = (within_atom 2 3 a (then_there _ (number_within 2 3 a) there), (promised_atom (number_within 2 3 a) b there, tt))
 opening_few (item a (item b (item c rest))) never = absurd never
 
 start_few : (given : Items) → IsThere (start_in given) → AreFewAtoms 4 given

@@ -163,7 +163,7 @@ module _ (n : ℕ) where
 
   start_same : (sessions limit : ℕ) (opening : Opening) → held (Some n) (start_of sessions limit opening) ≡ start_of sessions limit opening
   start_same sessions limit (Ordered version) = refl
-  start_same sessions limit Isolated = refl
+  start_same sessions limit (Isolated version) = refl
 
   start_kept : (parts : Items) → IsKept (start_in parts)
   start_kept no_items = refl

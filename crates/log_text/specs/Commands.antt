@@ -81,9 +81,9 @@ fragment_in = three_items fragment_of session_of whole_number (list_of txn_of)
 -- a script that is opened for this
 abbrev pub start_of : ℕ → ℕ → Opening → Command
 start_of sessions limit (Ordered version) = Start sessions limit version
-start_of sessions limit Isolated = StartIsolated sessions limit
+start_of sessions limit (Isolated version) = StartIsolated sessions limit version
 
--- ["open",sessions,limit], ["open",sessions,limit,2], ["open",sessions,limit,3] or ["open",sessions,limit,2,"snapshot"]
+-- ["open",sessions,limit], ["open",sessions,limit,2], ["open",sessions,limit,3], or with "snapshot" behind 2 or 3
 abbrev pub start_in : Items → Option Command
 start_in (item sessions (item limit behind)) = with_three start_of (whole_number sessions) (whole_number limit) (opening_in behind)
 start_in items = None
@@ -137,7 +137,7 @@ waits_in items = None
 abbrev pub collect_in : Items → Option Command
 collect_in parts = option_map Collect (waits_in parts)
 
--- ["resume",sessions,limit], ["resume",sessions,limit,2], ["resume",sessions,limit,3] or ["resume",sessions,limit,2,"snapshot"]
+-- ["resume",sessions,limit], ["resume",sessions,limit,2], ["resume",sessions,limit,3], or with "snapshot" behind 2 or 3
 abbrev pub resume_in : Items → Option Command
 resume_in (item sessions (item limit behind)) = with_three Resume (whole_number sessions) (whole_number limit) (opening_in behind)
 resume_in items = None

@@ -1,11 +1,10 @@
 -- Versions of scripts.
-use Rattle.std.specs.Prelude.{ℕ, Bool, true, not, Option, Some, None, option_map, bytes_eq, codes, nat_eq, if◌then◌else◌}
+use Rattle.std.specs.Prelude.{ℕ, Bool, true, not, Option, Some, None, option_and_then, option_map, bytes_eq, codes, nat_eq, if◌then◌else◌}
 use Rattle.std.specs.List.{list_any}
 use Rattle.serde_json.specs.Data.{Data, string, Items, no_items, item}
 use Rattle.logged_fragments.specs.declared.logged.LoggedFragment.{LoggedFragment}
 use Rattle.log_text.specs.declared.versions.Version.{Version}
 use Rattle.log_text.specs.declared.versions.Version.TheVariants.{One, Two, Three}
-use Rattle.log_text.specs.Items.{with_both}
 use Rattle.log_text.specs.Numbers.{number_within}
 use Rattle.log_text.specs.declared.versions.Opening.{Opening}
 use Rattle.log_text.specs.declared.versions.Opening.TheVariants.{Ordered, Isolated}
@@ -16,11 +15,23 @@ has_form One logged = not (list_any (λ aborted. aborted) logged.aborted)
 has_form Two logged = true
 has_form Three logged = true
 
+-- how many sessions there may be in a script of a version
+abbrev pub most_sessions : Version → ℕ
+most_sessions One = 64
+most_sessions Two = 64
+most_sessions Three = 256
+
 -- how many transactions may be let remain in a script of a version
 abbrev pub greatest_limit : Version → ℕ
 greatest_limit One = 4096
 greatest_limit Two = 4096
 greatest_limit Three = 1048576
+
+-- the same where each transaction is split in two: half as many
+abbrev pub greatest_split_limit : Version → ℕ
+greatest_split_limit One = 2048
+greatest_split_limit Two = 2048
+greatest_split_limit Three = 524288
 
 -- the version that is told by a number, of 2 and 3
 abbrev pub version_numbered : ℕ → Version
@@ -32,13 +43,13 @@ version_in no_items = Some One
 version_in (item version no_items) = option_map version_numbered (number_within 2 3 version)
 version_in items = None
 
--- "snapshot"
-abbrev pub promise_of : Data → Option Opening
-promise_of (string word) = if bytes_eq word (codes "snapshot") then Some Isolated else None
-promise_of given = None
+-- snapshot isolation in lines of this version, where "snapshot" is given
+abbrev pub promise_of : Data → Version → Option Opening
+promise_of (string word) version = if bytes_eq word (codes "snapshot") then Some (Isolated version) else None
+promise_of given version = None
 
--- What a script is opened for, by what stands behind the numbers of its first line: snapshot isolation, where 2 and "snapshot" do, in
--- lines of version 2; else some order, in lines of a version.
+-- What a script is opened for, by what stands behind the numbers of its first line: snapshot isolation, where 2 or 3 and "snapshot" do, in
+-- lines of that version; else some order, in lines of a version.
 abbrev pub opening_in : Items → Option Opening
-opening_in (item version (item promise no_items)) = with_both (λ n opening. opening) (number_within 2 2 version) (promise_of promise)
+opening_in (item version (item promise no_items)) = option_and_then (λ n. promise_of promise (version_numbered n)) (number_within 2 3 version)
 opening_in behind = option_map Ordered (version_in behind)

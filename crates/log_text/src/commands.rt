@@ -30,10 +30,11 @@ pub enum Command {
         limit: u64,
         version: Version,
     },
-    /// To open one that is asked for snapshot isolation, by lines of version 2.
+    /// To open one that is asked for snapshot isolation, by lines of this version.
     StartIsolated {
         sessions: u64,
         limit: u64,
+        version: Version,
     },
     /// To take a fragment: it has a flag for each of its transactions, whether it is told to have aborted.
     Offer(LoggedFragment),
@@ -145,7 +146,11 @@ fn start_of(sessions: u64, limit: u64, opening: Opening) -> Command
             limit,
             version,
         },
-        Opening::Isolated => Command::StartIsolated { sessions, limit },
+        Opening::Isolated(version) => Command::StartIsolated {
+            sessions,
+            limit,
+            version,
+        },
     }
 }
 

@@ -1,10 +1,9 @@
-ghost use Rattle.std.specs.Prelude.{◌≡◌, option_map};
-ghost use Rattle.log_text.specs.Items.{with_both};
+ghost use Rattle.std.specs.Prelude.{◌≡◌, option_and_then, option_map};
 ghost use Rattle.log_text.specs.Numbers.{number_within};
 ghost use Rattle.std.specs.List.{list_any};
 ghost use Rattle.serde_json.specs.Data.{string};
 ghost use Rattle.serde_json.specs.View.{view, items_view};
-ghost use Rattle.log_text.specs.Versions.{greatest_limit, has_form, opening_in, promise_of, version_in, version_numbered};
+ghost use Rattle.log_text.specs.Versions.{greatest_limit, greatest_split_limit, has_form, most_sessions, opening_in, promise_of, version_in, version_numbered};
 
 use crate::numbers::number_within;
 use logged_fragments::LoggedFragment;
@@ -16,9 +15,15 @@ pub enum Version {
     One,
     /// In which transactions may be told to have aborted.
     Two,
-    /// As version 2, in which many more transactions may be let remain.
+    /// As version 2, in which there may be more sessions, and many more transactions may be let remain.
     Three,
 }
+
+/// How many sessions there may be in a script of version 1 or 2.
+const FEW_SESSIONS: u64 = 64;
+
+/// How many in one of version 3.
+const MANY_SESSIONS: u64 = 256;
 
 /// How many transactions may be let remain in a script of version 1 or 2.
 const SMALL_LIMIT: u64 = 4096;
@@ -38,8 +43,8 @@ fn tells_abort(flags: &[bool]) -> bool
 pub enum Opening {
     /// Whether some order explains what it has, by lines of this version.
     Ordered(Version),
-    /// Whether it keeps snapshot isolation, by lines of version 2.
-    Isolated,
+    /// Whether it keeps snapshot isolation, by lines of this version, which is 2 or 3.
+    Isolated(Version),
 }
 
 impl Version {
@@ -53,6 +58,16 @@ impl Version {
         }
     }
 
+    /// How many sessions there may be in a script of this version.
+    pub fn most_sessions(self) -> u64
+        ensures { result ≡ most_sessions self }
+    {
+        match self {
+            Version::One | Version::Two => FEW_SESSIONS,
+            Version::Three => MANY_SESSIONS,
+        }
+    }
+
     /// How many transactions may be let remain in a script of this version.
     pub fn greatest_limit(self) -> u64
         ensures { result ≡ greatest_limit self }
@@ -61,6 +76,13 @@ impl Version {
             Version::One | Version::Two => SMALL_LIMIT,
             Version::Three => LARGE_LIMIT,
         }
+    }
+
+    /// How many where each transaction is split in two.
+    pub fn greatest_split_limit(self) -> u64
+        ensures { result ≡ greatest_split_limit self }
+    {
+        self.greatest_limit() / 2
     }
 }
 
@@ -90,27 +112,27 @@ pub fn version_in(behind: &[Value]) -> Option<Version>
     }
 }
 
-fn promise_named(word: &str) -> Option<Opening>
-    ensures { result ≡ promise_of (string word.now) }
+fn promise_named(word: &str, version: Version) -> Option<Opening>
+    ensures { result ≡ promise_of (string word.now) version }
 {
     if word == "snapshot" {
-        Some(Opening::Isolated)
+        Some(Opening::Isolated(version))
     } else {
         None
     }
 }
 
-fn promise_of(value: &Value) -> Option<Opening>
-    ensures { result ≡ promise_of (view value.now) }
+fn promise_of(value: &Value, version: Version) -> Option<Opening>
+    ensures { result ≡ promise_of (view value.now) version }
 {
-    promise_named(value.as_str()?)
+    promise_named(value.as_str()?, version)
 }
 
 fn isolated_in(version: &Value, promise: &Value) -> Option<Opening>
-    ensures { result ≡ with_both (λ n opening. opening) (number_within 2 2 (view version.now)) (promise_of (view promise.now)) }
+    ensures { result ≡ option_and_then (λ n. promise_of (view promise.now) (version_numbered n)) (number_within 2 3 (view version.now)) }
 {
-    let _ = number_within(2, 2, version)?;
-    promise_of(promise)
+    let number = number_within(2, 3, version)?;
+    promise_of(promise, version_numbered(number))
 }
 
 fn ordered_in(behind: &[Value]) -> Option<Opening>
@@ -119,7 +141,7 @@ fn ordered_in(behind: &[Value]) -> Option<Opening>
     Some(Opening::Ordered(version_in(behind)?))
 }
 
-/// What a script is opened for, by what stands behind the numbers of its first line: nothing, 2, 3, or 2 and "snapshot".
+/// What a script is opened for, by what stands behind the numbers of its first line: nothing, 2, 3, or 2 or 3 and "snapshot".
 #[tactic(auto, using(crate::proofs::Arity::ordered_else))]
 pub(crate) fn opening_in(behind: &[Value]) -> Option<Opening>
     ensures { result ≡ opening_in (items_view behind.now) }

@@ -11,8 +11,8 @@ use Rattle.logged_fragments.proofs.Idling.{effects_of_length}
 idle_is_short : IsShort idle
 idle_is_short = record { reads = omega arith; writes = omega arith }
 
-idle_is_formed : (id : TxnId) → IsWellFormed id idle
-idle_is_formed id = record {
+idle_is_formed : (sessions : ℕ) (id : TxnId) → IsWellFormed sessions id idle
+idle_is_formed sessions id = record {
   lists = record { reads_rise = λ k d within. absurd (omega (arith, within)); writes_rise = λ k d within. absurd (omega (arith, within)); sources = λ k d within. absurd (omega (arith, within)) };
   epoch = inr (record { reads = λ k d within. absurd (omega (arith, within)); writes = λ k d within. absurd (omega (arith, within)) });
 }
@@ -38,12 +38,12 @@ short_or_idle : (one txn : Txn) → IsShort txn → (one ≡ idle) ⊎ (one ≡ 
 short_or_idle one txn short (inl same) = subst IsShort (sym same) idle_is_short
 short_or_idle one txn short (inr same) = subst IsShort (sym same) short
 
-formed_or_idle : (fragment : Fragment) (n : ℕ) (txn : Txn) → n < length fragment.txns → IsWellFormedBelow fragment (length fragment.txns) → (txn ≡ idle) ⊎ (slice_get fragment.txns n ≡ Some txn) → IsWellFormed (id_in fragment n) txn
-formed_or_idle fragment n txn within formed (inl same) = subst (IsWellFormed (id_in fragment n)) (sym same) (idle_is_formed (id_in fragment n))
-formed_or_idle fragment n txn within formed (inr found) = formed n txn within found
+formed_or_idle : (sessions : ℕ) (fragment : Fragment) (n : ℕ) (txn : Txn) → n < length fragment.txns → IsWellFormedBelow sessions fragment (length fragment.txns) → (txn ≡ idle) ⊎ (slice_get fragment.txns n ≡ Some txn) → IsWellFormed sessions (id_in fragment n) txn
+formed_or_idle sessions fragment n txn within formed (inl same) = subst (IsWellFormed sessions (id_in fragment n)) (sym same) (idle_is_formed sessions (id_in fragment n))
+formed_or_idle sessions fragment n txn within formed (inr found) = formed n txn within found
 
-pub effects_formed : (fragment : Fragment) (flags : List Bool) (txns : List Txn) → txns ≡ effects_of flags fragment.txns → IsWellFormedFragment fragment → IsWellFormedFragment (record fragment { txns = txns })
-effects_formed fragment flags txns is formed = record {
+pub effects_formed : (sessions : ℕ) (fragment : Fragment) (flags : List Bool) (txns : List Txn) → txns ≡ effects_of flags fragment.txns → IsWellFormedFragment sessions fragment → IsWellFormedFragment sessions (record fragment { txns = txns })
+effects_formed sessions fragment flags txns is formed = record {
   session = formed.session;
   lengths = record {
     some = subst (λ size. 1 ≤ size) (sym size) formed.lengths.some;
@@ -51,7 +51,7 @@ effects_formed fragment flags txns is formed = record {
     numbers = subst (λ size. fragment.first + size ≤ 2 ^ 48) (sym size) formed.lengths.numbers;
     each = subst (All IsShort) (sym is) (λ k d within. short_or_idle (slice_index_or (effects_of flags fragment.txns) k d) (slice_index_or fragment.txns k d) (formed.lengths.each k d (inside k within)) (at_index flags fragment.txns k d (inside k within)));
   };
-  txns = λ n txn within found. formed_or_idle fragment n txn (subst (λ size. n < size) size within) formed.txns (at_place flags fragment.txns n txn (subst (λ list. slice_get list n ≡ Some txn) is found));
+  txns = λ n txn within found. formed_or_idle sessions fragment n txn (subst (λ size. n < size) size within) formed.txns (at_place flags fragment.txns n txn (subst (λ list. slice_get list n ≡ Some txn) is found));
 }
   where
     size : length txns ≡ length fragment.txns

@@ -1,4 +1,4 @@
-ghost use Rattle.std.specs.Prelude.{◌≡◌, []};
+ghost use Rattle.std.specs.Prelude.{◌≡◌, ℕ, []};
 ghost use Rattle.txn.specs.Transactions.{IsWellFormedFragment};
 ghost use Rattle.logged_fragments.specs.Effects.{effects, effects_of};
 
@@ -49,7 +49,7 @@ impl LoggedFragment {
     /// What it did to the store, without taking memory: a transaction that aborted did nothing.
     pub fn into_effects(self) -> Fragment
         ensures effects { result ≡ effects self }
-        ensures formed { IsWellFormedFragment self.fragment → IsWellFormedFragment result }
+        ensures formed { (sessions : ℕ) → IsWellFormedFragment sessions self.fragment → IsWellFormedFragment sessions result }
     {
         let LoggedFragment { fragment, aborted } = self;
         let mut fragment = fragment;

@@ -18,7 +18,7 @@ use Rattle.order_check.proofs.Received.{gone_none, look_up, remains_received}
 
 -- parts with these marks, of which this remains
 abbrev plain : List ℕ → History → Parts
-plain marks remain = record { base = record { last = finite.empty; marks = marks }; remain = remain; closed = []; limit = 0 }
+plain marks remain = record { base = record { last = finite.empty; marks = marks }; remain = remain; closed = []; most_sessions = 0; limit = 0 }
 
 pub counts_length : (marks : List ℕ) (remain : History) → length marks ≡ length remain → length (received_counts (plain marks remain)) ≡ length remain
 counts_length [] [] e = refl
@@ -164,6 +164,7 @@ good_flagged parts counts closed good is flags =
     record {
       some_sessions = omega (arith, long, good.some_sessions);
       few_sessions = omega (arith, long, good.few_sessions);
+      low_sessions = good.low_sessions;
       marks = good.marks ∙ sym long;
       closed = flags ∙ sym long;
       some_limit = good.some_limit;
@@ -200,8 +201,8 @@ not_twice [] = refl
 not_twice (true ∷ flags) = ap (λ (rest : List Bool). true ∷ rest) (not_twice flags)
 not_twice (false ∷ flags) = ap (λ (rest : List Bool). false ∷ rest) (not_twice flags)
 
-pub kept_is_counted : (front parts : Parts) → IsKeptFront front parts → front.limit ≡ parts.limit → IsGood front → IsGood parts → IsCountedFront front parts
-kept_is_counted front parts kept limit there good = record { counts = are; same = λ i. record { base = sym kept.base i; remain = same i; closed = not_twice front.closed i; limit = sym limit i } }
+pub kept_is_counted : (front parts : Parts) → IsKeptFront front parts → front.most_sessions ≡ parts.most_sessions → front.limit ≡ parts.limit → IsGood front → IsGood parts → IsCountedFront front parts
+kept_is_counted front parts kept most limit there good = record { counts = are; same = λ i. record { base = sym kept.base i; remain = same i; closed = not_twice front.closed i; most_sessions = sym most i; limit = sym limit i } }
   where
     counts : List ℕ
     counts = received_counts front

@@ -69,14 +69,15 @@ stood old new gone last cut s n txn at = sym (drop_at (remaining_of old s) (coun
 pub good_left : (old new : Parts) (gone : List TxnId) (last : FinMap nat_cmp TxnId) → IsGood old → CanBeApplied old gone last → IsCutOf old new gone last → IsGood new
 good_left old new gone last good can cut = record {
   some_sessions = let e = cut.sessions in omega (arith, good.some_sessions, e);
-  few_sessions = let e = cut.sessions in omega (arith, good.few_sessions, e);
+  few_sessions = let e = cut.sessions in let most = cut.most_sessions in omega (arith, good.few_sessions, e, most);
+  low_sessions = subst (λ most. most ≤ 256) (sym cut.most_sessions) good.low_sessions;
   marks = cut.marks_length ∙ good.marks ∙ sym cut.sessions;
   closed = ap length cut.closed ∙ good.closed ∙ sym cut.sessions;
   some_limit = subst (λ limit. 1 ≤ limit) (sym cut.limit) good.some_limit;
   low_limit = subst (λ limit. limit ≤ 1048576) (sym cut.limit) good.low_limit;
   room = let less = sum_shorter new.remain old.remain cut.sessions shorter in let limit = cut.limit in omega (arith, good.room, less, limit);
   numbers = λ s. let e = as_many s in subst (λ n. n ≤ 2 ^ 48) (sym e) (good.numbers s);
-  well_formed = λ s n txn at. subst (λ number. IsWellFormed (record { session = s; number = number }) txn) (place s n) (good.well_formed s (count_in gone s + n) txn (stood old new gone last cut s n txn at));
+  well_formed = λ s n txn at. subst (λ most. IsWellFormed most (record { session = s; number = mark_of new s + n }) txn) (sym cut.most_sessions) (subst (λ number. IsWellFormed old.most_sessions (record { session = s; number = number }) txn) (place s n) (good.well_formed s (count_in gone s + n) txn (stood old new gone last cut s n txn at)));
   short = λ s n txn at. good.short s (count_in gone s + n) txn (stood old new gone last cut s n txn at);
   base = λ key writer is. by_new key writer (get last key) refl (sym (cut.writers key) ∙ is);
 }

@@ -30,29 +30,29 @@ record Cut (front whole new : Parts) (fence : TxnId) (gone : List TxnId) (last :
   cut : IsCutAt front fence gone last
   leaves : IsCutOf whole new gone last
 
--- which sessions are closed, and the limit, don't matter to what is known
-known_content : (parts : Parts) (closed : List Bool) (limit : ℕ) (a b : TxnId) → Known parts [] a b → Known (record parts { closed = closed; limit = limit }) [] a b
-known_content parts closed limit a b (by_session ra rb same below) = by_session ra rb same below
-known_content parts closed limit a b (by_read key reads writes) = by_read key reads writes
-known_content parts closed limit a b (by_base key (source, reads, base) writes apart) = by_base key (source, reads, by_source source base) writes apart
+-- which sessions are closed, and the bounds, don't matter to what is known
+known_content : (parts : Parts) (closed : List Bool) (most limit : ℕ) (a b : TxnId) → Known parts [] a b → Known (record parts { closed = closed; most_sessions = most; limit = limit }) [] a b
+known_content parts closed most limit a b (by_session ra rb same below) = by_session ra rb same below
+known_content parts closed most limit a b (by_read key reads writes) = by_read key reads writes
+known_content parts closed most limit a b (by_base key (source, reads, base) writes apart) = by_base key (source, reads, by_source source base) writes apart
   where
-    by_source : (source : Source) → IsBaseSource parts key source → IsBaseSource (record parts { closed = closed; limit = limit }) key source
+    by_source : (source : Source) → IsBaseSource parts key source → IsBaseSource (record parts { closed = closed; most_sessions = most; limit = limit }) key source
     by_source Init h = h
     by_source (By writer) h = h
-known_content parts closed limit a b (by_taken (k, within, at)) = absurd (omega arith)
-known_content parts closed limit a b (through {b = m} first second) = through (known_content parts closed limit a m first) (known_content parts closed limit m b second)
-known_content parts closed limit a b (forces_after choice is known) = forces_after choice (choice_content choice is) (known_content parts closed limit choice.writer choice.other known)
+known_content parts closed most limit a b (by_taken (k, within, at)) = absurd (omega arith)
+known_content parts closed most limit a b (through {b = m} first second) = through (known_content parts closed most limit a m first) (known_content parts closed most limit m b second)
+known_content parts closed most limit a b (forces_after choice is known) = forces_after choice (choice_content choice is) (known_content parts closed most limit choice.writer choice.other known)
   where
-    choice_content : (choice : Choice) → IsChoice parts choice → IsChoice (record parts { closed = closed; limit = limit }) choice
+    choice_content : (choice : Choice) → IsChoice parts choice → IsChoice (record parts { closed = closed; most_sessions = most; limit = limit }) choice
     choice_content choice is = record { reads = is.reads; written = is.written; other = is.other; not_writer = is.not_writer; not_reader = is.not_reader }
-known_content parts closed limit a b (forces_before choice is known) = forces_before choice (choice_content choice is) (known_content parts closed limit choice.other choice.reader known)
+known_content parts closed most limit a b (forces_before choice is known) = forces_before choice (choice_content choice is) (known_content parts closed most limit choice.other choice.reader known)
   where
-    choice_content : (choice : Choice) → IsChoice parts choice → IsChoice (record parts { closed = closed; limit = limit }) choice
+    choice_content : (choice : Choice) → IsChoice parts choice → IsChoice (record parts { closed = closed; most_sessions = most; limit = limit }) choice
     choice_content choice is = record { reads = is.reads; written = is.written; other = is.other; not_writer = is.not_writer; not_reader = is.not_reader }
 
 -- the new parts, closed as the old ones are
 abbrev closed_as : Parts → Parts → Parts
-closed_as new old = record new { closed = old.closed; limit = old.limit }
+closed_as new old = record new { closed = old.closed; most_sessions = old.most_sessions; limit = old.limit }
 
 -- a cut of parts with this content is one of these
 cut_of_content : (old new : Parts) (gone : List TxnId) (c : IsContentCutOff old gone new) → Cut c.cut_off.front old (closed_as new old) c.cut_off.behind.fence gone c.cut_off.last
@@ -65,7 +65,7 @@ cut_of_content old new gone c = record {
   };
   settled = record {
     settled = behind.settled.settled;
-    behind = λ id remains out. subst (λ (parts : Parts). Known parts [] fence id) same (known_content c.before old.closed old.limit fence id (behind.settled.behind id (subst (λ (parts : Parts). Remains parts id) (sym same) remains) out));
+    behind = λ id remains out. subst (λ (parts : Parts). Known parts [] fence id) same (known_content c.before old.closed old.most_sessions old.limit fence id (behind.settled.behind id (subst (λ (parts : Parts). Remains parts id) (sym same) remains) out));
   };
   cut = behind.cut;
   leaves = record {
@@ -75,6 +75,7 @@ cut_of_content old new gone c = record {
     marks = λ s. sym (ap (λ base. slice_index base.marks s) c.same_after.base) ∙ behind.leaves.marks s ∙ ap (λ base. slice_index base.marks s + count_in gone s) c.same_before.base;
     writers = λ key. sym (ap (λ base. get base.last key) c.same_after.base) ∙ behind.leaves.writers key ∙ ap (λ base. or_else (get c.cut_off.last key) (get base.last key)) c.same_before.base;
     closed = refl;
+    most_sessions = refl;
     limit = refl;
   };
 }
@@ -88,8 +89,8 @@ cut_of_content old new gone c = record {
     fence : TxnId
     fence = c.cut_off.behind.fence
 
-    same : record c.before { closed = old.closed; limit = old.limit } ≡ old
-    same = λ i. record { base = c.same_before.base i; remain = c.same_before.remain i; closed = old.closed; limit = old.limit }
+    same : record c.before { closed = old.closed; most_sessions = old.most_sessions; limit = old.limit } ≡ old
+    same = λ i. record { base = c.same_before.base i; remain = c.same_before.remain i; closed = old.closed; most_sessions = old.most_sessions; limit = old.limit }
 
 looks_of : (front whole new : Parts) (fence : TxnId) (gone : List TxnId) (last : FinMap nat_cmp TxnId) → Cut front whole new fence gone last → CutLooks whole new gone
 looks_of front whole new fence gone last c = cut_looks front whole new fence gone last NoSession c.is c.settled.settled c.cut c.leaves
@@ -308,7 +309,7 @@ moves_base old new gone c back reader key source reads = (λ base. base_old fron
     by_part source was (inr (writer, from, has, wrote)) = subst (λ s. IsBaseSource new key s) (sym from) (base_moved front old left fence gone last reader writer key cut back read.0 (subst (λ s. ReadsKey old reader key s) from was) has wrote)
 
 pub keeps_known : (old new : Parts) (gone : List TxnId) → IsContentCutOff old gone new → LeadsNotBack old gone → (a b : TxnId) → Known new [] a b ↔ (Known old [] a b × (¬ Contains gone a) × (¬ Contains gone b))
-keeps_known old new gone c back a b = (there, λ was. known_content left new.closed new.limit a b (known_stays front old left fence gone last a b cut back was.0 was.1))
+keeps_known old new gone c back a b = (there, λ was. known_content left new.closed new.most_sessions new.limit a b (known_stays front old left fence gone last a b cut back was.0 was.1))
   where
     front : Parts
     front = c.cut_off.front
@@ -330,6 +331,6 @@ keeps_known old new gone c back a b = (there, λ was. known_content left new.clo
 
     there : Known new [] a b → Known old [] a b × (¬ Contains gone a) × (¬ Contains gone b)
     there known =
-        let is = known_content new old.closed old.limit a b known in
+        let is = known_content new old.closed old.most_sessions old.limit a b known in
         let ends = known_remain left a b is in
         (known_was front old left fence gone last a b cut is, (looks.new_remains a ends.0).1, (looks.new_remains b ends.1).1)

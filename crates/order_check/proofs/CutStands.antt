@@ -8,7 +8,7 @@ use Rattle.list_lemmas.proofs.Places.{place_left}
 use Rattle.txn.specs.declared.transactions.Txn.{Txn}
 use Rattle.txn.specs.declared.transactions.TxnId.{TxnId}
 use Rattle.txn.specs.declared.transactions.Fragment.{Fragment}
-use Rattle.txn.specs.Transactions.{IsFence}
+use Rattle.txn.specs.Transactions.{IsFence, IsWellFormedFragment}
 use Rattle.txn.specs.History.{History, session_of}
 use Rattle.order_check.specs.declared.remainder.Parts.{Parts}
 use Rattle.order_check.specs.declared.remainder.Kind.{Kind}
@@ -88,26 +88,26 @@ anchored_before front old new fence gone last fragment c (anchor, is, begins) = 
 -- what may come after the cut might have come before it
 next_before : (front old new : Parts) (fence : TxnId) (gone : List TxnId) (last : FinMap nat_cmp TxnId) (arrival : Arrival) → Cut front old new fence gone last → ComesNext new arrival → ComesNext old arrival
 next_before front old new fence gone last (More fragment) c next = record {
-  well_formed = next.well_formed;
+  well_formed = subst (λ most. IsWellFormedFragment most fragment) c.leaves.most_sessions next.well_formed;
   session = (subst (λ n. fragment.session < n) c.leaves.sessions next.session.0, λ is_closed. next.session.1 (ap (λ flags. slice_get flags fragment.session) c.leaves.closed ∙ is_closed));
   next = next.next ∙ received_kept front old new fence gone last c fragment.session;
 }
 next_before front old new fence gone last (Joins fragment) c next = record {
-  well_formed = next.well_formed;
+  well_formed = subst (λ most. IsWellFormedFragment most fragment) c.leaves.most_sessions next.well_formed;
   session = next.session ∙ c.leaves.sessions;
   first = next.first;
   anchored = anchored_before front old new fence gone last fragment c next.anchored;
 }
 next_before front old new fence gone last (Returns fragment) c next = record {
-  well_formed = next.well_formed;
+  well_formed = subst (λ most. IsWellFormedFragment most fragment) c.leaves.most_sessions next.well_formed;
   session = subst (λ n. fragment.session < n) c.leaves.sessions next.session;
   next = next.next ∙ received_kept front old new fence gone last c fragment.session;
   anchored = anchored_before front old new fence gone last fragment c next.anchored;
 }
 
 -- parts that grow by the same on both sides of the cut
-cut_grown : (front old new whole left : Parts) (fence : TxnId) (gone : List TxnId) (last : FinMap nat_cmp TxnId) (fragment : Fragment) → Cut front old new fence gone last → Extends old whole fragment → Extends new left fragment → IsSettledFor front whole fence → length left.remain ≡ length whole.remain → length left.base.marks ≡ length whole.base.marks → left.closed ≡ whole.closed → left.limit ≡ whole.limit → Cut front whole left fence gone last
-cut_grown front old new whole left fence gone last fragment c before after settled sessions marks closed limit = record {
+cut_grown : (front old new whole left : Parts) (fence : TxnId) (gone : List TxnId) (last : FinMap nat_cmp TxnId) (fragment : Fragment) → Cut front old new fence gone last → Extends old whole fragment → Extends new left fragment → IsSettledFor front whole fence → length left.remain ≡ length whole.remain → length left.base.marks ≡ length whole.base.marks → left.closed ≡ whole.closed → left.most_sessions ≡ whole.most_sessions → left.limit ≡ whole.limit → Cut front whole left fence gone last
+cut_grown front old new whole left fence gone last fragment c before after settled sessions marks closed most limit = record {
   base = base_grown old whole before.is c.base;
   order = c.order;
   is = front_through front old whole c.is before.is;
@@ -120,6 +120,7 @@ cut_grown front old new whole left fence gone last fragment c before after settl
     marks = λ s. sym (after.is.marks s) ∙ c.leaves.marks s ∙ ap (λ n. n + count_in gone s) (before.is.marks s);
     writers = λ key. sym (ap (λ map. get map key) after.is.last) ∙ c.leaves.writers key ∙ ap (λ map. or_else (get last key) (get map key)) before.is.last;
     closed = closed;
+    most_sessions = most;
     limit = limit;
   };
 }
@@ -155,7 +156,7 @@ cut_after front old new fence gone last (More fragment) c next =
     let settled = settled_grown front old (parts_with old fragment) fence c.is extends.is c.settled (comes_past old (parts_with old fragment) fence fragment extends (c.settled.past fragment.session before.session))
     (λ s receives. inl (subst (λ n. s < n) (length-set old.remain fragment.session _) receives.0, receives.1)) in
     cut_grown front old new (parts_with old fragment) (parts_with new fragment) fence gone last fragment c extends (extends_with new fragment next.session.0) settled
-    (length-set new.remain fragment.session _ ∙ c.leaves.sessions ∙ sym (length-set old.remain fragment.session _)) c.leaves.marks_length c.leaves.closed c.leaves.limit
+    (length-set new.remain fragment.session _ ∙ c.leaves.sessions ∙ sym (length-set old.remain fragment.session _)) c.leaves.marks_length c.leaves.closed c.leaves.most_sessions c.leaves.limit
 cut_after front old new fence gone last (Joins fragment) c next =
     let before : IsJoiningFragment old fragment = next_before front old new fence gone last (Joins fragment) c next in
     let extends = extends_joined old fragment before.session in
@@ -163,7 +164,7 @@ cut_after front old new fence gone last (Joins fragment) c next =
     cut_grown front old new (parts_joined old fragment) (parts_joined new fragment) fence gone last fragment c extends (extends_joined new fragment next.session) settled
     (length_push new.remain fragment.txns ∙ ap (λ n. n + 1) c.leaves.sessions ∙ sym (length_push old.remain fragment.txns))
     (length_push new.base.marks 0 ∙ ap (λ n. n + 1) c.leaves.marks_length ∙ sym (length_push old.base.marks 0))
-    (ap (λ (flags : List Bool). flags ++ false ∷ []) c.leaves.closed) c.leaves.limit
+    (ap (λ (flags : List Bool). flags ++ false ∷ []) c.leaves.closed) c.leaves.most_sessions c.leaves.limit
   where
     was_open : (s : ℕ) → ¬ (s ≡ fragment.session) → IsOpenSession (parts_joined old fragment) s → fragment.session ≡ length old.remain → IsOpenSession old s
     was_open s apart receives new_one = (
@@ -176,7 +177,7 @@ cut_after front old new fence gone last (Returns fragment) c next =
     let settled = settled_anchored front old new (parts_returned old fragment) fence gone last fragment c extends next.anchored was_open in
     cut_grown front old new (parts_returned old fragment) (parts_returned new fragment) fence gone last fragment c extends (extends_returned new fragment next.session) settled
     (length-set new.remain fragment.session _ ∙ c.leaves.sessions ∙ sym (length-set old.remain fragment.session _)) c.leaves.marks_length
-    (ap (λ (flags : List Bool). slice_set flags fragment.session false) c.leaves.closed) c.leaves.limit
+    (ap (λ (flags : List Bool). slice_set flags fragment.session false) c.leaves.closed) c.leaves.most_sessions c.leaves.limit
   where
     was_open : (s : ℕ) → ¬ (s ≡ fragment.session) → IsOpenSession (parts_returned old fragment) s → IsOpenSession old s
     was_open s apart receives = (subst (λ n. s < n) (length-set old.remain fragment.session _) receives.0, λ closed. receives.1 (opened_other old.closed fragment.session s apart closed))

@@ -20,7 +20,7 @@ front_explained parts front counts order found e is live =
 
 pub whole_explained : (parts : Parts) (counts : List ℕ) (order : List TxnId) (found : Bool) → IsGood parts → counts ≡ received_counts parts → ((live : List Bool) → IsTrue found ↔ Explains (front_at parts counts live) order) → IsTrue found ↔ Explains parts order
 whole_explained parts counts order found good e is =
-    subst (λ (p : Parts). IsTrue found ↔ Explains p order) (kept_is_counted parts parts (itself parts) refl good good).same
+    subst (λ (p : Parts). IsTrue found ↔ Explains p order) (kept_is_counted parts parts (itself parts) refl refl good good).same
     (subst (λ (all : List ℕ). IsTrue found ↔ Explains (front_at parts all (map not parts.closed)) order) e (is (map not parts.closed)))
 
 pub all_counts : (parts : Parts) (counts : List ℕ) → IsGood parts → counts ≡ received_counts parts → AreFrontCounts parts counts

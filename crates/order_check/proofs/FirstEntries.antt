@@ -1,10 +1,9 @@
 -- The entries of a map that are kept by a test of their keys, and the first of them.
 use Rattle.std.proofs.Common.{◌≡◌, ℕ, zero, suc, ◌<◌, ◌≤◌, Bool, true, false, not, cond, T, None, Option, List, [], ◌∷◌, ◌++◌, length, take, filter, nat_lt, nat_le, refl, sym, ap, ◌∙◌, inl, inr, ◌⊎◌, arith}
-use Rattle.std.specs.Prelude.{◌&&◌}
 use Rattle.std.specs.BTreeMap.{is_at}
 use Rattle.std.specs.Ordering.{nat_cmp, is_lt}
 use Rattle.std.specs.declared.cmp.Ordering.TheVariants.{Less, Equal, Greater}
-use Rattle.std.specs.FinMap.{FinMap, entries, entries_sorted, entries-from_sorted, from_entries, from_sorted, get, get-entries, get-from_sorted, same_map, nat_cmp-IsAntisymmetric, is_sorted}
+use Rattle.std.specs.FinMap.{FinMap, entries, entries_sorted, entries-from_sorted, from_entries, from_sorted, get-entries, get-from_sorted, same_map, nat_cmp-IsAntisymmetric, is_sorted}
 use Rattle.std.specs.FinMap.Entries.{below_all, find-where_key, is_sorted-where_key}
 use Rattle.std.proofs.Math.Facts.{and_yes}
 use Rattle.std.proofs.lemmas.Bool.{leb-true, le-leb, le-ltb, lt-leb, lt-ltb, cases_lt}

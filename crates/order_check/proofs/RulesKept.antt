@@ -12,10 +12,10 @@ use Rattle.order_check.specs.Rules.{HasGoodShape, IsGoodTxn, AreGoodBelow, IsGoo
 use Rattle.order_check.proofs.Remaining.{session_past, session_within}
 
 -- one more good transaction
-pub good_more : (s first : ℕ) (txns : List Txn) (place : ℕ) (txn : Txn) → AreGoodBelow s first txns place → place < length txns → txn ≡ get_or txns place txn → IsGoodTxn (record { session = s; number = first + place }) txn → AreGoodBelow s first txns (place + 1)
-good_more s first txns place txn below within is here =
-    let P : ℕ → Type 0 = λ n. (t : Txn) → slice_get txns n ≡ Some t → IsGoodTxn (record { session = s; number = first + n }) t in
-    let at : P place = λ t got. let read = slice_get_read txns (length txns) place txn refl within is in let e : t ≡ txn = cc in subst (IsGoodTxn (record { session = s; number = first + place })) (sym e) here in
+pub good_more : (sessions s first : ℕ) (txns : List Txn) (place : ℕ) (txn : Txn) → AreGoodBelow sessions s first txns place → place < length txns → txn ≡ get_or txns place txn → IsGoodTxn sessions (record { session = s; number = first + place }) txn → AreGoodBelow sessions s first txns (place + 1)
+good_more sessions s first txns place txn below within is here =
+    let P : ℕ → Type 0 = λ n. (t : Txn) → slice_get txns n ≡ Some t → IsGoodTxn sessions (record { session = s; number = first + n }) t in
+    let at : P place = λ t got. let read = slice_get_read txns (length txns) place txn refl within is in let e : t ≡ txn = cc in subst (IsGoodTxn sessions (record { session = s; number = first + place })) (sym e) here in
     let all : (n : ℕ) → n < place + 1 → P n = below_more P place (λ n lt t got. below n t lt got) at in
     λ n t lt got. all n lt t got
 
@@ -41,11 +41,12 @@ numbers_from_rules parts rules s =
 
 pub good_from_rules : (parts : Parts) → KeepsRules parts → IsGood parts
 good_from_rules parts rules =
-    let good : (s n : ℕ) (txn : Txn) → slice_get (remaining_of parts s) n ≡ Some txn → IsGoodTxn (record { session = s; number = mark_of parts s + n }) txn = λ s n txn at.
+    let good : (s n : ℕ) (txn : Txn) → slice_get (remaining_of parts s) n ≡ Some txn → IsGoodTxn parts.most_sessions (record { session = s; number = mark_of parts s + n }) txn = λ s n txn at.
     (rules.sessions s (session_within parts.remain s n txn at)).txns n txn (slice_get_within (remaining_of parts s) n txn at) at in
     record {
       some_sessions = rules.shape.some_sessions;
       few_sessions = rules.shape.few_sessions;
+      low_sessions = rules.shape.low_sessions;
       marks = rules.shape.marks;
       closed = rules.shape.closed;
       some_limit = rules.shape.some_limit;
@@ -62,6 +63,7 @@ rules_from_good parts good = record {
   shape = record {
     some_sessions = good.some_sessions;
     few_sessions = good.few_sessions;
+    low_sessions = good.low_sessions;
     marks = good.marks;
     closed = good.closed;
     some_limit = good.some_limit;
@@ -76,7 +78,7 @@ rules_from_good parts good = record {
 }
 
 -- what a test of a session's transactions tells, where its numbers are right
-pub session_tells : (parts : Parts) (s mark : ℕ) (txns : List Txn) (tested : Bool) → mark ≡ mark_of parts s → txns ≡ remaining_of parts s → mark + length txns ≤ 2 ^ 48 → (IsTrue tested ↔ AreGoodBelow s mark txns (length txns)) → IsTrue tested ↔ IsGoodSession parts s
+pub session_tells : (parts : Parts) (s mark : ℕ) (txns : List Txn) (tested : Bool) → mark ≡ mark_of parts s → txns ≡ remaining_of parts s → mark + length txns ≤ 2 ^ 48 → (IsTrue tested ↔ AreGoodBelow parts.most_sessions s mark txns (length txns)) → IsTrue tested ↔ IsGoodSession parts s
 session_tells parts s mark txns tested mark-is txns-is numbers tells =
     let numbers = rw (mark-is, txns-is) at numbers in
     let tells = rw (mark-is, txns-is) at tells in

@@ -31,4 +31,4 @@ pub record IsCountedFront (front parts : Parts) : Type 0 where
   pub same : front_at parts (received_counts front) (map not front.closed) ≡ front
 
 abbrev pub KeptFrontsAreCounted : Type 0
-KeptFrontsAreCounted = (front parts : Parts) → IsKeptFront front parts → front.limit ≡ parts.limit → IsGood front → IsGood parts → IsCountedFront front parts
+KeptFrontsAreCounted = (front parts : Parts) → IsKeptFront front parts → front.most_sessions ≡ parts.most_sessions → front.limit ≡ parts.limit → IsGood front → IsGood parts → IsCountedFront front parts

@@ -6,9 +6,10 @@ use Rattle.order_check.specs.declared.remainder.Parts.{Parts}
 use Rattle.order_check.specs.Based.{mark_of, remaining_of, received_count, HasGoneBase}
 
 pub record IsGood (parts : Parts) : Type 0 where
-  -- 1 to 64 sessions, each with a mark and a flag
+  -- 1 session or more, and no more than there may be, which an opening says and is at most 256; each with a mark and a flag
   pub some_sessions : 1 ≤ length parts.remain
-  pub few_sessions : length parts.remain ≤ 64
+  pub few_sessions : length parts.remain ≤ parts.most_sessions
+  pub low_sessions : parts.most_sessions ≤ 256
   pub marks : length parts.base.marks ≡ length parts.remain
   pub closed : length parts.closed ≡ length parts.remain
   -- a limit of 1 to 1,048,576, of which an opening may allow less, and no more remain
@@ -18,7 +19,7 @@ pub record IsGood (parts : Parts) : Type 0 where
   -- transactions are numbered below 2^48
   pub numbers : (s : ℕ) → received_count parts s ≤ 2 ^ 48
   -- what remains is well formed at its place, and short
-  pub well_formed : (s n : ℕ) (txn : Txn) → slice_get (remaining_of parts s) n ≡ Some txn → IsWellFormed (record { session = s; number = mark_of parts s + n }) txn
+  pub well_formed : (s n : ℕ) (txn : Txn) → slice_get (remaining_of parts s) n ≡ Some txn → IsWellFormed parts.most_sessions (record { session = s; number = mark_of parts s + n }) txn
   pub short : (s n : ℕ) (txn : Txn) → slice_get (remaining_of parts s) n ≡ Some txn → IsShort txn
   -- a last gone writer is gone
   pub base : HasGoneBase parts

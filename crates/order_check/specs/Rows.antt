@@ -36,7 +36,7 @@ fence source = reads_writes 0 source 0
 
 -- the parts that have the whole history: nothing is gone, and every session is open
 abbrev pub fresh : History → Parts
-fresh history = record { base = record { last = empty; marks = map (λ _. 0) history }; remain = history; closed = map (λ _. false) history; limit = 4096 }
+fresh history = record { base = record { last = empty; marks = map (λ _. 0) history }; remain = history; closed = map (λ _. false) history; most_sessions = 64; limit = 4096 }
 
 -- two sessions with nothing
 abbrev pub nothing : History
@@ -76,6 +76,7 @@ gone_read = record {
   base = record { last = insert (insert empty 0 (id 0 2)) 5 (id 0 1); marks = 3 ∷ 0 ∷ [] };
   remain = [] ∷ (fence (By (id 0 2)) ∷ reads 5 (By (id 0 0)) ∷ []) ∷ [];
   closed = false ∷ false ∷ [];
+  most_sessions = 64;
   limit = 4096;
 }
 
@@ -130,7 +131,7 @@ cut_writers = insert (insert empty 0 (id 0 1)) 5 (id 0 0)
 
 -- the parts that it leaves
 abbrev pub cut_rest : Parts
-cut_rest = record { base = record { last = cut_writers; marks = 2 ∷ 0 ∷ [] }; remain = [] ∷ (fence (By (id 0 1)) ∷ []) ∷ []; closed = false ∷ false ∷ []; limit = 4096 }
+cut_rest = record { base = record { last = cut_writers; marks = 2 ∷ 0 ∷ [] }; remain = [] ∷ (fence (By (id 0 1)) ∷ []) ∷ []; closed = false ∷ false ∷ []; most_sessions = 64; limit = 4096 }
 
 -- a third session is silent
 abbrev pub silent_session : History
@@ -162,7 +163,7 @@ overwritten_writers = insert (insert empty 0 (id 0 2)) 5 (id 0 1)
 
 -- the parts that it leaves; with 1.1 they are those of the gone read
 abbrev pub overwritten_rest : Parts
-overwritten_rest = record { base = record { last = overwritten_writers; marks = 3 ∷ 0 ∷ [] }; remain = [] ∷ (fence (By (id 0 2)) ∷ []) ∷ []; closed = false ∷ false ∷ []; limit = 4096 }
+overwritten_rest = record { base = record { last = overwritten_writers; marks = 3 ∷ 0 ∷ [] }; remain = [] ∷ (fence (By (id 0 2)) ∷ []) ∷ []; closed = false ∷ false ∷ []; most_sessions = 64; limit = 4096 }
 
 -- behind the cut of the first history of fences 1.1 reads key 5 from 0.0, its last gone writer
 abbrev pub base_read : Parts

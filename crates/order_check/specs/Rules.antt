@@ -8,28 +8,29 @@ use Rattle.txn.specs.Transactions.{IsWellFormed, IsShort}
 use Rattle.order_check.specs.declared.remainder.Parts.{Parts}
 use Rattle.order_check.specs.Based.{mark_of, remaining_of, received_count}
 
--- 1 to 64 sessions, each with a mark and a flag, and a limit of 1 to 1,048,576
+-- 1 session or more, and no more than there may be, at most 256; each with a mark and a flag; and a limit of 1 to 1,048,576
 pub record HasGoodShape (parts : Parts) : Type 0 where
   pub some_sessions : 1 ≤ length parts.remain
-  pub few_sessions : length parts.remain ≤ 64
+  pub few_sessions : length parts.remain ≤ parts.most_sessions
+  pub low_sessions : parts.most_sessions ≤ 256
   pub marks : length parts.base.marks ≡ length parts.remain
   pub closed : length parts.closed ≡ length parts.remain
   pub some_limit : 1 ≤ parts.limit
   pub low_limit : parts.limit ≤ 1048576
 
--- a transaction is well formed as the one with this id, and short
-pub record IsGoodTxn (id : TxnId) (txn : Txn) : Type 0 where
-  pub well_formed : IsWellFormed id txn
+-- a transaction is well formed as the one with this id, where there may be so many sessions, and short
+pub record IsGoodTxn (sessions : ℕ) (id : TxnId) (txn : Txn) : Type 0 where
+  pub well_formed : IsWellFormed sessions id txn
   pub short : IsShort txn
 
 -- the transactions before this place of a session are good, where the first of them has this number
-abbrev pub AreGoodBelow : ℕ → ℕ → List Txn → ℕ → Type 0
-AreGoodBelow s first txns place = (n : ℕ) (txn : Txn) → n < place → slice_get txns n ≡ Some txn → IsGoodTxn (record { session = s; number = first + n }) txn
+abbrev pub AreGoodBelow : ℕ → ℕ → ℕ → List Txn → ℕ → Type 0
+AreGoodBelow sessions s first txns place = (n : ℕ) (txn : Txn) → n < place → slice_get txns n ≡ Some txn → IsGoodTxn sessions (record { session = s; number = first + n }) txn
 
 -- what remains of a session is good, and numbered below 2^48
 pub record IsGoodSession (parts : Parts) (s : ℕ) : Type 0 where
   pub numbers : received_count parts s ≤ 2 ^ 48
-  pub txns : AreGoodBelow s (mark_of parts s) (remaining_of parts s) (length (remaining_of parts s))
+  pub txns : AreGoodBelow parts.most_sessions s (mark_of parts s) (remaining_of parts s) (length (remaining_of parts s))
 
 -- the sessions before this one are good
 abbrev pub AreGoodSessions : Parts → ℕ → Type 0

@@ -73,4 +73,5 @@ pub record IsCutOf (old new : Parts) (gone : List TxnId) (last : FinMap nat_cmp 
   pub marks : (s : ℕ) → mark_of new s ≡ mark_of old s + count_in gone s
   pub writers : (key : ℕ) → get new.base.last key ≡ or_else (get last key) (get old.base.last key)
   pub closed : new.closed ≡ old.closed
+  pub most_sessions : new.most_sessions ≡ old.most_sessions
   pub limit : new.limit ≡ old.limit

@@ -77,7 +77,7 @@ IsOpenSession parts s = (s < length parts.remain) × (slice_get parts.closed s �
 
 -- a well-formed fragment that is next in an open session
 pub record IsNextFragment (parts : Parts) (fragment : Fragment) : Type 0 where
-  pub well_formed : IsWellFormedFragment fragment
+  pub well_formed : IsWellFormedFragment parts.most_sessions fragment
   pub session : IsOpenSession parts fragment.session
   pub next : fragment.first ≡ received_count parts fragment.session
 
@@ -95,7 +95,7 @@ IsAnchored parts fragment = (anchor : TxnId) × IsAnchor parts anchor × IsSomeA
 
 -- a well-formed fragment that may be the first of a new session
 pub record IsJoiningFragment (parts : Parts) (fragment : Fragment) : Type 0 where
-  pub well_formed : IsWellFormedFragment fragment
+  pub well_formed : IsWellFormedFragment parts.most_sessions fragment
   pub session : fragment.session ≡ length parts.remain
   pub first : fragment.first ≡ 0
   pub anchored : IsAnchored parts fragment
@@ -103,7 +103,7 @@ pub record IsJoiningFragment (parts : Parts) (fragment : Fragment) : Type 0 wher
 -- A well-formed fragment with which a session may go on, whether or not it was closed. Nothing new is asked of the store by
 -- it: the fence says where the session goes on, as it does for a new one.
 pub record IsReturningFragment (parts : Parts) (fragment : Fragment) : Type 0 where
-  pub well_formed : IsWellFormedFragment fragment
+  pub well_formed : IsWellFormedFragment parts.most_sessions fragment
   pub session : fragment.session < length parts.remain
   pub next : fragment.first ≡ received_count parts fragment.session
   pub anchored : IsAnchored parts fragment

@@ -110,8 +110,8 @@ fn are_all_taken(parts: &Front<'_>, taken: &[usize]) -> bool
     requires counts { length taken.now ≡ length parts.now.remain }
     ensures { IsTrue result ↔ AreAllTaken parts.now taken.now }
 {
-    for session in 0..parts.sessions() as u8 {
-        if taken[usize::from(session)] != parts.remaining_of(session).len() {
+    for session in 0..parts.sessions() {
+        if taken[session] != parts.remaining_of(session as u8).len() {
             return false;
         }
     }

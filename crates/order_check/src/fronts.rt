@@ -122,8 +122,8 @@ fn copy_of_front(alloc: Global, front: &Front<'_>) -> Result<Sequence<Sequence<T
     ensures { IfOk result (λ copy. copy ≡ front.now.remain) }
 {
     let mut copies = Vec::with_capacity(alloc, front.sessions())?;
-    for session in 0..front.sessions() as u8 {
-        copies.push(copy_of_session(alloc, front, session)?)?;
+    for session in 0..front.sessions() {
+        copies.push(copy_of_session(alloc, front, session as u8)?)?;
     }
     Ok(Sequence::new(copies))
 }
@@ -139,7 +139,7 @@ fn closed_flags(alloc: Global, live: &[bool]) -> Result<Sequence<bool>, NoMemory
     Ok(Sequence::new(closed))
 }
 
-/// The base and the limit of the parts, with what is in the front of them, and these flags.
+/// The base and the bounds of the parts, with what is in the front of them, and these flags.
 fn parts_of_front(
     alloc: Global,
     parts: &Parts,
@@ -155,6 +155,7 @@ fn parts_of_front(
         base: parts.base.clone()?,
         remain: copy_of_front(alloc, &front)?,
         closed: closed_flags(alloc, live)?,
+        most_sessions: parts.most_sessions,
         limit: parts.limit,
     })
 }

@@ -43,8 +43,8 @@ impl Parts {
         ensures { IfOk result (λ counts. counts ≡ received_counts self.now) }
     {
         let mut counts = Vec::with_capacity(alloc, self.sessions())?;
-        for session in 0..self.sessions() as u8 {
-            counts.push(self.received_count(session))?;
+        for session in 0..self.sessions() {
+            counts.push(self.received_count(session as u8))?;
         }
         Ok(Sequence::new(counts))
     }

@@ -128,13 +128,15 @@ pub struct Base {
     pub marks: Sequence<u64>,
 }
 
-/// What is kept of a history: a base, what remains of each session, which sessions are closed, and how many
+/// What is kept of a history: a base, what remains of each session, which sessions are closed, how many sessions there may be, and how many
 /// transactions may remain at a time.
 #[derive(Drop, Debug)]
 pub struct Parts {
     pub base: Base,
     pub remain: Sequence<Sequence<Txn>>,
     pub closed: Sequence<bool>,
+    /// Sessions are numbered below this.
+    pub most_sessions: u64,
     pub limit: u64,
 }
 
@@ -179,6 +181,7 @@ fn copy_of_parts(parts: &Parts) -> Result<Parts, NoMemory>
         base: parts.base.clone()?,
         remain: copy_of_sessions(parts.remain.allocator(), parts.remain.as_slice())?,
         closed: parts.closed.clone()?,
+        most_sessions: parts.most_sessions,
         limit: parts.limit,
     })
 }

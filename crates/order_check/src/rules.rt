@@ -5,26 +5,26 @@ ghost use Rattle.order_check.specs.Rules.{HasGoodShape, IsGoodTxn, AreGoodBelow,
 use crate::remainder::Parts;
 use txn::{NUMBERS, Txn, TxnId, is_short, is_well_formed};
 
-/// How many sessions there may be.
-const SESSIONS: usize = 64;
+/// How many sessions an opening may allow.
+const HIGHEST_SESSIONS: u64 = 256;
 
 /// How high a limit may be. An opening may allow less.
 const HIGHEST_LIMIT: u64 = 1_048_576;
 
-fn is_good_txn(id: TxnId, txn: &Txn) -> bool
-    ensures { IsTrue result ↔ IsGoodTxn id txn.now }
+fn is_good_txn(sessions: u64, id: TxnId, txn: &Txn) -> bool
+    ensures { IsTrue result ↔ IsGoodTxn sessions id txn.now }
 {
-    is_short(txn) && is_well_formed(id, txn)
+    is_short(txn) && is_well_formed(sessions, id, txn)
 }
 
-/// Whether these are good as transactions of a session that begin at a number.
-fn are_good(session: u8, first: u64, txns: &[Txn]) -> bool
+/// Whether these are good as transactions of a session that begin at a number, where there may be so many sessions.
+fn are_good(sessions: u64, session: u8, first: u64, txns: &[Txn]) -> bool
     requires { first + length txns.now ≤ 2 ^ 48 }
-    ensures { IsTrue result ↔ AreGoodBelow session first txns.now (length txns.now) }
+    ensures { IsTrue result ↔ AreGoodBelow sessions session first txns.now (length txns.now) }
 {
     let mut number = first;
     for txn in txns {
-        if !is_good_txn(TxnId { session, number }, txn) {
+        if !is_good_txn(sessions, TxnId { session, number }, txn) {
             return false;
         }
         number += 1;
@@ -38,7 +38,8 @@ impl Parts {
     {
         let sessions = self.remain.len();
         1 <= sessions
-            && sessions <= SESSIONS
+            && sessions as u64 <= self.most_sessions
+            && self.most_sessions <= HIGHEST_SESSIONS
             && self.base.marks.len() == sessions
             && self.closed.len() == sessions
             && 1 <= self.limit
@@ -65,15 +66,17 @@ impl Parts {
     {
         let mark = self.mark_of(session);
         let txns = self.remaining_of(session);
-        mark <= NUMBERS && txns.len() as u64 <= NUMBERS - mark && are_good(session, mark, txns)
+        mark <= NUMBERS
+            && txns.len() as u64 <= NUMBERS - mark
+            && are_good(self.most_sessions, session, mark, txns)
     }
 
     fn has_good_sessions(&self) -> bool
-        requires { length self.now.remain ≤ 64 }
+        requires { length self.now.remain ≤ 256 }
         ensures { IsTrue result ↔ AreGoodSessions self.now (length self.now.remain) }
     {
-        for session in 0..self.remain.len() as u8 {
-            if !self.is_good_session(session) {
+        for session in 0..self.remain.len() {
+            if !self.is_good_session(session as u8) {
                 return false;
             }
         }

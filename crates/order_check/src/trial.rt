@@ -41,8 +41,8 @@ fn extend(
     if more == 0 {
         return explains(alloc, parts, front);
     }
-    for session in 0..parts.sessions() as u8 {
-        if extend_into(alloc, parts, front, more, session)? {
+    for session in 0..parts.sessions() {
+        if extend_into(alloc, parts, front, more, session as u8)? {
             return Ok(true);
         }
     }

@@ -84,8 +84,8 @@ front_refuted parts front counts tree found e is live =
 
 pub whole_refuted : (parts : Parts) (counts : List ℕ) (tree : Tree) (found : Bool) → FrontOfItself → KeptFrontsAreCounted → IsGood parts → counts ≡ received_counts parts → ((live : List Bool) → IsTrue found ↔ IsRefutation (front_at parts counts live) tree) → IsTrue found ↔ IsRefutation parts tree
 whole_refuted parts counts tree found itself counted good e is =
-    subst (λ (p : Parts). IsTrue found ↔ IsRefutation p tree) (counted parts parts (itself parts) refl good good).same
+    subst (λ (p : Parts). IsTrue found ↔ IsRefutation p tree) (counted parts parts (itself parts) refl refl good good).same
     (subst (λ (all : List ℕ). IsTrue found ↔ IsRefutation (front_at parts all (map not parts.closed)) tree) e (is (map not parts.closed)))
 
 pub all_counts : (parts : Parts) (counts : List ℕ) → FrontOfItself → KeptFrontsAreCounted → IsGood parts → counts ≡ received_counts parts → AreFrontCounts parts counts
-all_counts parts counts itself counted good e = subst (λ (all : List ℕ). AreFrontCounts parts all) (sym e) (counted parts parts (itself parts) refl good good).counts
+all_counts parts counts itself counted good e = subst (λ (all : List ℕ). AreFrontCounts parts all) (sym e) (counted parts parts (itself parts) refl refl good good).counts

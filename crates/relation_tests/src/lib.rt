@@ -14,6 +14,8 @@ mod fences;
 #[cfg(test)]
 mod later;
 #[cfg(test)]
+mod many_sessions;
+#[cfg(test)]
 mod orders;
 #[cfg(test)]
 mod relations;

@@ -6,18 +6,19 @@ use Rattle.log_text.specs.declared.commands.Command.TheVariants.{Start, StartIso
 use Rattle.log_text.specs.declared.versions.Opening.{Opening}
 use Rattle.log_text.specs.declared.versions.Opening.TheVariants.{Ordered, Isolated}
 use Rattle.log_text.specs.declared.versions.Version.{Version}
+use Rattle.log_text.specs.Versions.{most_sessions}
 use Rattle.log_text.specs.declared.replies.Reply.TheVariants as told
 use Rattle.byte_lines.specs.declared.lines.Next.{Next}
 use Rattle.byte_lines.specs.declared.lines.Next.TheVariants.{Line, TooLong, End}
 use Rattle.byte_lines.specs.LineReaders.{LineState, lines_ahead, IsNextOf}
 use Rattle.byte_lines.specs.Lines.{lines}
-use Rattle.round_state.specs.Opening.{IsSessions, fresh_state}
+use Rattle.round_state.specs.Opening.{fresh_state}
 use Rattle.round_state.specs.EngineState.{EngineState}
 use Rattle.round_state.specs.Legal.{State}
 use Rattle.round_state.specs.Runs.{Holds}
 use Rattle.snapshot_scripts.specs.Legal.{HoldsSplit}
 use Rattle.cobra.specs.Outputs.{Asks, IsTold}
-use Rattle.cobra.specs.Scripts.{IsIsolatedLimit, IsVersionLimit}
+use Rattle.cobra.specs.Scripts.{AreVersionSessions, IsIsolatedLimit, IsVersionLimit}
 use Rattle.report_checking.specs.Checking.{TakesMemory, Checks, start, right, unchecked}
 use Rattle.report_checking.specs.OwedLines.{Owes, OwesIn, ScriptState}
 use Rattle.report_checking.specs.Reading.{HoldsScript, LeadsScript, MayGoOn, IsRead, Finds, FindsFor, FindsNext, IsFoundBy, IsFine, IsChecking, LeadsOn, Advances}
@@ -31,35 +32,35 @@ use Rattle.report_checking.specs.declared.checking.TheConstants.{LONGEST_REPLY}
 use Rattle.report_checking.specs.declared.findings.Owed.TheVariants as owed
 
 -- None was open, and the first one is.
-opened_by : (engine : EngineState) (sessions limit : ℕ) (version : Version) → Holds engine (fresh_state sessions limit) → IsSessions sessions × IsVersionLimit version limit
+opened_by : (engine : EngineState) (sessions limit : ℕ) (version : Version) → Holds engine (fresh_state (most_sessions version) sessions limit) → AreVersionSessions version sessions × IsVersionLimit version limit
     → LeadsScript None (Some (record { engine = engine; opening = Ordered version; searched = false })) (λ before after. Owes before (Start sessions limit version) told.Done after)
 opened_by engine sessions limit version holds numbers None first =
-    (Some (record { state = fresh_state sessions limit; opening = Ordered version; searched = false }), (numbers.0, numbers.1, refl), (holds, refl, refl))
+    (Some (record { state = fresh_state (most_sessions version) sessions limit; opening = Ordered version; searched = false }), (numbers.0, numbers.1, refl), (holds, refl, refl))
 opened_by engine sessions limit version holds numbers (Some before) first = absurd first
 
-pub opened : (old : Option OpenScript) (engine : EngineState) (sessions limit : ℕ) (version : Version) → old ≡ None → Holds engine (fresh_state sessions limit) → IsSessions sessions × IsVersionLimit version limit
+pub opened : (old : Option OpenScript) (engine : EngineState) (sessions limit : ℕ) (version : Version) → old ≡ None → Holds engine (fresh_state (most_sessions version) sessions limit) → AreVersionSessions version sessions × IsVersionLimit version limit
     → LeadsScript old (Some (record { engine = engine; opening = Ordered version; searched = false })) (λ before after. Owes before (Start sessions limit version) told.Done after)
 opened old engine sessions limit version none holds numbers =
     subst (λ (o : Option OpenScript). LeadsScript o (Some (record { engine = engine; opening = Ordered version; searched = false })) (λ before after. Owes before (Start sessions limit version) told.Done after)) (sym none)
     (opened_by engine sessions limit version holds numbers)
 
 -- The same where transactions are split.
-isolated_by : (engine : EngineState) (sessions limit : ℕ) → HoldsSplit engine (fresh_state sessions (2 * limit)) → IsSessions sessions × IsIsolatedLimit limit
-    → LeadsScript None (Some (record { engine = engine; opening = Isolated; searched = false })) (λ before after. Owes before (StartIsolated sessions limit) told.Done after)
-isolated_by engine sessions limit holds numbers None first =
-    (Some (record { state = fresh_state sessions (2 * limit); opening = Isolated; searched = false }), (numbers.0, numbers.1, refl), (holds, refl, refl))
-isolated_by engine sessions limit holds numbers (Some before) first = absurd first
+isolated_by : (engine : EngineState) (sessions limit : ℕ) (version : Version) → HoldsSplit engine (fresh_state (most_sessions version) sessions (2 * limit)) → AreVersionSessions version sessions × IsIsolatedLimit version limit
+    → LeadsScript None (Some (record { engine = engine; opening = Isolated version; searched = false })) (λ before after. Owes before (StartIsolated sessions limit version) told.Done after)
+isolated_by engine sessions limit version holds numbers None first =
+    (Some (record { state = fresh_state (most_sessions version) sessions (2 * limit); opening = Isolated version; searched = false }), (numbers.0, numbers.1, refl), (holds, refl, refl))
+isolated_by engine sessions limit version holds numbers (Some before) first = absurd first
 
-pub isolated_opened : (old : Option OpenScript) (engine : EngineState) (sessions limit : ℕ) → old ≡ None → HoldsSplit engine (fresh_state sessions (2 * limit)) → IsSessions sessions × IsIsolatedLimit limit
-    → LeadsScript old (Some (record { engine = engine; opening = Isolated; searched = false })) (λ before after. Owes before (StartIsolated sessions limit) told.Done after)
-isolated_opened old engine sessions limit none holds numbers =
-    subst (λ (o : Option OpenScript). LeadsScript o (Some (record { engine = engine; opening = Isolated; searched = false })) (λ before after. Owes before (StartIsolated sessions limit) told.Done after)) (sym none)
-    (isolated_by engine sessions limit holds numbers)
+pub isolated_opened : (old : Option OpenScript) (engine : EngineState) (sessions limit : ℕ) (version : Version) → old ≡ None → HoldsSplit engine (fresh_state (most_sessions version) sessions (2 * limit)) → AreVersionSessions version sessions × IsIsolatedLimit version limit
+    → LeadsScript old (Some (record { engine = engine; opening = Isolated version; searched = false })) (λ before after. Owes before (StartIsolated sessions limit version) told.Done after)
+isolated_opened old engine sessions limit version none holds numbers =
+    subst (λ (o : Option OpenScript). LeadsScript o (Some (record { engine = engine; opening = Isolated version; searched = false })) (λ before after. Owes before (StartIsolated sessions limit version) told.Done after)) (sym none)
+    (isolated_by engine sessions limit version holds numbers)
 
 -- A search goes on.
 on_in : (opening : Opening) (waits searched : Bool) (state : State) → waits ≡ false → searched ≡ true → OwesIn opening searched state (Collect waits) told.Searching searched state
 on_in (Ordered version) waits searched state none goes = inl (none, goes, refl, refl, refl)
-on_in Isolated waits searched state none goes = inr (tt, inl (none, goes, refl, refl, refl))
+on_in (Isolated version) waits searched state none goes = inr (tt, inl (none, goes, refl, refl, refl))
 
 pub goes_on : (old : Option OpenScript) (command : Command) → MayGoOn old command → LeadsScript old old (λ before after. Owes before command told.Searching after)
 goes_on (Some script) (Collect waits) may (Some before) holds =

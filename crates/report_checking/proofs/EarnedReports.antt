@@ -33,7 +33,7 @@ use Rattle.report_checking.specs.Reading.{Leads}
 
 -- parts with these marks, of which this remains
 abbrev plain : List ℕ → List (List Txn) → Parts
-plain marks remain = record { base = record { last = finite.empty; marks = marks }; remain = remain; closed = []; limit = 0 }
+plain marks remain = record { base = record { last = finite.empty; marks = marks }; remain = remain; closed = []; most_sessions = 0; limit = 0 }
 
 counts_length : (marks : List ℕ) (remain : List (List Txn)) → length marks ≡ length remain → length (received_counts (plain marks remain)) ≡ length remain
 counts_length [] [] e = refl

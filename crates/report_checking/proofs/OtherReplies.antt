@@ -224,7 +224,7 @@ takes_open version old command.Show is = let no : ⊥ = cc in no
 takes_open version old (command.Save asked) is = never_saved old.parts asked is
 takes_open version old (command.BeginSearch budget depth workers search) is = other_refusal is
 takes_open version old command.Skip is = other_refusal is
-takes_open version old (command.StartIsolated sessions limit) is = other_refusal is
+takes_open version old (command.StartIsolated sessions limit lines) is = other_refusal is
 takes_open version old (command.Resume sessions limit lines) is = other_refusal is
 takes_open version old (command.Marks marks closed) is = other_refusal is
 takes_open version old (command.MarksBegun marks closed begun) is = other_refusal is

@@ -366,7 +366,7 @@ engine_right names searched old asked stored given of right report new earned sh
 earns_answer : (opening : Opening) (searched : Bool) (old : EngineState) (it other : Shown) (report : Report) (new : EngineState) → IsSameShown (Some it) (Some other)
     → EarnsIn opening searched old (command.Answer other) report new → EarnsIn opening searched old (command.Answer it) report new
 earns_answer (Ordered version) searched old it other report new same earned = (earned.0, shown_then it other earned.0 same earned.1, earned.2)
-earns_answer Isolated searched old it other report new same earned = absurd earned.0
+earns_answer (Isolated version) searched old it other report new same earned = absurd earned.0
 
 earns_said : (old : Option OpenScript) (said : Data) (asked other : Command) (report : Report) (new : EngineState) → Says said asked → Says said other → EarnsScript old asked report new → EarnsScript old other report new
 earns_said old said asked other report new (inl one) (inl two) earned =

@@ -24,71 +24,71 @@ use Rattle.report_checking.proofs.RightReports.{none_and_some}
 
 -- ---- what is wrong with a fragment is one thing
 
-no_txn_fault : (id : TxnId) (txn : Txn) (r : Refusal) → IsWellFormed id txn → TxnFault id txn r → ⊥
-no_txn_fault id txn BadTxn well is = is well.lists
-no_txn_fault id txn BadFence well is = is.1 well.epoch
-no_txn_fault id txn r well is = is
+no_txn_fault : (most : ℕ) (id : TxnId) (txn : Txn) (r : Refusal) → IsWellFormed most id txn → TxnFault most id txn r → ⊥
+no_txn_fault most id txn BadTxn well is = is well.lists
+no_txn_fault most id txn BadFence well is = is.1 well.epoch
+no_txn_fault most id txn r well is = is
 
-same_txn_fault : (id : TxnId) (txn : Txn) (r q : Refusal) → TxnFault id txn r → TxnFault id txn q → r ≡ q
-same_txn_fault id txn BadTxn BadTxn a b = refl
-same_txn_fault id txn BadTxn BadFence a b = absurd (a b.0)
-same_txn_fault id txn BadTxn q a b = absurd b
-same_txn_fault id txn BadFence BadTxn a b = absurd (b a.0)
-same_txn_fault id txn BadFence BadFence a b = refl
-same_txn_fault id txn BadFence q a b = absurd b
-same_txn_fault id txn r q a b = absurd a
+same_txn_fault : (most : ℕ) (id : TxnId) (txn : Txn) (r q : Refusal) → TxnFault most id txn r → TxnFault most id txn q → r ≡ q
+same_txn_fault most id txn BadTxn BadTxn a b = refl
+same_txn_fault most id txn BadTxn BadFence a b = absurd (a b.0)
+same_txn_fault most id txn BadTxn q a b = absurd b
+same_txn_fault most id txn BadFence BadTxn a b = absurd (b a.0)
+same_txn_fault most id txn BadFence BadFence a b = refl
+same_txn_fault most id txn BadFence q a b = absurd b
+same_txn_fault most id txn r q a b = absurd a
 
 -- the first fault of one place stands behind no other
-fault_behind : (f : Fragment) (r q : Refusal) (a : FirstFault f r) (b : FirstFault f q) → a.0 < b.0 → ⊥
-fault_behind f r q a b before = no_txn_fault (id_in f a.0) a.1 r (b.3 a.0 a.1 before a.2) a.4
+fault_behind : (most : ℕ) (f : Fragment) (r q : Refusal) (a : FirstFault most f r) (b : FirstFault most f q) → a.0 < b.0 → ⊥
+fault_behind most f r q a b before = no_txn_fault most (id_in f a.0) a.1 r (b.3 a.0 a.1 before a.2) a.4
 
-same_place : (f : Fragment) (r q : Refusal) (k n : ℕ) (x y : Txn) → k ≡ n → slice_get f.txns k ≡ Some x → slice_get f.txns n ≡ Some y → TxnFault (id_in f k) x r → TxnFault (id_in f n) y q → r ≡ q
-same_place f r q k n x y at one two a b =
+same_place : (most : ℕ) (f : Fragment) (r q : Refusal) (k n : ℕ) (x y : Txn) → k ≡ n → slice_get f.txns k ≡ Some x → slice_get f.txns n ≡ Some y → TxnFault most (id_in f k) x r → TxnFault most (id_in f n) y q → r ≡ q
+same_place most f r q k n x y at one two a b =
     let other : slice_get f.txns k ≡ Some y = subst (λ m. slice_get f.txns m ≡ Some y) (sym at) two in
     let same : Some x ≡ Some y = sym one ∙ other in
     let equal : x ≡ y = cc in
-    same_txn_fault (id_in f k) x r q a (subst (λ t. TxnFault (id_in f k) t q) (sym equal) (subst (λ m. TxnFault (id_in f m) y q) (sym at) b))
+    same_txn_fault most (id_in f k) x r q a (subst (λ t. TxnFault most (id_in f k) t q) (sym equal) (subst (λ m. TxnFault most (id_in f m) y q) (sym at) b))
 
-same_first : (f : Fragment) (r q : Refusal) → FirstFault f r → FirstFault f q → r ≡ q
-same_first f r q a b = by_place (cases_order a.0 b.0)
+same_first : (most : ℕ) (f : Fragment) (r q : Refusal) → FirstFault most f r → FirstFault most f q → r ≡ q
+same_first most f r q a b = by_place (cases_order a.0 b.0)
   where
     by_place : (a.0 ≡ b.0) ⊎ ((a.0 < b.0) ⊎ (b.0 < a.0)) → r ≡ q
-    by_place (inl at) = same_place f r q a.0 b.0 a.1 b.1 at a.2 b.2 a.4 b.4
-    by_place (inr (inl before)) = absurd (fault_behind f r q a b before)
-    by_place (inr (inr after)) = absurd (fault_behind f q r b a after)
+    by_place (inl at) = same_place most f r q a.0 b.0 a.1 b.1 at a.2 b.2 a.4 b.4
+    by_place (inr (inl before)) = absurd (fault_behind most f r q a b before)
+    by_place (inr (inr after)) = absurd (fault_behind most f q r b a after)
 
 -- the faults of a fragment, one after another
-abbrev Faulty : Fragment → Refusal → Type 0
-Faulty f r = ((r ≡ BadSession) × (64 ≤ f.session)) ⊎ (((r ≡ TooLong) × (f.session < 64) × (¬ HasGoodLengths f)) ⊎ ((f.session < 64) × HasGoodLengths f × FirstFault f r))
+abbrev Faulty : ℕ → Fragment → Refusal → Type 0
+Faulty most f r = ((r ≡ BadSession) × (most ≤ f.session)) ⊎ (((r ≡ TooLong) × (f.session < most) × (¬ HasGoodLengths f)) ⊎ ((f.session < most) × HasGoodLengths f × FirstFault most f r))
 
-faulty : (f : Fragment) (r : Refusal) → FragmentFault f r → Faulty f r
-faulty f BadSession is = inl (refl, is)
-faulty f TooLong is = inr (inl (refl, is.0, is.1))
-faulty f r is = inr (inr is)
+faulty : (most : ℕ) (f : Fragment) (r : Refusal) → FragmentFault most f r → Faulty most f r
+faulty most f BadSession is = inl (refl, is)
+faulty most f TooLong is = inr (inl (refl, is.0, is.1))
+faulty most f r is = inr (inr is)
 
-no_faulty : (f : Fragment) (r : Refusal) → IsWellFormedFragment f → Faulty f r → ⊥
-no_faulty f r well (inl is) = omega (arith, well.session, is.1)
-no_faulty f r well (inr (inl is)) = is.2 well.lengths
-no_faulty f r well (inr (inr is)) =
+no_faulty : (most : ℕ) (f : Fragment) (r : Refusal) → IsWellFormedFragment most f → Faulty most f r → ⊥
+no_faulty most f r well (inl is) = omega (arith, well.session, is.1)
+no_faulty most f r well (inr (inl is)) = is.2 well.lengths
+no_faulty most f r well (inr (inr is)) =
     let first = is.2 in
-    no_txn_fault (id_in f first.0) first.1 r (well.txns first.0 first.1 (slice_get_within f.txns first.0 first.1 first.2) first.2) first.4
+    no_txn_fault most (id_in f first.0) first.1 r (well.txns first.0 first.1 (slice_get_within f.txns first.0 first.1 first.2) first.2) first.4
 
-no_fault : (f : Fragment) (r : Refusal) → IsWellFormedFragment f → FragmentFault f r → ⊥
-no_fault f r well is = no_faulty f r well (faulty f r is)
+no_fault : (most : ℕ) (f : Fragment) (r : Refusal) → IsWellFormedFragment most f → FragmentFault most f r → ⊥
+no_fault most f r well is = no_faulty most f r well (faulty most f r is)
 
-same_faulty : (f : Fragment) (r q : Refusal) → Faulty f r → Faulty f q → r ≡ q
-same_faulty f r q (inl a) (inl b) = a.0 ∙ sym b.0
-same_faulty f r q (inl a) (inr (inl b)) = absurd (omega (arith, a.1, b.1))
-same_faulty f r q (inl a) (inr (inr b)) = absurd (omega (arith, a.1, b.0))
-same_faulty f r q (inr (inl a)) (inl b) = absurd (omega (arith, a.1, b.1))
-same_faulty f r q (inr (inl a)) (inr (inl b)) = a.0 ∙ sym b.0
-same_faulty f r q (inr (inl a)) (inr (inr b)) = absurd (a.2 b.1)
-same_faulty f r q (inr (inr a)) (inl b) = absurd (omega (arith, a.0, b.1))
-same_faulty f r q (inr (inr a)) (inr (inl b)) = absurd (b.2 a.1)
-same_faulty f r q (inr (inr a)) (inr (inr b)) = same_first f r q a.2 b.2
+same_faulty : (most : ℕ) (f : Fragment) (r q : Refusal) → Faulty most f r → Faulty most f q → r ≡ q
+same_faulty most f r q (inl a) (inl b) = a.0 ∙ sym b.0
+same_faulty most f r q (inl a) (inr (inl b)) = absurd (omega (arith, a.1, b.1))
+same_faulty most f r q (inl a) (inr (inr b)) = absurd (omega (arith, a.1, b.0))
+same_faulty most f r q (inr (inl a)) (inl b) = absurd (omega (arith, a.1, b.1))
+same_faulty most f r q (inr (inl a)) (inr (inl b)) = a.0 ∙ sym b.0
+same_faulty most f r q (inr (inl a)) (inr (inr b)) = absurd (a.2 b.1)
+same_faulty most f r q (inr (inr a)) (inl b) = absurd (omega (arith, a.0, b.1))
+same_faulty most f r q (inr (inr a)) (inr (inl b)) = absurd (b.2 a.1)
+same_faulty most f r q (inr (inr a)) (inr (inr b)) = same_first most f r q a.2 b.2
 
-same_fault : (f : Fragment) (r q : Refusal) → FragmentFault f r → FragmentFault f q → r ≡ q
-same_fault f r q a b = same_faulty f r q (faulty f r a) (faulty f q b)
+same_fault : (most : ℕ) (f : Fragment) (r q : Refusal) → FragmentFault most f r → FragmentFault most f q → r ≡ q
+same_fault most f r q a b = same_faulty most f r q (faulty most f r a) (faulty most f q b)
 
 -- ---- why a fragment isn't taken in is one thing
 
@@ -134,7 +134,7 @@ admitted_anyway parts f Backlog in_it is = omega (arith, in_it.room, is.2)
 admitted_anyway parts f r in_it is = is
 
 abbrev Intakes : Parts → LoggedFragment → Refusal → Type 0
-Intakes parts logged r = (r ≡ NoMemory) ⊎ (FragmentFault logged.fragment r ⊎ (IsWellFormedFragment logged.fragment × IntakeFault parts (effects logged) r))
+Intakes parts logged r = (r ≡ NoMemory) ⊎ (FragmentFault parts.most_sessions logged.fragment r ⊎ (IsWellFormedFragment parts.most_sessions logged.fragment × IntakeFault parts (effects logged) r))
 
 intakes : (parts : Parts) (logged : LoggedFragment) (r : Refusal) → IsOfferRefusal parts logged r → Intakes parts logged r
 intakes parts logged NoMemory is = inl refl
@@ -147,14 +147,14 @@ IsOne r q = (r ≡ NoMemory) ⊎ ((q ≡ NoMemory) ⊎ (r ≡ q))
 same_offers : (parts : Parts) (logged : LoggedFragment) (r q : Refusal) → Intakes parts logged r → Intakes parts logged q → IsOne r q
 same_offers parts logged r q (inl a) b = inl a
 same_offers parts logged r q (inr a) (inl b) = inr (inl b)
-same_offers parts logged r q (inr (inl a)) (inr (inl b)) = inr (inr (same_fault logged.fragment r q a b))
-same_offers parts logged r q (inr (inl a)) (inr (inr b)) = absurd (no_fault logged.fragment r b.0 a)
-same_offers parts logged r q (inr (inr a)) (inr (inl b)) = absurd (no_fault logged.fragment q a.0 b)
+same_offers parts logged r q (inr (inl a)) (inr (inl b)) = inr (inr (same_fault parts.most_sessions logged.fragment r q a b))
+same_offers parts logged r q (inr (inl a)) (inr (inr b)) = absurd (no_fault parts.most_sessions logged.fragment r b.0 a)
+same_offers parts logged r q (inr (inr a)) (inr (inl b)) = absurd (no_fault parts.most_sessions logged.fragment q a.0 b)
 same_offers parts logged r q (inr (inr a)) (inr (inr b)) = inr (inr (same_intake parts (effects logged) r q a.1 b.1))
 
-offered_anyway : (parts : Parts) (logged : LoggedFragment) (r : Refusal) → IsWellFormedFragment logged.fragment → IsAdmitted parts (effects logged) → Intakes parts logged r → r ≡ NoMemory
+offered_anyway : (parts : Parts) (logged : LoggedFragment) (r : Refusal) → IsWellFormedFragment parts.most_sessions logged.fragment → IsAdmitted parts (effects logged) → Intakes parts logged r → r ≡ NoMemory
 offered_anyway parts logged r well in_it (inl is) = is
-offered_anyway parts logged r well in_it (inr (inl is)) = absurd (no_fault logged.fragment r well is)
+offered_anyway parts logged r well in_it (inr (inl is)) = absurd (no_fault parts.most_sessions logged.fragment r well is)
 offered_anyway parts logged r well in_it (inr (inr is)) = absurd (admitted_anyway parts (effects logged) r in_it is.1)
 
 -- ---- why a session isn't let join is one thing
@@ -201,7 +201,7 @@ let_in_anyway parts f Backlog in_it is = omega (arith, in_it.room, is.3)
 let_in_anyway parts f r in_it is = is
 
 abbrev Joining : EngineState → LoggedFragment → Refusal → Type 0
-Joining old logged r = (r ≡ NoMemory) ⊎ (((r ≡ RoundOpen) × IsWellFormedFragment logged.fragment × IsSome old.asked) ⊎ (FragmentFault logged.fragment r ⊎ (IsWellFormedFragment logged.fragment × (old.asked ≡ None) × JoinFault old.parts (effects logged) r)))
+Joining old logged r = (r ≡ NoMemory) ⊎ (((r ≡ RoundOpen) × IsWellFormedFragment old.parts.most_sessions logged.fragment × IsSome old.asked) ⊎ (FragmentFault old.parts.most_sessions logged.fragment r ⊎ (IsWellFormedFragment old.parts.most_sessions logged.fragment × (old.asked ≡ None) × JoinFault old.parts (effects logged) r)))
 
 joining : (old : EngineState) (logged : LoggedFragment) (r : Refusal) → IsJoinRefusal old logged r → Joining old logged r
 joining old logged RoundOpen is = inr (inl (refl, is.0, is.1))
@@ -212,19 +212,19 @@ same_joins : (old : EngineState) (logged : LoggedFragment) (r q : Refusal) → J
 same_joins old logged r q (inl a) b = inl a
 same_joins old logged r q (inr a) (inl b) = inr (inl b)
 same_joins old logged r q (inr (inl a)) (inr (inl b)) = inr (inr (a.0 ∙ sym b.0))
-same_joins old logged r q (inr (inl a)) (inr (inr (inl b))) = absurd (no_fault logged.fragment q a.1 b)
+same_joins old logged r q (inr (inl a)) (inr (inr (inl b))) = absurd (no_fault old.parts.most_sessions logged.fragment q a.1 b)
 same_joins old logged r q (inr (inl a)) (inr (inr (inr b))) = absurd (none_and_some old.asked b.1 a.2)
-same_joins old logged r q (inr (inr (inl a))) (inr (inl b)) = absurd (no_fault logged.fragment r b.1 a)
+same_joins old logged r q (inr (inr (inl a))) (inr (inl b)) = absurd (no_fault old.parts.most_sessions logged.fragment r b.1 a)
 same_joins old logged r q (inr (inr (inr a))) (inr (inl b)) = absurd (none_and_some old.asked a.1 b.2)
-same_joins old logged r q (inr (inr (inl a))) (inr (inr (inl b))) = inr (inr (same_fault logged.fragment r q a b))
-same_joins old logged r q (inr (inr (inl a))) (inr (inr (inr b))) = absurd (no_fault logged.fragment r b.0 a)
-same_joins old logged r q (inr (inr (inr a))) (inr (inr (inl b))) = absurd (no_fault logged.fragment q a.0 b)
+same_joins old logged r q (inr (inr (inl a))) (inr (inr (inl b))) = inr (inr (same_fault old.parts.most_sessions logged.fragment r q a b))
+same_joins old logged r q (inr (inr (inl a))) (inr (inr (inr b))) = absurd (no_fault old.parts.most_sessions logged.fragment r b.0 a)
+same_joins old logged r q (inr (inr (inr a))) (inr (inr (inl b))) = absurd (no_fault old.parts.most_sessions logged.fragment q a.0 b)
 same_joins old logged r q (inr (inr (inr a))) (inr (inr (inr b))) = inr (inr (same_join old.parts (effects logged) r q a.2 b.2))
 
-joined_anyway : (old : EngineState) (logged : LoggedFragment) (r : Refusal) → IsWellFormedFragment logged.fragment → old.asked ≡ None → IsLetIn old.parts (effects logged) → Joining old logged r → r ≡ NoMemory
+joined_anyway : (old : EngineState) (logged : LoggedFragment) (r : Refusal) → IsWellFormedFragment old.parts.most_sessions logged.fragment → old.asked ≡ None → IsLetIn old.parts (effects logged) → Joining old logged r → r ≡ NoMemory
 joined_anyway old logged r well none in_it (inl is) = is
 joined_anyway old logged r well none in_it (inr (inl is)) = absurd (none_and_some old.asked none is.2)
-joined_anyway old logged r well none in_it (inr (inr (inl is))) = absurd (no_fault logged.fragment r well is)
+joined_anyway old logged r well none in_it (inr (inr (inl is))) = absurd (no_fault old.parts.most_sessions logged.fragment r well is)
 joined_anyway old logged r well none in_it (inr (inr (inr is))) = absurd (let_in_anyway old.parts (effects logged) r in_it is.2)
 
 -- ---- why other steps are refused is one thing

@@ -8,7 +8,7 @@ use Rattle.order_check.specs.declared.remainder.Parts.{Parts}
 use Rattle.log_text.specs.Commands.{Says}
 use Rattle.log_text.specs.ReadBack.{IsSameShown}
 use Rattle.log_text.specs.Replies.{text_of}
-use Rattle.log_text.specs.Versions.{greatest_limit}
+use Rattle.log_text.specs.Versions.{greatest_limit, greatest_split_limit, most_sessions}
 use Rattle.log_text.specs.declared.commands.Command.{Command}
 use Rattle.log_text.specs.declared.commands.Command.TheVariants as command
 use Rattle.log_text.specs.declared.replies.Reply.{Reply}
@@ -18,7 +18,6 @@ use Rattle.log_text.specs.declared.shown.Shown.{Shown}
 use Rattle.log_text.specs.declared.versions.Opening.{Opening}
 use Rattle.log_text.specs.declared.versions.Opening.TheVariants.{Ordered, Isolated}
 use Rattle.log_text.specs.declared.versions.Version.{Version}
-use Rattle.log_text.specs.declared.versions.Version.TheVariants.{Two}
 use Rattle.byte_lines.specs.declared.lines.Next.{Next}
 use Rattle.round_state.specs.EngineState.{EngineState}
 use Rattle.round_state.specs.Legal.{State}
@@ -34,7 +33,7 @@ use Rattle.snapshot_scripts.specs.Isolated.{isolated_of}
 use Rattle.snapshot_scripts.specs.Splitting.{CanBeAsked, IsAskedFault, split_command, split_wanted}
 use Rattle.cobra.specs.Outputs.{Asks, IsTold}
 use Rattle.cobra.specs.Saving.{saved_told}
-use Rattle.cobra.specs.Scripts.{IsBeginningRefusal, IsIsolatedLimit, IsIsolatedRefusal, IsLimitWithin, IsVersionLimit, IsVersionRefusal, state_told}
+use Rattle.cobra.specs.Scripts.{AreVersionSessions, IsBeginningRefusal, IsIsolatedLimit, IsIsolatedRefusal, IsLimitWithin, IsVersionLimit, IsVersionRefusal, state_told}
 use Rattle.cobra.specs.StepReplies.{certified, report_of, reply_of}
 use Rattle.report_checking.specs.Checking.{AsksOfMemory, OpensEngine, TakesMemory, IsUnchecked}
 use Rattle.report_checking.specs.Isolation.{EndsIsolated, IsIsolatedRound, EndsWhere, OwesSplit, OwesAsked, OwesIsolated}
@@ -57,7 +56,7 @@ use Rattle.report_checking.proofs.SaidOnce.{IsOne}
 
 takes_first : (asked : Command) → GivesFirst asked (told.No NoMemory) → OpensEngine asked
 takes_first (command.Start sessions limit lines) is = tt
-takes_first (command.StartIsolated sessions limit) is = tt
+takes_first (command.StartIsolated sessions limit lines) is = tt
 takes_first (command.Resume sessions limit lines) is = is
 takes_first asked is = other_refusal is
 
@@ -77,20 +76,20 @@ takes_split (command.Join logged) takes = tt
 takes_split (command.Save wanted) takes = takes
 takes_split asked takes = takes
 
-takes_fault : (asked : Command) (refusal : Refusal) → IsAskedFault asked refusal → AsksOfMemory asked
-takes_fault (command.Offer logged) refusal fault = tt
-takes_fault (command.Join logged) refusal fault = tt
-takes_fault (command.Answer shown) refusal fault = tt
-takes_fault asked refusal fault = absurd fault
+takes_fault : (most : ℕ) (asked : Command) (refusal : Refusal) → IsAskedFault most asked refusal → AsksOfMemory asked
+takes_fault most (command.Offer logged) refusal fault = tt
+takes_fault most (command.Join logged) refusal fault = tt
+takes_fault most (command.Answer shown) refusal fault = tt
+takes_fault most asked refusal fault = absurd fault
 
-takes_isolated : (searched : Bool) (old : EngineState) (asked : Command) → GivesIsolated searched old asked (told.No NoMemory) → AsksOfMemory asked
-takes_isolated searched old asked (inl fault) = takes_fault asked fault.0 fault.1
-takes_isolated searched old asked (inr is) =
-    takes_split asked (takes_beside Two searched old (split_command asked) (subst (λ (r : Reply). GivesBeside Two searched old (split_command asked) r) (sym (memory_by_halves is.1 is.3)) is.2))
+takes_isolated : (version : Version) (searched : Bool) (old : EngineState) (asked : Command) → GivesIsolated version searched old asked (told.No NoMemory) → AsksOfMemory asked
+takes_isolated version searched old asked (inl fault) = takes_fault (most_sessions version) asked fault.0 fault.1
+takes_isolated version searched old asked (inr is) =
+    takes_split asked (takes_beside version searched old (split_command asked) (subst (λ (r : Reply). GivesBeside version searched old (split_command asked) r) (sym (memory_by_halves is.1 is.3)) is.2))
 
 takes_in : (opening : Opening) (searched : Bool) (old : EngineState) (asked : Command) → GivesIn opening searched old asked (told.No NoMemory) → AsksOfMemory asked
 takes_in (Ordered version) searched old asked is = takes_beside version searched old asked is
-takes_in Isolated searched old asked is = takes_isolated searched old asked is
+takes_in (Isolated version) searched old asked is = takes_isolated version searched old asked is
 
 takes_if : (old : Option OpenScript) (asked : Command) → GivesScript old asked (told.No NoMemory) → TakesMemory old asked
 takes_if None asked is = takes_first asked is
@@ -123,8 +122,8 @@ other_found old asked stored (owed.Nothing it) alone checked ended (found.Wrong 
 
 gives_same : (opening : Opening) (searched : Bool) (old : EngineState) (it other : Shown) (answer : Reply) → IsSameShown (Some it) (Some other) → GivesIn opening searched old (command.Answer other) answer → GivesIn opening searched old (command.Answer it) answer
 gives_same (Ordered version) searched old it other answer same is = (is.0, shown_then it other is.0 same is.1, is.2)
-gives_same Isolated searched old it other answer same (inl fault) = inl fault
-gives_same Isolated searched old it other answer same (inr is) = absurd is.0
+gives_same (Isolated version) searched old it other answer same (inl fault) = inl fault
+gives_same (Isolated version) searched old it other answer same (inr is) = absurd is.0
 
 gives_answer : (old : Option OpenScript) (it other : Shown) (answer : Reply) → IsSameShown (Some it) (Some other) → GivesScript old (command.Answer other) answer → GivesScript old (command.Answer it) answer
 gives_answer None it other answer same is = is
@@ -167,9 +166,9 @@ gives_first : (asked : Command) (answer : Reply) (new : Option ScriptState) → 
 gives_first (command.Start sessions limit version) told.Done new is = (is.0, is.1)
 gives_first (command.Start sessions limit version) (told.No refusal) new is = is.0
 gives_first (command.Start sessions limit version) answer new is = absurd is
-gives_first (command.StartIsolated sessions limit) told.Done new is = (is.0, is.1)
-gives_first (command.StartIsolated sessions limit) (told.No refusal) new is = is.0
-gives_first (command.StartIsolated sessions limit) answer new is = absurd is
+gives_first (command.StartIsolated sessions limit version) told.Done new is = (is.0, is.1)
+gives_first (command.StartIsolated sessions limit version) (told.No refusal) new is = is.0
+gives_first (command.StartIsolated sessions limit version) answer new is = absurd is
 gives_first (command.Resume sessions limit opening) answer new is = absurd is
 gives_first asked answer new is = is.0
 
@@ -188,8 +187,8 @@ ordered_or version searched old (command.Collect waits) answer (inr is) = inl is
 ordered_or version searched old asked answer is = inl is
 
 -- where transactions are split: what it is by halves
-abbrev ByHalves : Bool → EngineState → Command → Reply → Type 0
-ByHalves searched old asked answer = (inner : Reply) × GivesBeside Two searched old (split_command asked) inner × (answer ≡ isolated_of inner)
+abbrev ByHalves : Version → Bool → EngineState → Command → Reply → Type 0
+ByHalves version searched old asked answer = (inner : Reply) × GivesBeside version searched old (split_command asked) inner × (answer ≡ isolated_of inner)
 
 no_report_told : (report : Report) (certificate : Certificate) → IsNoReport (isolated_of (certified report certificate)) → ⊥
 no_report_told report (Order order) none = none
@@ -221,52 +220,54 @@ where_by_halves false refusal searched after old new answer is none = (told.No r
 none_begun : (old begun : EngineState) → StepsTo old step.Begin reply.Done begun → begun.asked ≡ None → ⊥
 none_begun old begun steps none = let no : Some old.parts ≡ None = sym (ap (λ (e : EngineState). e.asked) steps.1) ∙ none in cc
 
-round_by_halves : (searched : Bool) (old new : State) (budget depth workers : ℕ) (search : Search) (answer : Reply) → IsIsolatedRound old answer new → IsNoReport answer → ByHalves searched old.engine (command.Round budget depth workers search) answer
-round_by_halves searched old new budget depth workers search answer (inl is) none = (told.No is.0, (is.0, new.engine, is.1.engine, refl), is.2)
-round_by_halves searched old new budget depth workers search answer (inr is) none = absurd (none_begun old.engine is.0.engine is.1.engine (ends_by_halves is.0 new answer is.2 none).0)
+round_by_halves : (version : Version) (searched : Bool) (old new : State) (budget depth workers : ℕ) (search : Search) (answer : Reply) → IsIsolatedRound old answer new → IsNoReport answer → ByHalves version searched old.engine (command.Round budget depth workers search) answer
+round_by_halves version searched old new budget depth workers search answer (inl is) none = (told.No is.0, (is.0, new.engine, is.1.engine, refl), is.2)
+round_by_halves version searched old new budget depth workers search answer (inr is) none = absurd (none_begun old.engine is.0.engine is.1.engine (ends_by_halves is.0 new answer is.2 none).0)
 
-split_by_halves : (searched : Bool) (old new : State) (asked : Command) (answer : Reply) → IsOfEngine asked → CanBeAsked asked → OwesSplit old asked answer new → IsNoReport answer → ByHalves searched old.engine asked answer
-split_by_halves searched old new (command.Offer logged) answer of can is none = (reply_of is.0, inl (refl, (is.0, new.engine, is.1.engine, refl)), is.2)
-split_by_halves searched old new (command.Join logged) answer of can is none = (reply_of is.0, inl (refl, (is.0, new.engine, is.1.engine, refl)), is.2)
-split_by_halves searched old new (command.Close session) answer of can is none = (reply_of is.0, (is.0, new.engine, is.1.engine, refl), is.2)
-split_by_halves searched old new command.Begin answer of can is none = (reply_of is.0, (is.0, new.engine, is.1.engine, refl), is.2)
-split_by_halves searched old new (command.Round budget depth workers search) answer of can is none = round_by_halves searched old new budget depth workers search answer is none
-split_by_halves searched old new command.Truncate answer of can is none = (reply_of is.0, (is.0, new.engine, is.1.engine, refl), is.2)
-split_by_halves searched old new command.Rebuild answer of can is none = (reply_of is.0, (is.0, new.engine, is.1.engine, refl), is.2)
-split_by_halves searched old new command.Show answer of can is none = (state_told old.engine, refl, is.0)
-split_by_halves searched old new (command.Save wanted) answer of can is none = (saved_told old.engine.parts (split_wanted wanted), refl, is.0)
-split_by_halves searched old new (command.Answer shown) answer of can is none = absurd can
-split_by_halves searched old new (command.Finish budget depth workers search) answer of can is none = absurd of
-split_by_halves searched old new (command.BeginSearch budget depth workers search) answer of can is none = absurd of
-split_by_halves searched old new (command.Collect waits) answer of can is none = absurd of
-split_by_halves searched old new command.Skip answer of can is none = absurd of
-split_by_halves searched old new asked answer of can is none = (told.No BadLine, refl, is.0)
+split_by_halves : (version : Version) (searched : Bool) (old new : State) (asked : Command) (answer : Reply) → IsOfEngine asked → CanBeAsked (most_sessions version) asked → OwesSplit version old asked answer new → IsNoReport answer → ByHalves version searched old.engine asked answer
+split_by_halves version searched old new (command.Offer logged) answer of can (inl is) none = (reply_of is.1.0, inl (is.0, (is.1.0, new.engine, is.1.1.engine, refl)), is.1.2)
+split_by_halves version searched old new (command.Offer logged) answer of can (inr is) none = (told.No BadLine, inr (is.0, refl), is.1.0)
+split_by_halves version searched old new (command.Join logged) answer of can (inl is) none = (reply_of is.1.0, inl (is.0, (is.1.0, new.engine, is.1.1.engine, refl)), is.1.2)
+split_by_halves version searched old new (command.Join logged) answer of can (inr is) none = (told.No BadLine, inr (is.0, refl), is.1.0)
+split_by_halves version searched old new (command.Close session) answer of can is none = (reply_of is.0, (is.0, new.engine, is.1.engine, refl), is.2)
+split_by_halves version searched old new command.Begin answer of can is none = (reply_of is.0, (is.0, new.engine, is.1.engine, refl), is.2)
+split_by_halves version searched old new (command.Round budget depth workers search) answer of can is none = round_by_halves version searched old new budget depth workers search answer is none
+split_by_halves version searched old new command.Truncate answer of can is none = (reply_of is.0, (is.0, new.engine, is.1.engine, refl), is.2)
+split_by_halves version searched old new command.Rebuild answer of can is none = (reply_of is.0, (is.0, new.engine, is.1.engine, refl), is.2)
+split_by_halves version searched old new command.Show answer of can is none = (state_told old.engine, refl, is.0)
+split_by_halves version searched old new (command.Save wanted) answer of can is none = (saved_told old.engine.parts (split_wanted wanted), refl, is.0)
+split_by_halves version searched old new (command.Answer shown) answer of can is none = absurd can
+split_by_halves version searched old new (command.Finish budget depth workers search) answer of can is none = absurd of
+split_by_halves version searched old new (command.BeginSearch budget depth workers search) answer of can is none = absurd of
+split_by_halves version searched old new (command.Collect waits) answer of can is none = absurd of
+split_by_halves version searched old new command.Skip answer of can is none = absurd of
+split_by_halves version searched old new asked answer of can is none = (told.No BadLine, refl, is.0)
 
-asked_or : (searched after : Bool) (old new : State) (asked : Command) (answer : Reply) → CanBeAsked asked → OwesAsked searched old asked answer after new → IsNoReport answer → ByHalves searched old.engine asked answer ⊎ (MayGo searched asked × (answer ≡ told.Searching))
-asked_or searched after old new (command.BeginSearch budget depth workers search) answer can is none = inl (answer, (after, is.0), begins_as_it_is old.engine.asked searched after answer is.0)
-asked_or searched after old new (command.Collect waits) answer can (inl on) none = inr ((on.0, on.1), on.2)
-asked_or searched after old new (command.Collect waits) answer can (inr is) none = inl (where_by_halves searched NoRound searched after old new answer is none)
-asked_or searched after old new command.Skip answer can is none = inl (reply_of is.0.0, (is.0.0, new.engine, is.0.1.engine, refl), is.0.2)
-asked_or searched after old new (command.Finish budget depth workers search) answer can is none = inl (where_by_halves (not searched) RoundOpen searched after old new answer is none)
-asked_or searched after old new (command.Answer shown) answer can is none = absurd can
-asked_or searched after old new asked answer can is none = inl (split_by_halves searched old new asked answer tt can is.0 none)
+asked_or : (version : Version) (searched after : Bool) (old new : State) (asked : Command) (answer : Reply) → CanBeAsked (most_sessions version) asked → OwesAsked version searched old asked answer after new → IsNoReport answer → ByHalves version searched old.engine asked answer ⊎ (MayGo searched asked × (answer ≡ told.Searching))
+asked_or version searched after old new (command.BeginSearch budget depth workers search) answer can is none = inl (answer, (after, is.0), begins_as_it_is old.engine.asked searched after answer is.0)
+asked_or version searched after old new (command.Collect waits) answer can (inl on) none = inr ((on.0, on.1), on.2)
+asked_or version searched after old new (command.Collect waits) answer can (inr is) none = inl (where_by_halves searched NoRound searched after old new answer is none)
+asked_or version searched after old new command.Skip answer can is none = inl (reply_of is.0.0, (is.0.0, new.engine, is.0.1.engine, refl), is.0.2)
+asked_or version searched after old new (command.Finish budget depth workers search) answer can is none = inl (where_by_halves (not searched) RoundOpen searched after old new answer is none)
+asked_or version searched after old new (command.Answer shown) answer can is none = absurd can
+asked_or version searched after old new asked answer can is none = inl (split_by_halves version searched old new asked answer tt can is.0 none)
 
-by_asked : (searched : Bool) (old : EngineState) (asked : Command) (answer : Reply) → CanBeAsked asked → ByHalves searched old asked answer ⊎ (MayGo searched asked × (answer ≡ told.Searching)) → GivesOr Isolated searched old asked answer
-by_asked searched old asked answer can (inl by) = inl (inr (can, by.0, by.1, by.2))
-by_asked searched old asked answer can (inr on) = inr on
+by_asked : (version : Version) (searched : Bool) (old : EngineState) (asked : Command) (answer : Reply) → CanBeAsked (most_sessions version) asked → ByHalves version searched old asked answer ⊎ (MayGo searched asked × (answer ≡ told.Searching)) → GivesOr (Isolated version) searched old asked answer
+by_asked version searched old asked answer can (inl by) = inl (inr (can, by.0, by.1, by.2))
+by_asked version searched old asked answer can (inr on) = inr on
 
-isolated_or : (searched after : Bool) (old new : State) (asked : Command) (answer : Reply) → OwesIsolated searched old asked answer after new → IsNoReport answer → GivesOr Isolated searched old.engine asked answer
-isolated_or searched after old new asked answer (inl is) none = inl (inl (is.0, is.1, is.2))
-isolated_or searched after old new asked answer (inr is) none = by_asked searched old.engine asked answer is.0 (asked_or searched after old new asked answer is.0 is.1 none)
+isolated_or : (version : Version) (searched after : Bool) (old new : State) (asked : Command) (answer : Reply) → OwesIsolated version searched old asked answer after new → IsNoReport answer → GivesOr (Isolated version) searched old.engine asked answer
+isolated_or version searched after old new asked answer (inl is) none = inl (inl (is.0, is.1, is.2))
+isolated_or version searched after old new asked answer (inr is) none = by_asked version searched old.engine asked answer is.0 (asked_or version searched after old new asked answer is.0 is.1 none)
 
 gives_or : (opening : Opening) (searched after : Bool) (old new : State) (asked : Command) (answer : Reply) → OwesIn opening searched old asked answer after new → IsNoReport answer → GivesOr opening searched old.engine asked answer
 gives_or (Ordered version) searched after old new asked answer is none = ordered_or version searched old.engine asked answer (gives_beside version searched after old new asked answer is none)
-gives_or Isolated searched after old new asked answer is none = isolated_or searched after old new asked answer is none
+gives_or (Isolated version) searched after old new asked answer is none = isolated_or version searched after old new asked answer is none
 
 -- the engine is that of the state
 pub same_engine : (opening : Opening) (engine : EngineState) (state : State) → HoldsIn opening engine state → state.engine ≡ engine
 same_engine (Ordered version) engine state holds = holds.same
-same_engine Isolated engine state holds = holds.holds.same
+same_engine (Isolated version) engine state holds = holds.holds.same
 
 -- ---- of a script
 
@@ -315,39 +316,39 @@ no_unchecked script old next line stored why holds said is new un = ((is line sa
 
 -- ---- an engine is opened
 
-same_beginning : (most sessions limit : ℕ) (r q : Refusal) → IsBeginningRefusal most sessions limit r → IsBeginningRefusal most sessions limit q → IsOne r q
-same_beginning most sessions limit NoMemory q a b = inl refl
-same_beginning most sessions limit r NoMemory a b = inr (inl refl)
-same_beginning most sessions limit BadSession BadSession a b = inr (inr refl)
-same_beginning most sessions limit BadSession TooLong a b = absurd (a b.0)
-same_beginning most sessions limit BadSession q a b = absurd b
-same_beginning most sessions limit TooLong BadSession a b = absurd (b a.0)
-same_beginning most sessions limit TooLong TooLong a b = inr (inr refl)
-same_beginning most sessions limit TooLong q a b = absurd b
-same_beginning most sessions limit r q a b = absurd a
+same_beginning : (many most sessions limit : ℕ) (r q : Refusal) → IsBeginningRefusal many most sessions limit r → IsBeginningRefusal many most sessions limit q → IsOne r q
+same_beginning many most sessions limit NoMemory q a b = inl refl
+same_beginning many most sessions limit r NoMemory a b = inr (inl refl)
+same_beginning many most sessions limit BadSession BadSession a b = inr (inr refl)
+same_beginning many most sessions limit BadSession TooLong a b = absurd (a b.0)
+same_beginning many most sessions limit BadSession q a b = absurd b
+same_beginning many most sessions limit TooLong BadSession a b = absurd (b a.0)
+same_beginning many most sessions limit TooLong TooLong a b = inr (inr refl)
+same_beginning many most sessions limit TooLong q a b = absurd b
+same_beginning many most sessions limit r q a b = absurd a
 
-begun_first : (most sessions limit : ℕ) (r : Refusal) → IsSessions sessions → IsLimitWithin most limit → IsBeginningRefusal most sessions limit r → r ≡ NoMemory
-begun_first most sessions limit BadSession some few is = absurd (is some)
-begun_first most sessions limit TooLong some few is = absurd (is.1 few)
-begun_first most sessions limit NoMemory some few is = refl
-begun_first most sessions limit r some few is = absurd is
+begun_first : (many most sessions limit : ℕ) (r : Refusal) → IsSessions many sessions → IsLimitWithin most limit → IsBeginningRefusal many most sessions limit r → r ≡ NoMemory
+begun_first many most sessions limit BadSession some few is = absurd (is some)
+begun_first many most sessions limit TooLong some few is = absurd (is.1 few)
+begun_first many most sessions limit NoMemory some few is = refl
+begun_first many most sessions limit r some few is = absurd is
 
 refused_first : (r q : Refusal) → IsOne r q → (told.No q ≡ told.No NoMemory) ⊎ ((told.No r ≡ told.No NoMemory) ⊎ (told.No r ≡ told.No q))
 refused_first r q (inl is) = inr (inl (ap told.No is))
 refused_first r q (inr (inl is)) = inl (ap told.No is)
 refused_first r q (inr (inr is)) = inr (inr (ap told.No is))
 
-first_done : (sessions limit : ℕ) (version : Version) → IsSessions sessions → IsVersionLimit version limit → IsAlone (GivesFirst (command.Start sessions limit version)) (owed.Reply told.Done)
+first_done : (sessions limit : ℕ) (version : Version) → AreVersionSessions version sessions → IsVersionLimit version limit → IsAlone (GivesFirst (command.Start sessions limit version)) (owed.Reply told.Done)
 first_done sessions limit version some few told.Done is = inr (inr refl)
-first_done sessions limit version some few (told.No q) is = inl (ap told.No (begun_first (greatest_limit version) sessions limit q some few is))
+first_done sessions limit version some few (told.No q) is = inl (ap told.No (begun_first (most_sessions version) (greatest_limit version) sessions limit q some few is))
 first_done sessions limit version some few answer is = absurd is
 
 first_refused : (sessions limit : ℕ) (version : Version) (r : Refusal) → IsVersionRefusal version sessions limit r → IsAlone (GivesFirst (command.Start sessions limit version)) (owed.Reply (told.No r))
-first_refused sessions limit version r why told.Done is = inr (inl (ap told.No (begun_first (greatest_limit version) sessions limit r is.0 is.1 why)))
-first_refused sessions limit version r why (told.No q) is = refused_first r q (same_beginning (greatest_limit version) sessions limit r q why is)
+first_refused sessions limit version r why told.Done is = inr (inl (ap told.No (begun_first (most_sessions version) (greatest_limit version) sessions limit r is.0 is.1 why)))
+first_refused sessions limit version r why (told.No q) is = refused_first r q (same_beginning (most_sessions version) (greatest_limit version) sessions limit r q why is)
 first_refused sessions limit version r why answer is = absurd is
 
-pub opened_alone : (old : Option OpenScript) (sessions limit : ℕ) (version : Version) → old ≡ None → IsSessions sessions × IsVersionLimit version limit → IsAlone (GivesScript old (command.Start sessions limit version)) (owed.Reply told.Done)
+pub opened_alone : (old : Option OpenScript) (sessions limit : ℕ) (version : Version) → old ≡ None → AreVersionSessions version sessions × IsVersionLimit version limit → IsAlone (GivesScript old (command.Start sessions limit version)) (owed.Reply told.Done)
 opened_alone old sessions limit version none numbers =
     subst (λ (o : Option OpenScript). IsAlone (GivesScript o (command.Start sessions limit version)) (owed.Reply told.Done)) (sym none) (first_done sessions limit version numbers.0 numbers.1)
 
@@ -356,20 +357,20 @@ unopened_alone old sessions limit version r none why =
     subst (λ (o : Option OpenScript). IsAlone (GivesScript o (command.Start sessions limit version)) (owed.Reply (told.No r))) (sym none) (first_refused sessions limit version r why)
 
 -- the same where transactions are split
-isolated_done : (sessions limit : ℕ) → IsSessions sessions → IsIsolatedLimit limit → IsAlone (GivesFirst (command.StartIsolated sessions limit)) (owed.Reply told.Done)
-isolated_done sessions limit some few told.Done is = inr (inr refl)
-isolated_done sessions limit some few (told.No q) is = inl (ap told.No (begun_first 2048 sessions limit q some few is))
-isolated_done sessions limit some few answer is = absurd is
+isolated_done : (sessions limit : ℕ) (version : Version) → AreVersionSessions version sessions → IsIsolatedLimit version limit → IsAlone (GivesFirst (command.StartIsolated sessions limit version)) (owed.Reply told.Done)
+isolated_done sessions limit version some few told.Done is = inr (inr refl)
+isolated_done sessions limit version some few (told.No q) is = inl (ap told.No (begun_first (most_sessions version) (greatest_split_limit version) sessions limit q some few is))
+isolated_done sessions limit version some few answer is = absurd is
 
-isolated_refused : (sessions limit : ℕ) (r : Refusal) → IsIsolatedRefusal sessions limit r → IsAlone (GivesFirst (command.StartIsolated sessions limit)) (owed.Reply (told.No r))
-isolated_refused sessions limit r why told.Done is = inr (inl (ap told.No (begun_first 2048 sessions limit r is.0 is.1 why)))
-isolated_refused sessions limit r why (told.No q) is = refused_first r q (same_beginning 2048 sessions limit r q why is)
-isolated_refused sessions limit r why answer is = absurd is
+isolated_refused : (sessions limit : ℕ) (version : Version) (r : Refusal) → IsIsolatedRefusal version sessions limit r → IsAlone (GivesFirst (command.StartIsolated sessions limit version)) (owed.Reply (told.No r))
+isolated_refused sessions limit version r why told.Done is = inr (inl (ap told.No (begun_first (most_sessions version) (greatest_split_limit version) sessions limit r is.0 is.1 why)))
+isolated_refused sessions limit version r why (told.No q) is = refused_first r q (same_beginning (most_sessions version) (greatest_split_limit version) sessions limit r q why is)
+isolated_refused sessions limit version r why answer is = absurd is
 
-pub isolated_opened_alone : (old : Option OpenScript) (sessions limit : ℕ) → old ≡ None → IsSessions sessions × IsIsolatedLimit limit → IsAlone (GivesScript old (command.StartIsolated sessions limit)) (owed.Reply told.Done)
-isolated_opened_alone old sessions limit none numbers =
-    subst (λ (o : Option OpenScript). IsAlone (GivesScript o (command.StartIsolated sessions limit)) (owed.Reply told.Done)) (sym none) (isolated_done sessions limit numbers.0 numbers.1)
+pub isolated_opened_alone : (old : Option OpenScript) (sessions limit : ℕ) (version : Version) → old ≡ None → AreVersionSessions version sessions × IsIsolatedLimit version limit → IsAlone (GivesScript old (command.StartIsolated sessions limit version)) (owed.Reply told.Done)
+isolated_opened_alone old sessions limit version none numbers =
+    subst (λ (o : Option OpenScript). IsAlone (GivesScript o (command.StartIsolated sessions limit version)) (owed.Reply told.Done)) (sym none) (isolated_done sessions limit version numbers.0 numbers.1)
 
-pub isolated_unopened_alone : (old : Option OpenScript) (sessions limit : ℕ) (r : Refusal) → old ≡ None → IsIsolatedRefusal sessions limit r → IsAlone (GivesScript old (command.StartIsolated sessions limit)) (owed.Reply (told.No r))
-isolated_unopened_alone old sessions limit r none why =
-    subst (λ (o : Option OpenScript). IsAlone (GivesScript o (command.StartIsolated sessions limit)) (owed.Reply (told.No r))) (sym none) (isolated_refused sessions limit r why)
+pub isolated_unopened_alone : (old : Option OpenScript) (sessions limit : ℕ) (version : Version) (r : Refusal) → old ≡ None → IsIsolatedRefusal version sessions limit r → IsAlone (GivesScript old (command.StartIsolated sessions limit version)) (owed.Reply (told.No r))
+isolated_unopened_alone old sessions limit version r none why =
+    subst (λ (o : Option OpenScript). IsAlone (GivesScript o (command.StartIsolated sessions limit version)) (owed.Reply (told.No r))) (sym none) (isolated_refused sessions limit version r why)

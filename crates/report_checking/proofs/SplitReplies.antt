@@ -14,7 +14,8 @@ use Rattle.log_text.specs.declared.commands.Command.{Command}
 use Rattle.log_text.specs.declared.commands.Command.TheVariants as command
 use Rattle.log_text.specs.declared.replies.Reply.{Reply}
 use Rattle.log_text.specs.declared.replies.Reply.TheVariants as told
-use Rattle.log_text.specs.declared.versions.Version.TheVariants.{Two}
+use Rattle.log_text.specs.declared.versions.Version.{Version}
+use Rattle.log_text.specs.Versions.{has_form, most_sessions}
 use Rattle.log_text.specs.Replies.{HasKindOfOrder, text_of}
 use Rattle.log_text.specs.declared.names.Names.TheVariants.{Ids, Events}
 use Rattle.log_text.specs.declared.versions.Opening.TheVariants.{Isolated}
@@ -36,7 +37,7 @@ use Rattle.snapshot_scripts.specs.Isolated.{halved, isolated_of}
 use Rattle.snapshot_scripts.specs.Legal.{IsIsolationOf, TellsIsolationOf, IsTrueIsolation, LegalIsolation, split_state, HoldsSplit, FreshEnginesAreSplit, SplitStepsAreLegal}
 use Rattle.snapshot_scripts.specs.Splitting.{CanBeAsked, IsAskedFault, split_command}
 use Rattle.snapshot_scripts.specs.Steps.{split_step, CanBeMade}
-use Rattle.cobra.specs.Scripts.{IsTakenIn}
+use Rattle.cobra.specs.Scripts.{IsBadLine, IsTakenIn}
 use Rattle.cobra.specs.StepReplies.{reply_of, report_of}
 use Rattle.report_checking.specs.Isolation.{IsOwedIsolation, IsIsolatedStep, EndsIsolated, IsIsolatedRound, EndsWhere, OwesSplit, OwesAsked, OwesIsolated}
 use Rattle.report_checking.specs.Owing.{IsStep, OwesFinish, OwesRound, OwesOpen, OwesBeside, FinishesWhere, GoesOn, BeginsSearch, IsOfEngine, searched_after}
@@ -53,9 +54,9 @@ pub record Laws : Type 0 where
   pub keeps : SplitKeepsVerdict
 
 -- a fresh engine
-pub fresh_split : FreshEnginesAreSplit → (engine : EngineState) (sessions limit : ℕ) → Holds engine (fresh_state sessions limit) → HoldsSplit engine (fresh_state sessions limit)
-fresh_split law engine sessions limit holds =
-    subst (λ (e : EngineState). HoldsSplit e (fresh_state sessions limit)) holds.same (law sessions limit (subst (λ (e : EngineState). Holds e (fresh_state sessions limit)) (sym holds.same) holds))
+pub fresh_split : FreshEnginesAreSplit → (engine : EngineState) (most sessions limit : ℕ) → Holds engine (fresh_state most sessions limit) → HoldsSplit engine (fresh_state most sessions limit)
+fresh_split law engine most sessions limit holds =
+    subst (λ (e : EngineState). HoldsSplit e (fresh_state most sessions limit)) holds.same (law most sessions limit (subst (λ (e : EngineState). Holds e (fresh_state most sessions limit)) (sym holds.same) holds))
 
 -- ---- steps
 
@@ -146,8 +147,8 @@ same_said (reply.Report report) two a b same = absurd a
 same_said (reply.Cut cut) two a b same = absurd a
 same_said one two a b same = absurd b
 
-offered : Laws → (old new : EngineState) (asked : Step) (inner : Reply) → CanBeMade asked → IsOffering asked → Leads old new (λ before after. IsStep before (split_step asked) inner after) → LeadsSplit old new (λ before after. IsIsolatedStep before asked (isolated_of inner) after)
-offered laws old new asked inner can offers leads before holds =
+offered : Laws → (most : ℕ) (old new : EngineState) (asked : Step) (inner : Reply) → CanBeMade most asked → IsOffering asked → Leads old new (λ before after. IsStep before (split_step asked) inner after) → LeadsSplit old new (λ before after. IsIsolatedStep before asked (isolated_of inner) after)
+offered laws most old new asked inner can offers leads before holds =
     let first = leads (split_state before) holds.holds in
     let said = first.1.0 in
     let engine : StepsTo old (split_step asked) said first.0.engine = subst (λ (e : EngineState). StepsTo e (split_step asked) said first.0.engine) holds.holds.same first.1.1.engine in
@@ -157,7 +158,7 @@ offered laws old new asked inner can offers leads before holds =
     let it = leads other h in
     let one = plain_said other.engine it.0.engine asked it.1.0 offers it.1.1.engine in
     (it.0, subst (λ (s : StepReply). Legal other (split_step asked) s it.0) (same_said it.1.0 said one plain (sym it.1.2 ∙ first.1.2)) it.1.1, it.2) in
-    let made_it = laws.steps old new asked said can steps legally before holds in
+    let made_it = laws.steps most old new asked said can steps legally before holds in
     (made_it.0, (said, made_it.1, ap isolated_of first.1.2), made_it.2)
 
 -- ---- reports
@@ -231,10 +232,28 @@ kept : (new : EngineState) (before mid : State) → HistoryCanBeSplit before.who
 kept new before mid can may is holds =
     stands new mid before holds (ap (λ (s : State). s.whole) is) (ap (λ (s : State). s.asked) is) (sym (ap (λ (s : State). s.engine) is)) can may
 
--- in version 2 each fragment has a form
-taken : (logged : LoggedFragment) (asked : Step) (inner : Reply) (before after : State) → IsTakenIn Two logged before inner after (IsStep before asked inner after) → IsStep before asked inner after
-taken logged asked inner before after (inl is) = is.1
-taken logged asked inner before after (inr is) = absurd (let no : true ≡ false = is.0 in cc)
+-- a fragment for which the version has a form is taken
+taken : (version : Version) (logged : LoggedFragment) (asked : Step) (inner : Reply) (before after : State) → has_form version logged ≡ true → IsTakenIn version logged before inner after (IsStep before asked inner after) → IsStep before asked inner after
+taken version logged asked inner before after form (inl is) = is.1
+taken version logged asked inner before after form (inr is) = absurd (let no : true ≡ false = sym form ∙ is.0 in cc)
+
+-- and another one isn't
+untaken : (version : Version) (logged : LoggedFragment) (asked : Step) (inner : Reply) (before after : State) → has_form version logged ≡ false → IsTakenIn version logged before inner after (IsStep before asked inner after) → IsBadLine before inner after
+untaken version logged asked inner before after form (inl is) = absurd (let no : true ≡ false = sym is.0 ∙ form in cc)
+untaken version logged asked inner before after form (inr is) = is.1
+
+taken_in : Laws → (version : Version) (old new : EngineState) (logged : LoggedFragment) (asked : Step) (inner : Reply) → CanBeMade (most_sessions version) asked → IsOffering asked → Leads old new (λ before after. IsTakenIn version logged before inner after (IsStep before (split_step asked) inner after))
+    → LeadsSplit old new (λ before after. IsTakenIn version logged before (isolated_of inner) after (IsIsolatedStep before asked (isolated_of inner) after))
+taken_in laws version old new logged asked inner can offers leads = by_form (has_form version logged) refl
+  where
+    by_form : (form : Bool) → has_form version logged ≡ form → LeadsSplit old new (λ before after. IsTakenIn version logged before (isolated_of inner) after (IsIsolatedStep before asked (isolated_of inner) after))
+    by_form true form = λ before holds.
+        let it = offered laws (most_sessions version) old new asked inner can offers (λ first held. let one = leads first held in (one.0, taken version logged (split_step asked) inner first one.0 form one.1, one.2)) before holds in
+        (it.0, inl (form, it.1), it.2)
+    by_form false form = λ before holds.
+        let mid = leads (split_state before) holds.holds in
+        let bad = untaken version logged (split_step asked) inner (split_state before) mid.0 form mid.1 in
+        (before, inr (form, (ap isolated_of bad.0, refl)), kept new before mid.0 holds.whole holds.asked bad.1 mid.2)
 
 first_of : (old new : EngineState) (P Q : State → State → Type 0) → Leads old new (λ before after. P before after × Q before after) → Leads old new P
 first_of old new P Q leads before holds =
@@ -245,28 +264,26 @@ quietly : (asked : Step) → split_step asked ≡ asked → ((before : State) (s
 quietly asked split whole round = record { split = split; whole = whole; round = round }
 
 -- a command that is about the engine alone
-split_owed : Laws → (old new : EngineState) (asked : Command) (inner : Reply) → CanBeAsked asked → IsOfEngine asked → Leads old new (λ before after. OwesOpen Two before (split_command asked) inner after) → LeadsSplit old new (λ before after. OwesSplit before asked (isolated_of inner) after)
-split_owed laws old new (command.Offer logged) inner can of leads =
-    offered laws old new (step.Offer logged) inner can tt (λ before holds. let it = leads before holds in (it.0, taken (split_logged logged) (step.Offer (split_logged logged)) inner before it.0 it.1, it.2))
-split_owed laws old new (command.Join logged) inner can of leads =
-    offered laws old new (step.Join logged) inner can tt (λ before holds. let it = leads before holds in (it.0, taken (split_logged logged) (step.Join (split_logged logged)) inner before it.0 it.1, it.2))
-split_owed laws old new (command.Close session) inner can of leads = quiet old new (step.Close session) inner tt (quietly (step.Close session) refl (λ before said. refl) (λ before said. refl)) leads
-split_owed laws old new command.Begin inner can of leads = begin_step old new inner leads
-split_owed laws old new (command.Round budget depth workers search) inner can of leads = rounds laws old new inner leads
-split_owed laws old new command.Truncate inner can of leads = quiet old new step.Truncate inner tt (quietly step.Truncate refl (λ before said. refl) (λ before said. refl)) leads
-split_owed laws old new command.Rebuild inner can of leads = quiet old new step.Rebuild inner tt (quietly step.Rebuild refl (λ before said. refl) (λ before said. refl)) leads
-split_owed laws old new command.Show inner can of leads = λ before holds.
+split_owed : Laws → (version : Version) (old new : EngineState) (asked : Command) (inner : Reply) → CanBeAsked (most_sessions version) asked → IsOfEngine asked → Leads old new (λ before after. OwesOpen version before (split_command asked) inner after) → LeadsSplit old new (λ before after. OwesSplit version before asked (isolated_of inner) after)
+split_owed laws version old new (command.Offer logged) inner can of leads = taken_in laws version old new (split_logged logged) (step.Offer logged) inner can tt leads
+split_owed laws version old new (command.Join logged) inner can of leads = taken_in laws version old new (split_logged logged) (step.Join logged) inner can tt leads
+split_owed laws version old new (command.Close session) inner can of leads = quiet old new (step.Close session) inner tt (quietly (step.Close session) refl (λ before said. refl) (λ before said. refl)) leads
+split_owed laws version old new command.Begin inner can of leads = begin_step old new inner leads
+split_owed laws version old new (command.Round budget depth workers search) inner can of leads = rounds laws old new inner leads
+split_owed laws version old new command.Truncate inner can of leads = quiet old new step.Truncate inner tt (quietly step.Truncate refl (λ before said. refl) (λ before said. refl)) leads
+split_owed laws version old new command.Rebuild inner can of leads = quiet old new step.Rebuild inner tt (quietly step.Rebuild refl (λ before said. refl) (λ before said. refl)) leads
+split_owed laws version old new command.Show inner can of leads = λ before holds.
     let mid = leads (split_state before) holds.holds in
     (before, (ap isolated_of mid.1.0, refl), kept new before mid.0 holds.whole holds.asked mid.1.1 mid.2)
-split_owed laws old new (command.Save wanted) inner can of leads = λ before holds.
+split_owed laws version old new (command.Save wanted) inner can of leads = λ before holds.
     let mid = leads (split_state before) holds.holds in
     (before, (ap isolated_of mid.1.0, refl), kept new before mid.0 holds.whole holds.asked mid.1.1 mid.2)
-split_owed laws old new (command.Answer shown) inner can of leads = absurd can
-split_owed laws old new (command.Finish budget depth workers search) inner can of leads = absurd of
-split_owed laws old new (command.BeginSearch budget depth workers search) inner can of leads = absurd of
-split_owed laws old new (command.Collect waits) inner can of leads = absurd of
-split_owed laws old new command.Skip inner can of leads = absurd of
-split_owed laws old new asked inner can of leads = λ before holds.
+split_owed laws version old new (command.Answer shown) inner can of leads = absurd can
+split_owed laws version old new (command.Finish budget depth workers search) inner can of leads = absurd of
+split_owed laws version old new (command.BeginSearch budget depth workers search) inner can of leads = absurd of
+split_owed laws version old new (command.Collect waits) inner can of leads = absurd of
+split_owed laws version old new command.Skip inner can of leads = absurd of
+split_owed laws version old new asked inner can of leads = λ before holds.
     let mid = leads (split_state before) holds.holds in
     (before, (ap isolated_of mid.1.0, refl), kept new before mid.0 holds.whole holds.asked mid.1.1 mid.2)
 
@@ -290,26 +307,26 @@ collected laws new before mid waits searched now inner can round (inr is) holds 
     let it = where_ended laws new before mid searched NoRound searched now inner can round is holds in
     (it.0, inr it.1, it.2)
 
-asked_owed : Laws → (old new : EngineState) (searched now : Bool) (asked : Command) (inner : Reply) → CanBeAsked asked → Leads old new (λ before after. OwesBeside Two searched before (split_command asked) inner now after)
-    → LeadsSplit old new (λ before after. OwesAsked searched before asked (isolated_of inner) now after)
-asked_owed laws old new searched now (command.BeginSearch budget depth workers search) inner can leads before holds =
+asked_owed : Laws → (version : Version) (old new : EngineState) (searched now : Bool) (asked : Command) (inner : Reply) → CanBeAsked (most_sessions version) asked → Leads old new (λ before after. OwesBeside version searched before (split_command asked) inner now after)
+    → LeadsSplit old new (λ before after. OwesAsked version searched before asked (isolated_of inner) now after)
+asked_owed laws version old new searched now (command.BeginSearch budget depth workers search) inner can leads before holds =
     let mid = leads (split_state before) holds.holds in
     (before, (begins before.engine.asked searched now inner mid.1.0, refl), kept new before mid.0 holds.whole holds.asked mid.1.1 mid.2)
-asked_owed laws old new searched now (command.Collect waits) inner can leads before holds =
+asked_owed laws version old new searched now (command.Collect waits) inner can leads before holds =
     let mid = leads (split_state before) holds.holds in
     collected laws new before mid.0 waits searched now inner holds.whole holds.asked mid.1 mid.2
-asked_owed laws old new searched now command.Skip inner can leads before holds =
+asked_owed laws version old new searched now command.Skip inner can leads before holds =
     let mid = leads (split_state before) holds.holds in
     let it = quiet old new step.Abandon inner tt (quietly step.Abandon refl (λ first said. refl) (λ first said. refl)) (first_of old new (λ first after. IsStep first step.Abandon inner after) (λ first after. now ≡ false) leads) before holds in
     (it.0, (it.1, mid.1.1), it.2)
-asked_owed laws old new searched now (command.Finish budget depth workers search) inner can leads before holds =
+asked_owed laws version old new searched now (command.Finish budget depth workers search) inner can leads before holds =
     let mid = leads (split_state before) holds.holds in
     where_ended laws new before mid.0 (not searched) RoundOpen searched now inner holds.whole holds.asked mid.1 mid.2
-asked_owed laws old new searched now (command.Answer shown) inner can leads before holds = absurd can
-asked_owed laws old new searched now asked inner can leads before holds =
+asked_owed laws version old new searched now (command.Answer shown) inner can leads before holds = absurd can
+asked_owed laws version old new searched now asked inner can leads before holds =
     let mid = leads (split_state before) holds.holds in
     let lasts : now ≡ searched_after searched new.asked = subst (λ (e : EngineState). now ≡ searched_after searched e.asked) mid.2.same mid.1.1 in
-    let it = split_owed laws old new asked inner can tt (first_of old new (λ first after. OwesOpen Two first (split_command asked) inner after) (λ first after. now ≡ searched_after searched after.engine.asked) leads) before holds in
+    let it = split_owed laws version old new asked inner can tt (first_of old new (λ first after. OwesOpen version first (split_command asked) inner after) (λ first after. now ≡ searched_after searched after.engine.asked) leads) before holds in
     (it.0, (it.1, subst (λ (e : EngineState). now ≡ searched_after searched e.asked) (sym it.2.holds.same) lasts), it.2)
 
 -- ---- what is owed
@@ -329,24 +346,31 @@ kind_told (told.Show marks received closed last remaining) is = tt
 kind_told (told.Saved given) is = tt
 kind_told inner is = is
 
-isolated_by : Laws → (old new : EngineState) (searched now : Bool) (asked split : Command) (given : Owed) → CanBeAsked asked × (split ≡ split_command asked) → IsOwedBy (λ answer. Leads old new (λ before after. OwesBeside Two searched before split answer now after)) given
-    → IsOwedBy (λ answer. LeadsSplit old new (λ before after. OwesIsolated searched before asked answer now after)) (isolated_owed given)
-isolated_by laws old new searched now asked split (owed.Reply inner) can owes = (
+isolated_by : Laws → (version : Version) (old new : EngineState) (searched now : Bool) (asked split : Command) (given : Owed) → CanBeAsked (most_sessions version) asked × (split ≡ split_command asked) → IsOwedBy (λ answer. Leads old new (λ before after. OwesBeside version searched before split answer now after)) given
+    → IsOwedBy (λ answer. LeadsSplit old new (λ before after. OwesIsolated version searched before asked answer now after)) (isolated_owed given)
+isolated_by laws version old new searched now asked split (owed.Reply inner) can owes = (
   kind_told inner owes.0,
   λ before holds.
-      let it = asked_owed laws old new searched now asked inner can.0 (subst (λ (c : Command). Leads old new (λ first after. OwesBeside Two searched first c inner now after)) can.1 owes.1) before holds in
+      let it = asked_owed laws version old new searched now asked inner can.0 (subst (λ (c : Command). Leads old new (λ first after. OwesBeside version searched first c inner now after)) can.1 owes.1) before holds in
       (it.0, inr (can.0, it.1), it.2),
 )
-isolated_by laws old new searched now asked split (owed.Nothing why) can owes = tt
+isolated_by laws version old new searched now asked split (owed.Nothing why) can owes = tt
 
-pub owed_told : Laws → (old new : EngineState) (searched now : Bool) (asked split : Command) (inner given : Owed) → CanBeAsked asked × (split ≡ split_command asked) → IsOwedBy (λ answer. Leads old new (λ before after. OwesBeside Two searched before split answer now after)) inner → given ≡ isolated_owed inner
-    → IsOwedBy (λ answer. LeadsSplit old new (λ before after. OwesIsolated searched before asked answer now after)) given
-owed_told laws old new searched now asked split inner given can owes is =
-    subst (λ (o : Owed). IsOwedBy (λ answer. LeadsSplit old new (λ before after. OwesIsolated searched before asked answer now after)) o) (sym is) (isolated_by laws old new searched now asked split inner can owes)
+pub owed_told : Laws → (version : Version) (old new : EngineState) (searched now : Bool) (asked split : Command) (inner given : Owed) → CanBeAsked (most_sessions version) asked × (split ≡ split_command asked) → IsOwedBy (λ answer. Leads old new (λ before after. OwesBeside version searched before split answer now after)) inner → given ≡ isolated_owed inner
+    → IsOwedBy (λ answer. LeadsSplit old new (λ before after. OwesIsolated version searched before asked answer now after)) given
+owed_told laws version old new searched now asked split inner given can owes is =
+    subst (λ (o : Owed). IsOwedBy (λ answer. LeadsSplit old new (λ before after. OwesIsolated version searched before asked answer now after)) o) (sym is) (isolated_by laws version old new searched now asked split inner can owes)
+
+-- the command was judged by the bound of the version
+pub asked_by : (version : Version) (many : ℕ) (asked split : Command) → many ≡ most_sessions version → CanBeAsked many asked × (split ≡ split_command asked) → CanBeAsked (most_sessions version) asked × (split ≡ split_command asked)
+asked_by version many asked split is can = (subst (λ (n : ℕ). CanBeAsked n asked) is can.0, can.1)
+
+pub fault_by : (version : Version) (many : ℕ) (asked : Command) (refusal : Refusal) → many ≡ most_sessions version → IsAskedFault many asked refusal → IsAskedFault (most_sessions version) asked refusal
+fault_by version many asked refusal is fault = subst (λ (n : ℕ). IsAskedFault n asked refusal) is fault
 
 -- or the command is refused before it is split
-pub faulty_by : (old : EngineState) (searched : Bool) (asked : Command) (refusal : Refusal) → IsAskedFault asked refusal → IsOwedBy (λ answer. LeadsSplit old old (λ before after. OwesIsolated searched before asked answer searched after)) (owed.Reply (told.No refusal))
-faulty_by old searched asked refusal fault = (tt, λ before holds. (before, inl (refusal, fault, refl, refl, refl), holds))
+pub faulty_by : (version : Version) (old : EngineState) (searched : Bool) (asked : Command) (refusal : Refusal) → IsAskedFault (most_sessions version) asked refusal → IsOwedBy (λ answer. LeadsSplit old old (λ before after. OwesIsolated version searched before asked answer searched after)) (owed.Reply (told.No refusal))
+faulty_by version old searched asked refusal fault = (tt, λ before holds. (before, inl (refusal, fault, refl, refl, refl), holds))
 
 -- ---- reports
 
@@ -355,18 +379,18 @@ given_text text (owed.Reply inner) (inl none) = inl (ap isolated_of none)
 given_text text (owed.Reply inner) (inr same) = inr same
 given_text text (owed.Nothing why) owes = owes
 
-isolated_right : (searched : Bool) (old : EngineState) (asked split : Command) (stored : List ℕ) (given : Owed) → split ≡ split_command asked → OfRight Events (EarnsBeside searched old split) stored (λ text. OwesText Events text given)
-    → OfRight Events (EarnsIn Isolated searched old asked) stored (λ text. OwesText Ids text (isolated_owed given))
-isolated_right searched old asked split stored given is right report new earned shows =
+isolated_right : (version : Version) (searched : Bool) (old : EngineState) (asked split : Command) (stored : List ℕ) (given : Owed) → split ≡ split_command asked → OfRight Events (EarnsBeside searched old split) stored (λ text. OwesText Events text given)
+    → OfRight Events (EarnsIn (Isolated version) searched old asked) stored (λ text. OwesText Ids text (isolated_owed given))
+isolated_right version searched old asked split stored given is right report new earned shows =
     given_text (text_of (isolated_of (report_of report))) given (right report new (subst (λ (c : Command). EarnsBeside searched old c report new) (sym is) earned.1) shows)
 
-pub right_told : (searched : Bool) (old : EngineState) (asked split : Command) (stored : List ℕ) (inner given : Owed) → split ≡ split_command asked → OfRight Events (EarnsBeside searched old split) stored (λ text. OwesText Events text inner) → given ≡ isolated_owed inner
-    → OfRight Events (EarnsIn Isolated searched old asked) stored (λ text. OwesText Ids text given)
-right_told searched old asked split stored inner given is right same =
-    subst (λ (o : Owed). OfRight Events (EarnsIn Isolated searched old asked) stored (λ text. OwesText Ids text o)) (sym same) (isolated_right searched old asked split stored inner is right)
+pub right_told : (version : Version) (searched : Bool) (old : EngineState) (asked split : Command) (stored : List ℕ) (inner given : Owed) → split ≡ split_command asked → OfRight Events (EarnsBeside searched old split) stored (λ text. OwesText Events text inner) → given ≡ isolated_owed inner
+    → OfRight Events (EarnsIn (Isolated version) searched old asked) stored (λ text. OwesText Ids text given)
+right_told version searched old asked split stored inner given is right same =
+    subst (λ (o : Owed). OfRight Events (EarnsIn (Isolated version) searched old asked) stored (λ text. OwesText Ids text o)) (sym same) (isolated_right version searched old asked split stored inner is right)
 
-pub faulty_right : (searched : Bool) (old : EngineState) (asked : Command) (refusal : Refusal) (stored : List ℕ) → IsAskedFault asked refusal → OfRight Events (EarnsIn Isolated searched old asked) stored (λ text. OwesText Ids text (owed.Reply (told.No refusal)))
-faulty_right searched old asked refusal stored fault report new earned shows = absurd (no_asked_fault asked refusal earned.0 fault)
+pub faulty_right : (version : Version) (searched : Bool) (old : EngineState) (asked : Command) (refusal : Refusal) (stored : List ℕ) → IsAskedFault (most_sessions version) asked refusal → OfRight Events (EarnsIn (Isolated version) searched old asked) stored (λ text. OwesText Ids text (owed.Reply (told.No refusal)))
+faulty_right version searched old asked refusal stored fault report new earned shows = absurd (no_asked_fault (most_sessions version) asked refusal earned.0 fault)
 
 -- ---- other replies
 
@@ -378,28 +402,28 @@ told_alone given inner answer is (inl none) = inl (is ∙ ap isolated_of none)
 told_alone given inner answer is (inr (inl none)) = inr (inl (ap isolated_of none))
 told_alone given inner answer is (inr (inr same)) = inr (inr (ap isolated_of same ∙ sym is))
 
-alone_reply : (searched : Bool) (old : EngineState) (asked : Command) (inner answer : Reply) → CanBeAsked asked → IsAlone (GivesBeside Two searched old (split_command asked)) (owed.Reply inner) → GivesIsolated searched old asked answer → AloneOf (isolated_of inner) answer
-alone_reply searched old asked inner answer can alone (inl fault) = absurd (no_asked_fault asked fault.0 can fault.1)
-alone_reply searched old asked inner answer can alone (inr is) = told_alone inner is.1 answer is.3 (alone is.1 is.2)
+alone_reply : (version : Version) (searched : Bool) (old : EngineState) (asked : Command) (inner answer : Reply) → CanBeAsked (most_sessions version) asked → IsAlone (GivesBeside version searched old (split_command asked)) (owed.Reply inner) → GivesIsolated version searched old asked answer → AloneOf (isolated_of inner) answer
+alone_reply version searched old asked inner answer can alone (inl fault) = absurd (no_asked_fault (most_sessions version) asked fault.0 can fault.1)
+alone_reply version searched old asked inner answer can alone (inr is) = told_alone inner is.1 answer is.3 (alone is.1 is.2)
 
-alone_nothing : (searched : Bool) (old : EngineState) (asked : Command) (why : Unshown) (answer : Reply) → CanBeAsked asked → IsAlone (GivesBeside Two searched old (split_command asked)) (owed.Nothing why) → GivesIsolated searched old asked answer → answer ≡ told.No NoMemory
-alone_nothing searched old asked why answer can alone (inl fault) = absurd (no_asked_fault asked fault.0 can fault.1)
-alone_nothing searched old asked why answer can alone (inr is) = is.3 ∙ ap isolated_of (alone is.1 is.2)
+alone_nothing : (version : Version) (searched : Bool) (old : EngineState) (asked : Command) (why : Unshown) (answer : Reply) → CanBeAsked (most_sessions version) asked → IsAlone (GivesBeside version searched old (split_command asked)) (owed.Nothing why) → GivesIsolated version searched old asked answer → answer ≡ told.No NoMemory
+alone_nothing version searched old asked why answer can alone (inl fault) = absurd (no_asked_fault (most_sessions version) asked fault.0 can fault.1)
+alone_nothing version searched old asked why answer can alone (inr is) = is.3 ∙ ap isolated_of (alone is.1 is.2)
 
-alone_asked : (searched : Bool) (old : EngineState) (asked : Command) (given : Owed) → CanBeAsked asked → IsAlone (GivesBeside Two searched old (split_command asked)) given → IsAlone (GivesIsolated searched old asked) (isolated_owed given)
-alone_asked searched old asked (owed.Reply inner) can alone = λ answer gives. alone_reply searched old asked inner answer can alone gives
-alone_asked searched old asked (owed.Nothing why) can alone = λ answer gives. alone_nothing searched old asked why answer can alone gives
+alone_asked : (version : Version) (searched : Bool) (old : EngineState) (asked : Command) (given : Owed) → CanBeAsked (most_sessions version) asked → IsAlone (GivesBeside version searched old (split_command asked)) given → IsAlone (GivesIsolated version searched old asked) (isolated_owed given)
+alone_asked version searched old asked (owed.Reply inner) can alone = λ answer gives. alone_reply version searched old asked inner answer can alone gives
+alone_asked version searched old asked (owed.Nothing why) can alone = λ answer gives. alone_nothing version searched old asked why answer can alone gives
 
-isolated_alone : (searched : Bool) (old : EngineState) (asked split : Command) (given : Owed) → CanBeAsked asked × (split ≡ split_command asked) → IsAlone (GivesBeside Two searched old split) given → IsAlone (GivesIsolated searched old asked) (isolated_owed given)
-isolated_alone searched old asked split given can alone = alone_asked searched old asked given can.0 (subst (λ (c : Command). IsAlone (GivesBeside Two searched old c) given) can.1 alone)
+isolated_alone : (version : Version) (searched : Bool) (old : EngineState) (asked split : Command) (given : Owed) → CanBeAsked (most_sessions version) asked × (split ≡ split_command asked) → IsAlone (GivesBeside version searched old split) given → IsAlone (GivesIsolated version searched old asked) (isolated_owed given)
+isolated_alone version searched old asked split given can alone = alone_asked version searched old asked given can.0 (subst (λ (c : Command). IsAlone (GivesBeside version searched old c) given) can.1 alone)
 
-pub alone_told : (searched : Bool) (old : EngineState) (asked split : Command) (inner given : Owed) → CanBeAsked asked × (split ≡ split_command asked) → IsAlone (GivesBeside Two searched old split) inner → given ≡ isolated_owed inner → IsAlone (GivesIsolated searched old asked) given
-alone_told searched old asked split inner given can alone is =
-    subst (λ (o : Owed). IsAlone (GivesIsolated searched old asked) o) (sym is) (isolated_alone searched old asked split inner can alone)
+pub alone_told : (version : Version) (searched : Bool) (old : EngineState) (asked split : Command) (inner given : Owed) → CanBeAsked (most_sessions version) asked × (split ≡ split_command asked) → IsAlone (GivesBeside version searched old split) inner → given ≡ isolated_owed inner → IsAlone (GivesIsolated version searched old asked) given
+alone_told version searched old asked split inner given can alone is =
+    subst (λ (o : Owed). IsAlone (GivesIsolated version searched old asked) o) (sym is) (isolated_alone version searched old asked split inner can alone)
 
-alone_fault : (searched : Bool) (old : EngineState) (asked : Command) (refusal : Refusal) (answer : Reply) → IsAskedFault asked refusal → GivesIsolated searched old asked answer → AloneOf (told.No refusal) answer
-alone_fault searched old asked refusal answer fault (inl other) = inr (inr (ap told.No (same_asked_fault asked refusal other.0 fault other.1) ∙ sym other.2))
-alone_fault searched old asked refusal answer fault (inr is) = absurd (no_asked_fault asked refusal is.0 fault)
+alone_fault : (version : Version) (searched : Bool) (old : EngineState) (asked : Command) (refusal : Refusal) (answer : Reply) → IsAskedFault (most_sessions version) asked refusal → GivesIsolated version searched old asked answer → AloneOf (told.No refusal) answer
+alone_fault version searched old asked refusal answer fault (inl other) = inr (inr (ap told.No (same_asked_fault (most_sessions version) asked refusal other.0 fault other.1) ∙ sym other.2))
+alone_fault version searched old asked refusal answer fault (inr is) = absurd (no_asked_fault (most_sessions version) asked refusal is.0 fault)
 
-pub faulty_alone : (searched : Bool) (old : EngineState) (asked : Command) (refusal : Refusal) → IsAskedFault asked refusal → IsAlone (GivesIsolated searched old asked) (owed.Reply (told.No refusal))
-faulty_alone searched old asked refusal fault = λ answer gives. alone_fault searched old asked refusal answer fault gives
+pub faulty_alone : (version : Version) (searched : Bool) (old : EngineState) (asked : Command) (refusal : Refusal) → IsAskedFault (most_sessions version) asked refusal → IsAlone (GivesIsolated version searched old asked) (owed.Reply (told.No refusal))
+faulty_alone version searched old asked refusal fault = λ answer gives. alone_fault version searched old asked refusal answer fault gives

@@ -17,6 +17,7 @@ use Rattle.cobra.specs.StepReplies.{report_of}
 use Rattle.log_text.specs.declared.names.Names.{Names}
 use Rattle.log_text.specs.declared.versions.Opening.{Opening}
 use Rattle.log_text.specs.declared.versions.Opening.TheVariants.{Ordered, Isolated}
+use Rattle.log_text.specs.declared.versions.Version.{Version}
 use Rattle.report_checking.specs.Isolation.{IsShownBy, names_of, told_by}
 use Rattle.report_checking.specs.OwedLines.{ScriptState}
 use Rattle.report_checking.specs.Reading.{HoldsScript, EarnsBeside, EarnsIn, IsFairTo, IsFairNext, IsOtherwiseNext, IsRead, StopsOn}
@@ -38,15 +39,15 @@ earns_of before (command.Round budget depth workers search) report new owes = (o
 earns_of before (command.Answer it) report new owes = (it, shown_self it, owes.engine)
 earns_of before asked report new owes = absurd owes
 
-earns_isolated : (before : ScriptState) (asked : Command) (report : Report) (new : State) → OwesIsolation before asked report new → EarnsIn Isolated before.searched before.state.engine asked report new.engine
-earns_isolated before (command.Finish budget depth workers search) report new owes = (tt, (not_from_false before.searched owes.0, owes.1.earned))
-earns_isolated before (command.Collect waits) report new owes = (tt, (owes.0, owes.1.earned))
-earns_isolated before (command.Round budget depth workers search) report new owes = (tt, (owes.0.engine, owes.1.engine, owes.2.earned))
-earns_isolated before asked report new owes = absurd owes
+earns_isolated : (version : Version) (before : ScriptState) (asked : Command) (report : Report) (new : State) → OwesIsolation before asked report new → EarnsIn (Isolated version) before.searched before.state.engine asked report new.engine
+earns_isolated version before (command.Finish budget depth workers search) report new owes = (tt, (not_from_false before.searched owes.0, owes.1.earned))
+earns_isolated version before (command.Collect waits) report new owes = (tt, (owes.0, owes.1.earned))
+earns_isolated version before (command.Round budget depth workers search) report new owes = (tt, (owes.0.engine, owes.1.engine, owes.2.earned))
+earns_isolated version before asked report new owes = absurd owes
 
 earns_in : (opening : Opening) (before : ScriptState) (asked : Command) (report : Report) (new : State) → OwesReportIn opening before asked report new → EarnsIn opening before.searched before.state.engine asked report new.engine
 earns_in (Ordered version) before asked report new owes = earns_of before asked report new owes
-earns_in Isolated before asked report new owes = earns_isolated before asked report new owes
+earns_in (Isolated version) before asked report new owes = earns_isolated version before asked report new owes
 
 no_right_report : (script : Option OpenScript) (state : Option ScriptState) (next : Next) (line stored : List ℕ) (why : Fault) → HoldsScript script state → IsTold line next → IsFairTo script next stored (found.Wrong why) → ¬ TellsRightReport state line stored
 no_right_report script None next line stored why holds said fair right = right

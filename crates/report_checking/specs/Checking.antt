@@ -19,7 +19,7 @@ pub record IsRightReply (old : Option ScriptState) (line stored : List ℕ) (new
 -- a command that may be refused for want of memory, where no engine is open
 abbrev pub OpensEngine : Command → Type 0
 OpensEngine (Start sessions limit version) = ⊤
-OpensEngine (StartIsolated sessions limit) = ⊤
+OpensEngine (StartIsolated sessions limit version) = ⊤
 OpensEngine command = ⊥
 
 -- and where one is
@@ -30,7 +30,7 @@ AsksOfMemory (BeginSearch budget depth workers search) = ⊥
 AsksOfMemory Skip = ⊥
 AsksOfMemory Show = ⊥
 AsksOfMemory (Save wanted) = ⊥
-AsksOfMemory (StartIsolated sessions limit) = ⊥
+AsksOfMemory (StartIsolated sessions limit version) = ⊥
 AsksOfMemory (Resume sessions limit version) = ⊥
 AsksOfMemory (Marks marks closed) = ⊥
 AsksOfMemory (MarksBegun marks closed begun) = ⊥

@@ -13,18 +13,21 @@ use Rattle.log_text.specs.declared.replies.Reply.TheVariants as told
 use Rattle.log_text.specs.declared.shown.Shown.{Shown}
 use Rattle.log_text.specs.declared.versions.Opening.{Opening}
 use Rattle.log_text.specs.declared.versions.Opening.TheVariants.{Ordered, Isolated}
+use Rattle.log_text.specs.declared.versions.Version.{Version}
 use Rattle.log_text.specs.Shown.{IsShownIn}
+use Rattle.log_text.specs.Versions.{most_sessions}
 use Rattle.round_state.specs.Legal.{State}
 use Rattle.round_state.specs.declared.reports.Report.{Report}
 use Rattle.round_state.specs.declared.steps.Step.{Step}
 use Rattle.round_state.specs.declared.steps.Step.TheVariants as step
 use Rattle.round_state.specs.declared.steps.StepReply.{StepReply}
 use Rattle.round_state.specs.declared.steps.StepReply.TheVariants as reply
+use Rattle.snapshot_histories.specs.Logged.{split_logged}
 use Rattle.snapshot_scripts.specs.Isolated.{isolated_of}
 use Rattle.snapshot_scripts.specs.Legal.{TellsIsolationOf, LegalIsolation}
 use Rattle.snapshot_scripts.specs.Splitting.{CanBeAsked, IsAskedFault, split_wanted}
 use Rattle.cobra.specs.Saving.{saved_told}
-use Rattle.cobra.specs.Scripts.{IsBadLine, state_told}
+use Rattle.cobra.specs.Scripts.{IsBadLine, IsTakenIn, state_told}
 use Rattle.cobra.specs.StepReplies.{reply_of, report_of}
 use Rattle.report_checking.specs.Owing.{IsEarned, BeginsSearch, GoesOn, searched_after}
 
@@ -57,38 +60,38 @@ abbrev pub EndsWhere : Bool → Refusal → Bool → State → Reply → Bool �
 EndsWhere true refusal searched old answer after new = EndsIsolated old answer new × (after ≡ false)
 EndsWhere false refusal searched old answer after new = (answer ≡ told.No refusal) × (new ≡ old) × (after ≡ searched)
 
--- what is owed to a command that is about an open engine alone
-abbrev pub OwesSplit : State → Command → Reply → State → Type 0
-OwesSplit old (Offer logged) answer new = IsIsolatedStep old (step.Offer logged) answer new
-OwesSplit old (Join logged) answer new = IsIsolatedStep old (step.Join logged) answer new
-OwesSplit old (Close session) answer new = IsIsolatedStep old (step.Close session) answer new
-OwesSplit old Begin answer new = IsIsolatedStep old step.Begin answer new
-OwesSplit old (Round budget depth workers search) answer new = IsIsolatedRound old answer new
-OwesSplit old Truncate answer new = IsIsolatedStep old step.Truncate answer new
-OwesSplit old Rebuild answer new = IsIsolatedStep old step.Rebuild answer new
-OwesSplit old Show answer new = (answer ≡ isolated_of (state_told old.engine)) × (new ≡ old)
-OwesSplit old (Save wanted) answer new = (answer ≡ isolated_of (saved_told old.engine.parts (split_wanted wanted))) × (new ≡ old)
-OwesSplit old command answer new = IsBadLine old answer new
+-- what is owed to a command that is about an open engine alone, for lines of this version
+abbrev pub OwesSplit : Version → State → Command → Reply → State → Type 0
+OwesSplit version old (Offer logged) answer new = IsTakenIn version (split_logged logged) old answer new (IsIsolatedStep old (step.Offer logged) answer new)
+OwesSplit version old (Join logged) answer new = IsTakenIn version (split_logged logged) old answer new (IsIsolatedStep old (step.Join logged) answer new)
+OwesSplit version old (Close session) answer new = IsIsolatedStep old (step.Close session) answer new
+OwesSplit version old Begin answer new = IsIsolatedStep old step.Begin answer new
+OwesSplit version old (Round budget depth workers search) answer new = IsIsolatedRound old answer new
+OwesSplit version old Truncate answer new = IsIsolatedStep old step.Truncate answer new
+OwesSplit version old Rebuild answer new = IsIsolatedStep old step.Rebuild answer new
+OwesSplit version old Show answer new = (answer ≡ isolated_of (state_told old.engine)) × (new ≡ old)
+OwesSplit version old (Save wanted) answer new = (answer ≡ isolated_of (saved_told old.engine.parts (split_wanted wanted))) × (new ≡ old)
+OwesSplit version old command answer new = IsBadLine old answer new
 
 -- what is owed to a command that may be asked, with whether a search was begun for the open round that isn't collected yet, before and after
-abbrev pub OwesAsked : Bool → State → Command → Reply → Bool → State → Type 0
-OwesAsked searched old (BeginSearch budget depth workers search) answer after new = BeginsSearch old.engine.asked searched answer after × (new ≡ old)
-OwesAsked searched old (Collect waits) answer after new = GoesOn waits searched old answer after new ⊎ EndsWhere searched NoRound searched old answer after new
-OwesAsked searched old Skip answer after new = IsIsolatedStep old step.Abandon answer new × (after ≡ false)
-OwesAsked searched old (Finish budget depth workers search) answer after new = EndsWhere (not searched) RoundOpen searched old answer after new
-OwesAsked searched old command answer after new = OwesSplit old command answer new × (after ≡ searched_after searched new.engine.asked)
+abbrev pub OwesAsked : Version → Bool → State → Command → Reply → Bool → State → Type 0
+OwesAsked version searched old (BeginSearch budget depth workers search) answer after new = BeginsSearch old.engine.asked searched answer after × (new ≡ old)
+OwesAsked version searched old (Collect waits) answer after new = GoesOn waits searched old answer after new ⊎ EndsWhere searched NoRound searched old answer after new
+OwesAsked version searched old Skip answer after new = IsIsolatedStep old step.Abandon answer new × (after ≡ false)
+OwesAsked version searched old (Finish budget depth workers search) answer after new = EndsWhere (not searched) RoundOpen searched old answer after new
+OwesAsked version searched old command answer after new = OwesSplit version old command answer new × (after ≡ searched_after searched new.engine.asked)
 
--- What is owed to a command: it is refused for what is wrong with it as it was given, or asked.
-abbrev pub OwesIsolated : Bool → State → Command → Reply → Bool → State → Type 0
-OwesIsolated searched old command answer after new =
-    ((refusal : Refusal) × IsAskedFault command refusal × (answer ≡ told.No refusal) × (new ≡ old) × (after ≡ searched))
-    ⊎ (CanBeAsked command × OwesAsked searched old command answer after new)
+-- What is owed to a command, for lines of this version: it is refused for what is wrong with it as it was given, or asked.
+abbrev pub OwesIsolated : Version → Bool → State → Command → Reply → Bool → State → Type 0
+OwesIsolated version searched old command answer after new =
+    ((refusal : Refusal) × IsAskedFault (most_sessions version) command refusal × (answer ≡ told.No refusal) × (new ≡ old) × (after ≡ searched))
+    ⊎ (CanBeAsked (most_sessions version) command × OwesAsked version searched old command answer after new)
 
 -- ---- how a script tells of transactions
 
 abbrev pub names_of : Opening → Names
 names_of (Ordered version) = Ids
-names_of Isolated = Events
+names_of (Isolated version) = Events
 
 -- an engine's reply, told by these names
 abbrev pub told_by : Names → Reply → Reply

@@ -6,10 +6,11 @@ use Rattle.log_text.specs.declared.replies.Reply.{Reply}
 use Rattle.log_text.specs.declared.replies.Reply.TheVariants as told
 use Rattle.log_text.specs.declared.versions.Opening.{Opening}
 use Rattle.log_text.specs.declared.versions.Opening.TheVariants.{Ordered, Isolated}
+use Rattle.log_text.specs.Versions.{most_sessions}
 use Rattle.round_state.specs.Legal.{State}
-use Rattle.round_state.specs.Opening.{IsSessions, fresh_state}
+use Rattle.round_state.specs.Opening.{fresh_state}
 use Rattle.cobra.specs.Outputs.{Asks}
-use Rattle.cobra.specs.Scripts.{IsBadLine, IsIsolatedLimit, IsIsolatedRefusal, IsVersionLimit, IsVersionRefusal}
+use Rattle.cobra.specs.Scripts.{AreVersionSessions, IsBadLine, IsIsolatedLimit, IsIsolatedRefusal, IsVersionLimit, IsVersionRefusal}
 use Rattle.report_checking.specs.Isolation.{OwesIsolated}
 use Rattle.report_checking.specs.Owing.{OwesBeside}
 
@@ -23,19 +24,19 @@ pub record ScriptState : Type 0 where
 -- What is owed to a command, where none is open yet. To one that begins a hand-over nothing is: what had gone before isn't shown. An engine whose
 -- transactions are split has room for two of each.
 abbrev pub OwesFirst : Command → Reply → Option ScriptState → Type 0
-OwesFirst (Start sessions limit version) told.Done new = IsSessions sessions × IsVersionLimit version limit × (new ≡ Some (record { state = fresh_state sessions limit; opening = Ordered version; searched = false }))
+OwesFirst (Start sessions limit version) told.Done new = AreVersionSessions version sessions × IsVersionLimit version limit × (new ≡ Some (record { state = fresh_state (most_sessions version) sessions limit; opening = Ordered version; searched = false }))
 OwesFirst (Start sessions limit version) (told.No refusal) new = IsVersionRefusal version sessions limit refusal × (new ≡ None)
 OwesFirst (Start sessions limit version) answer new = ⊥
-OwesFirst (StartIsolated sessions limit) told.Done new = IsSessions sessions × IsIsolatedLimit limit × (new ≡ Some (record { state = fresh_state sessions (2 * limit); opening = Isolated; searched = false }))
-OwesFirst (StartIsolated sessions limit) (told.No refusal) new = IsIsolatedRefusal sessions limit refusal × (new ≡ None)
-OwesFirst (StartIsolated sessions limit) answer new = ⊥
+OwesFirst (StartIsolated sessions limit version) told.Done new = AreVersionSessions version sessions × IsIsolatedLimit version limit × (new ≡ Some (record { state = fresh_state (most_sessions version) sessions (2 * limit); opening = Isolated version; searched = false }))
+OwesFirst (StartIsolated sessions limit version) (told.No refusal) new = IsIsolatedRefusal version sessions limit refusal × (new ≡ None)
+OwesFirst (StartIsolated sessions limit version) answer new = ⊥
 OwesFirst (Resume sessions limit opening) answer new = ⊥
 OwesFirst command answer new = IsBadLine None answer new
 
 -- what is owed to a command of an open script, by what it asks
 abbrev pub OwesIn : Opening → Bool → State → Command → Reply → Bool → State → Type 0
 OwesIn (Ordered version) searched old command answer after new = OwesBeside version searched old command answer after new
-OwesIn Isolated searched old command answer after new = OwesIsolated searched old command answer after new
+OwesIn (Isolated version) searched old command answer after new = OwesIsolated version searched old command answer after new
 
 -- what is owed to a command; a script has a state once its engine is open, and what it asks stays
 abbrev pub Owes : Option ScriptState → Command → Reply → Option ScriptState → Type 0

@@ -13,13 +13,12 @@ use Rattle.log_text.specs.Replies.{HasKindOfOrder, text_of}
 use Rattle.log_text.specs.ReadBack.{IsSameTree, IsSameShown}
 use Rattle.log_text.specs.declared.shown.Shown.{Shown}
 use Rattle.log_text.specs.declared.shown.Shown.TheVariants as shown
-use Rattle.log_text.specs.Versions.{has_form}
+use Rattle.log_text.specs.Versions.{has_form, most_sessions}
 use Rattle.log_text.specs.declared.names.Names.{Names}
 use Rattle.log_text.specs.declared.names.Names.TheVariants.{Ids}
 use Rattle.log_text.specs.declared.versions.Opening.{Opening}
 use Rattle.log_text.specs.declared.versions.Opening.TheVariants.{Ordered, Isolated}
 use Rattle.log_text.specs.declared.versions.Version.{Version}
-use Rattle.log_text.specs.declared.versions.Version.TheVariants.{Two}
 use Rattle.logged_fragments.specs.declared.logged.LoggedFragment.{LoggedFragment}
 use Rattle.byte_lines.specs.declared.lines.Next.{Next}
 use Rattle.byte_lines.specs.declared.lines.Next.TheVariants.{Line, TooLong, End}
@@ -27,7 +26,6 @@ use Rattle.byte_lines.specs.LineReaders.{IsNextOf}
 use Rattle.byte_lines.specs.Lines.{lines}
 use Rattle.round_state.specs.EngineState.{EngineState}
 use Rattle.round_state.specs.Legal.{State}
-use Rattle.round_state.specs.Opening.{IsSessions}
 use Rattle.round_state.specs.Runs.{Holds}
 use Rattle.round_state.specs.Steps.{StepsTo}
 use Rattle.round_state.specs.declared.reports.Report.{Report}
@@ -40,7 +38,7 @@ use Rattle.snapshot_scripts.specs.Legal.{HoldsSplit}
 use Rattle.snapshot_scripts.specs.Splitting.{CanBeAsked, IsAskedFault, split_command}
 use Rattle.cobra.specs.Outputs.{Asks, IsTold}
 use Rattle.cobra.specs.Saving.{saved_told}
-use Rattle.cobra.specs.Scripts.{IsIsolatedLimit, IsIsolatedRefusal, IsVersionLimit, IsVersionRefusal, state_told}
+use Rattle.cobra.specs.Scripts.{AreVersionSessions, IsIsolatedLimit, IsIsolatedRefusal, IsVersionLimit, IsVersionRefusal, state_told}
 use Rattle.cobra.specs.StepReplies.{certificate_of, report_of, reply_of}
 use Rattle.report_checking.specs.Checking.{IsRightReply, IsUnchecked, TakesMemory, Checks, IsAllRight, left_by}
 use Rattle.report_checking.specs.Isolation.{IsShownBy, names_of, told_by}
@@ -68,7 +66,7 @@ LeadsSplit old new P = (before : State) → HoldsSplit old before → (after : S
 -- by what a script asks
 abbrev pub HoldsIn : Opening → EngineState → State → Type 0
 HoldsIn (Ordered version) engine state = Holds engine state
-HoldsIn Isolated engine state = HoldsSplit engine state
+HoldsIn (Isolated version) engine state = HoldsSplit engine state
 
 abbrev pub LeadsIn : Opening → EngineState → EngineState → (State → State → Type 0) → Type 0
 LeadsIn opening old new P = (before : State) → HoldsIn opening old before → (after : State) × P before after × HoldsIn opening new after
@@ -207,10 +205,10 @@ EarnsBeside searched old Skip report new = ⊥
 EarnsBeside searched old (Finish budget depth workers search) report new = EarnsWhere (not searched) old report new
 EarnsBeside searched old command report new = Earns old command report new
 
--- the same by what a script asks; the version of its lines has no part in it
+-- the same by what a script asks
 abbrev pub EarnsIn : Opening → Bool → EngineState → Command → Report → EngineState → Type 0
 EarnsIn (Ordered version) searched old command report new = EarnsBeside searched old command report new
-EarnsIn Isolated searched old command report new = CanBeAsked command × EarnsBeside searched old (split_command command) report new
+EarnsIn (Isolated version) searched old command report new = CanBeAsked (most_sessions version) command × EarnsBeside searched old (split_command command) report new
 
 abbrev pub EarnsScript : Option OpenScript → Command → Report → EngineState → Type 0
 EarnsScript None command report new = ⊥
@@ -289,25 +287,25 @@ GivesBeside version searched old command answer = Gives version old command answ
 
 -- the same where no engine is open
 abbrev pub GivesFirst : Command → Reply → Type 0
-GivesFirst (Start sessions limit version) told.Done = IsSessions sessions × IsVersionLimit version limit
+GivesFirst (Start sessions limit version) told.Done = AreVersionSessions version sessions × IsVersionLimit version limit
 GivesFirst (Start sessions limit version) (told.No refusal) = IsVersionRefusal version sessions limit refusal
 GivesFirst (Start sessions limit version) answer = ⊥
-GivesFirst (StartIsolated sessions limit) told.Done = IsSessions sessions × IsIsolatedLimit limit
-GivesFirst (StartIsolated sessions limit) (told.No refusal) = IsIsolatedRefusal sessions limit refusal
-GivesFirst (StartIsolated sessions limit) answer = ⊥
+GivesFirst (StartIsolated sessions limit version) told.Done = AreVersionSessions version sessions × IsIsolatedLimit version limit
+GivesFirst (StartIsolated sessions limit version) (told.No refusal) = IsIsolatedRefusal version sessions limit refusal
+GivesFirst (StartIsolated sessions limit version) answer = ⊥
 GivesFirst (Resume sessions limit version) answer = ⊥
 GivesFirst command answer = answer ≡ told.No BadLine
 
 -- the same where transactions are split
-abbrev pub GivesIsolated : Bool → EngineState → Command → Reply → Type 0
-GivesIsolated searched old command answer =
-    ((refusal : Refusal) × IsAskedFault command refusal × (answer ≡ told.No refusal))
-    ⊎ (CanBeAsked command × (inner : Reply) × GivesBeside Two searched old (split_command command) inner × (answer ≡ isolated_of inner))
+abbrev pub GivesIsolated : Version → Bool → EngineState → Command → Reply → Type 0
+GivesIsolated version searched old command answer =
+    ((refusal : Refusal) × IsAskedFault (most_sessions version) command refusal × (answer ≡ told.No refusal))
+    ⊎ (CanBeAsked (most_sessions version) command × (inner : Reply) × GivesBeside version searched old (split_command command) inner × (answer ≡ isolated_of inner))
 
 -- by what a script asks
 abbrev pub GivesIn : Opening → Bool → EngineState → Command → Reply → Type 0
 GivesIn (Ordered version) searched old command answer = GivesBeside version searched old command answer
-GivesIn Isolated searched old command answer = GivesIsolated searched old command answer
+GivesIn (Isolated version) searched old command answer = GivesIsolated version searched old command answer
 
 -- the same of a script
 abbrev pub GivesScript : Option OpenScript → Command → Reply → Type 0

@@ -48,7 +48,7 @@ OwesIsolation old command report new = ⊥
 -- by what the script asks
 abbrev pub OwesReportIn : Opening → ScriptState → Command → Report → State → Type 0
 OwesReportIn (Ordered version) old command report new = OwesReport old command report new
-OwesReportIn Isolated old command report new = OwesIsolation old command report new
+OwesReportIn (Isolated version) old command report new = OwesIsolation old command report new
 
 -- The stored reply to the line is a right report: it is the text of one that is owed, whatever its certificate, and it shows that
 -- certificate: an order or a tree by ids, or by begins and commits. The text that `write_reply` wrote of a report by ids does, where it names

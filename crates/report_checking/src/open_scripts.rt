@@ -156,25 +156,27 @@ impl OpenScript {
         }
     }
 
-    /// What is owed to a command where transactions are split: the command is split before, and what is owed told of begins and commits after.
+    /// What is owed to a command where transactions are split, for lines of this version: the command is split before, and what is owed
+    /// told of begins and commits after.
     fn owed_isolated(
         &mut self,
         alloc: Global,
+        version: Version,
         command: Command,
         stored: &[u8],
     ) -> Result<Owed, NoMemory>
-        ensures owed { IfOk result (IsOwedBy (λ answer. LeadsSplit self.old.engine self.new.engine (λ before after. OwesIsolated self.old.searched before command answer self.new.searched after))) }
+        ensures owed { IfOk result (IsOwedBy (λ answer. LeadsSplit self.old.engine self.new.engine (λ before after. OwesIsolated version self.old.searched before command answer self.new.searched after))) }
         ensures opening { self.new.opening ≡ self.old.opening }
-        ensures right { IfOk result (λ owed. OfRight named.Events (EarnsIn openings.Isolated self.old.searched self.old.engine command) stored.now (λ text. OwesText named.Ids text owed)) }
-        ensures alone { IfOk result (IsAlone (GivesIsolated self.old.searched self.old.engine command)) }
+        ensures right { IfOk result (λ owed. OfRight named.Events (EarnsIn (openings.Isolated version) self.old.searched self.old.engine command) stored.now (λ text. OwesText named.Ids text owed)) }
+        ensures alone { IfOk result (IsAlone (GivesIsolated version self.old.searched self.old.engine command)) }
     {
         // Laws that the proof cites. They do nothing when they run.
         split_steps_are_legal();
         split_doubles_counts();
         split_keeps_verdict();
-        match split_command(alloc, command)? {
+        match split_command(alloc, version.most_sessions(), command)? {
             Ok(split) => {
-                let owed = self.owed_beside(alloc, Version::Two, Names::Events, split, stored)?;
+                let owed = self.owed_beside(alloc, version, Names::Events, split, stored)?;
                 isolated_owed(alloc, owed)
             }
             Err(refusal) => Ok(Owed::Reply(Reply::No(refusal))),
@@ -197,7 +199,7 @@ impl OpenScript {
             Opening::Ordered(version) => {
                 self.owed_beside(alloc, version, Names::Ids, command, stored)
             }
-            Opening::Isolated => self.owed_isolated(alloc, command, stored),
+            Opening::Isolated(version) => self.owed_isolated(alloc, version, command, stored),
         }
     }
 }

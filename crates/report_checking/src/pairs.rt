@@ -76,15 +76,15 @@ impl Replay {
         }
     }
 
-    fn open_isolated(&mut self, alloc: Global, sessions: u64, limit: u64) -> Reply
+    fn open_isolated(&mut self, alloc: Global, sessions: u64, limit: u64, version: Version) -> Reply
         requires { self.old.script ≡ None }
-        ensures owed { LeadsScript self.old.script self.new.script (λ before after. Owes before (Command.StartIsolated sessions limit) result after) }
+        ensures owed { LeadsScript self.old.script self.new.script (λ before after. Owes before (Command.StartIsolated sessions limit version) result after) }
         ensures kind { HasKindOfOrder result }
-        ensures alone { IsAlone (GivesScript self.old.script (Command.StartIsolated sessions limit)) (Owed.Reply result) }
+        ensures alone { IsAlone (GivesScript self.old.script (Command.StartIsolated sessions limit version)) (Owed.Reply result) }
     {
-        match Replayed::open_isolated(alloc, sessions, limit) {
+        match Replayed::open_isolated(alloc, sessions, limit, version) {
             Ok(engine) => {
-                self.script = Some(OpenScript::new(engine, Opening::Isolated));
+                self.script = Some(OpenScript::new(engine, Opening::Isolated(version)));
                 Reply::Done
             }
             Err(refusal) => Reply::No(refusal),
@@ -106,9 +106,11 @@ impl Replay {
                 limit,
                 version,
             } => Ok(Owed::Reply(self.open(alloc, sessions, limit, version))),
-            Command::StartIsolated { sessions, limit } => {
-                Ok(Owed::Reply(self.open_isolated(alloc, sessions, limit)))
-            }
+            Command::StartIsolated {
+                sessions,
+                limit,
+                version,
+            } => Ok(Owed::Reply(self.open_isolated(alloc, sessions, limit, version))),
             Command::Resume { .. } => Ok(Owed::Nothing(Unshown::Beginning)),
             _ => Ok(Owed::Reply(Reply::No(Refusal::BadLine))),
         }

@@ -1,16 +1,17 @@
 ghost use Rattle.std.specs.Prelude.{◌≡◌, ◌+◌, ◌*◌, Some, None, IsSome, IsSomeAnd, IfOk, IfErr, OnOk, MatchBool, ⊤};
 ghost use Rattle.order_check.specs.declared.remainder.Parts.{Parts};
 ghost use Rattle.order_check.specs.Good.{IsGood};
-ghost use Rattle.round_state.specs.Opening.{IsSessions, IsOpenRefusal, fresh_state};
+ghost use Rattle.log_text.specs.Versions.{most_sessions};
+ghost use Rattle.round_state.specs.Opening.{IsOpenRefusal, fresh_state};
 ghost use Rattle.round_state.specs.Runs.{HasLimits, Holds, StepsLegally};
 ghost use Rattle.round_state.specs.Solving.{IsReportOn};
 ghost use Rattle.round_state.specs.Steps.{StepsTo, IsFinishRefusal};
 ghost use Rattle.snapshot_scripts.specs.Legal.{HoldsSplit};
-ghost use Rattle.cobra.specs.Scripts.{IsIsolatedLimit, IsIsolatedRefusal, IsVersionLimit, IsVersionRefusal};
+ghost use Rattle.cobra.specs.Scripts.{AreVersionSessions, IsIsolatedLimit, IsIsolatedRefusal, IsVersionLimit, IsVersionRefusal};
 ghost use Rattle.report_checking.specs.Owing.{IsEarned, IsOwedReport};
 ghost use Rattle.report_checking.specs.Reading.{Leads};
 
-use cobra::may_begin;
+use cobra::{may_begin_isolated, may_begin_ordered};
 use log_text::Version;
 use order_check::verdict_as_stood_for;
 use polygraph::{Answer, Problem, Solver};
@@ -20,9 +21,6 @@ use snapshot_scripts::fresh_engines_are_split;
 use std::alloc::Global;
 use std::marker::Model;
 use txn::Refusal;
-
-/// How many transactions may be let remain where each is split.
-const ISOLATED_LIMIT: u64 = 2048;
 
 /// Searches nothing, and never finds memory for it: rounds are finished by answers that are stored.
 struct NoSearch;
@@ -66,12 +64,17 @@ impl Model for Replayed {
 
 impl Replayed {
     /// One with a fresh engine, whatever asked for it.
-    fn fresh(alloc: Global, sessions: u64, limit: u64) -> Result<Replayed, Refusal>
-        ensures holds { IfOk result (λ engine. Holds engine (fresh_state sessions limit)) }
-        ensures err { IfErr result (IsOpenRefusal sessions limit) }
+    fn fresh(
+        alloc: Global,
+        most_sessions: u64,
+        sessions: u64,
+        limit: u64,
+    ) -> Result<Replayed, Refusal>
+        ensures holds { IfOk result (λ engine. Holds engine (fresh_state most_sessions sessions limit)) }
+        ensures err { IfErr result (IsOpenRefusal most_sessions sessions limit) }
     {
         Ok(Replayed {
-            engine: Engine::open(alloc, sessions, limit)?,
+            engine: Engine::open(alloc, most_sessions, sessions, limit)?,
             kept: None,
         })
     }
@@ -83,14 +86,14 @@ impl Replayed {
         limit: u64,
         version: Version,
     ) -> Result<Replayed, Refusal>
-        ensures holds { IfOk result (λ engine. Holds engine (fresh_state sessions limit)) }
-        ensures numbers { OnOk result (IsSessions sessions × IsVersionLimit version limit) }
+        ensures holds { IfOk result (λ engine. Holds engine (fresh_state (most_sessions version) sessions limit)) }
+        ensures numbers { OnOk result (AreVersionSessions version sessions × IsVersionLimit version limit) }
         ensures err { IfErr result (IsVersionRefusal version sessions limit) }
     {
-        if let Err(refusal) = may_begin(version.greatest_limit(), sessions, limit) {
+        if let Err(refusal) = may_begin_ordered(version, sessions, limit) {
             return Err(refusal);
         }
-        match Replayed::fresh(alloc, sessions, limit) {
+        match Replayed::fresh(alloc, version.most_sessions(), sessions, limit) {
             Ok(engine) => Ok(engine),
             Err(refusal) => Err(refusal),
         }
@@ -101,17 +104,18 @@ impl Replayed {
         alloc: Global,
         sessions: u64,
         limit: u64,
+        version: Version,
     ) -> Result<Replayed, Refusal>
-        ensures holds { IfOk result (λ engine. HoldsSplit engine (fresh_state sessions (2 * limit))) }
-        ensures numbers { OnOk result (IsSessions sessions × IsIsolatedLimit limit) }
-        ensures err { IfErr result (IsIsolatedRefusal sessions limit) }
+        ensures holds { IfOk result (λ engine. HoldsSplit engine (fresh_state (most_sessions version) sessions (2 * limit))) }
+        ensures numbers { OnOk result (AreVersionSessions version sessions × IsIsolatedLimit version limit) }
+        ensures err { IfErr result (IsIsolatedRefusal version sessions limit) }
     {
         // A law that the proof cites. It does nothing when it runs.
         fresh_engines_are_split();
-        if let Err(refusal) = may_begin(ISOLATED_LIMIT, sessions, limit) {
+        if let Err(refusal) = may_begin_isolated(version, sessions, limit) {
             return Err(refusal);
         }
-        match Replayed::fresh(alloc, sessions, 2 * limit) {
+        match Replayed::fresh(alloc, version.most_sessions(), sessions, 2 * limit) {
             Ok(engine) => Ok(engine),
             Err(refusal) => Err(refusal),
         }

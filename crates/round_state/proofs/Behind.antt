@@ -30,17 +30,17 @@ use Rattle.round_state.specs.declared.snapshots.OpenRound.{OpenRound}
 -- what stays behind
 
 behind_itself : FrontOfItself → (front parts : Parts) → front ≡ parts → IsBehind front parts
-behind_itself law front parts e = subst (λ (p : Parts). IsBehind p parts) (sym e) (record { kept = law parts; limit = refl })
+behind_itself law front parts e = subst (λ (p : Parts). IsBehind p parts) (sym e) (record { kept = law parts; most_sessions = refl; limit = refl })
 
 pub known_with : FragmentKeepsFront → (parts new : Parts) (asked : Option OpenRound) (known : Option SaturatedState) (f : Fragment) → new ≡ parts_with parts f → IsOpenSession parts f.session → AreKnownBehind parts asked known → AreKnownBehind new asked known
 known_with law parts new asked known f e receives are = subst (λ (p : Parts). AreKnownBehind p asked known) (sym e) (record {
-  last = IfSome_then known are.last (λ one behind. record { kept = law one.parts parts f behind.kept receives; limit = behind.limit });
+  last = IfSome_then known are.last (λ one behind. record { kept = law one.parts parts f behind.kept receives; most_sessions = behind.most_sessions; limit = behind.limit });
   round = are.round;
 })
 
 pub known_closed : CloseKeepsFront → (parts : Parts) (asked : Option OpenRound) (known : Option SaturatedState) (s : ℕ) (closed : List Bool) → closed ≡ slice_set parts.closed s true → AreKnownBehind parts asked known → AreKnownBehind (record parts { closed = closed }) asked known
 known_closed law parts asked known s closed e are = subst (λ (flags : List Bool). AreKnownBehind (record parts { closed = flags }) asked known) (sym e) (record {
-  last = IfSome_then known are.last (λ one behind. record { kept = law one.parts parts s behind.kept; limit = behind.limit });
+  last = IfSome_then known are.last (λ one behind. record { kept = law one.parts parts s behind.kept; most_sessions = behind.most_sessions; limit = behind.limit });
   round = are.round;
 })
 
@@ -123,7 +123,8 @@ good_front front parts behind flags good =
     let marks : (s : ℕ) → mark_of front s ≡ mark_of parts s = is.marks in
     record {
       some_sessions = omega (arith, sessions, good.some_sessions);
-      few_sessions = omega (arith, sessions, good.few_sessions);
+      few_sessions = omega (arith, sessions, behind.most_sessions, good.few_sessions);
+      low_sessions = omega (arith, behind.most_sessions, good.low_sessions);
       marks = ap (λ (b : Base). length b.marks) base ∙ good.marks ∙ sym sessions;
       closed = flags ∙ good.closed ∙ sym sessions;
       some_limit = omega (arith, behind.limit, good.some_limit);
@@ -131,8 +132,9 @@ good_front front parts behind flags good =
       room = omega (arith, front_sum front.remain parts.remain sessions is.remain, behind.limit, good.room);
       numbers = λ s. omega (arith, marks s, good.numbers s, ap (λ (txns : List Txn). length txns) (is.remain s).1, length-append (remaining_of front s) (is.remain s).0);
       well_formed = λ s n txn h.
-          subst (λ (mark : ℕ). IsWellFormed (record { session = s; number = mark + n }) txn) (sym (marks s))
-          (good.well_formed s n txn (within_more (remaining_of parts s) (remaining_of front s) (is.remain s).0 n txn (is.remain s).1 h));
+          subst (λ (most : ℕ). IsWellFormed most (record { session = s; number = mark_of front s + n }) txn) (sym behind.most_sessions)
+          (subst (λ (mark : ℕ). IsWellFormed parts.most_sessions (record { session = s; number = mark + n }) txn) (sym (marks s))
+          (good.well_formed s n txn (within_more (remaining_of parts s) (remaining_of front s) (is.remain s).0 n txn (is.remain s).1 h)));
       short = λ s n txn h. good.short s n txn (within_more (remaining_of parts s) (remaining_of front s) (is.remain s).0 n txn (is.remain s).1 h);
       base = λ key writer h.
           let gone : writer.number < mark_of parts writer.session = good.base key writer (ap (λ (b : Base). map.get b.last key) (sym base) ∙ h) in
@@ -162,7 +164,7 @@ caught_none front parts s txns is none below = record {
 }
 
 pub caught_more : (front parts : Parts) (s : ℕ) → s < length parts.remain → IsCaughtBelow front parts s → IsCaughtBelow (parts_with front (fragment_behind front parts s)) parts (s + 1)
-caught_more front parts s within below = record { behind = record { kept = record { base = below.behind.kept.base; sessions = same_sessions; is_front = is_front; open_there = open_there }; limit = below.behind.limit }; flags = below.flags; caught = caught }
+caught_more front parts s within below = record { behind = record { kept = record { base = below.behind.kept.base; sessions = same_sessions; is_front = is_front; open_there = open_there }; most_sessions = below.behind.most_sessions; limit = below.behind.limit }; flags = below.flags; caught = caught }
   where
     new : Parts
     new = parts_with front (fragment_behind front parts s)
@@ -231,7 +233,7 @@ caught_start front parts there good behind = record {
 -- where all sessions are caught up, only flags are left
 pub closed_start : (front parts : Parts) (n : ℕ) → IsGood parts → length parts.remain ≤ n → IsCaughtBelow front parts n → IsClosedBelow front parts 0
 closed_start front parts n good all below = record {
-  same = λ i. record { base = below.behind.kept.base i; remain = remain i; closed = front.closed; limit = below.behind.limit i };
+  same = λ i. record { base = below.behind.kept.base i; remain = remain i; closed = front.closed; most_sessions = below.behind.most_sessions i; limit = below.behind.limit i };
   flags = below.flags;
   low = low;
   closed = λ t before. absurd (omega (arith, before));

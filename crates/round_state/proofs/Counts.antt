@@ -10,7 +10,7 @@ use Rattle.order_check.specs.Good.{IsGood}
 
 -- parts with these marks, of which this remains
 abbrev pub plain : List ℕ → List (List Txn) → Parts
-plain marks remain = record { base = record { last = finite.empty; marks = marks }; remain = remain; closed = []; limit = 0 }
+plain marks remain = record { base = record { last = finite.empty; marks = marks }; remain = remain; closed = []; most_sessions = 0; limit = 0 }
 
 pub counts_length : (marks : List ℕ) (remain : List (List Txn)) → length marks ≡ length remain → length (received_counts (plain marks remain)) ≡ length remain
 counts_length [] [] e = refl

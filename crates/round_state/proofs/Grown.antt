@@ -56,16 +56,17 @@ good_with parts f good fits =
     record {
       some_sessions = omega (arith, size, good.some_sessions);
       few_sessions = omega (arith, size, good.few_sessions);
+      low_sessions = good.low_sessions;
       marks = good.marks ∙ sym size;
       closed = good.closed ∙ sym size;
       some_limit = good.some_limit;
       low_limit = good.low_limit;
       room = omega (arith, sum, more, fits.room);
       numbers = numbers_with parts f within fits.next.next fits.next.well_formed.lengths.numbers good.numbers;
-      well_formed = each_with (λ s n txn. IsWellFormed (record { session = s; number = mark_of parts s + n }) txn) parts f within good.well_formed
+      well_formed = each_with (λ s n txn. IsWellFormed parts.most_sessions (record { session = s; number = mark_of parts s + n }) txn) parts f within good.well_formed
           (λ n txn h.
           let at : f.first + n ≡ mark_of parts f.session + (length before + n) = omega (arith, fits.next.next) in
-          subst (λ (m : ℕ). IsWellFormed (record { session = f.session; number = m }) txn) at (fits.next.well_formed.txns n txn (slice_get_within f.txns n txn h) h));
+          subst (λ (m : ℕ). IsWellFormed parts.most_sessions (record { session = f.session; number = m }) txn) at (fits.next.well_formed.txns n txn (slice_get_within f.txns n txn h) h));
       short = each_with (λ s n txn. IsShort txn) parts f within good.short (λ n txn h.
           subst IsShort (get_or_from_slice_get f.txns n txn txn h) (All-get_or IsShort f.txns n txn (slice_get_within f.txns n txn h) fits.next.well_formed.lengths.each));
       base = good.base;
@@ -76,6 +77,7 @@ pub good_closed : (parts : Parts) (s : ℕ) → IsGood parts → IsGood (parts_c
 good_closed parts s good = record {
   some_sessions = good.some_sessions;
   few_sessions = good.few_sessions;
+  low_sessions = good.low_sessions;
   marks = good.marks;
   closed = length-set parts.closed s true ∙ good.closed;
   some_limit = good.some_limit;

@@ -110,21 +110,22 @@ no_txn txns n txn e h = let at : None ≡ Some txn = ap (λ (xs : List Txn). sli
 no_writer : (key : ℕ) (writer : TxnId) → map.get {R = nat_cmp} map.empty key ≡ Some writer → ⊥
 no_writer key writer h = let at : None ≡ Some writer = sym (map.get-empty nat_cmp key) ∙ h in cc
 
-good_empty : (sessions limit : ℕ) → IsSessions sessions → IsLimit limit → IsGood (empty_parts sessions limit)
-good_empty sessions limit many low =
+good_empty : (most sessions limit : ℕ) → IsSessions most sessions → IsLimit limit → IsGood (empty_parts most sessions limit)
+good_empty most sessions limit many low =
     let size = length-replicate {A = List Txn} sessions [] in
-    let none : (s : ℕ) → remaining_of (empty_parts sessions limit) s ≡ [] = λ s. same_at sessions s [] in
+    let none : (s : ℕ) → remaining_of (empty_parts most sessions limit) s ≡ [] = λ s. same_at sessions s [] in
     record {
       some_sessions = omega (arith, size, many.0);
       few_sessions = omega (arith, size, many.1);
+      low_sessions = many.2;
       marks = length-replicate sessions 0 ∙ sym size;
       closed = length-replicate sessions _ ∙ sym size;
       some_limit = low.0;
       low_limit = omega (arith, low.1);
       room = omega (arith, sum_by-replicate (λ (txns : List Txn). length txns) sessions []);
       numbers = λ s. omega (arith, same_at {X = ℕ} sessions s 0, ap (λ (txns : List Txn). length txns) (none s));
-      well_formed = λ s n txn h. absurd (no_txn (remaining_of (empty_parts sessions limit) s) n txn (none s) h);
-      short = λ s n txn h. absurd (no_txn (remaining_of (empty_parts sessions limit) s) n txn (none s) h);
+      well_formed = λ s n txn h. absurd (no_txn (remaining_of (empty_parts most sessions limit) s) n txn (none s) h);
+      short = λ s n txn h. absurd (no_txn (remaining_of (empty_parts most sessions limit) s) n txn (none s) h);
       base = λ key writer h. absurd (no_writer key writer h);
     }
 
@@ -132,18 +133,18 @@ abbrev no_txns : List Txn
 no_txns = []
 
 -- nothing remains, so nothing is read
-no_read : (sessions limit : ℕ) (reader writer : TxnId) (key : ℕ) → Reads (remaining_at (empty_parts sessions limit)) reader key (By writer) → ⊥
-no_read sessions limit reader writer key reads = by_place (nat_lt reader.number (mark_of (empty_parts sessions limit) reader.session)) (subst (λ (txns : List Txn). IsSomeAnd (cond (nat_lt reader.number (mark_of (empty_parts sessions limit) reader.session)) None (slice_get txns (reader.number - mark_of (empty_parts sessions limit) reader.session))) (λ txn. Contains txn.reads (key, By writer))) (same_at sessions reader.session []) reads)
+no_read : (most sessions limit : ℕ) (reader writer : TxnId) (key : ℕ) → Reads (remaining_at (empty_parts most sessions limit)) reader key (By writer) → ⊥
+no_read most sessions limit reader writer key reads = by_place (nat_lt reader.number (mark_of (empty_parts most sessions limit) reader.session)) (subst (λ (txns : List Txn). IsSomeAnd (cond (nat_lt reader.number (mark_of (empty_parts most sessions limit) reader.session)) None (slice_get txns (reader.number - mark_of (empty_parts most sessions limit) reader.session))) (λ txn. Contains txn.reads (key, By writer))) (same_at sessions reader.session []) reads)
   where
-    by_place : (t : Bool) → IsSomeAnd (cond t None (slice_get no_txns (reader.number - mark_of (empty_parts sessions limit) reader.session))) (λ txn. Contains txn.reads (key, By writer)) → ⊥
+    by_place : (t : Bool) → IsSomeAnd (cond t None (slice_get no_txns (reader.number - mark_of (empty_parts most sessions limit) reader.session))) (λ txn. Contains txn.reads (key, By writer)) → ⊥
     by_place true h = h
     by_place false h = h
 
-index_fresh : (sessions limit : ℕ) → IsIndexOf [] (empty_parts sessions limit)
-index_fresh sessions limit = λ reader writer key. (λ waits. absurd (omega (arith, waits.1)), λ pending. absurd (no_read sessions limit reader writer key pending.0))
+index_fresh : (most sessions limit : ℕ) → IsIndexOf [] (empty_parts most sessions limit)
+index_fresh most sessions limit = λ reader writer key. (λ waits. absurd (omega (arith, waits.1)), λ pending. absurd (no_read most sessions limit reader writer key pending.0))
 
-marks_fresh : (sessions limit : ℕ) → AreMarksOf (replicate sessions fresh_mark) (empty_parts sessions limit)
-marks_fresh sessions limit =
+marks_fresh : (most sessions limit : ℕ) → AreMarksOf (replicate sessions fresh_mark) (empty_parts most sessions limit)
+marks_fresh most sessions limit =
     let all : (s : ℕ) → mark_at (replicate sessions fresh_mark) s ≡ fresh_mark = λ s. same_at sessions s fresh_mark in
     record {
       sessions = length-replicate sessions fresh_mark ∙ sym (length-replicate {A = List Txn} sessions []);
@@ -152,23 +153,23 @@ marks_fresh sessions limit =
       closed = λ s. ap (λ (m : SessionMark). m.closed) (all s) ∙ sym (same_at {X = Bool} sessions s false);
     }
 
-pub kept_fresh : (sessions limit : ℕ) (parts : Parts) (marks : List SessionMark) → parts ≡ empty_parts sessions limit → marks ≡ replicate sessions fresh_mark → IsSessions sessions → IsLimit limit → IsKept parts marks [] None None 0
-kept_fresh sessions limit parts marks e m many low =
+pub kept_fresh : (most sessions limit : ℕ) (parts : Parts) (marks : List SessionMark) → parts ≡ empty_parts most sessions limit → marks ≡ replicate sessions fresh_mark → IsSessions most sessions → IsLimit limit → IsKept parts marks [] None None 0
+kept_fresh most sessions limit parts marks e m many low =
     record {
-      good = subst IsGood (sym e) (good_empty sessions limit many low);
-      marks_fit = subst (λ (p : Parts). AreMarksOf marks p) (sym e) (subst (λ (ms : List SessionMark). AreMarksOf ms (empty_parts sessions limit)) (sym m) (marks_fresh sessions limit));
-      waits_fit = subst (λ (p : Parts). IsIndexOf [] p) (sym e) (index_fresh sessions limit);
+      good = subst IsGood (sym e) (good_empty most sessions limit many low);
+      marks_fit = subst (λ (p : Parts). AreMarksOf marks p) (sym e) (subst (λ (ms : List SessionMark). AreMarksOf ms (empty_parts most sessions limit)) (sym m) (marks_fresh most sessions limit));
+      waits_fit = subst (λ (p : Parts). IsIndexOf [] p) (sym e) (index_fresh most sessions limit);
       fronts = no_fronts parts;
       numbers = omega arith;
       number = λ snapshot h. absurd cc;
     }
 
 -- a fresh engine holds the state in which nothing has been received
-pub fresh_holds : (sessions limit : ℕ) (engine : EngineState) → StandsForWhatRemains → engine ≡ fresh sessions limit → Holds engine (fresh_state sessions limit)
-fresh_holds sessions limit engine law e =
-    let none : HasNoBase (empty_parts sessions limit) = record { marks = λ s. same_at {X = ℕ} sessions s 0; last = refl } in
-    subst (λ (engine : EngineState). Holds engine (fresh_state sessions limit)) (sym e) (record {
+pub fresh_holds : (most sessions limit : ℕ) (engine : EngineState) → StandsForWhatRemains → engine ≡ fresh most sessions limit → Holds engine (fresh_state most sessions limit)
+fresh_holds most sessions limit engine law e =
+    let none : HasNoBase (empty_parts most sessions limit) = record { marks = λ s. same_at {X = ℕ} sessions s 0; last = refl } in
+    subst (λ (engine : EngineState). Holds engine (fresh_state most sessions limit)) (sym e) (record {
       same = refl;
-      parts = law (empty_parts sessions limit) none;
+      parts = law (empty_parts most sessions limit) none;
       asked = λ parts h. let none_is_some : None ≡ Some parts = h in absurd (none-some parts none_is_some);
     })

@@ -47,19 +47,20 @@ remaining_same parts s = default_more parts.remain [] s
 at_same : (parts : Parts) (id : TxnId) → remaining_at (parts_more parts) id ≡ remaining_at parts id
 at_same parts id = λ i. cond (nat_lt id.number (marks_same parts id.session i)) None (slice_get (remaining_same parts id.session i) (id.number - marks_same parts id.session i))
 
-pub good_more : (parts : Parts) → IsGood parts → length parts.remain < 64 → IsGood (parts_more parts)
+pub good_more : (parts : Parts) → IsGood parts → length parts.remain < parts.most_sessions → IsGood (parts_more parts)
 good_more parts good few =
     let size = length_push parts.remain [] in
     record {
       some_sessions = omega (arith, size);
       few_sessions = omega (arith, size, few);
+      low_sessions = good.low_sessions;
       marks = length_push parts.base.marks 0 ∙ ap (λ n. n + 1) good.marks ∙ sym size;
       closed = length_push parts.closed false ∙ ap (λ n. n + 1) good.closed ∙ sym size;
       some_limit = good.some_limit;
       low_limit = good.low_limit;
       room = let sum : sum_by length (parts.remain ++ [] ∷ []) ≡ sum_by length parts.remain + 0 = sum_by-append length parts.remain ([] ∷ []) in omega (arith, sum, good.room);
       numbers = λ s. let long = ap length (remaining_same parts s) in omega (arith, marks_same parts s, long, good.numbers s);
-      well_formed = λ s n txn h. subst (λ (mark : ℕ). IsWellFormed (record { session = s; number = mark + n }) txn) (sym (marks_same parts s)) (good.well_formed s n txn (ap (λ (txns : List Txn). slice_get txns n) (sym (remaining_same parts s)) ∙ h));
+      well_formed = λ s n txn h. subst (λ (mark : ℕ). IsWellFormed parts.most_sessions (record { session = s; number = mark + n }) txn) (sym (marks_same parts s)) (good.well_formed s n txn (ap (λ (txns : List Txn). slice_get txns n) (sym (remaining_same parts s)) ∙ h));
       short = λ s n txn h. good.short s n txn (ap (λ (txns : List Txn). slice_get txns n) (sym (remaining_same parts s)) ∙ h);
       base = λ key writer h. let gone = good.base key writer h in omega (arith, gone, marks_same parts writer.session);
     }
@@ -92,7 +93,7 @@ index_more index parts is = λ reader writer key. (λ waits. pending_more parts 
 pub index_back : (index : Index) (parts : Parts) → IsIndexOf index (parts_more parts) → IsIndexOf index parts
 index_back index parts is = λ reader writer key. (λ waits. pending_same parts reader writer key ((is reader writer key).0 waits), λ pending. (is reader writer key).1 (pending_more parts reader writer key pending))
 
-pub tracked_more : (parts new : Parts) (marks new_marks : List SessionMark) (waits : Index) → new ≡ parts_more parts → new_marks ≡ marks ++ fresh ∷ [] → length parts.remain < 64 → IsTracked marks waits parts → IsTracked new_marks waits new
+pub tracked_more : (parts new : Parts) (marks new_marks : List SessionMark) (waits : Index) → new ≡ parts_more parts → new_marks ≡ marks ++ fresh ∷ [] → length parts.remain < parts.most_sessions → IsTracked marks waits parts → IsTracked new_marks waits new
 tracked_more parts new marks new_marks waits e m few tracked =
     subst (λ (p : Parts). IsTracked new_marks waits p) (sym e)
     (subst (λ (ms : List SessionMark). IsTracked ms waits (parts_more parts)) (sym m) (record {
@@ -143,6 +144,7 @@ good_flagged : (parts : Parts) (s : ℕ) (flag : Bool) → IsGood parts → IsGo
 good_flagged parts s flag good = record {
   some_sessions = good.some_sessions;
   few_sessions = good.few_sessions;
+  low_sessions = good.low_sessions;
   marks = good.marks;
   closed = length-set parts.closed s flag ∙ good.closed;
   some_limit = good.some_limit;

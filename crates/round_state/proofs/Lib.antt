@@ -2,6 +2,7 @@ pub mod Anew
 pub mod Awaited
 pub mod Behind
 pub mod Counts
+pub mod Faults
 pub mod Grown
 pub mod Holding
 pub mod Indexed

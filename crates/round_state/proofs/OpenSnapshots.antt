@@ -25,7 +25,7 @@ use Rattle.round_state.specs.declared.snapshots.OpenRound.{OpenRound}
 
 counted_by : KeptFrontsAreCounted → (front parts : Parts) (one : OpenRound) → IsBehind front parts → IsOpenOn front one → IsGood parts → IsSnapshotOf parts one front
 counted_by law front parts one behind on good =
-    let counted = law front parts behind.kept behind.limit on.good good in
+    let counted = law front parts behind.kept behind.most_sessions behind.limit on.good good in
     record {
       good = good;
       counts = subst (λ (counts : List ℕ). AreFrontCounts parts counts) (sym on.counts) counted.counts;
@@ -86,7 +86,7 @@ no_snapshot parts asked none = ap (λ (o : Option OpenRound). snapshot_in parts 
 pub begun_snapshot : FrontOfItself → KeptFrontsAreCounted → (parts front : Parts) (one : OpenRound) → front ≡ parts → IsOpenOn front one → snapshot_in parts (Some one) ≡ Some parts
 begun_snapshot itself law parts front one e on =
     let here : IsOpenOn parts one = subst (λ (p : Parts). IsOpenOn p one) e on in
-    ap (λ (p : Parts). Some p) (counted_by law parts parts one (record { kept = itself parts; limit = refl }) here here.good).same
+    ap (λ (p : Parts). Some p) (counted_by law parts parts one (record { kept = itself parts; most_sessions = refl; limit = refl }) here here.good).same
 
 -- what is judged of the front is judged of the snapshot
 

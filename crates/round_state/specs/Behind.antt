@@ -8,9 +8,10 @@ use Rattle.clock_choices.specs.SaturatedState.{SaturatedState}
 use Rattle.round_state.specs.OpenRounds.{IsOpenOn}
 use Rattle.round_state.specs.declared.snapshots.OpenRound.{OpenRound}
 
--- the front is kept while the parts go on, under the same limit
+-- the front is kept while the parts go on, within the same bounds
 pub record IsBehind (front parts : Parts) : Type 0 where
   pub kept : IsKeptFront front parts
+  pub most_sessions : front.most_sessions ≡ parts.most_sessions
   pub limit : front.limit ≡ parts.limit
 
 -- The relation that is kept is that of a front of the parts; and while a round is open, that of its snapshot.

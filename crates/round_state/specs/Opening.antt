@@ -13,37 +13,39 @@ use Rattle.round_state.specs.Legal.{State}
 abbrev pub no_history : ℕ → History
 no_history sessions = replicate sessions []
 
--- parts of which nothing is gone and nothing remains, with so many sessions, all of them open, and this limit
-abbrev pub empty_parts : ℕ → ℕ → Parts
-empty_parts sessions limit = record {
+-- parts of which nothing is gone and nothing remains, with so many sessions, all of them open, and these bounds: how many sessions there
+-- may be, and how many transactions may remain
+abbrev pub empty_parts : ℕ → ℕ → ℕ → Parts
+empty_parts most sessions limit = record {
   base = record { last = map.empty; marks = replicate sessions 0 };
   remain = no_history sessions;
   closed = replicate sessions false;
+  most_sessions = most;
   limit = limit;
 }
 
 -- a fresh engine: it has empty parts and nothing else
-abbrev pub fresh : ℕ → ℕ → EngineState
-fresh sessions limit = engine_over (empty_parts sessions limit)
+abbrev pub fresh : ℕ → ℕ → ℕ → EngineState
+fresh most sessions limit = engine_over (empty_parts most sessions limit)
 
 -- the state of a fresh engine: nothing has been received
-abbrev pub fresh_state : ℕ → ℕ → State
-fresh_state sessions limit = record { engine = fresh sessions limit; whole = no_history sessions; asked = no_history sessions }
+abbrev pub fresh_state : ℕ → ℕ → ℕ → State
+fresh_state most sessions limit = record { engine = fresh most sessions limit; whole = no_history sessions; asked = no_history sessions }
 
--- there may be so many sessions
-abbrev pub IsSessions : ℕ → Type 0
-IsSessions sessions = (1 ≤ sessions) × (sessions ≤ 64)
+-- An audit may begin with so many sessions, where there may be at most this many; it may never have more than 256.
+abbrev pub IsSessions : ℕ → ℕ → Type 0
+IsSessions most sessions = (1 ≤ sessions) × (sessions ≤ most) × (most ≤ 256)
 
 -- so many transactions may be let remain
 abbrev pub IsLimit : ℕ → Type 0
 IsLimit limit = (1 ≤ limit) × (limit ≤ 1048576)
 
 -- Why no engine is given: the number of sessions is judged before the limit, and memory is asked for last.
-abbrev pub IsOpenRefusal : ℕ → ℕ → Refusal → Type 0
-IsOpenRefusal sessions limit BadSession = ¬ IsSessions sessions
-IsOpenRefusal sessions limit TooLong = IsSessions sessions × (¬ IsLimit limit)
-IsOpenRefusal sessions limit NoMemory = IsSessions sessions × IsLimit limit
-IsOpenRefusal sessions limit refusal = ⊥
+abbrev pub IsOpenRefusal : ℕ → ℕ → ℕ → Refusal → Type 0
+IsOpenRefusal most sessions limit BadSession = ¬ IsSessions most sessions
+IsOpenRefusal most sessions limit TooLong = IsSessions most sessions × (¬ IsLimit limit)
+IsOpenRefusal most sessions limit NoMemory = IsSessions most sessions × IsLimit limit
+IsOpenRefusal most sessions limit refusal = ⊥
 
 -- Why no engine is made of parts: they break a rule; memory is asked for last.
 abbrev pub IsPartsRefusal : Parts → Refusal → Type 0

@@ -52,8 +52,8 @@ pub record IsAdmitted (parts : Parts) (fragment : Fragment) : Type 0 where
 -- Why an offer is refused: what is wrong with the fragment as it was logged comes first, then what is wrong with what it did, and memory
 -- is asked for last.
 abbrev pub IsOfferRefusal : Parts → LoggedFragment → Refusal → Type 0
-IsOfferRefusal parts logged NoMemory = IsWellFormedFragment logged.fragment × IsAdmitted parts (effects logged)
-IsOfferRefusal parts logged refusal = FragmentFault logged.fragment refusal ⊎ (IsWellFormedFragment logged.fragment × IntakeFault parts (effects logged) refusal)
+IsOfferRefusal parts logged NoMemory = IsWellFormedFragment parts.most_sessions logged.fragment × IsAdmitted parts (effects logged)
+IsOfferRefusal parts logged refusal = FragmentFault parts.most_sessions logged.fragment refusal ⊎ (IsWellFormedFragment parts.most_sessions logged.fragment × IntakeFault parts (effects logged) refusal)
 
 -- A session may join where it is the next new one, or is closed and nothing of it remains.
 abbrev pub MayJoin : Parts → ℕ → Type 0
@@ -71,7 +71,7 @@ JoinFault parts fragment refusal = ⊥
 
 -- a session is let join with the fragment, unless memory is wanting: it is next and anchored, and there is room for it
 pub record IsLetIn (parts : Parts) (fragment : Fragment) : Type 0 where
-  pub well_formed : IsWellFormedFragment fragment
+  pub well_formed : IsWellFormedFragment parts.most_sessions fragment
   pub session : MayJoin parts fragment.session
   pub next : fragment.first ≡ received_count parts fragment.session
   pub anchored : IsAnchored parts fragment
@@ -80,9 +80,9 @@ pub record IsLetIn (parts : Parts) (fragment : Fragment) : Type 0 where
 -- Why a join is refused: what is wrong with the fragment as it was logged comes first, then that a round is open, then what is wrong with
 -- what it did; memory is asked for last.
 abbrev pub IsJoinRefusal : EngineState → LoggedFragment → Refusal → Type 0
-IsJoinRefusal engine logged RoundOpen = IsWellFormedFragment logged.fragment × IsSome engine.asked
-IsJoinRefusal engine logged NoMemory = IsWellFormedFragment logged.fragment × (engine.asked ≡ None) × IsLetIn engine.parts (effects logged)
-IsJoinRefusal engine logged refusal = FragmentFault logged.fragment refusal ⊎ (IsWellFormedFragment logged.fragment × (engine.asked ≡ None) × JoinFault engine.parts (effects logged) refusal)
+IsJoinRefusal engine logged RoundOpen = IsWellFormedFragment engine.parts.most_sessions logged.fragment × IsSome engine.asked
+IsJoinRefusal engine logged NoMemory = IsWellFormedFragment engine.parts.most_sessions logged.fragment × (engine.asked ≡ None) × IsLetIn engine.parts (effects logged)
+IsJoinRefusal engine logged refusal = FragmentFault engine.parts.most_sessions logged.fragment refusal ⊎ (IsWellFormedFragment engine.parts.most_sessions logged.fragment × (engine.asked ≡ None) × JoinFault engine.parts (effects logged) refusal)
 
 -- what a fragment is with which a session joins, where there are so many sessions
 abbrev pub arrival_of : ℕ → Fragment → Arrival
@@ -214,9 +214,9 @@ pub record IsRightReport (old : EngineState) (parts : Parts) (budget depth : ℕ
 -- From the old engine, this reply to the step is right, and leads to the new engine. A fragment is judged as it was logged, and what is
 -- looked up and added is what it did.
 abbrev pub StepsTo : EngineState → Step → StepReply → EngineState → Type 0
-StepsTo old (Offer logged) reply.Done new = IsWellFormedFragment logged.fragment × IsAdmitted old.parts (effects logged) × (new ≡ engine_offered old (effects logged))
+StepsTo old (Offer logged) reply.Done new = IsWellFormedFragment old.parts.most_sessions logged.fragment × IsAdmitted old.parts (effects logged) × (new ≡ engine_offered old (effects logged))
 StepsTo old (Offer logged) (reply.Refused refusal) new = IsOfferRefusal old.parts logged refusal × (new ≡ old)
-StepsTo old (Join logged) reply.Done new = IsWellFormedFragment logged.fragment × (old.asked ≡ None) × IsLetIn old.parts (effects logged) × (new ≡ engine_joined old (effects logged))
+StepsTo old (Join logged) reply.Done new = IsWellFormedFragment old.parts.most_sessions logged.fragment × (old.asked ≡ None) × IsLetIn old.parts (effects logged) × (new ≡ engine_joined old (effects logged))
 StepsTo old (Join logged) (reply.Refused refusal) new = IsJoinRefusal old logged refusal × (new ≡ old)
 StepsTo old (Close s) reply.Done new = IsOpenSession old.parts s × (new ≡ engine_closed old s)
 StepsTo old (Close s) (reply.Refused refusal) new = IsCloseRefusal old.parts s refusal × (new ≡ old)

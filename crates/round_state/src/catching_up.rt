@@ -67,8 +67,8 @@ fn add_all_new(alloc: Global, known: &mut Saturated, parts: &Parts) -> Result<()
     ensures { OnOk result (IsClosedBelow known.new.parts parts.now 0) }
 {
     let _ = known.parts();
-    for session in 0..parts.sessions() as u8 {
-        add_new(alloc, known, parts, session)?;
+    for session in 0..parts.sessions() {
+        add_new(alloc, known, parts, session as u8)?;
     }
     Ok(())
 }
@@ -90,8 +90,8 @@ fn close_all_closed(known: &mut Saturated, parts: &Parts)
     requires before { IsClosedBelow known.old.parts parts.now 0 }
     ensures { known.new.parts ≡ parts.now }
 {
-    for session in 0..parts.sessions() as u8 {
-        close_one(known, parts, session);
+    for session in 0..parts.sessions() {
+        close_one(known, parts, session as u8);
     }
 }
 

@@ -15,12 +15,12 @@ use session_marks::Marks;
 use std::alloc::Global;
 use txn::{Fragment, NoMemory, Refusal, Source, Txn, TxnId, check_fragment};
 
-/// What the fragment did to the store, where it is well formed as it was logged; if not, its first fault.
-pub(crate) fn effects_of(logged: LoggedFragment) -> Result<Fragment, Refusal>
-    ensures judged { MatchResult result (λ _. IsWellFormedFragment logged.fragment) (FragmentFault logged.fragment) }
-    ensures effects { IfOk result (λ fragment. (fragment ≡ effects logged) × IsWellFormedFragment fragment) }
+/// What the fragment did to the store, where it is well formed as it was logged and sessions are numbered below this; if not, its first fault.
+pub(crate) fn effects_of(sessions: u64, logged: LoggedFragment) -> Result<Fragment, Refusal>
+    ensures judged { MatchResult result (λ _. IsWellFormedFragment sessions logged.fragment) (FragmentFault sessions logged.fragment) }
+    ensures effects { IfOk result (λ fragment. (fragment ≡ effects logged) × IsWellFormedFragment sessions fragment) }
 {
-    check_fragment(&logged.fragment)?;
+    check_fragment(sessions, &logged.fragment)?;
     Ok(logged.into_effects())
 }
 
@@ -28,7 +28,7 @@ pub(crate) fn effects_of(logged: LoggedFragment) -> Result<Fragment, Refusal>
 pub(crate) fn admit(parts: &Parts, marks: &Marks, fragment: &Fragment) -> Result<(), Refusal>
     requires good { IsGood parts.now }
     requires marks { AreMarksOf marks.now parts.now }
-    requires well_formed { IsWellFormedFragment fragment.now }
+    requires well_formed { IsWellFormedFragment parts.now.most_sessions fragment.now }
     ensures { MatchResult result (λ _. IsAdmitted parts.now fragment.now) (IntakeFault parts.now fragment.now) }
 {
     marks.admit(fragment)?;

@@ -74,7 +74,7 @@ fn may_join(parts: &Parts, session: u8) -> bool
 /// Whether a session may join with a well-formed fragment, and it finds room; if not, why.
 pub(crate) fn let_in(parts: &Parts, fragment: &Fragment) -> Result<(), Refusal>
     requires good { IsGood parts.now }
-    requires well_formed { IsWellFormedFragment fragment.now }
+    requires well_formed { IsWellFormedFragment parts.now.most_sessions fragment.now }
     ensures { MatchResult result (λ _. IsLetIn parts.now fragment.now) (JoinFault parts.now fragment.now) }
 {
     if !may_join(parts, fragment.session) {

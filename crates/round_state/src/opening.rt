@@ -6,17 +6,17 @@ use order_check::{Base, LastWriters, Parts};
 use std::alloc::Global;
 use txn::{NoMemory, Sequence, Txn};
 
-/// The greatest number of sessions.
-const GREATEST_SESSIONS: u64 = 64;
+/// The greatest number of sessions that there may ever be.
+const GREATEST_SESSIONS: u64 = 256;
 
 /// The greatest number of transactions that may remain.
 const GREATEST_LIMIT: u64 = 1_048_576;
 
-/// Whether an audit may begin with so many sessions.
-pub fn is_sessions(sessions: u64) -> bool
-    ensures { IsTrue result ↔ IsSessions sessions }
+/// Whether an audit may begin with so many sessions, where there may be at most so many.
+pub fn is_sessions(most: u64, sessions: u64) -> bool
+    ensures { IsTrue result ↔ IsSessions most sessions }
 {
-    1 <= sessions && sessions <= GREATEST_SESSIONS
+    1 <= sessions && sessions <= most && most <= GREATEST_SESSIONS
 }
 
 /// Whether so many transactions may be let remain.
@@ -48,8 +48,13 @@ fn open_flags(alloc: Global, count: usize) -> Result<Sequence<bool>, NoMemory>
     Ok(Sequence::new(vec![in alloc; false; count]?))
 }
 
-pub(crate) fn empty_parts(alloc: Global, sessions: u64, limit: u64) -> Result<Parts, NoMemory>
-    ensures { IfOk result (λ parts. parts ≡ empty_parts sessions limit) }
+pub(crate) fn empty_parts(
+    alloc: Global,
+    most_sessions: u64,
+    sessions: u64,
+    limit: u64,
+) -> Result<Parts, NoMemory>
+    ensures { IfOk result (λ parts. parts ≡ empty_parts most_sessions sessions limit) }
 {
     let count = sessions as usize;
     let base = Base {
@@ -60,6 +65,7 @@ pub(crate) fn empty_parts(alloc: Global, sessions: u64, limit: u64) -> Result<Pa
         base,
         remain: empty_sessions(alloc, count)?,
         closed: open_flags(alloc, count)?,
+        most_sessions,
         limit,
     })
 }

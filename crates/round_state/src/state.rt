@@ -75,14 +75,20 @@ impl Model for Engine {
 }
 
 impl Engine {
-    /// A fresh engine of so many sessions, which lets at most so many transactions remain.
-    pub fn open(alloc: Global, sessions: u64, limit: u64) -> Result<Engine, Refusal>
-        ensures ok { IfOk result (λ engine. engine ≡ fresh sessions limit) }
-        ensures holds { IfOk result (λ engine. Holds engine (fresh_state sessions limit)) }
-        ensures numbers { OnOk result (IsSessions sessions × IsLimit limit) }
-        ensures err { IfErr result (IsOpenRefusal sessions limit) }
+    /// A fresh engine of so many sessions, which lets at most so many transactions remain. There may be at most `most_sessions`, at most 256:
+    /// sessions are numbered below this.
+    pub fn open(
+        alloc: Global,
+        most_sessions: u64,
+        sessions: u64,
+        limit: u64,
+    ) -> Result<Engine, Refusal>
+        ensures ok { IfOk result (λ engine. engine ≡ fresh most_sessions sessions limit) }
+        ensures holds { IfOk result (λ engine. Holds engine (fresh_state most_sessions sessions limit)) }
+        ensures numbers { OnOk result (IsSessions most_sessions sessions × IsLimit limit) }
+        ensures err { IfErr result (IsOpenRefusal most_sessions sessions limit) }
     {
-        if !is_sessions(sessions) {
+        if !is_sessions(most_sessions, sessions) {
             return Err(Refusal::BadSession);
         }
         if !is_limit(limit) {
@@ -91,7 +97,7 @@ impl Engine {
         // A law that the proof cites. It does nothing when it runs.
         stands_for_what_remains();
         Ok(Engine {
-            parts: empty_parts(alloc, sessions, limit)?,
+            parts: empty_parts(alloc, most_sessions, sessions, limit)?,
             marks: Marks::new(alloc, sessions as usize)?,
             waits: PendingReads::new(alloc),
             asked: None,
@@ -148,13 +154,13 @@ impl Engine {
     /// reads and transactions times the logarithm of the pending reads, however much remains. What a transaction that aborted has read
     /// and written is judged as that of any other; then it counts as one that did nothing.
     pub fn offer(&mut self, alloc: Global, logged: LoggedFragment) -> Result<(), Refusal>
-        ensures ok { OnOk result (IsWellFormedFragment logged.fragment × IsAdmitted self.old.parts (effects logged) × (self.new ≡ engine_offered self.old (effects logged))) }
+        ensures ok { OnOk result (IsWellFormedFragment self.old.parts.most_sessions logged.fragment × IsAdmitted self.old.parts (effects logged) × (self.new ≡ engine_offered self.old (effects logged))) }
         ensures err { IfErr result (λ refusal. IsOfferRefusal self.old.parts logged refusal × (self.new ≡ self.old)) }
     {
         // Laws that the proof cites. They do nothing when they run.
         fragment_keeps_front();
         kept_fronts_are_counted();
-        let fragment = effects_of(logged)?;
+        let fragment = effects_of(self.parts.most_sessions, logged)?;
         admit(&self.parts, &self.marks, &fragment)?;
         take_in(
             alloc,
@@ -171,10 +177,10 @@ impl Engine {
     /// remains, or from the last gone writer of the epoch key; one that aborted is no fence. After it the session is open, and a cut
     /// that was held is dropped.
     pub fn join(&mut self, alloc: Global, logged: LoggedFragment) -> Result<(), Refusal>
-        ensures ok { OnOk result (IsWellFormedFragment logged.fragment × (self.old.asked ≡ None) × IsLetIn self.old.parts (effects logged) × (self.new ≡ engine_joined self.old (effects logged))) }
+        ensures ok { OnOk result (IsWellFormedFragment self.old.parts.most_sessions logged.fragment × (self.old.asked ≡ None) × IsLetIn self.old.parts (effects logged) × (self.new ≡ engine_joined self.old (effects logged))) }
         ensures err { IfErr result (λ refusal. IsJoinRefusal self.old logged refusal × (self.new ≡ self.old)) }
     {
-        let fragment = effects_of(logged)?;
+        let fragment = effects_of(self.parts.most_sessions, logged)?;
         if self.is_open() {
             return Err(Refusal::RoundOpen);
         }

@@ -29,8 +29,8 @@ fn marks_of(alloc: Global, parts: &Parts) -> Result<Marks, NoMemory>
     ensures { IfOk result (λ marks. AreMarksOf marks parts.now) }
 {
     let mut sessions = Vec::with_capacity(alloc, parts.sessions())?;
-    for session in 0..parts.sessions() as u8 {
-        sessions.push(mark_in(parts, session))?;
+    for session in 0..parts.sessions() {
+        sessions.push(mark_in(parts, session as u8))?;
     }
     Ok(Marks::of(sessions))
 }
@@ -62,8 +62,8 @@ fn index_of(alloc: Global, parts: &Parts, marks: &Marks) -> Result<PendingReads,
     ensures { IfOk result (λ index. IsIndexOf index parts.now) }
 {
     let mut waits = PendingReads::new(alloc);
-    for session in 0..parts.sessions() as u8 {
-        add_pending(alloc, &mut waits, parts, marks, session)?;
+    for session in 0..parts.sessions() {
+        add_pending(alloc, &mut waits, parts, marks, session as u8)?;
     }
     Ok(waits)
 }
@@ -96,7 +96,7 @@ pub(crate) fn raise_all(marks: &mut Marks, parts: &Parts)
     requires before { AreRaisedBelow marks.old parts.now 0 }
     ensures { AreMarksOf marks.new parts.now }
 {
-    for session in 0..parts.sessions() as u8 {
-        raise_one(marks, parts, session);
+    for session in 0..parts.sessions() {
+        raise_one(marks, parts, session as u8);
     }
 }

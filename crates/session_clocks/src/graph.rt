@@ -1,4 +1,4 @@
-ghost use Rattle.std.specs.Prelude.{◌≡◌, ◌≢◌, ◌⊎◌, ◌↔◌, ℕ, [], ◌∷◌, ◌++◌, ◌+◌, ◌-◌, ◌*◌, ◌^◌, ◌<◌, ◌≤◌, IsTrue, filter, IfOk, MatchOption, OnOk, OnErr, length, slice_index, take};
+ghost use Rattle.std.specs.Prelude.{◌≡◌, ◌≢◌, ◌⊎◌, ◌↔◌, ℕ, [], ◌∷◌, ◌++◌, ◌+◌, ◌-◌, ◌*◌, ◌^◌, ◌<◌, ◌≤◌, IsTrue, filter, IfOk, IfSome, MatchOption, OnOk, OnErr, length, slice_index, take};
 ghost use Rattle.txn.specs.declared.transactions.TxnId.{TxnId};
 ghost use Rattle.txn.specs.Arcs.{start_of, end_of};
 ghost use Rattle.session_clocks.specs.Additions.{IsAddition, AreTold, IsFrontOf};
@@ -9,6 +9,7 @@ ghost use Rattle.session_clocks.specs.Reach.{IsThere, Reaches, IsOrReaches};
 ghost use Rattle.session_clocks.specs.Removals.{IsLast, IsUntouched};
 
 use crate::drops::{are_behind, drop_arcs, drop_rows};
+use crate::incoming::PathFinder;
 use crate::lines::{copied, no_lines, push_rows};
 use crate::notes::{note_spans, note_tails};
 use crate::paths::find_path;
@@ -42,6 +43,8 @@ pub struct Graph {
     /// For each session a row for each transaction that is there: how many of each session reach it.
     count: Vec<Vec<u64>>,
     arcs: Vec<Arc>,
+    /// The place of the first arc that closed a cycle when it was added, as far as is remembered: a help to find short cycles.
+    closing: Option<usize>,
     trail: Trail,
 }
 
@@ -95,6 +98,7 @@ impl Graph {
             first,
             count,
             arcs,
+            closing: None,
             trail,
         })
     }
@@ -166,10 +170,11 @@ impl Graph {
     }
 
     /// One or more steps that lead from the one to the other, each one of the first so many arcs or one to a later transaction of
-    /// the session, if there are any.
+    /// the session, if there are any. What lies between the two is looked at first, and all arcs only where no path is found there.
     pub fn path_within(
         &self,
         alloc: Global,
+        finder: &mut PathFinder,
         len: usize,
         from: TxnId,
         to: TxnId,
@@ -182,14 +187,45 @@ impl Graph {
             (λ path. Reaches self.now.gone self.now.received (take len self.now.arcs) from to
             × IsPathOf self.now.gone self.now.received (take len self.now.arcs) from path to)) }
     {
+        let lows = self.lows(alloc, from)?;
+        let incoming = finder.incoming(alloc, &self.gone, &self.received, &self.arcs)?;
         find_path(
             alloc,
             &self.gone,
             &self.received,
             &self.arcs[..len],
+            incoming,
+            &lows,
             from,
             to,
         )
+    }
+
+    /// The lowest number of a session that may lie behind the transaction or be its own.
+    fn low(&self, from: TxnId, session: u8) -> u64
+        requires { HasNode self.now from }
+    {
+        if usize::from(session) >= self.gone.len() {
+            return 0;
+        }
+        let after = self.after(from, session);
+        if session == from.session {
+            after.min(from.number)
+        } else {
+            after
+        }
+    }
+
+    /// The same for each session.
+    fn lows(&self, alloc: Global, from: TxnId) -> Result<Vec<u64>, NoMemory>
+        requires { HasNode self.now from }
+    {
+        let sessions = self.gone.len();
+        let mut lows = Vec::with_capacity(alloc, sessions)?;
+        for session in 0..sessions {
+            lows.push(self.low(from, session as u8))?;
+        }
+        Ok(lows)
     }
 
     /// Adds the next transaction of a session, which all of its session reach, and takes all marks away.
@@ -352,10 +388,33 @@ impl Graph {
     {
         let before = told.len();
         let added = self.add_telling(alloc, arc, told);
-        if added.is_err() {
-            told.truncate(before);
+        match added {
+            Ok(Addition::Cycle) => self.note_closing(),
+            Ok(Addition::Added) => {}
+            Err(_) => told.truncate(before),
         }
         added
+    }
+
+    /// Remembers that the last arc closes a cycle, if none is remembered that came before it.
+    fn note_closing(&mut self)
+        ensures { self.new ≡ self.old }
+    {
+        let last = self.arcs.len().saturating_sub(1);
+        self.closing = match self.closing {
+            Some(place) if place < last => Some(place),
+            _ => Some(last),
+        };
+    }
+
+    /// The place of an arc that closed a cycle when it was added, if one is remembered.
+    pub fn closing(&self) -> Option<usize>
+        ensures { IfSome result (λ place. place < length self.now.arcs) }
+    {
+        match self.closing {
+            Some(place) if place < self.arcs.len() => Some(place),
+            _ => None,
+        }
     }
 
     /// Sets a mark, to which the graph can be taken back.
@@ -390,6 +449,10 @@ impl Graph {
         put_back(&mut self.first, &mut self.trail.first, mark.first);
         put_back(&mut self.count, &mut self.trail.count, mark.count);
         self.arcs.truncate(mark.arcs);
+        self.closing = match self.closing {
+            Some(place) if place < mark.arcs => Some(place),
+            _ => None,
+        };
     }
 
     /// Whether none that stays reaches one that goes, where the first transactions of each session go, up to these numbers. It
@@ -433,6 +496,7 @@ impl Clone for Graph {
 
     fn clone(&self) -> Result<Self, NoMemory> {
         let alloc = *self.arcs.allocator();
+        let closing = self.closing;
         let gone = Vec::from_slice(alloc, &self.gone)?;
         let received = Vec::from_slice(alloc, &self.received)?;
         let first = copied(alloc, &self.first)?;
@@ -445,6 +509,7 @@ impl Clone for Graph {
             first,
             count,
             arcs,
+            closing,
             trail,
         })
     }

@@ -4,7 +4,9 @@
 
 mod drops;
 mod graph;
+mod incoming;
 mod lines;
+mod near;
 mod notes;
 mod paths;
 mod removals;
@@ -15,3 +17,4 @@ mod trail;
 mod widths;
 
 pub use graph::{Addition, Graph};
+pub use incoming::PathFinder;

@@ -6,11 +6,13 @@ ghost use Rattle.session_clocks.specs.Paths.{IsPathOf, Leads};
 ghost use Rattle.session_clocks.specs.Reach.{IsThere, Reaches};
 ghost use Rattle.session_clocks.specs.Trees.{IsAlong, IsBefore, IsBetween, IsLed, IsTakenOr, IsTreeOf, IsWhole, AreNearer, HasLooked, LeadsOn, along};
 
+use crate::incoming::Incoming;
+use crate::near::find_near;
 use std::alloc::Global;
 use txn::{Arc, NoMemory, Sequence, TxnId};
 
 /// Whether the number is below that of its session.
-fn is_led(tops: &[u64], id: TxnId) -> bool
+pub(crate) fn is_led(tops: &[u64], id: TxnId) -> bool
     ensures { IsTrue result ↔ IsLed tops.now id }
 {
     match tops.get(usize::from(id.session)) {
@@ -20,7 +22,12 @@ fn is_led(tops: &[u64], id: TxnId) -> bool
 }
 
 /// Takes the arc to the tree if it leads on from a transaction from which none does yet.
-fn take_arc(tree: &mut Vec<Arc>, tops: &mut [u64], goal: TxnId, arc: Arc) -> Result<bool, NoMemory>
+pub(crate) fn take_arc(
+    tree: &mut Vec<Arc>,
+    tops: &mut [u64],
+    goal: TxnId,
+    arc: Arc,
+) -> Result<bool, NoMemory>
     requires session { (start_of arc).session < length tops.old }
     requires number { (start_of arc).number < 2 ^ 64 - 1 }
     ensures { IfOk result (λ taken. IsTakenOr taken goal arc tops.old tree.old.items tops.new tree.new.items) }
@@ -61,7 +68,7 @@ fn take_arcs(
 }
 
 /// For each session the number below which nothing but its order leads to the goal.
-fn tops_of(alloc: Global, sessions: usize, goal: TxnId) -> Result<Vec<u64>, NoMemory>
+pub(crate) fn tops_of(alloc: Global, sessions: usize, goal: TxnId) -> Result<Vec<u64>, NoMemory>
     requires { goal.session < sessions }
     ensures { IfOk result (λ tops. tops.items ≡ slice_set (replicate sessions 0) goal.session goal.number) }
 {
@@ -119,7 +126,12 @@ fn push_along(path: &mut Vec<Arc>, from: TxnId, to: TxnId) -> Result<(), NoMemor
 }
 
 /// The way from the start to the goal along the tree, whose arcs are gone through from the last to the first.
-fn walk(alloc: Global, tree: &[Arc], start: TxnId, goal: TxnId) -> Result<Sequence<Arc>, NoMemory>
+pub(crate) fn walk(
+    alloc: Global,
+    tree: &[Arc],
+    start: TxnId,
+    goal: TxnId,
+) -> Result<Sequence<Arc>, NoMemory>
     requires nearer { AreNearer goal tree.now }
     requires leads { LeadsOn goal tree.now start }
     ensures { IfOk result (λ path. (gone received : List ℕ) → IsThere gone received start → IsThere gone received goal → All (IsBetween gone received) tree.now → IsPathOf gone received tree.now start path goal) }
@@ -145,8 +157,8 @@ fn walk(alloc: Global, tree: &[Arc], start: TxnId, goal: TxnId) -> Result<Sequen
     Ok(Sequence::new(path))
 }
 
-/// One or more steps that lead from the start to the goal, if there are any.
-pub(crate) fn find_path(
+/// One or more steps that lead from the start to the goal, if there are any, by a search of all arcs.
+fn find_anywhere(
     alloc: Global,
     gone: &[u64],
     received: &[u64],
@@ -166,4 +178,28 @@ pub(crate) fn find_path(
     }
     let path = walk(alloc, &tree, start, goal)?;
     Ok(Some(path))
+}
+
+/// One or more steps that lead from the start to the goal, if there are any. In each session what has this number or a higher one is looked at
+/// first.
+pub(crate) fn find_path(
+    alloc: Global,
+    gone: &[u64],
+    received: &[u64],
+    arcs: &[Arc],
+    incoming: &Incoming,
+    lows: &[u64],
+    start: TxnId,
+    goal: TxnId,
+) -> Result<Option<Sequence<Arc>>, NoMemory>
+    requires arcs { All (IsBetween gone.now received.now) arcs.now }
+    requires start { IsThere gone.now received.now start }
+    requires goal { IsThere gone.now received.now goal }
+    ensures { IfOk result (λ found. MatchOption found (¬ Reaches gone.now received.now arcs.now start goal)
+        (λ path. Reaches gone.now received.now arcs.now start goal × IsPathOf gone.now received.now arcs.now start path goal)) }
+{
+    match find_near(alloc, gone, received, arcs, incoming, lows, start, goal)? {
+        Some(path) => Ok(Some(path)),
+        None => find_anywhere(alloc, gone, received, arcs, start, goal),
+    }
 }

@@ -1,5 +1,5 @@
 ghost use Rattle.std.specs.Prelude.{◌≡◌, ◌↔◌, ◌+◌, ◌-◌, ◌++◌, ◌∷◌, [], take, ◌<◌, ◌≤◌, ◌^◌, length, replicate, IsTrue, IfOk, OnOk, OnErr, IfErr, MatchResult};
-ghost use Rattle.txn.specs.Transactions.{IsWellFormedFragment};
+ghost use Rattle.txn.specs.Transactions.{HasGoodLengths};
 ghost use Rattle.session_marks.specs.Marks.{fresh, mark_at, IsOpen, with_received, with_gone, with_closed, with_flag, IsReceived, received_counts, IsNext, AdmitFault, CloseFault};
 
 use std::alloc::Global;
@@ -104,7 +104,7 @@ impl Marks {
     /// Whether the fragment is next in its session; if not, the first of BadSession, Closed, Gap and Repeat. It takes
     /// constant time.
     pub fn admit(&self, fragment: &Fragment) -> Result<(), Refusal>
-        requires { IsWellFormedFragment fragment.now }
+        requires { HasGoodLengths fragment.now }
         ensures { MatchResult result (λ _. IsNext self.now fragment.now) (AdmitFault self.now fragment.now) }
     {
         let session = fragment.session as usize;

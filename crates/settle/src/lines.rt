@@ -55,8 +55,8 @@ fn is_closed_or_past(known: &Saturated, fence: TxnId, session: u8) -> bool
 pub fn are_past(known: &Saturated, fence: TxnId) -> bool
     ensures { IsTrue result ↔ ArePast known.now.parts fence }
 {
-    for session in 0..known.parts().sessions() as u8 {
-        if !is_closed_or_past(known, fence, session) {
+    for session in 0..known.parts().sessions() {
+        if !is_closed_or_past(known, fence, session as u8) {
             return false;
         }
     }

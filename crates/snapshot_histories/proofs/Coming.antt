@@ -30,11 +30,11 @@ split_comes_next history (Returns fragment) next = (subst (λ n. fragment.sessio
 split_comes_next history (Joins fragment) next = (next.0 ∙ sym (sessions_from 0 history), ap (λ n. 2 * n) next.1)
 
 -- a transaction of a splittable fragment can be split
-of_fragment : (fragment : Fragment) (k : ℕ) (txn : Txn) → IsSplittable fragment → slice_get fragment.txns k ≡ Some txn → CanBeSplit txn
-of_fragment fragment k txn splittable at =
+of_fragment : (sessions : ℕ) (fragment : Fragment) (k : ℕ) (txn : Txn) → IsSplittable sessions fragment → slice_get fragment.txns k ≡ Some txn → CanBeSplit txn
+of_fragment sessions fragment k txn splittable at =
     let within : k < length fragment.txns = slice_get_within fragment.txns k txn at in
     let low : HasLowNumbers txn = subst HasLowNumbers (get_or_from_slice_get fragment.txns k txn txn at) (splittable.each k txn within) in
-    let formed : IsWellFormed (id_in fragment k) txn = splittable.well_formed.txns k txn within at in
+    let formed : IsWellFormed sessions (id_in fragment k) txn = splittable.well_formed.txns k txn within at in
     record {
       reads = All-weaker IsLowRead (λ read. read.0 < 2 ^ 63) (λ read low. low.0) txn.reads low.reads;
       writes = low.writes;
@@ -42,20 +42,20 @@ of_fragment fragment k txn splittable at =
     }
 
 -- a transaction of a session with a fragment at its end
-of_both : (history : History) (fragment : Fragment) (s n : ℕ) (txn : Txn) → HistoryCanBeSplit history → IsSplittable fragment → slice_get (session_of history s ++ fragment.txns) n ≡ Some txn → CanBeSplit txn
-of_both history fragment s n txn can splittable at = by_place (place_in (session_of history s) fragment.txns n txn at)
+of_both : (sessions : ℕ) (history : History) (fragment : Fragment) (s n : ℕ) (txn : Txn) → HistoryCanBeSplit history → IsSplittable sessions fragment → slice_get (session_of history s ++ fragment.txns) n ≡ Some txn → CanBeSplit txn
+of_both sessions history fragment s n txn can splittable at = by_place (place_in (session_of history s) fragment.txns n txn at)
   where
     by_place : (slice_get (session_of history s) n ≡ Some txn) ⊎ ((k : ℕ) × (n ≡ length (session_of history s) + k) × (slice_get fragment.txns k ≡ Some txn)) → CanBeSplit txn
     by_place (inl found) = can (record { session = s; number = n }) txn found
-    by_place (inr (k, e, found)) = of_fragment fragment k txn splittable found
+    by_place (inr (k, e, found)) = of_fragment sessions fragment k txn splittable found
 
-with_more : (history : History) (fragment : Fragment) → HistoryCanBeSplit history → fragment.session < length history → IsSplittable fragment → HistoryCanBeSplit (with_fragment history fragment)
-with_more history fragment can within splittable = λ id txn at. by_session id txn at (cases_eq fragment.session id.session)
+with_more : (sessions : ℕ) (history : History) (fragment : Fragment) → HistoryCanBeSplit history → fragment.session < length history → IsSplittable sessions fragment → HistoryCanBeSplit (with_fragment history fragment)
+with_more sessions history fragment can within splittable = λ id txn at. by_session id txn at (cases_eq fragment.session id.session)
   where
     by_session : (id : TxnId) (txn : Txn) → txn_at (with_fragment history fragment) id ≡ Some txn → (fragment.session ≡ id.session) ⊎ (fragment.session ≡ id.session → ⊥) → CanBeSplit txn
     by_session id txn at (inl same) =
         let here : session_of (with_fragment history fragment) id.session ≡ session_of history fragment.session ++ fragment.txns = ap (session_of (with_fragment history fragment)) (sym same) ∙ get_or-set_same history fragment.session (session_of history fragment.session ++ fragment.txns) [] within in
-        of_both history fragment fragment.session id.number txn can splittable (subst (λ txns. slice_get txns id.number ≡ Some txn) here at)
+        of_both sessions history fragment fragment.session id.number txn can splittable (subst (λ txns. slice_get txns id.number ≡ Some txn) here at)
     by_session id txn at (inr other) =
         let here : session_of (with_fragment history fragment) id.session ≡ session_of history id.session = get_or-set_other history fragment.session id.session (session_of history fragment.session ++ fragment.txns) [] (λ e. other (sym e)) in
         can id txn (subst (λ txns. slice_get txns id.number ≡ Some txn) here at)
@@ -70,8 +70,8 @@ new_session : (history : History) (txns : List Txn) (k : ℕ) → session_of (hi
 new_session [] txns k = let n : 0 + k ≡ k = omega arith in ap (session_of (txns ∷ [])) n
 new_session (one ∷ history) txns k = let n : suc (length history) + k ≡ suc (length history + k) = omega arith in ap (session_of (one ∷ history ++ txns ∷ [])) n ∙ new_session history txns k
 
-with_one_more : (history : History) (fragment : Fragment) → HistoryCanBeSplit history → IsSplittable fragment → HistoryCanBeSplit (with_session history fragment)
-with_one_more history fragment can splittable = λ id txn at. by_session id txn at (cases_lt id.session (length history))
+with_one_more : (sessions : ℕ) (history : History) (fragment : Fragment) → HistoryCanBeSplit history → IsSplittable sessions fragment → HistoryCanBeSplit (with_session history fragment)
+with_one_more sessions history fragment can splittable = λ id txn at. by_session id txn at (cases_lt id.session (length history))
   where
     by_session : (id : TxnId) (txn : Txn) → txn_at (with_session history fragment) id ≡ Some txn → (id.session < length history) ⊎ (length history ≤ id.session) → CanBeSplit txn
     by_session id txn at (inl old) = can id txn (subst (λ txns. slice_get txns id.number ≡ Some txn) (old_session history fragment.txns id.session old) at)
@@ -80,10 +80,10 @@ with_one_more history fragment can splittable = λ id txn at. by_session id txn 
         by_new (id.session - length history) (subst (λ txns. slice_get txns id.number ≡ Some txn) (ap (session_of (with_session history fragment)) e ∙ new_session history fragment.txns (id.session - length history)) at)
       where
         by_new : (k : ℕ) → slice_get (session_of (fragment.txns ∷ []) k) id.number ≡ Some txn → CanBeSplit txn
-        by_new zero found = of_fragment fragment id.number txn splittable found
+        by_new zero found = of_fragment sessions fragment id.number txn splittable found
         by_new (suc k) found = absurd (let none : None ≡ Some txn = found in cc)
 
-pub still_can : (history : History) (arrival : Arrival) → HistoryCanBeSplit history → IsNextArrival history arrival → IsSplittable (fragment_of arrival) → HistoryCanBeSplit (history_after history arrival)
-still_can history (More fragment) can next splittable = with_more history fragment can next.0 splittable
-still_can history (Returns fragment) can next splittable = with_more history fragment can next.0 splittable
-still_can history (Joins fragment) can next splittable = with_one_more history fragment can splittable
+pub still_can : (sessions : ℕ) (history : History) (arrival : Arrival) → HistoryCanBeSplit history → IsNextArrival history arrival → IsSplittable sessions (fragment_of arrival) → HistoryCanBeSplit (history_after history arrival)
+still_can sessions history (More fragment) can next splittable = with_more sessions history fragment can next.0 splittable
+still_can sessions history (Returns fragment) can next splittable = with_more sessions history fragment can next.0 splittable
+still_can sessions history (Joins fragment) can next splittable = with_one_more sessions history fragment can splittable

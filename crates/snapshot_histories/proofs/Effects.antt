@@ -49,14 +49,14 @@ idle_is_short = record { reads = omega arith; writes = omega arith }
 idle_is_low : HasLowNumbers idle
 idle_is_low = record { reads = λ k d within. absurd (omega (arith, within)); writes = λ k d within. absurd (omega (arith, within)) }
 
-idle_is_formed : (id : TxnId) → IsWellFormed id idle
-idle_is_formed id = record {
+idle_is_formed : (sessions : ℕ) (id : TxnId) → IsWellFormed sessions id idle
+idle_is_formed sessions id = record {
   lists = record { reads_rise = λ k d within. absurd (omega (arith, within)); writes_rise = λ k d within. absurd (omega (arith, within)); sources = λ k d within. absurd (omega (arith, within)) };
   epoch = inr (record { reads = λ k d within. absurd (omega (arith, within)); writes = λ k d within. absurd (omega (arith, within)) });
 }
 
-pub effects_splittable : (logged : LoggedFragment) → IsSplittable logged.fragment → IsSplittable (effects logged)
-effects_splittable logged can =
+pub effects_splittable : (sessions : ℕ) (logged : LoggedFragment) → IsSplittable sessions logged.fragment → IsSplittable sessions (effects logged)
+effects_splittable sessions logged can =
     let fragment = logged.fragment in
     let size : length (effects_of logged.aborted fragment.txns) ≡ length fragment.txns = effects_length logged.aborted fragment.txns in
     let lengths = can.well_formed.lengths in
@@ -75,6 +75,6 @@ effects_splittable logged can =
       each = all_effects HasLowNumbers idle_is_low logged.aborted fragment.txns can.each;
     }
   where
-    formed : (n : ℕ) (txn : Txn) → n < length logged.fragment.txns → (idle ≡ txn) ⊎ (slice_get logged.fragment.txns n ≡ Some txn) → IsWellFormed (id_in logged.fragment n) txn
-    formed n txn within (inl none) = subst (IsWellFormed (id_in logged.fragment n)) none (idle_is_formed (id_in logged.fragment n))
+    formed : (n : ℕ) (txn : Txn) → n < length logged.fragment.txns → (idle ≡ txn) ⊎ (slice_get logged.fragment.txns n ≡ Some txn) → IsWellFormed sessions (id_in logged.fragment n) txn
+    formed n txn within (inl none) = subst (IsWellFormed sessions (id_in logged.fragment n)) none (idle_is_formed sessions (id_in logged.fragment n))
     formed n txn within (inr at) = can.well_formed.txns n txn within at

@@ -14,10 +14,10 @@ use Rattle.snapshot_histories.specs.Splittable.{HasLowNumbers}
 use Rattle.snapshot_histories.specs.Offered.{HasOfferedLengths, CanBeOffered, AreOfferedBelow, OfferedTxnFault, FirstOfferedFault, OfferedFault}
 
 -- one more that can be offered
-pub offered_more : (f : Fragment) (place : ℕ) (txn : Txn) → AreOfferedBelow f place → place < length f.txns → txn ≡ get_or f.txns place txn → IsWellFormed (id_in f place) txn → HasLowNumbers txn → AreOfferedBelow f (place + 1)
-offered_more f place txn below within is formed low =
-    let P : ℕ → Type 0 = λ n. (t : Txn) → slice_get f.txns n ≡ Some t → IsWellFormed (id_in f n) t × HasLowNumbers t in
-    let at : P place = λ t got. let read = slice_get_read f.txns (length f.txns) place txn refl within is in let e : t ≡ txn = cc in subst (λ x. IsWellFormed (id_in f place) x × HasLowNumbers x) (sym e) (formed, low) in
+pub offered_more : (sessions : ℕ) (f : Fragment) (place : ℕ) (txn : Txn) → AreOfferedBelow sessions f place → place < length f.txns → txn ≡ get_or f.txns place txn → IsWellFormed sessions (id_in f place) txn → HasLowNumbers txn → AreOfferedBelow sessions f (place + 1)
+offered_more sessions f place txn below within is formed low =
+    let P : ℕ → Type 0 = λ n. (t : Txn) → slice_get f.txns n ≡ Some t → IsWellFormed sessions (id_in f n) t × HasLowNumbers t in
+    let at : P place = λ t got. let read = slice_get_read f.txns (length f.txns) place txn refl within is in let e : t ≡ txn = cc in subst (λ x. IsWellFormed sessions (id_in f place) x × HasLowNumbers x) (sym e) (formed, low) in
     let all : (n : ℕ) → n < place + 1 → P n = below_more P place (λ n lt t got. below n t lt got) at in
     λ n t lt got. all n lt t got
 
@@ -31,8 +31,8 @@ good_lengths f lengths = record {
 }
 
 -- all can be offered
-pub all_offered : (f : Fragment) (place : ℕ) → f.session < 64 → HasOfferedLengths f → AreOfferedBelow f place → length f.txns ≤ place → CanBeOffered f
-all_offered f place session lengths below past = record {
+pub all_offered : (sessions : ℕ) (f : Fragment) (place : ℕ) → f.session < sessions → HasOfferedLengths f → AreOfferedBelow sessions f place → length f.txns ≤ place → CanBeOffered sessions f
+all_offered sessions f place session lengths below past = record {
   splittable = record {
     well_formed = record {
       session = session;
@@ -46,41 +46,41 @@ all_offered f place session lengths below past = record {
 }
 
 -- a transaction whose keys or numbers aren't low
-pub high_fault : (f : Fragment) (place : ℕ) (txn : Txn) → f.session < 64 → HasOfferedLengths f → AreOfferedBelow f place → place < length f.txns → txn ≡ get_or f.txns place txn → ¬ HasLowNumbers txn → OfferedFault f BadTxn
-high_fault f place txn session lengths below within is high = (session, lengths, (place, txn, slice_get_read f.txns (length f.txns) place txn refl within is, below, λ both. high both.1))
+pub high_fault : (sessions : ℕ) (f : Fragment) (place : ℕ) (txn : Txn) → f.session < sessions → HasOfferedLengths f → AreOfferedBelow sessions f place → place < length f.txns → txn ≡ get_or f.txns place txn → ¬ HasLowNumbers txn → OfferedFault sessions f BadTxn
+high_fault sessions f place txn session lengths below within is high = (session, lengths, (place, txn, slice_get_read f.txns (length f.txns) place txn refl within is, below, λ both. high both.1))
 
 -- the first that isn't well formed is at this place
-same_place : (f : Fragment) (place other : ℕ) (txn found : Txn) → AreOfferedBelow f place → slice_get f.txns place ≡ Some txn → ¬ IsWellFormed (id_in f place) txn → IsWellFormedBelow f other → slice_get f.txns other ≡ Some found → ¬ IsWellFormed (id_in f other) found → other ≡ place
-same_place f place other txn found below at ill front got fault = by_first (cases_lt place other) (cases_lt other place)
+same_place : (sessions : ℕ) (f : Fragment) (place other : ℕ) (txn found : Txn) → AreOfferedBelow sessions f place → slice_get f.txns place ≡ Some txn → ¬ IsWellFormed sessions (id_in f place) txn → IsWellFormedBelow sessions f other → slice_get f.txns other ≡ Some found → ¬ IsWellFormed sessions (id_in f other) found → other ≡ place
+same_place sessions f place other txn found below at ill front got fault = by_first (cases_lt place other) (cases_lt other place)
   where
     by_first : (place < other) ⊎ (other ≤ place) → (other < place) ⊎ (place ≤ other) → other ≡ place
     by_first (inl less) _ = absurd (ill (front place txn less at))
     by_first (inr _) (inl less) = absurd (fault (below other found less got).0)
     by_first (inr more) (inr less) = omega (arith, more, less)
 
-not_formed : (id : TxnId) (txn : Txn) (refusal : Refusal) → TxnFault id txn refusal → ¬ IsWellFormed id txn
-not_formed id txn BadTxn fault formed = fault formed.lists
-not_formed id txn BadFence fault formed = fault.1 formed.epoch
-not_formed id txn refusal fault formed = absurd fault
+not_formed : (sessions : ℕ) (id : TxnId) (txn : Txn) (refusal : Refusal) → TxnFault sessions id txn refusal → ¬ IsWellFormed sessions id txn
+not_formed sessions id txn BadTxn fault formed = fault formed.lists
+not_formed sessions id txn BadFence fault formed = fault.1 formed.epoch
+not_formed sessions id txn refusal fault formed = absurd fault
 
-with_low : (id : TxnId) (txn : Txn) (refusal : Refusal) → HasLowNumbers txn → TxnFault id txn refusal → OfferedTxnFault id txn refusal
-with_low id txn BadTxn low fault = λ both. fault both.0
-with_low id txn BadFence low fault = (fault.0, low, fault.1)
-with_low id txn refusal low fault = absurd fault
+with_low : (sessions : ℕ) (id : TxnId) (txn : Txn) (refusal : Refusal) → HasLowNumbers txn → TxnFault sessions id txn refusal → OfferedTxnFault sessions id txn refusal
+with_low sessions id txn BadTxn low fault = λ both. fault both.0
+with_low sessions id txn BadFence low fault = (fault.0, low, fault.1)
+with_low sessions id txn refusal low fault = absurd fault
 
-first_fault : (f : Fragment) (place : ℕ) (txn : Txn) (refusal : Refusal) → AreOfferedBelow f place → slice_get f.txns place ≡ Some txn → HasLowNumbers txn → ¬ IsWellFormed (id_in f place) txn → FirstFault f refusal → FirstOfferedFault f refusal
-first_fault f place txn refusal below at low ill (other, found, got, front, fault) =
-    let e : other ≡ place = same_place f place other txn found below at ill front got (not_formed (id_in f other) found refusal fault) in
+first_fault : (sessions : ℕ) (f : Fragment) (place : ℕ) (txn : Txn) (refusal : Refusal) → AreOfferedBelow sessions f place → slice_get f.txns place ≡ Some txn → HasLowNumbers txn → ¬ IsWellFormed sessions (id_in f place) txn → FirstFault sessions f refusal → FirstOfferedFault sessions f refusal
+first_fault sessions f place txn refusal below at low ill (other, found, got, front, fault) =
+    let e : other ≡ place = same_place sessions f place other txn found below at ill front got (not_formed sessions (id_in f other) found refusal fault) in
     let here : slice_get f.txns place ≡ Some found = subst (λ n. slice_get f.txns n ≡ Some found) e got in
     let one : found ≡ txn = cc in
-    (place, txn, at, below, with_low (id_in f place) txn refusal low (subst (λ t. TxnFault (id_in f place) t refusal) one (subst (λ n. TxnFault (id_in f n) found refusal) e fault)))
+    (place, txn, at, below, with_low sessions (id_in f place) txn refusal low (subst (λ t. TxnFault sessions (id_in f place) t refusal) one (subst (λ n. TxnFault sessions (id_in f n) found refusal) e fault)))
 
 -- a transaction that isn't well formed: it is refused as it is by itself
-ill_fault : (f : Fragment) (place : ℕ) (txn : Txn) (refusal : Refusal) → f.session < 64 → HasOfferedLengths f → AreOfferedBelow f place → slice_get f.txns place ≡ Some txn → HasLowNumbers txn → ¬ IsWellFormed (id_in f place) txn → FragmentFault f refusal → OfferedFault f refusal
-ill_fault f place txn BadSession session lengths below at low ill fault = fault
-ill_fault f place txn TooLong session lengths below at low ill fault = absurd (fault.1 (good_lengths f lengths))
-ill_fault f place txn refusal session lengths below at low ill fault = (session, lengths, first_fault f place txn refusal below at low ill fault.2)
+ill_fault : (sessions : ℕ) (f : Fragment) (place : ℕ) (txn : Txn) (refusal : Refusal) → f.session < sessions → HasOfferedLengths f → AreOfferedBelow sessions f place → slice_get f.txns place ≡ Some txn → HasLowNumbers txn → ¬ IsWellFormed sessions (id_in f place) txn → FragmentFault sessions f refusal → OfferedFault sessions f refusal
+ill_fault sessions f place txn BadSession session lengths below at low ill fault = fault
+ill_fault sessions f place txn TooLong session lengths below at low ill fault = absurd (fault.1 (good_lengths f lengths))
+ill_fault sessions f place txn refusal session lengths below at low ill fault = (session, lengths, first_fault sessions f place txn refusal below at low ill fault.2)
 
-pub ill_judged : {X : Type 0} (f : Fragment) (place : ℕ) (txn : Txn) (judged : Result X Refusal) → f.session < 64 → HasOfferedLengths f → AreOfferedBelow f place → place < length f.txns → txn ≡ get_or f.txns place txn → HasLowNumbers txn → ¬ IsWellFormed (id_in f place) txn → MatchResult judged (λ _. IsWellFormedFragment f) (FragmentFault f) → MatchResult judged (λ _. CanBeOffered f) (OfferedFault f)
-ill_judged f place txn (Ok x) session lengths below within is low ill formed = absurd (ill (formed.txns place txn within (slice_get_read f.txns (length f.txns) place txn refl within is)))
-ill_judged f place txn (Err refusal) session lengths below within is low ill fault = ill_fault f place txn refusal session lengths below (slice_get_read f.txns (length f.txns) place txn refl within is) low ill fault
+pub ill_judged : {X : Type 0} (sessions : ℕ) (f : Fragment) (place : ℕ) (txn : Txn) (judged : Result X Refusal) → f.session < sessions → HasOfferedLengths f → AreOfferedBelow sessions f place → place < length f.txns → txn ≡ get_or f.txns place txn → HasLowNumbers txn → ¬ IsWellFormed sessions (id_in f place) txn → MatchResult judged (λ _. IsWellFormedFragment sessions f) (FragmentFault sessions f) → MatchResult judged (λ _. CanBeOffered sessions f) (OfferedFault sessions f)
+ill_judged sessions f place txn (Ok x) session lengths below within is low ill formed = absurd (ill (formed.txns place txn within (slice_get_read f.txns (length f.txns) place txn refl within is)))
+ill_judged sessions f place txn (Err refusal) session lengths below within is low ill fault = ill_fault sessions f place txn refusal session lengths below (slice_get_read f.txns (length f.txns) place txn refl within is) low ill fault

@@ -71,12 +71,12 @@ commit_read_rises : (id : TxnId) (a b : ℕ) → nat_lt a b ≡ true → read_be
 commit_read_rises id a b below = ap (λ t. t || (nat_eq (star a) (star b) && source_below (By (begin_half id)) (By (begin_half id)))) (star_rises a b below)
 
 -- a source stays one that may be named
-begin_source : (id : TxnId) (source : Source) → IsLowSource source → IsSourceFor id source → IsSourceFor (begin_half id) (split_source source)
-begin_source id Init low good = good
-begin_source id (By writer) low good = ((λ same. (let e : 2 * writer.number + 1 ≡ 2 * id.number = ap (λ (x : TxnId). x.number) same in omega (arith, e))), good.1, omega (arith, low))
+begin_source : (sessions : ℕ) (id : TxnId) (source : Source) → IsLowSource source → IsSourceFor sessions id source → IsSourceFor sessions (begin_half id) (split_source source)
+begin_source sessions id Init low good = good
+begin_source sessions id (By writer) low good = ((λ same. (let e : 2 * writer.number + 1 ≡ 2 * id.number = ap (λ (x : TxnId). x.number) same in omega (arith, e))), good.1, omega (arith, low))
 
-commit_source : (id : TxnId) → id.session < 64 → id.number < 2 ^ 47 → IsSourceFor (commit_half id) (By (begin_half id))
-commit_source id session number = ((λ same. (let e : 2 * id.number ≡ 2 * id.number + 1 = ap (λ (x : TxnId). x.number) same in omega (arith, e))), session, omega (arith, number))
+commit_source : (sessions : ℕ) (id : TxnId) → id.session < sessions → id.number < 2 ^ 47 → IsSourceFor sessions (commit_half id) (By (begin_half id))
+commit_source sessions id session number = ((λ same. (let e : 2 * id.number ≡ 2 * id.number + 1 = ap (λ (x : TxnId). x.number) same in omega (arith, e))), session, omega (arith, number))
 
 -- the star of another key than the epoch key is another, too
 star_not_zero : (k : ℕ) → k ≢ 0 → star k ≢ 0
@@ -96,22 +96,22 @@ commit_keeps_epoch id txn (inr spares) = inr (record {
   writes = spares.writes;
 })
 
-begin_formed : (id : TxnId) (txn : Txn) → HasLowNumbers txn → IsWellFormed id txn → IsWellFormed (begin_half id) (begin_txn txn)
-begin_formed id txn low formed = record {
+begin_formed : (sessions : ℕ) (id : TxnId) (txn : Txn) → HasLowNumbers txn → IsWellFormed sessions id txn → IsWellFormed sessions (begin_half id) (begin_txn txn)
+begin_formed sessions id txn low formed = record {
   lists = record {
     reads_rise = mapped_rises read_below read_below begin_read_of txn.reads (0, Init) read_rises formed.lists.reads_rise;
     writes_rise = mapped_rises nat_lt nat_lt star txn.writes 0 star_rises formed.lists.writes_rise;
-    sources = All-map (λ read. IsSourceFor (begin_half id) read.1) begin_read_of txn.reads (λ k d within. begin_source id (slice_index_or txn.reads k d).1 (low.reads k d within).1 (formed.lists.sources k d within));
+    sources = All-map (λ read. IsSourceFor sessions (begin_half id) read.1) begin_read_of txn.reads (λ k d within. begin_source sessions id (slice_index_or txn.reads k d).1 (low.reads k d within).1 (formed.lists.sources k d within));
   };
   epoch = begin_keeps_epoch txn formed.epoch;
 }
 
-commit_formed : (id : TxnId) (txn : Txn) → id.session < 64 → id.number < 2 ^ 47 → IsWellFormed id txn → IsWellFormed (commit_half id) (commit_txn id txn)
-commit_formed id txn session number formed = record {
+commit_formed : (sessions : ℕ) (id : TxnId) (txn : Txn) → id.session < sessions → id.number < 2 ^ 47 → IsWellFormed sessions id txn → IsWellFormed sessions (commit_half id) (commit_txn id txn)
+commit_formed sessions id txn session number formed = record {
   lists = record {
     reads_rise = mapped_rises nat_lt read_below (commit_read_of id) txn.writes 0 (commit_read_rises id) formed.lists.writes_rise;
     writes_rise = formed.lists.writes_rise;
-    sources = All-map (λ read. IsSourceFor (commit_half id) read.1) (commit_read_of id) txn.writes (λ k d within. commit_source id session number);
+    sources = All-map (λ read. IsSourceFor sessions (commit_half id) read.1) (commit_read_of id) txn.writes (λ k d within. commit_source sessions id session number);
   };
   epoch = commit_keeps_epoch id txn formed.epoch;
 }
@@ -159,8 +159,8 @@ at_place s number (txn ∷ txns) P each (suc (suc n)) half h =
     subst (λ m. P (record { session = s; number = m }) half) moved
     (at_place s (number + 1) txns P (λ k t at. subst (λ m. P (record { session = s; number = 2 * m }) (begin_txn t) × P (record { session = s; number = 2 * m + 1 }) (commit_txn (record { session = s; number = m }) t)) (shift k) (each (suc k) t at)) n half h)
 
-pub split_formed : (fragment : Fragment) → IsSplittable fragment → length fragment.txns ≤ 128 → IsWellFormedFragment (split_of fragment)
-split_formed fragment splittable few = record {
+pub split_formed : (sessions : ℕ) (fragment : Fragment) → IsSplittable sessions fragment → length fragment.txns ≤ 128 → IsWellFormedFragment sessions (split_of fragment)
+split_formed sessions fragment splittable few = record {
   session = splittable.well_formed.session;
   lengths = record {
     some = let size = split_length s first txns in let some = splittable.well_formed.lengths.some in omega (arith, size, some);
@@ -168,7 +168,7 @@ split_formed fragment splittable few = record {
     numbers = let size = split_length s first txns in let low = splittable.numbers in omega (arith, size, low);
     each = all_short s first txns splittable.well_formed.lengths.each;
   };
-  txns = λ n half within at. at_place s first txns IsWellFormed each n half at;
+  txns = λ n half within at. at_place s first txns (IsWellFormed sessions) each n half at;
 }
   where
     s : ℕ
@@ -180,14 +180,14 @@ split_formed fragment splittable few = record {
     txns : List Txn
     txns = fragment.txns
 
-    each : (k : ℕ) (txn : Txn) → slice_get txns k ≡ Some txn → IsWellFormed (record { session = s; number = 2 * (first + k) }) (begin_txn txn) × IsWellFormed (record { session = s; number = 2 * (first + k) + 1 }) (commit_txn (record { session = s; number = first + k }) txn)
+    each : (k : ℕ) (txn : Txn) → slice_get txns k ≡ Some txn → IsWellFormed sessions (record { session = s; number = 2 * (first + k) }) (begin_txn txn) × IsWellFormed sessions (record { session = s; number = 2 * (first + k) + 1 }) (commit_txn (record { session = s; number = first + k }) txn)
     each k txn at =
         let within : k < length txns = slice_get_within txns k txn at in
-        let formed : IsWellFormed (id_in fragment k) txn = splittable.well_formed.txns k txn within at in
+        let formed : IsWellFormed sessions (id_in fragment k) txn = splittable.well_formed.txns k txn within at in
         let low : HasLowNumbers txn = subst HasLowNumbers (get_or_from_slice_get txns k txn txn at) (splittable.each k txn within) in
         let bound = splittable.numbers in
         let number : first + k < 2 ^ 47 = omega (arith, bound, within) in
-        (begin_formed (id_in fragment k) txn low formed, commit_formed (id_in fragment k) txn splittable.well_formed.session number formed)
+        (begin_formed sessions (id_in fragment k) txn low formed, commit_formed sessions (id_in fragment k) txn splittable.well_formed.session number formed)
 
 -- fences read from where they did
 pub fences_split : (id source : TxnId) (txn : Txn) → IsFenceFrom source txn → IsFenceFrom (commit_half source) (begin_txn txn) × IsFenceFrom (begin_half id) (commit_txn id txn)

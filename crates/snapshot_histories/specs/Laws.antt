@@ -42,11 +42,11 @@ SplitComesNext = (history : History) (arrival : Arrival) → IsNextArrival histo
 
 -- A history that can be split still can, with a splittable fragment that arrives next.
 abbrev pub ArrivalsCanBeSplit : Type 0
-ArrivalsCanBeSplit = (history : History) (arrival : Arrival) → HistoryCanBeSplit history → IsNextArrival history arrival → IsSplittable (fragment_of arrival) → HistoryCanBeSplit (history_after history arrival)
+ArrivalsCanBeSplit = (sessions : ℕ) (history : History) (arrival : Arrival) → HistoryCanBeSplit history → IsNextArrival history arrival → IsSplittable sessions (fragment_of arrival) → HistoryCanBeSplit (history_after history arrival)
 
--- What a splittable fragment of at most 128 transactions is split into is a well-formed fragment.
+-- What a splittable fragment of at most 128 transactions is split into is a well-formed fragment, however many sessions there may be.
 abbrev pub SplitIsWellFormed : Type 0
-SplitIsWellFormed = (fragment : Fragment) → IsSplittable fragment → length fragment.txns ≤ 128 → IsWellFormedFragment (split_of fragment)
+SplitIsWellFormed = (sessions : ℕ) (fragment : Fragment) → IsSplittable sessions fragment → length fragment.txns ≤ 128 → IsWellFormedFragment sessions (split_of fragment)
 
 -- A fence is split into two: the first reads from the commit of what the fence reads from, and the second from the first.
 abbrev pub SplitKeepsFences : Type 0
@@ -71,4 +71,4 @@ SplitKeepsEffects = (logged : LoggedFragment) → effects (split_logged logged) 
 
 -- What a splittable fragment did is splittable.
 abbrev pub EffectsCanBeSplit : Type 0
-EffectsCanBeSplit = (logged : LoggedFragment) → IsSplittable logged.fragment → IsSplittable (effects logged)
+EffectsCanBeSplit = (sessions : ℕ) (logged : LoggedFragment) → IsSplittable sessions logged.fragment → IsSplittable sessions (effects logged)

@@ -16,27 +16,27 @@ pub record HasOfferedLengths (fragment : Fragment) : Type 0 where
   pub numbers : fragment.first + length fragment.txns ≤ 2 ^ 47
   pub each : All IsShort fragment.txns
 
--- it can be split, and what it is split into isn't too long
-pub record CanBeOffered (fragment : Fragment) : Type 0 where
-  pub splittable : IsSplittable fragment
+-- it can be split, where there may be so many sessions, and what it is split into isn't too long
+pub record CanBeOffered (sessions : ℕ) (fragment : Fragment) : Type 0 where
+  pub splittable : IsSplittable sessions fragment
   pub few : length fragment.txns ≤ 128
 
 -- the transactions before this place are well formed, and have low keys and numbers
-abbrev pub AreOfferedBelow : Fragment → ℕ → Type 0
-AreOfferedBelow fragment place = (n : ℕ) (txn : Txn) → n < place → slice_get fragment.txns n ≡ Some txn → IsWellFormed (id_in fragment n) txn × HasLowNumbers txn
+abbrev pub AreOfferedBelow : ℕ → Fragment → ℕ → Type 0
+AreOfferedBelow sessions fragment place = (n : ℕ) (txn : Txn) → n < place → slice_get fragment.txns n ≡ Some txn → IsWellFormed sessions (id_in fragment n) txn × HasLowNumbers txn
 
 -- what is wrong with a transaction: its lists, keys and numbers are judged first
-abbrev pub OfferedTxnFault : TxnId → Txn → Refusal → Type 0
-OfferedTxnFault id txn BadTxn = ¬ (HasGoodLists id txn × HasLowNumbers txn)
-OfferedTxnFault id txn BadFence = HasGoodLists id txn × HasLowNumbers txn × (¬ KeepsEpoch txn)
-OfferedTxnFault id txn refusal = ⊥
+abbrev pub OfferedTxnFault : ℕ → TxnId → Txn → Refusal → Type 0
+OfferedTxnFault sessions id txn BadTxn = ¬ (HasGoodLists sessions id txn × HasLowNumbers txn)
+OfferedTxnFault sessions id txn BadFence = HasGoodLists sessions id txn × HasLowNumbers txn × (¬ KeepsEpoch txn)
+OfferedTxnFault sessions id txn refusal = ⊥
 
 -- the first transaction that can't be offered has this fault
-abbrev pub FirstOfferedFault : Fragment → Refusal → Type 0
-FirstOfferedFault fragment refusal = (place : ℕ) × (txn : Txn) × (slice_get fragment.txns place ≡ Some txn) × AreOfferedBelow fragment place × OfferedTxnFault (id_in fragment place) txn refusal
+abbrev pub FirstOfferedFault : ℕ → Fragment → Refusal → Type 0
+FirstOfferedFault sessions fragment refusal = (place : ℕ) × (txn : Txn) × (slice_get fragment.txns place ≡ Some txn) × AreOfferedBelow sessions fragment place × OfferedTxnFault sessions (id_in fragment place) txn refusal
 
--- why a fragment is refused: its session, then its lengths, then its transactions in order
-abbrev pub OfferedFault : Fragment → Refusal → Type 0
-OfferedFault fragment BadSession = 64 ≤ fragment.session
-OfferedFault fragment TooLong = (fragment.session < 64) × (¬ HasOfferedLengths fragment)
-OfferedFault fragment refusal = (fragment.session < 64) × HasOfferedLengths fragment × FirstOfferedFault fragment refusal
+-- why a fragment is refused, where there may be so many sessions: its session, then its lengths, then its transactions in order
+abbrev pub OfferedFault : ℕ → Fragment → Refusal → Type 0
+OfferedFault sessions fragment BadSession = sessions ≤ fragment.session
+OfferedFault sessions fragment TooLong = (fragment.session < sessions) × (¬ HasOfferedLengths fragment)
+OfferedFault sessions fragment refusal = (fragment.session < sessions) × HasOfferedLengths fragment × FirstOfferedFault sessions fragment refusal

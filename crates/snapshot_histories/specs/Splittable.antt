@@ -26,9 +26,9 @@ pub record HasRoomToSplit (fragment : Fragment) : Type 0 where
   pub numbers : fragment.first + length fragment.txns ≤ 2 ^ 47
   pub each : All HasLowNumbers fragment.txns
 
--- a well-formed fragment with low numbers throughout
-pub record IsSplittable (fragment : Fragment) : Type 0 where
-  pub well_formed : IsWellFormedFragment fragment
+-- a well-formed fragment with low numbers throughout, where there may be so many sessions
+pub record IsSplittable (sessions : ℕ) (fragment : Fragment) : Type 0 where
+  pub well_formed : IsWellFormedFragment sessions fragment
   pub numbers : fragment.first + length fragment.txns ≤ 2 ^ 47
   pub each : All HasLowNumbers fragment.txns
 

@@ -1,5 +1,5 @@
 ghost use Rattle.std.specs.Prelude.{◌≡◌, IfOk};
-ghost use Rattle.snapshot_histories.specs.Splittable.{IsSplittable};
+ghost use Rattle.snapshot_histories.specs.Splittable.{HasRoomToSplit};
 ghost use Rattle.snapshot_histories.specs.Logged.{doubled, split_logged};
 
 use crate::splitting::split_fragment;
@@ -21,7 +21,7 @@ fn doubled(alloc: Global, flags: &[bool]) -> Result<Vec<bool>, NoMemory>
 
 /// Splits a fragment that tells which of its transactions aborted: where one did, neither of its two did anything.
 pub fn split_logged(alloc: Global, logged: &LoggedFragment) -> Result<LoggedFragment, NoMemory>
-    requires { IsSplittable logged.now.fragment }
+    requires { HasRoomToSplit logged.now.fragment }
     ensures { IfOk result (λ split. split ≡ split_logged logged.now) }
 {
     let fragment = split_fragment(alloc, &logged.fragment)?;

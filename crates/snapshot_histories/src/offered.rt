@@ -8,9 +8,6 @@ use txn::{Fragment, Refusal, Txn, TxnId, check_fragment, is_short, is_well_forme
 /// How many transactions a fragment may have: half as many as a fragment of their halves.
 const FRAGMENT_LENGTH: u64 = 128;
 
-/// Sessions are numbered below this.
-const SESSIONS: u8 = 64;
-
 fn are_short(txns: &[Txn]) -> bool
     ensures { IsTrue result ↔ All IsShort txns.now }
 {
@@ -28,19 +25,19 @@ fn has_offered_lengths(fragment: &Fragment) -> bool
         && are_short(fragment.txns.as_slice())
 }
 
-/// Whether the fragment can be offered where its transactions are split; if not, its first fault, as any other fragment's: the session
-/// (BadSession), then the lengths (TooLong), then transaction by transaction the lists, keys and numbers (BadTxn) before the epoch key
-/// (BadFence).
-pub fn check_offered(fragment: &Fragment) -> Result<(), Refusal>
-    ensures { MatchResult result (λ _. CanBeOffered fragment.now) (OfferedFault fragment.now) }
+/// Whether the fragment can be offered where its transactions are split, and sessions are numbered below this; if not, its first fault, as any
+/// other fragment's: the session (BadSession), then the lengths (TooLong), then transaction by transaction the lists, keys and numbers
+/// (BadTxn) before the epoch key (BadFence).
+pub fn check_offered(sessions: u64, fragment: &Fragment) -> Result<(), Refusal>
+    ensures { MatchResult result (λ _. CanBeOffered sessions fragment.now) (OfferedFault sessions fragment.now) }
 {
-    if fragment.session >= SESSIONS {
+    if u64::from(fragment.session) >= sessions {
         return Err(Refusal::BadSession);
     }
     if !has_offered_lengths(fragment) {
         return Err(Refusal::TooLong);
     }
-    let judged = check_fragment(fragment);
+    let judged = check_fragment(sessions, fragment);
     for (place, txn) in fragment.txns.as_slice().iter().enumerate() {
         let id = TxnId {
             session: fragment.session,
@@ -49,7 +46,7 @@ pub fn check_offered(fragment: &Fragment) -> Result<(), Refusal>
         if !has_low_numbers(txn) {
             return Err(Refusal::BadTxn);
         }
-        if !is_well_formed(id, txn) {
+        if !is_well_formed(sessions, id, txn) {
             return judged;
         }
     }

@@ -1,4 +1,4 @@
-ghost use Rattle.std.specs.Prelude.{◌↔◌, All, IsTrue};
+ghost use Rattle.std.specs.Prelude.{ℕ, ◌↔◌, All, IsTrue};
 ghost use Rattle.txn.specs.Transactions.{IsWellFormedFragment};
 ghost use Rattle.snapshot_histories.specs.Splittable.{IsLowSource, HasLowNumbers, HasRoomToSplit, IsSplittable};
 
@@ -52,10 +52,9 @@ pub fn has_room_to_split(fragment: &Fragment) -> bool
     }
 }
 
-/// Whether a well-formed fragment can be split: keys are below 2^63, and numbers below 2^47.
+/// Whether a fragment that is well formed, however many sessions there may be, can be split: keys are below 2^63, and numbers below 2^47.
 pub fn is_splittable(fragment: &Fragment) -> bool
-    requires { IsWellFormedFragment fragment.now }
-    ensures { IsTrue result ↔ IsSplittable fragment.now }
+    ensures { (sessions : ℕ) → IsWellFormedFragment sessions fragment.now → (IsTrue result ↔ IsSplittable sessions fragment.now) }
 {
     has_room_to_split(fragment)
 }

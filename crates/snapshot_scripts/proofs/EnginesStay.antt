@@ -320,53 +320,53 @@ begun : (old : EngineState) → IsSplitEngine old → (parts : Parts) → Some o
 begun old is parts some = let same : old.parts ≡ parts = cc in subst AreSplitParts same is.parts
 
 module _ (keeps : SplitKeepsEffects) (can : EffectsCanBeSplit) where
-  taken_in : (old new : EngineState) (logged : LoggedFragment) → CanBeOffered logged.fragment → StepsTo old (Offer (split_logged logged)) reply.Done new → IsSplitEngine old → IsSplitEngine new
-  taken_in old new logged made steps is =
+  taken_in : (sessions : ℕ) (old new : EngineState) (logged : LoggedFragment) → CanBeOffered sessions logged.fragment → StepsTo old (Offer (split_logged logged)) reply.Done new → IsSplitEngine old → IsSplitEngine new
+  taken_in sessions old new logged made steps is =
       let same = keeps logged in
       subst IsSplitEngine (sym (steps.2 ∙ ap (engine_offered old) same))
-      (offered old (effects logged) (can logged made.splittable).each (subst (IsAdmitted old.parts) same steps.1) is)
+      (offered old (effects logged) (can sessions logged made.splittable).each (subst (IsAdmitted old.parts) same steps.1) is)
 
-  let_in : (old new : EngineState) (logged : LoggedFragment) → CanBeOffered logged.fragment → StepsTo old (Join (split_logged logged)) reply.Done new → IsSplitEngine old → IsSplitEngine new
-  let_in old new logged made steps is =
+  let_in : (sessions : ℕ) (old new : EngineState) (logged : LoggedFragment) → CanBeOffered sessions logged.fragment → StepsTo old (Join (split_logged logged)) reply.Done new → IsSplitEngine old → IsSplitEngine new
+  let_in sessions old new logged made steps is =
       let same = keeps logged in
       subst IsSplitEngine (sym (steps.3 ∙ ap (engine_joined old) same))
-      (joined old (effects logged) (can logged made.splittable).each (subst (IsLetIn old.parts) same steps.2) is)
+      (joined old (effects logged) (can sessions logged made.splittable).each (subst (IsLetIn old.parts) same steps.2) is)
 
   pub stay : SplitEnginesStay
-  stay old new (Offer logged) reply.Done made steps is = taken_in old new logged made steps is
-  stay old new (Offer logged) (reply.Refused refusal) made steps is = kept old new steps.1 is
-  stay old new (Offer logged) (reply.Report report) made steps is = absurd steps
-  stay old new (Offer logged) (reply.Cut cut) made steps is = absurd steps
-  stay old new (Join logged) reply.Done made steps is = let_in old new logged made steps is
-  stay old new (Join logged) (reply.Refused refusal) made steps is = kept old new steps.1 is
-  stay old new (Join logged) (reply.Report report) made steps is = absurd steps
-  stay old new (Join logged) (reply.Cut cut) made steps is = absurd steps
-  stay old new (Close s) reply.Done made steps is =
+  stay sessions old new (Offer logged) reply.Done made steps is = taken_in sessions old new logged made steps is
+  stay sessions old new (Offer logged) (reply.Refused refusal) made steps is = kept old new steps.1 is
+  stay sessions old new (Offer logged) (reply.Report report) made steps is = absurd steps
+  stay sessions old new (Offer logged) (reply.Cut cut) made steps is = absurd steps
+  stay sessions old new (Join logged) reply.Done made steps is = let_in sessions old new logged made steps is
+  stay sessions old new (Join logged) (reply.Refused refusal) made steps is = kept old new steps.1 is
+  stay sessions old new (Join logged) (reply.Report report) made steps is = absurd steps
+  stay sessions old new (Join logged) (reply.Cut cut) made steps is = absurd steps
+  stay sessions old new (Close s) reply.Done made steps is =
       subst IsSplitEngine (sym steps.1) (record { parts = record { sessions = is.parts.sessions; remain = is.parts.remain; last = is.parts.last }; asked = is.asked; held = is.held })
-  stay old new (Close s) (reply.Refused refusal) made steps is = kept old new steps.1 is
-  stay old new (Close s) (reply.Report report) made steps is = absurd steps
-  stay old new (Close s) (reply.Cut cut) made steps is = absurd steps
-  stay old new Begin reply.Done made steps is = subst IsSplitEngine (sym steps.1) (record { parts = is.parts; asked = begun old is; held = is.held })
-  stay old new Begin (reply.Refused refusal) made steps is = kept old new steps.1 is
-  stay old new Begin (reply.Report report) made steps is = absurd steps
-  stay old new Begin (reply.Cut cut) made steps is = absurd steps
-  stay old new (Finish budget depth workers) (reply.Report report) made steps is = finished old new old.asked report.kind refl (only_held _ (λ parts. IsHeldAfter parts report.kind old.held new.held) old.asked steps.0) steps.1 is
-  stay old new (Finish budget depth workers) (reply.Refused refusal) made steps is = kept old new steps.1 is
-  stay old new (Finish budget depth workers) reply.Done made steps is = absurd steps
-  stay old new (Finish budget depth workers) (reply.Cut cut) made steps is = absurd steps
-  stay old new (Judge certificate) (reply.Report report) made steps is = finished old new old.asked report.kind refl (only_held _ (λ parts. IsHeldAfter parts report.kind old.held new.held) old.asked steps.0) steps.1 is
-  stay old new (Judge certificate) (reply.Refused refusal) made steps is = kept old new steps.1 is
-  stay old new (Judge certificate) reply.Done made steps is = absurd steps
-  stay old new (Judge certificate) (reply.Cut cut) made steps is = absurd steps
-  stay old new Abandon reply.Done made steps is = subst IsSplitEngine (sym steps.1) (record { parts = is.parts; asked = no_asked None refl; held = is.held })
-  stay old new Abandon (reply.Refused refusal) made steps is = kept old new steps.1 is
-  stay old new Abandon (reply.Report report) made steps is = absurd steps
-  stay old new Abandon (reply.Cut cut) made steps is = absurd steps
-  stay old new Truncate (reply.Cut cut) made steps is = truncated old new cut steps is
-  stay old new Truncate (reply.Refused refusal) made steps is = kept old new steps.1 is
-  stay old new Truncate reply.Done made steps is = absurd steps
-  stay old new Truncate (reply.Report report) made steps is = absurd steps
-  stay old new Rebuild reply.Done made steps is = subst IsSplitEngine (sym steps.1) (record { parts = is.parts; asked = no_asked None refl; held = no_held None refl })
-  stay old new Rebuild (reply.Refused refusal) made steps is = kept old new steps.1 is
-  stay old new Rebuild (reply.Report report) made steps is = absurd steps
-  stay old new Rebuild (reply.Cut cut) made steps is = absurd steps
+  stay sessions old new (Close s) (reply.Refused refusal) made steps is = kept old new steps.1 is
+  stay sessions old new (Close s) (reply.Report report) made steps is = absurd steps
+  stay sessions old new (Close s) (reply.Cut cut) made steps is = absurd steps
+  stay sessions old new Begin reply.Done made steps is = subst IsSplitEngine (sym steps.1) (record { parts = is.parts; asked = begun old is; held = is.held })
+  stay sessions old new Begin (reply.Refused refusal) made steps is = kept old new steps.1 is
+  stay sessions old new Begin (reply.Report report) made steps is = absurd steps
+  stay sessions old new Begin (reply.Cut cut) made steps is = absurd steps
+  stay sessions old new (Finish budget depth workers) (reply.Report report) made steps is = finished old new old.asked report.kind refl (only_held _ (λ parts. IsHeldAfter parts report.kind old.held new.held) old.asked steps.0) steps.1 is
+  stay sessions old new (Finish budget depth workers) (reply.Refused refusal) made steps is = kept old new steps.1 is
+  stay sessions old new (Finish budget depth workers) reply.Done made steps is = absurd steps
+  stay sessions old new (Finish budget depth workers) (reply.Cut cut) made steps is = absurd steps
+  stay sessions old new (Judge certificate) (reply.Report report) made steps is = finished old new old.asked report.kind refl (only_held _ (λ parts. IsHeldAfter parts report.kind old.held new.held) old.asked steps.0) steps.1 is
+  stay sessions old new (Judge certificate) (reply.Refused refusal) made steps is = kept old new steps.1 is
+  stay sessions old new (Judge certificate) reply.Done made steps is = absurd steps
+  stay sessions old new (Judge certificate) (reply.Cut cut) made steps is = absurd steps
+  stay sessions old new Abandon reply.Done made steps is = subst IsSplitEngine (sym steps.1) (record { parts = is.parts; asked = no_asked None refl; held = is.held })
+  stay sessions old new Abandon (reply.Refused refusal) made steps is = kept old new steps.1 is
+  stay sessions old new Abandon (reply.Report report) made steps is = absurd steps
+  stay sessions old new Abandon (reply.Cut cut) made steps is = absurd steps
+  stay sessions old new Truncate (reply.Cut cut) made steps is = truncated old new cut steps is
+  stay sessions old new Truncate (reply.Refused refusal) made steps is = kept old new steps.1 is
+  stay sessions old new Truncate reply.Done made steps is = absurd steps
+  stay sessions old new Truncate (reply.Report report) made steps is = absurd steps
+  stay sessions old new Rebuild reply.Done made steps is = subst IsSplitEngine (sym steps.1) (record { parts = is.parts; asked = no_asked None refl; held = no_held None refl })
+  stay sessions old new Rebuild (reply.Refused refusal) made steps is = kept old new steps.1 is
+  stay sessions old new Rebuild (reply.Report report) made steps is = absurd steps
+  stay sessions old new Rebuild (reply.Cut cut) made steps is = absurd steps

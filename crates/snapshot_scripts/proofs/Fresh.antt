@@ -20,10 +20,10 @@ nothing_can : (sessions : ℕ) → HistoryCanBeSplit (no_history sessions)
 nothing_can sessions id txn at = absurd (let none : None ≡ Some txn = sym (ap (λ txns. slice_get txns id.number) (nothing_in sessions id.session)) ∙ at in cc)
 
 pub fresh_split : FreshEnginesAreSplit
-fresh_split sessions limit holds = record {
+fresh_split most sessions limit holds = record {
   holds = record {
     same = holds.same;
-    parts = subst (λ (history : History). StandsFor (fresh sessions limit).parts history) (sym (nothing_split 0 sessions)) holds.parts;
+    parts = subst (λ (history : History). StandsFor (fresh most sessions limit).parts history) (sym (nothing_split 0 sessions)) holds.parts;
     asked = λ parts e. subst (λ (history : History). StandsFor parts history) (sym (nothing_split 0 sessions)) (holds.asked parts e);
   };
   whole = nothing_can sessions;

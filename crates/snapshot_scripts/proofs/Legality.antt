@@ -39,36 +39,36 @@ record Follows (before : State) (step : Step) (said : StepReply) : Type 0 where
   is : whole_after (split_state before) (split_step step) said ≡ split_history (whole_after before step said)
   can : HistoryCanBeSplit (whole_after before step said)
 
-arrived : Laws → (whole : History) (arrival : Arrival) → HistoryCanBeSplit whole → IsNextArrival whole arrival → IsSplittable (fragment_of arrival)
+arrived : Laws → (sessions : ℕ) (whole : History) (arrival : Arrival) → HistoryCanBeSplit whole → IsNextArrival whole arrival → IsSplittable sessions (fragment_of arrival)
     → (history_after (split_history whole) (split_arrival arrival) ≡ split_history (history_after whole arrival)) × HistoryCanBeSplit (history_after whole arrival)
-arrived laws whole arrival can next splittable = (sym (laws.goes whole arrival next), laws.still whole arrival can next splittable)
+arrived laws sessions whole arrival can next splittable = (sym (laws.goes whole arrival next), laws.still sessions whole arrival can next splittable)
 
-offered : Laws → (old new : EngineState) (before : State) (logged : LoggedFragment) → CanBeOffered logged.fragment → StepsTo old (Offer (split_logged logged)) reply.Done new → HoldsSplit old before → Follows before (Offer logged) reply.Done
-offered laws old new before logged can to holds =
+offered : Laws → (sessions : ℕ) (old new : EngineState) (before : State) (logged : LoggedFragment) → CanBeOffered sessions logged.fragment → StepsTo old (Offer (split_logged logged)) reply.Done new → HoldsSplit old before → Follows before (Offer logged) reply.Done
+offered laws sessions old new before logged can to holds =
     let fragment = effects logged in
     let next = to.1.next in
     let arrival : IsNextArrival before.whole (More fragment) = more_next laws.doubles old.parts before.whole fragment holds.holds.parts next.session.0 next.next in
-    let both = arrived laws before.whole (More fragment) holds.whole arrival (laws.can logged can.splittable) in
+    let both = arrived laws sessions before.whole (More fragment) holds.whole arrival (laws.can sessions logged can.splittable) in
     record {
       is = ap (with_fragment (split_history before.whole)) (laws.effects logged) ∙ both.0;
       can = both.1;
     }
 
 -- whichever way it arrives, it is this fragment
-of_test : (test : Bool) (fragment : Fragment) → IsSplittable fragment → IsSplittable (fragment_of (cond test (Joins fragment) (Returns fragment)))
-of_test true fragment splittable = splittable
-of_test false fragment splittable = splittable
+of_test : (sessions : ℕ) (test : Bool) (fragment : Fragment) → IsSplittable sessions fragment → IsSplittable sessions (fragment_of (cond test (Joins fragment) (Returns fragment)))
+of_test sessions true fragment splittable = splittable
+of_test sessions false fragment splittable = splittable
 
-of_arrival : (sessions : ℕ) (fragment : Fragment) → IsSplittable fragment → IsSplittable (fragment_of (arrival_of sessions fragment))
-of_arrival sessions fragment splittable = of_test (nat_eq fragment.session sessions) fragment splittable
+of_arrival : (sessions count : ℕ) (fragment : Fragment) → IsSplittable sessions fragment → IsSplittable sessions (fragment_of (arrival_of count fragment))
+of_arrival sessions count fragment splittable = of_test sessions (nat_eq fragment.session count) fragment splittable
 
-joined : Laws → (old new : EngineState) (before : State) (logged : LoggedFragment) → CanBeOffered logged.fragment → StepsTo old (Join (split_logged logged)) reply.Done new → HoldsSplit old before → Follows before (Join logged) reply.Done
-joined laws old new before logged can to holds =
+joined : Laws → (sessions : ℕ) (old new : EngineState) (before : State) (logged : LoggedFragment) → CanBeOffered sessions logged.fragment → StepsTo old (Join (split_logged logged)) reply.Done new → HoldsSplit old before → Follows before (Join logged) reply.Done
+joined laws sessions old new before logged can to holds =
     let fragment = effects logged in
     let whole = before.whole in
     let arrival : Arrival = arrival_of (length whole) fragment in
     let next : IsNextArrival whole arrival = join_next laws.doubles old.parts whole fragment holds.holds.parts to.2.session to.2.next in
-    let both = arrived laws whole arrival holds.whole next (of_arrival (length whole) fragment (laws.can logged can.splittable)) in
+    let both = arrived laws sessions whole arrival holds.whole next (of_arrival sessions (length whole) fragment (laws.can sessions logged can.splittable)) in
     record {
       is =
           ap (λ (f : Fragment). history_after (split_history whole) (arrival_of (length (split_history whole)) f)) (laws.effects logged)
@@ -77,10 +77,10 @@ joined laws old new before logged can to holds =
       can = both.1;
     }
 
-follows : Laws → (old new : EngineState) (before : State) (step : Step) (said : StepReply) → CanBeMade step → StepsTo old (split_step step) said new → HoldsSplit old before → Follows before step said
-follows laws old new before (Offer logged) reply.Done can to holds = offered laws old new before logged can to holds
-follows laws old new before (Join logged) reply.Done can to holds = joined laws old new before logged can to holds
-follows laws old new before step said can to holds = record { is = refl; can = holds.whole }
+follows : Laws → (sessions : ℕ) (old new : EngineState) (before : State) (step : Step) (said : StepReply) → CanBeMade sessions step → StepsTo old (split_step step) said new → HoldsSplit old before → Follows before step said
+follows laws sessions old new before (Offer logged) reply.Done can to holds = offered laws sessions old new before logged can to holds
+follows laws sessions old new before (Join logged) reply.Done can to holds = joined laws sessions old new before logged can to holds
+follows laws sessions old new before step said can to holds = record { is = refl; can = holds.whole }
 
 -- and the history of the open round
 record FollowsAsked (before : State) (step : Step) (said : StepReply) : Type 0 where
@@ -107,9 +107,9 @@ told doubles keeps before (reply.Report report) can tells = record {
 told doubles keeps before said can tells = tt
 
 pub legal : Laws → SplitStepsAreLegal
-legal laws old new step said can to legally before holds =
+legal laws sessions old new step said can to legally before holds =
     let inner = legally (split_state before) holds.holds in
-    let whole = follows laws old new before step said can to holds in
+    let whole = follows laws sessions old new before step said can to holds in
     let asked = follows_asked before step said holds.whole holds.asked in
     let after : State = record { engine = inner.0.engine; whole = whole_after before step said; asked = asked_after before step said } in (
       after,

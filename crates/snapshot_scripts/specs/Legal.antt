@@ -55,10 +55,11 @@ pub record HoldsSplit (engine : EngineState) (state : State) : Type 0 where
 abbrev pub IsolatesLegally : EngineState → Step → StepReply → EngineState → Type 0
 IsolatesLegally old step said new = (before : State) → HoldsSplit old before → (after : State) × LegalIsolation before step said after × HoldsSplit new after
 
--- Where an engine replies to the split step as engines do, that is legal of the histories as they were offered.
+-- Where an engine replies to the split step as engines do, that is legal of the histories as they were offered, however many sessions there
+-- may be.
 abbrev pub SplitStepsAreLegal : Type 0
-SplitStepsAreLegal = (old new : EngineState) (step : Step) (said : StepReply) → CanBeMade step → StepsTo old (split_step step) said new → StepsLegally old (split_step step) said new → IsolatesLegally old step said new
+SplitStepsAreLegal = (sessions : ℕ) (old new : EngineState) (step : Step) (said : StepReply) → CanBeMade sessions step → StepsTo old (split_step step) said new → StepsLegally old (split_step step) said new → IsolatesLegally old step said new
 
 -- A fresh engine stands for the history in which nothing was received, which is split as it is.
 abbrev pub FreshEnginesAreSplit : Type 0
-FreshEnginesAreSplit = (sessions limit : ℕ) → Holds (fresh sessions limit) (fresh_state sessions limit) → HoldsSplit (fresh sessions limit) (fresh_state sessions limit)
+FreshEnginesAreSplit = (most sessions limit : ℕ) → Holds (fresh most sessions limit) (fresh_state most sessions limit) → HoldsSplit (fresh most sessions limit) (fresh_state most sessions limit)

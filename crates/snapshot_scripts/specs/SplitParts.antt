@@ -41,6 +41,6 @@ pub record IsSplitEngine (engine : EngineState) : Type 0 where
   pub asked : (parts : Parts) → engine.asked ≡ Some parts → AreSplitParts parts
   pub held : (cut : Cut) → engine.held ≡ Some cut → HaveHalfKeys cut.last
 
--- An engine of split transactions stays one.
+-- An engine of split transactions stays one, however many sessions there may be.
 abbrev pub SplitEnginesStay : Type 0
-SplitEnginesStay = (old new : EngineState) (step : Step) (said : StepReply) → CanBeMade step → StepsTo old (split_step step) said new → IsSplitEngine old → IsSplitEngine new
+SplitEnginesStay = (sessions : ℕ) (old new : EngineState) (step : Step) (said : StepReply) → CanBeMade sessions step → StepsTo old (split_step step) said new → IsSplitEngine old → IsSplitEngine new

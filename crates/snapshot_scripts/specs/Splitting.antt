@@ -1,5 +1,5 @@
 -- Commands of a script that asks for snapshot isolation, as an auditor is asked whose transactions are split.
-use Rattle.std.specs.Prelude.{◌≡◌, ◌*◌, ◌^◌, min, ⊤}
+use Rattle.std.specs.Prelude.{◌≡◌, ℕ, ◌*◌, ◌^◌, min, ⊤}
 use Rattle.txn.specs.declared.refusals.Refusal.{Refusal}
 use Rattle.txn.specs.declared.refusals.Refusal.TheVariants.{BadLine}
 use Rattle.log_text.specs.declared.commands.Command.{Command}
@@ -21,16 +21,17 @@ split_command (Join logged) = Join (split_logged logged)
 split_command (Save wanted) = Save (split_wanted wanted)
 split_command command = command
 
--- The command may be put to the auditor: what it offers can be split. No answer is handed in, since it would be of split transactions.
-abbrev pub CanBeAsked : Command → Type 0
-CanBeAsked (Offer logged) = CanBeOffered logged.fragment
-CanBeAsked (Join logged) = CanBeOffered logged.fragment
-CanBeAsked (Answer shown) = ⊥
-CanBeAsked command = ⊤
+-- The command may be put to the auditor, where there may be so many sessions: what it offers can be split. No answer is handed in, since it
+-- would be of split transactions.
+abbrev pub CanBeAsked : ℕ → Command → Type 0
+CanBeAsked sessions (Offer logged) = CanBeOffered sessions logged.fragment
+CanBeAsked sessions (Join logged) = CanBeOffered sessions logged.fragment
+CanBeAsked sessions (Answer shown) = ⊥
+CanBeAsked sessions command = ⊤
 
 -- why another one is refused
-abbrev pub IsAskedFault : Command → Refusal → Type 0
-IsAskedFault (Offer logged) refusal = OfferedFault logged.fragment refusal
-IsAskedFault (Join logged) refusal = OfferedFault logged.fragment refusal
-IsAskedFault (Answer shown) refusal = refusal ≡ BadLine
-IsAskedFault command refusal = ⊥
+abbrev pub IsAskedFault : ℕ → Command → Refusal → Type 0
+IsAskedFault sessions (Offer logged) refusal = OfferedFault sessions logged.fragment refusal
+IsAskedFault sessions (Join logged) refusal = OfferedFault sessions logged.fragment refusal
+IsAskedFault sessions (Answer shown) refusal = refusal ≡ BadLine
+IsAskedFault sessions command refusal = ⊥

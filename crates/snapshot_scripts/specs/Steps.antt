@@ -1,5 +1,5 @@
 -- Steps of an engine of split histories.
-use Rattle.std.specs.Prelude.{⊤}
+use Rattle.std.specs.Prelude.{ℕ, ⊤}
 use Rattle.round_state.specs.declared.steps.Step.{Step}
 use Rattle.round_state.specs.declared.steps.Step.TheVariants.{Offer, Join}
 use Rattle.snapshot_histories.specs.Logged.{split_logged}
@@ -11,8 +11,8 @@ split_step (Offer logged) = Offer (split_logged logged)
 split_step (Join logged) = Join (split_logged logged)
 split_step step = step
 
--- what it offers can be split
-abbrev pub CanBeMade : Step → Type 0
-CanBeMade (Offer logged) = CanBeOffered logged.fragment
-CanBeMade (Join logged) = CanBeOffered logged.fragment
-CanBeMade step = ⊤
+-- what it offers can be split, where there may be so many sessions
+abbrev pub CanBeMade : ℕ → Step → Type 0
+CanBeMade sessions (Offer logged) = CanBeOffered sessions logged.fragment
+CanBeMade sessions (Join logged) = CanBeOffered sessions logged.fragment
+CanBeMade sessions step = ⊤

@@ -16,11 +16,12 @@ const NUMBERS: u64 = 1 << 47;
 /// The fragment split, or why it can't be offered.
 fn split_offer(
     alloc: Global,
+    sessions: u64,
     logged: &LoggedFragment,
 ) -> Result<Result<LoggedFragment, Refusal>, NoMemory>
-    ensures { IfOk result (λ judged. MatchResult judged (λ split. CanBeOffered logged.now.fragment × (split ≡ split_logged logged.now)) (OfferedFault logged.now.fragment)) }
+    ensures { IfOk result (λ judged. MatchResult judged (λ split. CanBeOffered sessions logged.now.fragment × (split ≡ split_logged logged.now)) (OfferedFault sessions logged.now.fragment)) }
 {
-    match check_offered(&logged.fragment) {
+    match check_offered(sessions, &logged.fragment) {
         Ok(()) => Ok(Ok(split_logged(alloc, logged)?)),
         Err(refusal) => Ok(Err(refusal)),
     }
@@ -42,17 +43,22 @@ fn split_wanted(wanted: Wanted) -> Wanted
     }
 }
 
-/// The command that asks the same of an auditor whose transactions are split; or why it is refused before it gets there.
-pub fn split_command(alloc: Global, command: Command) -> Result<Result<Command, Refusal>, NoMemory>
-    ensures split { IfOk result (λ judged. MatchResult judged (λ split. CanBeAsked command × (split ≡ split_command command)) (IsAskedFault command)) }
+/// The command that asks the same of an auditor whose transactions are split, where there may be so many sessions; or why it is refused before
+/// it gets there.
+pub fn split_command(
+    alloc: Global,
+    sessions: u64,
+    command: Command,
+) -> Result<Result<Command, Refusal>, NoMemory>
+    ensures split { IfOk result (λ judged. MatchResult judged (λ split. CanBeAsked sessions command × (split ≡ split_command command)) (IsAskedFault sessions command)) }
     ensures limits { IfOk result (λ judged. IfOk judged (λ split. HasLimits command → HasLimits split)) }
 {
     match command {
-        Command::Offer(logged) => match split_offer(alloc, &logged)? {
+        Command::Offer(logged) => match split_offer(alloc, sessions, &logged)? {
             Ok(split) => Ok(Ok(Command::Offer(split))),
             Err(refusal) => Ok(Err(refusal)),
         },
-        Command::Join(logged) => match split_offer(alloc, &logged)? {
+        Command::Join(logged) => match split_offer(alloc, sessions, &logged)? {
             Ok(split) => Ok(Ok(Command::Join(split))),
             Err(refusal) => Ok(Err(refusal)),
         },

@@ -123,7 +123,7 @@ fn split_session(
         first: 0,
         txns: txns.clone()?,
     };
-    assert!(rt; check_fragment(&fragment).is_ok());
+    assert!(rt; check_fragment(64, &fragment).is_ok());
     assert!(rt; is_splittable(&fragment));
     assert!(rt; has_room_to_split(&fragment));
     Ok(split_fragment(alloc, &fragment)?.txns)

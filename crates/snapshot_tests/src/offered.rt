@@ -1,6 +1,6 @@
 //! Which fragments can be offered where transactions are split, and what they are split into.
 use logged_fragments::LoggedFragment;
-use snapshot_histories::{check_offered, split_logged};
+use snapshot_histories::{check_offered, has_room_to_split, split_logged};
 use std::alloc::Global;
 use std::test::Fail;
 use txn::Source::{By, Init};
@@ -154,13 +154,58 @@ fn fragment_of(
 /// The fault that is told of a row's fragment, or that none is.
 fn fault_of(alloc: Global, row: &Row) -> Result<Option<Refusal>, NoMemory> {
     let fragment = fragment_of(alloc, row.session, row.first, row.txns)?;
-    Ok(check_offered(&fragment).err())
+    Ok(check_offered(64, &fragment).err())
 }
 
 #[test]
 fn faults_are_told_so(rt: HostRuntime) -> Result<(), Fail> {
     for (place, row) in rows().iter().enumerate() {
         assert!(rt; fault_of(rt.alloc(), row)? == row.fault, "at {place}");
+    }
+    Ok(())
+}
+
+/// How many sessions there may be, a session, and the fault of a fragment of it, and of one that reads from it.
+type Bound = (u64, u8, Option<Refusal>, Option<Refusal>);
+
+static BOUNDS: [Bound; 6] = [
+    (64, 63, None, None),
+    (64, 64, Some(Refusal::BadSession), Some(Refusal::BadTxn)),
+    (255, 254, None, None),
+    (255, 255, Some(Refusal::BadSession), Some(Refusal::BadTxn)),
+    (256, 64, None, None),
+    (256, 255, None, None),
+];
+
+fn bounds() -> &'static [Bound] {
+    &BOUNDS
+}
+
+/// The transaction 0 of this session, which reads key 5 from 7 of that one.
+fn reader(alloc: Global, session: u8, of: u8) -> Result<Fragment, NoMemory> {
+    let source = By(TxnId {
+        session: of,
+        number: 7,
+    });
+    let txn = Txn {
+        reads: Sequence::new(vec![in alloc; (5, source)]?),
+        writes: Sequence::new(Vec::new(alloc)),
+    };
+    Ok(Fragment {
+        session,
+        first: 0,
+        txns: Sequence::new(vec![in alloc; txn]?),
+    })
+}
+
+#[test]
+fn sessions_below_the_bound(rt: HostRuntime) -> Result<(), Fail> {
+    let alloc = rt.alloc();
+    for (sessions, session, own, other) in bounds() {
+        let of_it = check_offered(*sessions, &reader(alloc, *session, 0)?);
+        assert!(rt; of_it.err() == *own, "{session} of {sessions}");
+        let from_it = check_offered(*sessions, &reader(alloc, 0, *session)?);
+        assert!(rt; from_it.err() == *other, "{session} of {sessions}");
     }
     Ok(())
 }
@@ -181,8 +226,8 @@ fn idle_fragment(alloc: Global, count: usize) -> Result<Fragment, NoMemory> {
 #[test]
 fn as_many_as_can_be_split(rt: HostRuntime) -> Result<(), Fail> {
     let alloc = rt.alloc();
-    assert!(rt; check_offered(&idle_fragment(alloc, 128)?).is_ok());
-    assert!(rt; check_offered(&idle_fragment(alloc, 129)?).err() == Some(Refusal::TooLong));
+    assert!(rt; check_offered(64, &idle_fragment(alloc, 128)?).is_ok());
+    assert!(rt; check_offered(64, &idle_fragment(alloc, 129)?).err() == Some(Refusal::TooLong));
     Ok(())
 }
 
@@ -193,7 +238,7 @@ fn halves(alloc: Global) -> Result<Option<Fragment>, NoMemory> {
     let mut aborted = Sequence::new(Vec::new(alloc));
     aborted.push(true)?;
     aborted.push(false)?;
-    if check_offered(&fragment).is_err() {
+    if check_offered(64, &fragment).is_err() || !has_room_to_split(&fragment) {
         return Ok(None);
     }
     let logged = LoggedFragment { fragment, aborted };

@@ -106,6 +106,7 @@ fn parts_of(alloc: Global, base: Base, remain: Sequence<Sequence<Txn>>) -> Resul
         base,
         remain,
         closed: Sequence::new([false; 3].to_vec(alloc)?),
+        most_sessions: 64,
         limit: 256,
     })
 }

@@ -10,4 +10,6 @@ mod tables;
 pub use closure::{Pair, Relation};
 pub use generated::{Dice, beside_old_reads_by, fenced_by, over, parts_by, stored_by};
 pub use plain::{Facts, Node, facts_of, is_open, known_with, look, side_of};
-pub use tables::{EMPTY, ID_0_0, ID_0_1, ID_0_2, ID_1_0, ID_1_1, ID_2_0, ID_3_0, Lists, Table};
+pub use tables::{
+    EMPTY, ID_0_0, ID_0_1, ID_0_2, ID_1_0, ID_1_1, ID_2_0, ID_3_0, ID_255_0, Lists, Table, crowd,
+};

@@ -38,10 +38,16 @@ pub const ID_3_0: TxnId = TxnId {
     number: 0,
 };
 
+/// The first of the last session that there may be.
+pub const ID_255_0: TxnId = TxnId {
+    session: 255,
+    number: 0,
+};
+
 /// What a transaction reads, and which keys it writes.
 pub type Lists = (&'static [(u64, Source)], &'static [u64]);
 
-/// The last gone writers, the marks, what remains of each session, which sessions are closed, and the limit.
+/// The last gone writers, the marks, what remains of each session, which sessions are closed, and the limit. There may be 64 sessions.
 #[derive(Clone, Copy)]
 pub struct Table {
     pub last: &'static [(u64, TxnId)],
@@ -96,7 +102,32 @@ impl Table {
             },
             remain: Sequence::new(remain),
             closed: Sequence::new(self.closed.to_vec(alloc)?),
+            most_sessions: 64,
             limit: self.limit,
         })
     }
+}
+
+/// Parts of 256 sessions, as many as there may be: what remains of the first and of the last. The others are closed, and have nothing.
+pub fn crowd(alloc: Global, first: &[Lists], last: &[Lists]) -> Result<Parts, NoMemory> {
+    let mut remain = Vec::new(alloc);
+    let mut closed = Vec::new(alloc);
+    remain.push(session_of(alloc, first)?)?;
+    closed.push(false)?;
+    for _ in 1..255 {
+        remain.push(Sequence::new(Vec::new(alloc)))?;
+        closed.push(true)?;
+    }
+    remain.push(session_of(alloc, last)?)?;
+    closed.push(false)?;
+    Ok(Parts {
+        base: Base {
+            last: LastWriters::new(alloc),
+            marks: Sequence::new([0; 256].to_vec(alloc)?),
+        },
+        remain: Sequence::new(remain),
+        closed: Sequence::new(closed),
+        most_sessions: 256,
+        limit: 16,
+    })
 }

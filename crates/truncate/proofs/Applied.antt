@@ -34,15 +34,16 @@ pub marks_low : (parts : Parts) (gone : List TxnId) (last : FinMap nat_cmp TxnId
 marks_low parts gone last good can s = let few = few_gone parts gone last can s in let low = good.numbers s in omega (arith, few, low)
 
 -- what is left once each session has lost its gone is what the cut leaves
-pub all_cut : (old new : Parts) (gone : List TxnId) (last : FinMap nat_cmp TxnId) → IsGood old → CanBeApplied old gone last → AreCutBelow gone (length old.remain) old.remain new.remain → AreRaisedBelow gone (length old.base.marks) old.base.marks new.base.marks → ((key : ℕ) → get new.base.last key ≡ or_else (get last key) (get old.base.last key)) → (new.closed ≡ old.closed) × (new.limit ≡ old.limit) → IsCutOf old new gone last
-all_cut old new gone last good can taken raised writers rest = record {
+pub all_cut : (old new : Parts) (gone : List TxnId) (last : FinMap nat_cmp TxnId) → IsGood old → CanBeApplied old gone last → AreCutBelow gone (length old.remain) old.remain new.remain → AreRaisedBelow gone (length old.base.marks) old.base.marks new.base.marks → ((key : ℕ) → get new.base.last key ≡ or_else (get last key) (get old.base.last key)) → new.closed ≡ old.closed → (new.most_sessions ≡ old.most_sessions) × (new.limit ≡ old.limit) → IsCutOf old new gone last
+all_cut old new gone last good can taken raised writers closed bounds = record {
   sessions = taken.sessions;
   remain = λ s. by_remain s (cases_lt s (length old.remain));
   marks_length = raised.sessions;
   marks = λ s. by_mark s (cases_lt s (length old.base.marks));
   writers = writers;
-  closed = rest.0;
-  limit = rest.1;
+  closed = closed;
+  most_sessions = bounds.0;
+  limit = bounds.1;
 }
   where
     nothing : (s : ℕ) → length old.remain ≤ s → session_of old.remain s ≡ []

@@ -23,7 +23,8 @@ fn take_out(alloc: Global, parts: &mut Parts, gone: &[TxnId], last: LastWriters)
     ensures remain { AreCutBelow gone.now (length parts.old.remain) parts.old.remain parts.new.remain }
     ensures marks { AreRaisedBelow gone.now (length parts.old.base.marks) parts.old.base.marks parts.new.base.marks }
     ensures writers { parts.new.base.last ≡ last }
-    ensures rest { (parts.new.closed ≡ parts.old.closed) × (parts.new.limit ≡ parts.old.limit) }
+    ensures closed { parts.new.closed ≡ parts.old.closed }
+    ensures bounds { (parts.new.most_sessions ≡ parts.old.most_sessions) × (parts.new.limit ≡ parts.old.limit) }
 {
     let none = Sequence::new(Vec::new(alloc));
     let mut sessions = replace(&mut parts.remain, none).into_vec();

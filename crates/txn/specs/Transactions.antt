@@ -31,16 +31,16 @@ read_below a b = nat_lt a.0 b.0 || (nat_eq a.0 b.0 && source_below a.1 b.1)
 abbrev pub Rises : {X : Type 0} → (X → X → Bool) → List X → Type 0
 Rises below xs = AllAdjacentBelow (λ x y. below x y ≡ true) xs (length xs)
 
--- what a transaction may name as the source of a read: not itself, and an id that can be
-abbrev pub IsSourceFor : TxnId → Source → Type 0
-IsSourceFor reader Init = ⊤
-IsSourceFor reader (By writer) = (writer ≢ reader) × (writer.session < 64) × (writer.number < 2 ^ 48)
+-- what a transaction may name as the source of a read, where there may be so many sessions: not itself, and an id that can be
+abbrev pub IsSourceFor : ℕ → TxnId → Source → Type 0
+IsSourceFor sessions reader Init = ⊤
+IsSourceFor sessions reader (By writer) = (writer ≢ reader) × (writer.session < sessions) × (writer.number < 2 ^ 48)
 
 -- the lists of a transaction rise, and it names no wrong source
-pub record HasGoodLists (id : TxnId) (txn : Txn) : Type 0 where
+pub record HasGoodLists (sessions : ℕ) (id : TxnId) (txn : Txn) : Type 0 where
   pub reads_rise : Rises read_below txn.reads
   pub writes_rise : Rises nat_lt txn.writes
-  pub sources : All (λ read. IsSourceFor id read.1) txn.reads
+  pub sources : All (λ read. IsSourceFor sessions id read.1) txn.reads
 
 -- a fence reads the epoch key, 0, once, writes it, and does nothing else
 abbrev pub IsFence : Txn → Type 0
@@ -55,9 +55,9 @@ pub record SparesEpoch (txn : Txn) : Type 0 where
 abbrev pub KeepsEpoch : Txn → Type 0
 KeepsEpoch txn = IsFence txn ⊎ SparesEpoch txn
 
--- a transaction is well formed as the one with this id
-pub record IsWellFormed (id : TxnId) (txn : Txn) : Type 0 where
-  pub lists : HasGoodLists id txn
+-- a transaction is well formed as the one with this id, where there may be so many sessions
+pub record IsWellFormed (sessions : ℕ) (id : TxnId) (txn : Txn) : Type 0 where
+  pub lists : HasGoodLists sessions id txn
   pub epoch : KeepsEpoch txn
 
 -- the id of the transaction at a place of the fragment
@@ -77,26 +77,27 @@ pub record HasGoodLengths (fragment : Fragment) : Type 0 where
   pub each : All IsShort fragment.txns
 
 -- the transactions before this place are well formed
-abbrev pub IsWellFormedBelow : Fragment → ℕ → Type 0
-IsWellFormedBelow fragment place = (n : ℕ) (txn : Txn) → n < place → slice_get fragment.txns n ≡ Some txn → IsWellFormed (id_in fragment n) txn
+abbrev pub IsWellFormedBelow : ℕ → Fragment → ℕ → Type 0
+IsWellFormedBelow sessions fragment place = (n : ℕ) (txn : Txn) → n < place → slice_get fragment.txns n ≡ Some txn → IsWellFormed sessions (id_in fragment n) txn
 
-pub record IsWellFormedFragment (fragment : Fragment) : Type 0 where
-  pub session : fragment.session < 64
+-- the fragment is well formed, where there may be so many sessions
+pub record IsWellFormedFragment (sessions : ℕ) (fragment : Fragment) : Type 0 where
+  pub session : fragment.session < sessions
   pub lengths : HasGoodLengths fragment
-  pub txns : IsWellFormedBelow fragment (length fragment.txns)
+  pub txns : IsWellFormedBelow sessions fragment (length fragment.txns)
 
 -- what is wrong with a transaction: its lists are judged first
-abbrev pub TxnFault : TxnId → Txn → Refusal → Type 0
-TxnFault id txn BadTxn = ¬ HasGoodLists id txn
-TxnFault id txn BadFence = HasGoodLists id txn × (¬ KeepsEpoch txn)
-TxnFault id txn refusal = ⊥
+abbrev pub TxnFault : ℕ → TxnId → Txn → Refusal → Type 0
+TxnFault sessions id txn BadTxn = ¬ HasGoodLists sessions id txn
+TxnFault sessions id txn BadFence = HasGoodLists sessions id txn × (¬ KeepsEpoch txn)
+TxnFault sessions id txn refusal = ⊥
 
 -- the first transaction that isn't well formed has this fault
-abbrev pub FirstFault : Fragment → Refusal → Type 0
-FirstFault fragment refusal = (place : ℕ) × (txn : Txn) × (slice_get fragment.txns place ≡ Some txn) × IsWellFormedBelow fragment place × TxnFault (id_in fragment place) txn refusal
+abbrev pub FirstFault : ℕ → Fragment → Refusal → Type 0
+FirstFault sessions fragment refusal = (place : ℕ) × (txn : Txn) × (slice_get fragment.txns place ≡ Some txn) × IsWellFormedBelow sessions fragment place × TxnFault sessions (id_in fragment place) txn refusal
 
--- why a fragment is refused: its session, then its lengths, then its transactions in order
-abbrev pub FragmentFault : Fragment → Refusal → Type 0
-FragmentFault fragment BadSession = 64 ≤ fragment.session
-FragmentFault fragment TooLong = (fragment.session < 64) × (¬ HasGoodLengths fragment)
-FragmentFault fragment refusal = (fragment.session < 64) × HasGoodLengths fragment × FirstFault fragment refusal
+-- why a fragment is refused, where there may be so many sessions: its session, then its lengths, then its transactions in order
+abbrev pub FragmentFault : ℕ → Fragment → Refusal → Type 0
+FragmentFault sessions fragment BadSession = sessions ≤ fragment.session
+FragmentFault sessions fragment TooLong = (fragment.session < sessions) × (¬ HasGoodLengths fragment)
+FragmentFault sessions fragment refusal = (fragment.session < sessions) × HasGoodLengths fragment × FirstFault sessions fragment refusal

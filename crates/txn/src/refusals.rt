@@ -13,7 +13,7 @@ pub type NoMemory = AllocError;
 pub enum Refusal {
     #[error("the line is not a command that may stand here")]
     BadLine = 1,
-    #[error("there is no such session, or the number of sessions is not from 1 to 64")]
+    #[error("there is no such session, or there may not be so many")]
     BadSession,
     #[error("a transaction has a list that does not strictly ascend, or reads from itself or from an id that cannot be")]
     BadTxn,

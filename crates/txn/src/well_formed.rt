@@ -4,9 +4,6 @@ ghost use Rattle.txn.specs.Transactions.{Rises, read_below, IsSourceFor, HasGood
 use crate::refusals::Refusal;
 use crate::transactions::{EPOCH, Fragment, Source, Txn, TxnId};
 
-/// Sessions are numbered below this.
-const SESSIONS: u8 = 64;
-
 /// Transactions of a session are numbered below this.
 pub const NUMBERS: u64 = 1 << 48;
 
@@ -45,19 +42,19 @@ fn writes_rise(writes: &[u64]) -> bool
     true
 }
 
-fn is_source_for(reader: TxnId, source: Source) -> bool
-    ensures { IsTrue result ↔ IsSourceFor reader source }
+fn is_source_for(sessions: u64, reader: TxnId, source: Source) -> bool
+    ensures { IsTrue result ↔ IsSourceFor sessions reader source }
 {
     match source {
         Source::Init => true,
         Source::By(writer) => {
-            writer != reader && writer.session < SESSIONS && writer.number < NUMBERS
+            writer != reader && u64::from(writer.session) < sessions && writer.number < NUMBERS
         }
     }
 }
 
-fn has_good_lists(id: TxnId, txn: &Txn) -> bool
-    ensures { IsTrue result ↔ HasGoodLists id txn.now }
+fn has_good_lists(sessions: u64, id: TxnId, txn: &Txn) -> bool
+    ensures { IsTrue result ↔ HasGoodLists sessions id txn.now }
 {
     reads_rise(txn.reads.as_slice())
         && writes_rise(txn.writes.as_slice())
@@ -65,7 +62,7 @@ fn has_good_lists(id: TxnId, txn: &Txn) -> bool
             .reads
             .as_slice()
             .iter()
-            .all(|read| is_source_for(id, read.1))
+            .all(|read| is_source_for(sessions, id, read.1))
 }
 
 fn is_fence(txn: &Txn) -> bool
@@ -84,10 +81,10 @@ fn spares_epoch(txn: &Txn) -> bool
         && txn.writes.as_slice().iter().all(|key| *key != EPOCH)
 }
 
-fn check_txn(id: TxnId, txn: &Txn) -> Result<(), Refusal>
-    ensures { MatchResult result (λ _. IsWellFormed id txn.now) (TxnFault id txn.now) }
+fn check_txn(sessions: u64, id: TxnId, txn: &Txn) -> Result<(), Refusal>
+    ensures { MatchResult result (λ _. IsWellFormed sessions id txn.now) (TxnFault sessions id txn.now) }
 {
-    if !has_good_lists(id, txn) {
+    if !has_good_lists(sessions, id, txn) {
         return Err(Refusal::BadTxn);
     }
     if is_fence(txn) || spares_epoch(txn) {
@@ -97,11 +94,11 @@ fn check_txn(id: TxnId, txn: &Txn) -> Result<(), Refusal>
     }
 }
 
-/// Whether the transaction is well formed as the one with this id.
-pub fn is_well_formed(id: TxnId, txn: &Txn) -> bool
-    ensures { IsTrue result ↔ IsWellFormed id txn.now }
+/// Whether the transaction is well formed as the one with this id, where sessions are numbered below this.
+pub fn is_well_formed(sessions: u64, id: TxnId, txn: &Txn) -> bool
+    ensures { IsTrue result ↔ IsWellFormed sessions id txn.now }
 {
-    check_txn(id, txn).is_ok()
+    check_txn(sessions, id, txn).is_ok()
 }
 
 /// Whether no list of the transaction is too long.
@@ -122,12 +119,12 @@ fn has_good_lengths(fragment: &Fragment) -> bool
         && fragment.txns.as_slice().iter().all(|txn| is_short(txn))
 }
 
-/// Whether the fragment is well formed; if not, its first fault: the session (BadSession), then the lengths (TooLong),
-/// then transaction by transaction the lists (BadTxn) before the epoch key (BadFence).
-pub fn check_fragment(fragment: &Fragment) -> Result<(), Refusal>
-    ensures { MatchResult result (λ _. IsWellFormedFragment fragment.now) (FragmentFault fragment.now) }
+/// Whether the fragment is well formed, where sessions are numbered below this; if not, its first fault: the session (BadSession), then the
+/// lengths (TooLong), then transaction by transaction the lists (BadTxn) before the epoch key (BadFence).
+pub fn check_fragment(sessions: u64, fragment: &Fragment) -> Result<(), Refusal>
+    ensures { MatchResult result (λ _. IsWellFormedFragment sessions fragment.now) (FragmentFault sessions fragment.now) }
 {
-    if fragment.session >= SESSIONS {
+    if u64::from(fragment.session) >= sessions {
         return Err(Refusal::BadSession);
     }
     if !has_good_lengths(fragment) {
@@ -139,7 +136,7 @@ pub fn check_fragment(fragment: &Fragment) -> Result<(), Refusal>
             session: fragment.session,
             number,
         };
-        match check_txn(id, txn) {
+        match check_txn(sessions, id, txn) {
             Ok(()) => {}
             Err(refusal) => return Err(refusal),
         }

@@ -54,6 +54,7 @@ pub fn whole(alloc: Global, remain: Vec<Sequence<Txn>>) -> Result<Parts, NoMemor
         },
         remain: Sequence::new(remain),
         closed: Sequence::new(closed),
+        most_sessions: 64,
         limit: 4096,
     })
 }

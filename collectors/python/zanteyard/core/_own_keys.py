@@ -9,7 +9,7 @@ PLAIN_FENCE = "zanteyard's fence"  # FENCE in a small part, where a fence may be
 OWN = (FENCE, MARK, FLAG, PLAIN_FENCE)  # prefixes of the collector's own keys
 LONGEST = 256  # transactions of one line
 FORM = 2  # of scripts; form 1 says nothing about aborted transactions
-LARGE_FORM = 3  # of scripts in which many more transactions may remain
+LARGE_FORM = 3  # of scripts with room for many more transactions, and for more sessions
 
 
 def is_own(key: object) -> bool:

@@ -14,7 +14,7 @@ from typing import Any, Dict, List, Optional, Tuple
 from ._own_keys import is_own
 from ._records import Logged, Source
 
-SESSIONS = 64  # sessions that an auditor has at a time
+SESSIONS = 64  # sessions that a live audit has at a time
 SKIPPED = 1 << 32  # numbers that a process may have used unseen before it ended without notice
 
 

@@ -21,7 +21,7 @@ from ..promises._kinds import (
     stronger,
     weaker,
 )
-from ..promises._asking import MOST, SESSIONS
+from ..promises._asking import MOST, MOST_SESSIONS
 from ._arcs import table
 from ._report import EXPLAINED, SHOWN
 from ._script_names import ScriptNames
@@ -126,7 +126,7 @@ class Levels:
         the whole history does. None if they don't, or there are none."""
         for other in stronger(promise):
             few = self._small.get(other)
-            if few is not None and len(Part.of(few).txns) <= SESSIONS:
+            if few is not None and len(Part.of(few).txns) <= MOST_SESSIONS:
                 if is_violated(few, self.program, promise):
                     self._small[promise], self._called[promise] = few, self._called[other]
                     return Level(promise, NO, _told(few, self._called[other]))
@@ -158,7 +158,7 @@ class Levels:
         """Checks a promise without session order. Each transaction needs a session of its own, so
         only few can be checked; but if a few break the promise, the whole history does."""
         part = Part.of(whole, promise)
-        if len(part.txns) <= SESSIONS:
+        if len(part.txns) <= MOST_SESSIONS:
             kind = audited(whole, self.program, promise)[0].kind
             if kind != "violated":
                 return self._level(promise, Verdict(kind, 0, (), (), 0), self._history)
@@ -166,10 +166,10 @@ class Levels:
             return Level(promise, NO, _told(small, names))
         (kept_in_order,) = [one for one, other in WITHOUT_SESSIONS.items() if other == promise]
         few = self._small.get(kept_in_order)
-        if few is not None and len(Part.of(few).txns) <= SESSIONS:
+        if few is not None and len(Part.of(few).txns) <= MOST_SESSIONS:
             if is_violated(few, self.program, promise):
                 return Level(promise, NO, _told(few, names))
-        why = f"the script has more than {SESSIONS} transactions, and each takes a session"
+        why = f"the script has more than {MOST_SESSIONS} transactions, and each takes a session"
         return Level(promise, UNKNOWN, why)
 
 

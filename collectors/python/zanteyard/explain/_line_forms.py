@@ -13,7 +13,7 @@ from ..core._visible import visible
 
 LONGEST = 8_388_608  # bytes of a line
 SHOWN = 30  # characters shown of what was found
-MOST_SESSION = 255  # higher numbers are BadLine; 64 to 255 have their own refusal
+MOST_SESSION = 255  # higher numbers are BadLine; those below have refusals of their own
 DEEPEST = 32  # levels of nested lists; no form has that many
 READER = json.JSONDecoder()
 
@@ -198,7 +198,8 @@ def _version(*versions: str) -> Form:
     return check
 
 
-OPENS = (OPEN, (*OPEN, _version("2", "3")), (*OPEN, _version("2"), _word("snapshot")))
+VERSIONED = (*OPEN, _version("2", "3"))
+OPENS = (OPEN, VERSIONED, (*VERSIONED, _word("snapshot")))
 MARKS = (_each("the marks", NUMBER), _each("which sessions are closed", _flag))
 IDS = _each("the order", _row("a transaction: [session,number]", (SESSION, NUMBER)))
 LAST = _row("a last writer: [key,session,number]", (KEY, SESSION, NUMBER))

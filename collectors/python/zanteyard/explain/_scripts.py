@@ -22,7 +22,8 @@ from ..core.errors import (
 )
 from ..program._intake import EFFORTS, GUIDED, never_came
 from ..program._lines import too_old
-from ..promises._asking import KEYS, LIMIT, MOST, Asking, asked_in, begun_in, most_remaining
+from ..promises._asking import KEYS, LIMIT, MOST, MOST_SESSIONS, SESSIONS, Asking, asked_in
+from ..promises._asking import begun_in, most_remaining, most_sessions
 from ..promises._kinds import SERIALIZABLE, SNAPSHOT, Promise
 from ._line_forms import mistake_of
 from ._script_names import NamedTransaction, ScriptNames
@@ -35,11 +36,11 @@ WAITS = (0.1, 0.5)  # seconds until a line that was answered NoMemory is sent ag
 SAVE_MARKS = b'["save","marks"]'
 SEARCHES = re.compile(rb'\s*\[\s*"(?:round|finish|collect)"')  # whose reply may take long
 # An opening of a later version than the first, which an earlier program may not read.
-OPENS_FORM = re.compile(rb'\["(?:open|resume)", ?\d+, ?\d+, ?(2(?:, ?"snapshot")?|3)\]$')
+OPENS_FORM = re.compile(rb'\["(?:open|resume)", ?(\d+), ?\d+, ?([23])(?:, ?"snapshot")?\]$')
 LARGE_OPEN = f'["open",sessions,limit,{LARGE_FORM}]'
 MOST_OPEN = (
-    f"a script has 1 to 64 sessions, and at most {LIMIT:,} transactions remain at a time, or "
-    f"{MOST:,} if it begins with {LARGE_OPEN}"
+    f"a script has 1 to {SESSIONS} sessions, and at most {LIMIT:,} transactions remain at a time; "
+    f"if it begins with {LARGE_OPEN}, up to {MOST_SESSIONS} and {MOST:,}"
 )
 
 # What to do about a refusal, if its name doesn't say.
@@ -68,14 +69,17 @@ ADVICE: Mapping[str, str] = {
 BEGINS = 'a script begins with ["open",..], or by ["resume",..] up to ["resumed"]'
 # The same under snapshot isolation.
 OF_SNAPSHOTS: Mapping[str, str] = {
-    "Backlog": "snapshot isolation can be checked for at most "
-    f"{most_remaining(SNAPSHOT):,} transactions at a time, however many the script has room for, "
-    "since each takes the room of two: let `truncate` at fences make room, or check a part of the "
-    f"history; serializability can be checked for up to {MOST:,} (--promise serializable)",
+    "Backlog": "as many transactions remain as `open` has room for; snapshot isolation can be "
+    f"checked for at most {most_remaining(SNAPSHOT):,} at a time, since each takes the room of two "
+    f"({most_remaining(SNAPSHOT, FORM):,} if the script begins with "
+    f'["open",sessions,limit,{FORM},"snapshot"]): give it more room, or let `truncate` at fences '
+    "make some, or check a part of the history; serializability can be checked for up to "
+    f"{MOST:,} (--promise serializable)",
     "BadTxn": ADVICE["BadTxn"] + f"; keys are below {KEYS} under this promise, and numbers below "
     f"{1 << 47}",
-    "TooLong": ADVICE["TooLong"] + f"; under snapshot isolation {most_remaining(SNAPSHOT):,} "
-    "remain, and a line has 128",
+    "TooLong": ADVICE["TooLong"]
+    + f"; under snapshot isolation {most_remaining(SNAPSHOT, FORM):,} remain, in version "
+    f"{LARGE_FORM} {most_remaining(SNAPSHOT):,}, and a line has 128",
 }
 
 
@@ -359,8 +363,8 @@ class ScriptRun:
             reply = self._reply_to(text)
             if reply[0] != "no" or reply[2] == "NoCut":
                 return reply
-            if reply[2] == "BadLine" and not self._is_open:
-                self._check_age()
+            if reply[2] in ("BadLine", "BadSession") and not self._is_open:
+                self._check_age(reply[2])
             if reply[2] != "NoMemory":
                 raise ScriptMistakeError(number, reply[2], self._advice(reply[2], text))
             if self._search and _parts_of(text)[0] == "collect":  # the refusal has ended the search
@@ -369,13 +373,14 @@ class ScriptRun:
                 time.sleep(wait)
         raise ProgramEndedError(f"line {number} was refused memory, also when it was given again")
 
-    def _check_age(self) -> None:
+    def _check_age(self, refusal: str) -> None:
         """Raises ProgramTooOldError if the line that was refused is an opening of a version that
         the program should know."""
         opens = OPENS_FORM.match(self._given)
         if opens and not mistake_of(self._given):
-            form = LARGE_FORM if opens[1] == b"3" else FORM
-            raise ProgramTooOldError(too_old(self.path, form))
+            sessions, form = int(opens[1]), int(opens[2])
+            if refusal == "BadLine" or 1 <= sessions <= most_sessions(form):
+                raise ProgramTooOldError(too_old(self.path, form))
 
     def _advice(self, refusal: str, text: bytes) -> str:
         if self.promise.asks_itself and refusal in OF_SNAPSHOTS:

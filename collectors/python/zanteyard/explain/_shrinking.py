@@ -13,14 +13,15 @@ from typing import Optional, Sequence, Set, Tuple, cast
 
 from ..core._outcome import VIOLATED
 from ..core._own_keys import FENCE, FORM, PLAIN_FENCE, is_own
-from ..core._records import AuditId, AuditNaming, History, Logged, Naming, Read, Report, ShownId
-from ..core._records import Source
+from ..core._records import MOST, AuditId, AuditNaming, History, Logged, Naming, Read, Report
+from ..core._records import ShownId, Source
 from ..core.errors import CantBeAskedError
 from ..program._auditor import Auditor
 from ..program._binaries import PROGRAM
 from ..program._intake import GUIDED
 from ..program._lines import written
-from ..promises._asking import LIMIT, SESSIONS, Asking, form_of, ids_of, longest, most_remaining
+from ..promises._asking import LIMIT, MOST_SESSIONS, SESSIONS, Asking, form_of, ids_of, longest
+from ..promises._asking import most_remaining
 from ..promises._kinds import EVENTS, SERIALIZABLE, SNAPSHOT, Promise
 from ..promises._times import Timeline
 from ._anomalies import UNREPEATABLE, find_anomaly
@@ -68,13 +69,13 @@ def each_apart(history: History) -> History:
     """The same transactions, each in a session of its own, without those that did nothing. Raises
     CantBeAskedError if there are more of them than sessions."""
     did = apart_ids(history)
-    if len(did) > SESSIONS:
+    if len(did) > MOST_SESSIONS:
         raise CantBeAskedError(
             f"without session order each transaction has a session of its own, and these {len(did)}"
-            f" are more than {SESSIONS}"
+            f" are more than {MOST_SESSIONS}"
         )
     places: Dict[Source, Source] = {id: (at, 0) for at, id in enumerate(did)}
-    absent = SESSIONS - 1  # nobody has its numbers from 1 on
+    absent = SESSIONS - 1  # nobody has its numbers from 1 on; each version knows it
 
     def moved(source: Source) -> Source:
         if source == "init":
@@ -130,6 +131,69 @@ def without_idle(history: History) -> Tuple[History, List[List[ShownId]]]:
         if (id := ShownId((session, number))) in named or logged.span
     }
     return renumbered(kept, len(history))
+
+
+def names_more(history: History) -> bool:
+    """Whether a read names a session that scripts of the version that suffices can't have."""
+    return len(history) <= SESSIONS and any(
+        source != "init" and source[0] >= SESSIONS
+        for txns in history
+        for logged in txns
+        for _, source in (*logged.reads, *logged.tried_reads)
+    )
+
+
+def with_needed_writes(history: History) -> History:
+    """The history in which the transaction that stands for forgotten ones writes only keys that
+    others access, if it wrote more than a line may list: the rest can't matter."""
+    first = history[0][0] if history and history[0] else None
+    if first is None or len(first.writes) <= MOST:
+        return history
+    others = (logged for txns in [history[0][1:], *history[1:]] for logged in txns)
+    needed = {key for logged in others for key in (*_keys_of(logged), *_tried_keys_of(logged))}
+    first = first._replace(writes=[key for key in first.writes if key in needed])
+    return [[first, *history[0][1:]], *history[1:]]
+
+
+def _tried_keys_of(logged: Logged) -> Set[str]:
+    return {*logged.tried_writes, *(key for key, _ in logged.tried_reads)}
+
+
+def in_pieces(
+    history: History, places: Optional[List[List[ShownId]]]
+) -> Tuple[History, Optional[List[List[ShownId]]]]:
+    """The history in which that transaction is several, if it still writes more than a line may
+    list, and which transactions these are: `places`, if there are any, are those of the history."""
+    first = history[0][0] if history and history[0] else None
+    if first is None or len(first.writes) <= MOST:
+        return history, places
+    keys = [*first.writes][::-1]  # others read START, which is in the last piece
+    piece = {key: at // MOST for at, key in enumerate(keys)}
+    more = (len(keys) - 1) // MOST
+
+    def moved(reads: Iterable[Read]) -> List[Read]:
+        return [
+            (key, source)
+            if source == "init" or source[0]
+            else (key, (0, source[1] + more if source[1] else piece.get(key, 0)))
+            for key, source in reads
+        ]
+
+    whole = [
+        [
+            it._replace(reads=moved(it.reads), tried_reads=moved(it.tried_reads), statements=())
+            for it in txns
+        ]
+        for txns in history
+    ]
+    whole[0][:1] = [
+        first._replace(writes=keys[at : at + MOST]) for at in range(0, len(keys), MOST)
+    ]
+    places = places or [
+        [ShownId((session, number)) for number in range(len(txns))]
+        for session, txns in enumerate(history)
+    ]
+    return whole, [[places[0][0]] * more + places[0], *places[1:]]
 
 
 def in_halves(history: History) -> History:
@@ -192,12 +256,16 @@ def audited_apart(
 ) -> Audited:
     """The same, with what is needed to read the report. Of a long history, idle transactions are
     left out."""
+    history = with_needed_writes(history)
     ids, places = None if promise.keeps_sessions else apart_ids(history), None
     is_halved = promise.is_split and not promise.asks_itself
+    is_long = sum(map(len, history)) > (LIMIT // 2 if promise.is_split else LIMIT)
     if ids is not None:
         history = each_apart(history)
-    elif sum(map(len, history)) > (LIMIT // 2 if promise.is_split else LIMIT):
+    elif is_long or names_more(history):
         history, places = without_idle(history)
+    if ids is None:
+        history, places = in_pieces(history, places)
     asking = Asking(promise, timeline_of(history) if promise.is_timed else None)
     if is_halved:
         history = in_halves(history)
@@ -205,7 +273,7 @@ def audited_apart(
     told = SNAPSHOT if promise.asks_itself else SERIALIZABLE
     limit = min(count, most_remaining(told))
     with Auditor(len(history), limit, program, promise=told.name) as auditor:
-        form = form_of(told, limit)
+        form = form_of(told, len(history), limit)
         if form == [FORM] and not any(it.is_undone for txns in history for it in txns):
             form = []
         script: List[Any] = [["open", len(history), limit, *form]]

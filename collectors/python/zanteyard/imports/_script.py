@@ -11,7 +11,7 @@ from ..core._records import AuditId
 from ..core.errors import ImportRefusedError
 from ..explain._script_names import PART, REST, NamedTransaction, ScriptNames
 from ..explain._script_times import ScriptTimes
-from ..promises._asking import LIMIT, MOST, SESSIONS
+from ..promises._asking import LIMIT, MOST, MOST_SESSIONS, SESSIONS
 from ._recording import ABORTED, COMMITTED, UNKNOWN, Recording, counted
 from ._script_parts import (
     LONGEST,
@@ -113,7 +113,8 @@ class _ScriptMaker:
         if count > MOST and not self._pauses:
             raise ImportRefusedError(0, self._too_many(count))
         tells_aborted = any(txn[2:] for transactions in offered for txn in transactions)
-        form = [LARGE_FORM] if count > LIMIT else [FORM] if tells_aborted else []
+        is_large = count > LIMIT or len(offered) > SESSIONS
+        form = [LARGE_FORM] if is_large else [FORM] if tells_aborted else []
         yield ["open", len(offered), min(MOST, count), *form]
         given = [0] * len(offered)
         for pause, fences in enumerate(self._plan.fences):
@@ -138,7 +139,8 @@ class _ScriptMaker:
     def _check_room(self, count: int, pause: int) -> None:
         """Raises ImportRefusedError if there isn't room for this many transactions before this
         pause, counted from 0."""
-        if count > MOST - SESSIONS:  # the previous pause leaves second fences
+        left = len(self._plan.sessions)  # second fences of the previous pause
+        if count > MOST - left:
             line = self._line_at(self._pauses[pause - 1]) if pause else 1
             raise ImportRefusedError(
                 line,
@@ -201,19 +203,19 @@ class _ScriptMaker:
         clients = [items for items in self._items_of_clients().values() if items]
         if not clients:
             raise ImportRefusedError(0, "no transaction was committed: nothing can be checked")
-        if len(clients) <= SESSIONS:
+        if len(clients) <= MOST_SESSIONS:
             return Plan(clients)
         before = self._known_before()
         plan = Plan()
         for items in clients:
-            is_needed = plan.shared < len(clients) - SESSIONS
+            is_needed = plan.shared < len(clients) - MOST_SESSIONS
             self._place(items, plan, all_before(before, items[0]) if is_needed else set())
-        if len(plan.sessions) > SESSIONS:
+        if len(plan.sessions) > MOST_SESSIONS:
             raise ImportRefusedError(
                 0,
                 f"{len(clients)} clients need {len(plan.sessions)} sessions, of which there are at "
-                f"most {SESSIONS} ({plan.shared} clients certainly follow another one, and share "
-                "its session): take fewer transactions (--first)",
+                f"most {MOST_SESSIONS} ({plan.shared} clients certainly follow another one, and "
+                "share its session): take fewer transactions (--first)",
             )
         return plan
 
@@ -354,7 +356,8 @@ class _ScriptMaker:
 
     def _never_offered(self, what: object, name: str) -> AuditId:
         """An id for a transaction that never arrives, in a session that isn't open if possible."""
-        session = min(len(self._plan.sessions), SESSIONS - 1)
+        count = len(self._plan.sessions)
+        session = min(count, (SESSIONS if count <= SESSIONS else MOST_SESSIONS) - 1)
         id = self._absent.setdefault(
             what, AuditId((session, NEVER_OFFERED + len(self._absent)))
         )

@@ -6,7 +6,8 @@ from __future__ import annotations
 import json
 from typing import Any, Dict, List, Sequence, Tuple
 
-from ..promises._asking import KEYS, Asking, asked_in, form_of, most_remaining
+from ..core._own_keys import FORM
+from ..promises._asking import KEYS, Asking, asked_in, most_remaining
 from ..promises._kinds import SNAPSHOT
 
 
@@ -17,6 +18,7 @@ def asking_itself(lines: Sequence[bytes], saved: int) -> Tuple[List[bytes], int]
     if asked_in(opening) == SNAPSHOT:
         return [*lines], saved
     _, sessions, limit, *_ = opening
+    limit = min(limit, most_remaining(SNAPSHOT, FORM))
     begun: Dict[int, int] = {session: number for session, number in (marks[3:] or [[]])[0]}
     # A commit reads from its begin by keys that the begin wrote.
     stars = [
@@ -26,7 +28,7 @@ def asking_itself(lines: Sequence[bytes], saved: int) -> Tuple[List[bytes], int]
         for key in txns[0][1]
     ]
     front: List[Any] = [
-        ["resume", sessions, min(limit, most_remaining(SNAPSHOT)), *form_of(SNAPSHOT)],
+        ["resume", sessions, limit, FORM, SNAPSHOT.name],
         [*marks[:3], [session in begun for session in range(sessions)]],
         ["last", stars],
         *more[: saved - 2],

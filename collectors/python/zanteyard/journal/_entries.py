@@ -128,6 +128,7 @@ def kept_in(journal: Journal, has_names: bool = True) -> Kept:
             raise ValueError("the checkpoint is cut off")
         if kept.head.promise == SNAPSHOT.name:
             kept.lines, kept.saved = asking_itself(kept.lines, kept.saved)
+            kept.head.limit = json.loads(kept.lines[0])[2]  # an earlier version's head has twice it
     except (ValueError, TypeError, LookupError) as error:
         message = f"{journal.path}: its records contradict one another, so none is used: {error}"
         raise JournalDamagedError(message) from error

@@ -20,7 +20,7 @@ from ..core._outcome import INCOMPLETE, RATHER_LOSE_THE_AUDIT, Outcome, Policy
 from ..core._own_keys import FENCE, LONGEST
 from ..core._records import AuditId, Logged
 from ..core._stores import Store
-from ..core._window import Coverage
+from ..core._window import SESSIONS, Coverage
 from ..core.errors import AuditLostError, MissingError
 from ..program._binaries import slowness_of
 from ..program._subprocess import AuditorApart
@@ -102,6 +102,8 @@ class LiveAuditor(ForProcesses):
     ) -> None:
         if auditor.is_resumed and not elsewhere:
             raise ValueError("a live audit can't continue from a journal: begin another run")
+        if auditor.sessions > SESSIONS:
+            raise ValueError(f"a live audit has at most {SESSIONS} sessions")
         if journal is not None:
             auditor.keep_journal(journal, round_seconds)
         if not elsewhere:

@@ -16,14 +16,14 @@ from ..core._tenancy import Tenancy
 from ..core._window import Coverage
 from ..core.errors import (
     AuditLostError,
-    BadLineError,
     FullError,
+    NoMemoryError,
     ProgramEndedError,
     ProgramTooOldError,
     RefusedError,
 )
 from ..journal._entries import Head
-from ..promises._asking import begun_in, form_of
+from ..promises._asking import begun_in, form_of, is_opening
 from ._binaries import PROGRAM as PROGRAM
 from ._intake import Fragment
 from ._lines import ENDED, too_old, written
@@ -42,7 +42,7 @@ class Auditor(Rounds):
     reply. What sessions hand in (`take`) never raises. All other calls raise ProgramEndedError if
     the program is gone and RefusedError if it refuses a line.
 
-    `sessions` is the initial number of sessions, 1 to 64; `join` adds more. At most `limit`
+    `sessions` is the initial number of sessions, 1 to 256; `join` adds more. At most `limit`
     transactions may remain (4,096 by default, and 1,048,576 at most); with more, a round takes
     longer. `program` is the file to start. `run_name` is stored next to each value that sessions
     write; each run needs its own, and gets one by default. `script` names a file for every line
@@ -51,7 +51,10 @@ class Auditor(Rounds):
     another one is started and brought to the same state. With a journal, all calls raise
     JournalError if it can't be written. A round whose search takes longer than `round_seconds` (60
     by default) is skipped and reported as spent. `promise` is "serializable" or "snapshot"
-    (docs/PROMISES.md). With "snapshot" there is room for at most 2,048 transactions.
+    (docs/PROMISES.md). With "snapshot" there is room for half as many transactions.
+
+    If `sessions` is above 64 or `limit` above its default, more sessions may join up to 256, and
+    otherwise up to 64: the program's script is then of version 3 (docs/FORMATS.md).
     """
 
     @classmethod
@@ -110,11 +113,15 @@ class Auditor(Rounds):
 
     def _open(self) -> None:
         """Raises ProgramTooOldError if the program can't read such scripts."""
-        form = form_of(self.promise, self.limit)
+        form = form_of(self.promise, self.sessions, self.limit)
         try:
             self.ask(["open", self.sessions, self.limit, *form])
-        except BadLineError as error:
-            raise ProgramTooOldError(too_old(self.path, form[0])) from error
+        except NoMemoryError:
+            raise
+        except RefusedError as error:
+            if is_opening(self.promise, self.sessions, self.limit):
+                raise ProgramTooOldError(too_old(self.path, form[0])) from error
+            raise
 
     def _started(self, journal: Union[str, Reopened, None]) -> Union[Pipes, SupervisedProgram]:
         if journal is None:

@@ -39,7 +39,7 @@ def saved_lines(limit: int, promise: Promise = SERIALIZABLE) -> Answers:
             ends_at[part] = _end_of(answer)
             if ends_at[part] == KEYS:
                 del ends_at[part]
-    opening = written(["resume", sessions, limit, *form_of(promise, limit)])
+    opening = written(["resume", sessions, limit, *form_of(promise, sessions, limit)])
     return [opening, marks, *last, *remaining, RESUMED]
 
 

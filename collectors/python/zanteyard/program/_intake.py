@@ -13,11 +13,12 @@ from typing import Any, Container, Deque, Dict, Iterator, List, Optional, Sequen
 
 from ..core._locks import give_back, take
 from ..core._outcome import RATHER_LOSE_THE_AUDIT, VIOLATED, Outcome, Policy, kind_of
+from ..core._own_keys import FORM, LARGE_FORM
 from ..core._records import AuditId, AuditNaming, History, Logged, Pending, Report
 from ..core._store_identity import AuditedStore, StoreIdentity
 from ..core._window import Coverage
 from ..core.errors import FullError, ProgramEndedError, ProgramLateError, RefusedError
-from ..promises._asking import LIMIT, longest, most_remaining
+from ..promises._asking import longest, most_remaining
 from ..promises._kinds import ASKED, SERIALIZABLE
 from ._binaries import PROGRAM
 from ._resuming import Reopened
@@ -60,7 +61,7 @@ class Intake:
     def __init__(
         self,
         sessions: int,
-        limit: int = LIMIT,
+        limit: Optional[int] = None,
         program: str = PROGRAM,
         run_name: Optional[str] = None,
         script: Optional[str] = None,
@@ -74,8 +75,9 @@ class Intake:
             raise ValueError(
                 f"{promise}: only finished histories can be checked for real-time order"
             )
-        limit = min(limit, most_remaining(self.promise))
-        self.sessions, self.limit, self.path, self.script_path = sessions, limit, program, script
+        usual, most = (most_remaining(self.promise, form) for form in (FORM, LARGE_FORM))
+        self.limit = usual if limit is None else min(limit, most)
+        self.sessions, self.path, self.script_path = sessions, program, script
         self.journal = journal
         self.round_seconds = ROUND_SECONDS if round_seconds is None else round_seconds
         self.is_resumed = isinstance(journal, Reopened)

@@ -21,7 +21,7 @@ from ..core.errors import (
     ProgramLateError,
     RefusedError,
 )
-from ..promises._asking import LIMIT
+from ..promises._asking import LIMIT, SESSIONS
 from ._intake import SECONDS, Intake
 from ._pipes import Pipes
 from ._supervised import SupervisedProgram
@@ -44,7 +44,10 @@ def too_old(path: str, form: int) -> str:
     """Says that the program doesn't read scripts of this version."""
     what = "name aborted writers"
     if form == LARGE_FORM:
-        what = f"have room for more than {LIMIT:,} transactions"
+        what = (
+            f"have room for more than {LIMIT:,} transactions and {SESSIONS} sessions, also under "
+            "snapshot isolation"
+        )
     return (
         f"{path} is older than this package: it doesn't read scripts of version {form}, which "
         f"{what}. Rebuild it, or name another program"

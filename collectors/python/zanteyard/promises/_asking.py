@@ -11,9 +11,8 @@ from ..core.errors import CantBeAskedError
 from ._kinds import EVENTS, SERIALIZABLE, SNAPSHOT, Promise
 from ._times import TIME_KEYS, Timeline
 
-SESSIONS = 64
-LIMIT = 4096  # transactions that may remain in a script of version 1 or 2
-MOST = 1 << 20  # and in one of version 3
+SESSIONS, MOST_SESSIONS = 64, 256  # of a script of version 1 or 2, and of one of version 3
+LIMIT, MOST = 4096, 1 << 20  # transactions that may remain, in the same way
 KEYS = 1 << 63  # keys of scripts about snapshots are below this
 OPENS = {"open", "resume"}
 PARTS = "a script that continues another one is about the promise that its first line asks for"
@@ -22,9 +21,16 @@ ANSWERS = (
 )
 
 
-def most_remaining(promise: Promise) -> int:
-    """How many transactions may remain at a time, at most."""
-    return LIMIT // 2 if promise.asks_itself else MOST
+def most_remaining(promise: Promise, form: int = LARGE_FORM) -> int:
+    """How many transactions may remain at a time, at most, in scripts of this version. Where each
+    is split in two it takes the room of two."""
+    most = MOST if form == LARGE_FORM else LIMIT
+    return most // 2 if promise.asks_itself else most
+
+
+def most_sessions(form: int) -> int:
+    """How many sessions there may be in scripts of this version."""
+    return MOST_SESSIONS if form == LARGE_FORM else SESSIONS
 
 
 def longest(promise: Promise) -> int:
@@ -32,18 +38,24 @@ def longest(promise: Promise) -> int:
     return LONGEST // 2 if promise.asks_itself else LONGEST
 
 
-def form_of(promise: Promise, limit: int = LIMIT) -> List[Any]:
-    """The end of the line that opens a script about the promise, in which `limit` may remain."""
-    if promise.asks_itself:
-        return [FORM, SNAPSHOT.name]
-    return [LARGE_FORM if limit > LIMIT else FORM]
+def form_of(promise: Promise, sessions: int, limit: int) -> List[Any]:
+    """The end of the line that opens a script about the promise, with so many sessions, in which
+    `limit` transactions may remain: version 3 only if it needs that."""
+    is_small = sessions <= SESSIONS and limit <= most_remaining(promise, FORM)
+    form = FORM if is_small else LARGE_FORM
+    return [form, SNAPSHOT.name] if promise.asks_itself else [form]
+
+
+def is_opening(promise: Promise, sessions: int, limit: int) -> bool:
+    """Whether a script may begin with so much room."""
+    return 1 <= sessions <= MOST_SESSIONS and 1 <= limit <= most_remaining(promise)
 
 
 def asked_in(line: Sequence[Any]) -> Optional[Promise]:
     """The promise that a script is about if this is its first line; None if it is no such line."""
     if not line or line[0] not in OPENS or len(line) < 3:
         return None
-    return SNAPSHOT if line[3:] == form_of(SNAPSHOT) else SERIALIZABLE
+    return SNAPSHOT if line[4:] == [SNAPSHOT.name] else SERIALIZABLE
 
 
 def begun_in(marks: Sequence[Any]) -> Iterator[List[int]]:
@@ -54,12 +66,16 @@ def begun_in(marks: Sequence[Any]) -> Iterator[List[int]]:
 
 
 class Asking:
-    """Asks one run of the auditor about a promise; not for several threads."""
+    """Asks one run of the auditor about a promise; not for several threads. If `keeps_version`, a
+    script stays of version 2, with half the room where transactions are split."""
 
     def __init__(
-        self, promise: Promise = SERIALIZABLE, timeline: Optional[Timeline] = None
+        self,
+        promise: Promise = SERIALIZABLE,
+        timeline: Optional[Timeline] = None,
+        keeps_version: bool = False,
     ) -> None:
-        self.promise = promise
+        self.promise, self._keeps_version = promise, keeps_version
         self._timeline = timeline if promise.is_timed else None
         self._is_own = False  # the script asks by itself
 
@@ -86,10 +102,16 @@ class Asking:
             return line[:4]
         if line[3:] not in ([], [FORM], [LARGE_FORM]) or not all(map(is_number, line[1:3])):
             return line  # which the auditor refuses
-        _, sessions, limit, *_ = line
-        if limit <= (MOST if line[3:] == [LARGE_FORM] else LIMIT):
-            limit = min(limit, most_remaining(self.promise))
-        return ["open", sessions, limit, *form_of(self.promise)]
+        _, sessions, limit, *form = line
+        version = form[0] if form else FORM
+        if sessions > most_sessions(version) or limit > most_remaining(SERIALIZABLE, version):
+            return [*line[:3], version, SNAPSHOT.name]  # which it refuses, too
+        if self._keeps_version and version == FORM:
+            return [*line[:2], min(limit, most_remaining(SNAPSHOT, FORM)), FORM, SNAPSHOT.name]
+        limit = min(limit, most_remaining(SNAPSHOT))
+        if version == LARGE_FORM:  # its reads may name sessions that version 2 doesn't have
+            return ["open", sessions, limit, LARGE_FORM, SNAPSHOT.name]
+        return ["open", sessions, limit, *form_of(SNAPSHOT, sessions, limit)]
 
     def _offered(self, line: List[Any]) -> Iterator[List[Any]]:
         word, session, *place, transactions = line

@@ -13,7 +13,7 @@ import uuid
 from collections import deque
 from typing import Any, Deque, Iterator, List, Optional, Sequence, Tuple, Union
 
-from ..core._own_keys import FENCE
+from ..core._own_keys import FENCE, FORM
 from ..core.errors import JournalError, ProgramEndedError, RefusedError
 from ..journal._file import Journal
 from ..journal._entries import Head
@@ -101,13 +101,15 @@ class Auditing:
         self.end()
         self.audits += 1
         self._round = self._uncounted = 0
-        self._asking = Asking(self.promise)
+        self._asking = Asking(self.promise, keeps_version=True)
         if self.journal is None:
             self._program = Pipes(self.path)
             return
         found = OPEN.match(line)
         assert found is not None
-        limit = min(int(found[2]), most_remaining(self.promise))
+        limit = int(found[2])
+        if self.promise.asks_itself:
+            limit = min(limit, most_remaining(self.promise, FORM))
         head = Head(int(found[1]), limit, self.run_name, self.audits)
         head.promise = self.promise.name
         self._program = journaled(self.path, self.journal, lambda: head, [FENCE])

@@ -18,27 +18,27 @@ pub returns-clause-published : goal.returns-clause-published
 returns-clause-published g c = c.make_round-last.ensures.between.told.published_are ∙ sym (published_end c.make_round-last.new.side.sender.sent c.send.new.sender.sent c.send.ensures.sent)
 
 pub returns-clause-live : goal.returns-clause-live
-returns-clause-live g c sessions limit holds =
+returns-clause-live g c most sessions limit holds =
     let first = c.new-running.result.core in let middle = c.take_all in let last = c.make_round-last in
     let is = c.new-running.ensures.core ∙ c.new-core.ensures in
     let moved = fresh_moved first middle.new.running.core c.args.side.now.pass.1 middle.new.side.pass.1 c.args.side.now.sender.sent middle.new.side.sender.sent c.requires.fresh.0 c.requires.fresh.1 middle.ensures.moved in
-    live_of sessions limit _ first last.new.running.core last.new.side.pass.1 last.new.side.sender.sent c.send.new.sender.sent
+    live_of most sessions limit _ first last.new.running.core last.new.side.pass.1 last.new.side.sender.sent c.send.new.sender.sent
     (ap (λ (core : CoreState). core.search) is)
-    (subst (λ (core : CoreState). Holds core.engine (fresh_state sessions limit)) (sym is) holds)
+    (subst (λ (core : CoreState). Holds core.engine (fresh_state most sessions limit)) (sym is) holds)
     (moved_on first middle.new.running.core last.new.running.core [] middle.new.side.pass.1 last.new.side.pass.1 [] middle.new.side.sender.sent last.new.side.sender.sent moved last.ensures.moved)
     c.send.ensures.sent
 
 pub returns-clause-true_reports : goal.returns-clause-true_reports
-returns-clause-true_reports g c sessions limit holds = true_of sessions limit _ c.make_round-last.new.side.pass.1 c.send.new.sender.sent (returns-clause-live g c sessions limit holds)
+returns-clause-true_reports g c most sessions limit holds = true_of most sessions limit _ c.make_round-last.new.side.pass.1 c.send.new.sender.sent (returns-clause-live g c most sessions limit holds)
 
 pub returns-clause-last : goal.returns-clause-last
-returns-clause-last g c sessions limit holds =
+returns-clause-last g c most sessions limit holds =
     let first = c.new-running.result.core in let middle = c.take_all in let last = c.make_round-last in
     let is = c.new-running.ensures.core ∙ c.new-core.ensures in
     let moved = fresh_moved first middle.new.running.core c.args.side.now.pass.1 middle.new.side.pass.1 c.args.side.now.sender.sent middle.new.side.sender.sent c.requires.fresh.0 c.requires.fresh.1 middle.ensures.moved in
     subst (λ (taken : List Parcel). MatchResult last.result (λ _. IsLastCount (map length (accepted_history sessions taken c.send.new.sender.sent)) c.send.new.sender.sent) (λ refusal. IsLastSkipped refusal c.send.new.sender.sent)) (sym (ap (λ pass. pass.1) last.ensures.same.0))
-    (last_of sessions limit first middle.new.running.core last.new.running.core middle.new.side.pass.1 middle.new.side.sender.sent last.new.side.sender.sent c.send.new.sender.sent last.result
-    (subst (λ (core : CoreState). Holds core.engine (fresh_state sessions limit)) (sym is) holds) moved last.ensures.round c.send.ensures.sent)
+    (last_of most sessions limit first middle.new.running.core last.new.running.core middle.new.side.pass.1 middle.new.side.sender.sent last.new.side.sender.sent c.send.new.sender.sent last.result
+    (subst (λ (core : CoreState). Holds core.engine (fresh_state most sessions limit)) (sym is) holds) moved last.ensures.round c.send.ensures.sent)
 
 pub returns-clause-timed : goal.returns-clause-timed
 returns-clause-timed g c =

@@ -239,5 +239,6 @@ returns-clause-rest c = record {
   marks = rest_marks;
   writers = λ key. none_else (get cut_writers key) ∙ ap (or_else (get cut_writers key)) (sym (get-empty nat_cmp key));
   closed = refl;
+  most_sessions = refl;
   limit = refl;
 }

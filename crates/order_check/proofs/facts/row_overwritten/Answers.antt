@@ -250,6 +250,7 @@ returns-clause-rest c = record {
   marks = marks_of;
   writers = λ key. none_else (get overwritten_writers key) ∙ ap (or_else (get overwritten_writers key)) (sym (get-empty nat_cmp key));
   closed = refl;
+  most_sessions = refl;
   limit = refl;
 }
 
@@ -266,5 +267,6 @@ returns-clause-read c = record {
   marks = marks_of;
   writers = λ key. none_else (get overwritten_writers key) ∙ ap (or_else (get overwritten_writers key)) (sym (get-empty nat_cmp key));
   closed = refl;
+  most_sessions = refl;
   limit = refl;
 }

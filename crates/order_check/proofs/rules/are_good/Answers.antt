@@ -10,7 +10,7 @@ loop-txn-preserved c =
     let good = c.is_good_txn.ensures.0 c.if-not-is_good_txn.false in
     record {
       next = omega arith;
-      so_far = good_more c.args.session first c.args.txns.now place c.txn-item.result c.loop-txn.invariant.so_far c.loop-txn-test.true c.txn-item.is (rw next at good);
+      so_far = good_more c.args.sessions c.args.session first c.args.txns.now place c.txn-item.result c.loop-txn.invariant.so_far c.loop-txn-test.true c.txn-item.is (rw next at good);
     }
 
 pub returns : goal.returns

@@ -9,7 +9,7 @@ use Rattle.round_state.proofs.joining.join_anew.Goals as goal
 pub take_in-requires-clause-tracked : goal.take_in-requires-clause-tracked
 take_in-requires-clause-tracked c =
     let parts : Parts = c.args.parts.now in
-    let few : length parts.remain < 64 = omega (arith, c.requires.new, c.requires.fits.well_formed.session) in
+    let few : length parts.remain < parts.most_sessions = omega (arith, c.requires.new, c.requires.fits.well_formed.session) in
     tracked_more parts c.add_session.new.parts c.args.marks.now c.add_session.new.marks c.args.waits.now c.in_ok-add_session.ensures.ok.0 c.in_ok-add_session.ensures.ok.1 few c.requires.tracked
 
 pub take_in-requires-clause-fits : goal.take_in-requires-clause-fits

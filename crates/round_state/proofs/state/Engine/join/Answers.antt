@@ -1,14 +1,17 @@
-use Rattle.std.proofs.Common.{◌∙◌, Option, None, ap, refl, subst, sym}
+use Rattle.std.proofs.Common.{◌≡◌, ◌∙◌, Option, None, ap, refl, subst, sym}
 use Rattle.txn.specs.declared.transactions.Fragment.{Fragment}
+use Rattle.txn.specs.declared.refusals.Refusal.{Refusal}
+use Rattle.txn.specs.Transactions.{FragmentFault, IsWellFormedFragment}
 use Rattle.logged_fragments.specs.Effects.{effects}
 use Rattle.order_check.specs.declared.remainder.Parts.{Parts}
 use Rattle.round_state.specs.EngineState.{EngineState}
 use Rattle.round_state.specs.OpenRounds.{snapshot_in}
-use Rattle.round_state.specs.Steps.{IsLetIn, engine_joined}
+use Rattle.round_state.specs.Steps.{IsJoinRefusal, IsLetIn, engine_joined}
 use Rattle.round_state.proofs.Behind.{known_none, known_parts}
+use Rattle.round_state.proofs.Faults.{join_fault}
 use Rattle.round_state.proofs.Keeping.{kept_joined, kept_refused, tracked_of}
 use Rattle.round_state.proofs.KeptFronts.{kept_asked}
-use Rattle.round_state.proofs.OpenSnapshots.{no_snapshot, not_open}
+use Rattle.round_state.proofs.OpenSnapshots.{err_has, no_snapshot, not_open}
 use Rattle.round_state.proofs.state.Engine.join.Goals as goal
 
 pub join_with-requires-clause-tracked : goal.join_with-requires-clause-tracked
@@ -45,9 +48,15 @@ returns-clause-ok c =
     let engine_of : Parts → Option Parts → EngineState = λ parts asked. record { parts = parts; asked = asked; held = None; rounds = e.round } in
     let old : EngineState = record { parts = e.parts; asked = snapshot_in e.parts e.asked; held = e.held; rounds = e.round } in
     let effect = c.in_ok-fragment.ensures.effects.0 in (
-      c.in_ok-fragment.ensures.judged,
+      subst (λ (engine : EngineState). IsWellFormedFragment engine.parts.most_sessions c.args.logged.fragment) c.self.view_is c.in_ok-fragment.ensures.judged,
       sym (ap (λ (engine : EngineState). engine.asked) c.self.view_is) ∙ none,
       subst (λ (engine : EngineState). IsLetIn engine.parts (effects c.args.logged)) c.self.view_is (subst (IsLetIn e.parts) effect c.in_ok-let_in.ensures),
       ap (λ asked. engine_of new.parts asked) (new_none ∙ sym none) ∙ ap (λ parts. engine_of parts (snapshot_in e.parts e.asked)) c.in_ok-join_with.ensures.ok
           ∙ ap (λ (f : Fragment). engine_joined old f) effect ∙ ap (λ (engine : EngineState). engine_joined engine (effects c.args.logged)) c.self.view_is,
     )
+
+pub returns-in_err-fragment-clause-err : goal.returns-in_err-fragment-clause-err
+returns-in_err-fragment-clause-err c =
+    let why = c.in_err-fragment.field-0.0 in
+    let fault = subst (λ (engine : EngineState). FragmentFault engine.parts.most_sessions c.args.logged.fragment why) c.self.view_is c.in_err-fragment.ensures.judged in
+    err_has (λ (refusal : Refusal). IsJoinRefusal c.args.self.now c.args.logged refusal × (c.args.self.now ≡ c.args.self.now)) c.from_residual.result why c.from_residual.ensures.1 (join_fault c.args.self.now c.args.logged why fault, refl)

@@ -15,7 +15,7 @@ find_path-requires c =
     let to = subst (λ (s : GraphState). HasNode s c.args.to) (sym c.self.view_is) c.requires.to in
     let starts = All-take (λ (arc : Arc). IsThere graph.gone.items graph.received.items (start_of arc)) c.args.len graph.arcs.items kept.starts in
     let ends = All-take (λ (arc : Arc). IsThere graph.gone.items graph.received.items (end_of arc)) c.args.len graph.arcs.items kept.ends in
-    rw (c.deref.ensures.value, c.deref-2.ensures.value, c.deref-3.ensures.value) record {
+    rw (c.deref-4.ensures.value, c.deref-5.ensures.value, c.deref-6.ensures.value) record {
       arcs = λ k d within. (starts k d within, ends k d within);
       start = from;
       goal = to;
@@ -23,6 +23,6 @@ find_path-requires c =
 
 pub returns : goal.returns
 returns c =
-    let found = rw (c.deref.ensures.value, c.deref-2.ensures.value, c.deref-3.ensures.value) at c.find_path.ensures in
+    let found = rw (c.deref-4.ensures.value, c.deref-5.ensures.value, c.deref-6.ensures.value) at c.find_path.ensures in
     subst (λ (s : GraphState). IfOk c.find_path.result (λ found. MatchOption found (¬ Reaches s.gone s.received (take c.args.len s.arcs) c.args.from c.args.to)
     (λ path. Reaches s.gone s.received (take c.args.len s.arcs) c.args.from c.args.to × IsPathOf s.gone s.received (take c.args.len s.arcs) c.args.from path c.args.to))) c.self.view_is found
