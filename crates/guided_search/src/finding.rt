@@ -47,30 +47,30 @@ fn believed(alloc: Global, parts: &Parts, found: Found) -> Result<Answer, NoMemo
     }
 }
 
-/// The order of a store's run, or else what the search that follows its conflicts finds. The parts and the branch are the problem's.
+/// The order of a store's run, or else what the search that follows its conflicts finds. The parts are the problem's.
 fn answer_from(
     alloc: Global,
     problem: &Problem,
     parts: &Parts,
-    branch: &mut Branch,
     budget: u64,
 ) -> Result<Answer, NoMemory>
     requires { IsGood parts.now }
     ensures { IfOk result (IsBelieved parts.now) }
 {
-    let order = run_of(alloc, problem, branch, Heeds::Misses)?;
+    let order = run_of(alloc, problem, Heeds::Misses)?;
     if explains(alloc, parts, order.as_slice())? {
         return Ok(Answer::Yes(order));
     }
-    let order = run_of(alloc, problem, branch, Heeds::Begun)?;
+    let order = run_of(alloc, problem, Heeds::Begun)?;
     if explains(alloc, parts, order.as_slice())? {
         return Ok(Answer::Yes(order));
     }
-    let order = run_of(alloc, problem, branch, Heeds::Readers)?;
+    let order = run_of(alloc, problem, Heeds::Readers)?;
     if explains(alloc, parts, order.as_slice())? {
         return Ok(Answer::Yes(order));
     }
-    let found = search_within(alloc, problem, branch, order.as_slice(), budget)?;
+    let mut branch = Branch::of(alloc, problem.known())?;
+    let found = search_within(alloc, problem, &mut branch, order.as_slice(), budget)?;
     believed(alloc, parts, found)
 }
 
@@ -81,8 +81,7 @@ fn answer_within(alloc: Global, problem: &Problem, budget: u64) -> Result<Answer
     if problem.open_choices() == 0 {
         return Ok(Answer::Spent);
     }
-    let mut branch = Branch::of(alloc, problem.known())?;
-    answer_from(alloc, problem, problem.parts(), &mut branch, budget)
+    answer_from(alloc, problem, problem.parts(), budget)
 }
 
 /// The three orders of a store's run, which cost no node, and then a search that follows its conflicts.

@@ -1,5 +1,5 @@
 //! A lucky order: what a store would do that takes one transaction after another. Nothing is promised of it.
-use clock_choices::Branch;
+use clock_choices::Saturated;
 use order_check::Parts;
 use polygraph::Problem;
 use std::alloc::Global;
@@ -24,6 +24,9 @@ struct Readers {
     furthest: (usize, usize),
 }
 
+/// What speaks against a session's next transaction: the reads that are missed, what is heeded, and how far the session has come.
+type Cost = (usize, usize, u64);
+
 /// What stands at a place of the run.
 #[derive(Drop)]
 struct Run {
@@ -31,6 +34,8 @@ struct Run {
     taken: Vec<usize>,
     /// Of each session, how many sessions have nothing left that is known to come before its next transaction.
     clear: Vec<usize>,
+    /// Of each session what speaks against its next transaction, where that is worked out and nothing has changed it since.
+    costs: Vec<Option<Cost>>,
     /// Who wrote each key last.
     last: BTreeMap<u64, Source>,
     /// Who reads the key from the source.
@@ -93,6 +98,7 @@ impl Run {
         Ok(Run {
             taken: vec![in alloc; 0; parts.sessions()]?,
             clear: vec![in alloc; 0; parts.sessions()]?,
+            costs: vec![in alloc; None; parts.sessions()]?,
             last: BTreeMap::new(alloc),
             readers: readers_of(alloc, parts)?,
             order: Vec::new(alloc),
@@ -106,19 +112,19 @@ impl Run {
 
     /// Whether nothing that isn't taken is known to come before the session's next transaction. What is next of a session comes before
     /// the rest of it, so that a session that is clear stays so.
-    fn is_ready(&mut self, branch: &Branch, session: usize, id: TxnId) -> bool {
+    fn is_ready(&mut self, known: &Saturated, session: usize, id: TxnId) -> bool {
         let sessions = self.sessions();
-        let blocking = self.blocking(branch, session, id);
+        let blocking = self.blocking(known, session, id);
         self.set_clear(session, blocking);
         blocking >= sessions
     }
 
     /// The first session that is known to hold the transaction up; where none does, how many there are.
-    fn blocking(&self, branch: &Branch, session: usize, id: TxnId) -> usize {
+    fn blocking(&self, known: &Saturated, session: usize, id: TxnId) -> usize {
         for other in self.clear_of(session)..self.sessions() {
-            if let Some(next) = self.next_of(branch.parts(), other)
+            if let Some(next) = self.next_of(known.parts(), other)
                 && other != session
-                && branch.reaches(next, id)
+                && known.reaches(next, id)
             {
                 return other;
             }
@@ -204,19 +210,19 @@ impl Run {
     }
 
     /// The best session to take from.
-    fn best(&mut self, branch: &Branch, heeds: Heeds) -> Option<(usize, TxnId)> {
+    fn best(&mut self, known: &Saturated, heeds: Heeds) -> Option<(usize, TxnId)> {
         let mut best = None;
         for session in 0..self.sessions() {
-            let Some(id) = self.next_of(branch.parts(), session) else {
+            let Some(id) = self.next_of(known.parts(), session) else {
                 continue;
             };
-            if !self.is_ready(branch, session, id) {
+            if !self.is_ready(known, session, id) {
                 continue;
             }
-            let value = self.value(branch.parts(), session, id, heeds);
+            let cost = self.cost(known.parts(), session, id, heeds);
             best = match best {
-                Some((least, found)) if least <= value => Some((least, found)),
-                _ => Some((value, (session, id))),
+                Some((least, found)) if least <= cost => Some((least, found)),
+                _ => Some((cost, (session, id))),
             };
         }
         match best {
@@ -225,8 +231,24 @@ impl Run {
         }
     }
 
+    /// What speaks against the session's next transaction, which is worked out if it isn't known.
+    fn cost(&mut self, parts: &Parts, session: usize, id: TxnId, heeds: Heeds) -> Cost {
+        if let Some(Some(cost)) = self.costs.get(session) {
+            return *cost;
+        }
+        let cost = self.worked_out(parts, session, id, heeds);
+        self.set_cost(session, Some(cost));
+        cost
+    }
+
+    fn set_cost(&mut self, session: usize, cost: Option<Cost>) {
+        if let Some(known) = self.costs.get_mut(session) {
+            *known = cost;
+        }
+    }
+
     /// The less the better.
-    fn value(&self, parts: &Parts, session: usize, id: TxnId, heeds: Heeds) -> (usize, usize, u64) {
+    fn worked_out(&self, parts: &Parts, session: usize, id: TxnId, heeds: Heeds) -> Cost {
         let Some(txn) = parts.remaining_at(id) else {
             return (0, 0, 0);
         };
@@ -243,12 +265,40 @@ impl Run {
         )
     }
 
+    /// Forgets what speaks against the next transactions, where one that is taken may have changed that: those that access its keys, and
+    /// all where it is heeded how far off readers are.
+    fn forget_costs(&mut self, parts: &Parts, txn: &Txn, heeds: Heeds) {
+        for session in 0..self.sessions() {
+            if heeds == Heeds::Readers || self.is_next_touched(parts, session, txn) {
+                self.set_cost(session, None);
+            }
+        }
+    }
+
+    /// Whether the session's next transaction accesses a key that the other accesses.
+    fn is_next_touched(&self, parts: &Parts, session: usize, txn: &Txn) -> bool {
+        match self.next_of(parts, session) {
+            Some(id) => match parts.remaining_at(id) {
+                Some(next) => touches(next, txn),
+                None => false,
+            },
+            None => false,
+        }
+    }
+
     /// Takes the session's next transaction.
-    fn take(&mut self, parts: &Parts, session: usize, id: TxnId) -> Result<(), NoMemory> {
+    fn take(
+        &mut self,
+        parts: &Parts,
+        session: usize,
+        id: TxnId,
+        heeds: Heeds,
+    ) -> Result<(), NoMemory> {
         if let Some(taken) = self.taken.get_mut(session) {
             *taken = taken.saturating_add(1);
         }
         self.set_clear(session, 0);
+        self.set_cost(session, None);
         self.order.push(id)?;
         let Some(txn) = parts.remaining_at(id) else {
             return Ok(());
@@ -261,8 +311,34 @@ impl Run {
         for key in txn.writes.as_slice() {
             self.last.insert(*key, Source::By(id))?;
         }
+        self.forget_costs(parts, txn, heeds);
         Ok(())
     }
+}
+
+/// Whether the one writes a key that the other accesses, or the other way round.
+fn touches(one: &Txn, other: &Txn) -> bool {
+    writes_any(one, other) || writes_any(other, one)
+}
+
+/// Whether the one writes a key that the other accesses.
+fn writes_any(writer: &Txn, other: &Txn) -> bool {
+    for key in writer.writes.as_slice() {
+        if accesses(other, *key) {
+            return true;
+        }
+    }
+    false
+}
+
+/// Whether the transaction reads the key or writes it.
+fn accesses(txn: &Txn, key: u64) -> bool {
+    for (read, _source) in txn.reads.as_slice() {
+        if *read == key {
+            return true;
+        }
+    }
+    txn.writes.as_slice().contains(&key)
 }
 
 /// Whether the source wasn't received.
@@ -286,20 +362,16 @@ fn count_remaining(parts: &Parts) -> usize {
 
 /// The order of a store's run: next comes what may by what is known, misses the fewest reads, has the least of what it heeds, and stands foremost
 /// in its session. Where the problem's search was given up, that counts as want of memory.
-pub fn run_of(
-    alloc: Global,
-    problem: &Problem,
-    branch: &Branch,
-    heeds: Heeds,
-) -> Result<Sequence<TxnId>, NoMemory> {
-    let parts = branch.parts();
+pub fn run_of(alloc: Global, problem: &Problem, heeds: Heeds) -> Result<Sequence<TxnId>, NoMemory> {
+    let known = problem.known();
+    let parts = problem.parts();
     let mut run = Run::new(alloc, parts)?;
     for _ in 0..count_remaining(parts) {
         problem.go_on()?;
-        let Some((session, id)) = run.best(branch, heeds) else {
+        let Some((session, id)) = run.best(known, heeds) else {
             break;
         };
-        run.take(parts, session, id)?;
+        run.take(parts, session, id, heeds)?;
     }
     Ok(Sequence::new(run.order))
 }
