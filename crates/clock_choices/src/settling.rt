@@ -89,7 +89,8 @@ fn settle_before(
     let Some(last) = last_below(session, numbers, read.reader, read.writer, bound) else {
         return Ok(());
     };
-    if graph.reaches(last, read.writer) {
+    // Whether it does already is read off the writer's row, which is at hand for each session: the last one's is somewhere else.
+    if last.number < graph.before(read.writer, session) {
         return Ok(());
     }
     force(

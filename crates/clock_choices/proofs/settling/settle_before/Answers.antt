@@ -9,14 +9,14 @@ returns-in_default-clause-forces c parts choices = unforced
 pub returns-in_default-clause-settled : goal.returns-in_default-clause-settled
 returns-in_default-clause-settled c = λ other third is. let high = c.in_default.ensures other third in let low = (c.before-bound.ensures.exact other third.same (c.requires.others other third)).1 is in absurd (omega (arith, high, low))
 
-pub returns-then-reaches-clause-forces : goal.returns-then-reaches-clause-forces
-returns-then-reaches-clause-forces c parts choices = unforced
+pub returns-then-last-before-clause-forces : goal.returns-then-last-before-clause-forces
+returns-then-last-before-clause-forces c parts choices = unforced
 
-pub returns-then-reaches-clause-settled : goal.returns-then-reaches-clause-settled
-returns-then-reaches-clause-settled c =
+pub returns-then-last-before-clause-settled : goal.returns-then-last-before-clause-settled
+returns-then-last-before-clause-settled c =
     let graph = c.args.graph.now in
     settled_by_last graph.gone graph.received graph.arcs graph.arcs c.args.told.now.items c.args.told.now.items (growth_none graph.gone graph.received graph.arcs c.args.told.now.items) c.args.read c.args.session c.before-bound.result c.args.numbers.now c.requires.others
-    (λ other same there is. (c.before-bound.ensures.exact other same there).1 is) c.in-Some.last c.in-Some.ensures ((c.reaches.ensures.exact).0 c.if-reaches.true)
+    (λ other same there is. (c.before-bound.ensures.exact other same there).1 is) c.in-Some.last c.in-Some.ensures ((c.before-2.ensures.exact c.in-Some.last c.in-Some.ensures.third.same (c.requires.others c.in-Some.last c.in-Some.ensures.third)).0 c.if-last-before.true)
 
 pub returns-clause-settled : goal.returns-clause-settled
 returns-clause-settled c =
