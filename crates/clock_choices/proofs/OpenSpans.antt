@@ -55,3 +55,20 @@ module _ (R : TxnId → TxnId → Type 0) (trans : (a b c : TxnId) → R a b →
       λ open_at. let both = between_open place within open_at in (both.0, omega (arith, is, both.1)),
     );
   }
+
+-- where whoever doesn't stand before the reader stands behind the writer, no place is open
+pub none_open : (R : TxnId → TxnId → Type 0) (read : Read) (session : ℕ) (numbers : List ℕ) (before after : ℕ)
+    → ((place : ℕ) → place < length numbers → get_or numbers place 0 < before → R (id_at session numbers place) read.reader)
+    → ((place : ℕ) → place < length numbers → after ≤ get_or numbers place 0 → R read.writer (id_at session numbers place))
+    → after ≤ before → IsOpenSpan R read session numbers 0 0
+none_open R read session numbers before after is_ahead is_behind few = record {
+  order = omega (arith);
+  within = omega (arith);
+  exact = λ place within. (
+    λ both. let none = both.1 in absurd (omega (arith, none)),
+    λ open_at. elim (cases_lt (get_or numbers place 0) before) [
+      | inl below ↦ absurd (open_at.1.other_reader (is_ahead place within below))
+      | inr above ↦ absurd (open_at.1.writer_other (is_behind place within (omega (arith, above, few))))
+    ],
+  );
+}

@@ -85,12 +85,16 @@ fn settle_before(
     ensures settled { OnOk result ((other : TxnId) → IsThird session numbers.now read.reader read.writer other
         → IsSettledBefore graph.old.gone graph.old.received graph.new.arcs told.new.items read other) }
 {
+    // Both numbers stand in rows that are at hand for each session, so that most sessions are done with before their writers are looked up.
     let bound = graph.before(read.reader, session);
+    let done = graph.before(read.writer, session);
+    if bound <= done {
+        return Ok(());
+    }
     let Some(last) = last_below(session, numbers, read.reader, read.writer, bound) else {
         return Ok(());
     };
-    // Whether it does already is read off the writer's row, which is at hand for each session: the last one's is somewhere else.
-    if last.number < graph.before(read.writer, session) {
+    if last.number < done {
         return Ok(());
     }
     force(
@@ -128,10 +132,14 @@ fn settle_behind(
         → IsSettledBehind graph.old.gone graph.old.received graph.new.arcs told.new.items read other) }
 {
     let bound = graph.after(read.writer, session);
+    let done = graph.after(read.reader, session);
+    if done <= bound {
+        return Ok(());
+    }
     let Some(first) = first_from(session, numbers, read.reader, read.writer, bound) else {
         return Ok(());
     };
-    if graph.reaches(read.reader, first) {
+    if done <= first.number {
         return Ok(());
     }
     force(

@@ -21,7 +21,13 @@ pub(crate) fn open_span(graph: &Graph, read: Read, session: u8, numbers: &[u64])
     requires read { Reaches graph.now.gone graph.now.received graph.now.arcs read.writer read.reader }
     ensures { IsOpenSpan (Reaches graph.now.gone graph.now.received graph.now.arcs) read session numbers.now result.0 result.1 }
 {
-    let from = count_below(numbers, graph.before(read.reader, session));
-    let to = count_below(numbers, graph.after(read.writer, session));
+    // Most sessions have none: that shows before their numbers are looked at.
+    let before = graph.before(read.reader, session);
+    let after = graph.after(read.writer, session);
+    if after <= before {
+        return (0, 0);
+    }
+    let from = count_below(numbers, before);
+    let to = count_below(numbers, after);
     (from, to.max(from))
 }

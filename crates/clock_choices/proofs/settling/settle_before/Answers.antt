@@ -1,4 +1,4 @@
-use Rattle.std.proofs.Common.{arith}
+use Rattle.std.proofs.Common.{arith, inl}
 use Rattle.clock_choices.specs.Forcing.{unforced}
 use Rattle.clock_choices.proofs.Growths.{on_ok_two, growth_none, settled_by_last}
 use Rattle.clock_choices.proofs.settling.settle_before.Goals as goal
@@ -9,14 +9,14 @@ returns-in_default-clause-forces c parts choices = unforced
 pub returns-in_default-clause-settled : goal.returns-in_default-clause-settled
 returns-in_default-clause-settled c = λ other third is. let high = c.in_default.ensures other third in let low = (c.before-bound.ensures.exact other third.same (c.requires.others other third)).1 is in absurd (omega (arith, high, low))
 
-pub returns-then-last-before-clause-forces : goal.returns-then-last-before-clause-forces
-returns-then-last-before-clause-forces c parts choices = unforced
+pub returns-then-last-done-clause-forces : goal.returns-then-last-done-clause-forces
+returns-then-last-done-clause-forces c parts choices = unforced
 
-pub returns-then-last-before-clause-settled : goal.returns-then-last-before-clause-settled
-returns-then-last-before-clause-settled c =
+pub returns-then-last-done-clause-settled : goal.returns-then-last-done-clause-settled
+returns-then-last-done-clause-settled c =
     let graph = c.args.graph.now in
     settled_by_last graph.gone graph.received graph.arcs graph.arcs c.args.told.now.items c.args.told.now.items (growth_none graph.gone graph.received graph.arcs c.args.told.now.items) c.args.read c.args.session c.before-bound.result c.args.numbers.now c.requires.others
-    (λ other same there is. (c.before-bound.ensures.exact other same there).1 is) c.in-Some.last c.in-Some.ensures ((c.before-2.ensures.exact c.in-Some.last c.in-Some.ensures.third.same (c.requires.others c.in-Some.last c.in-Some.ensures.third)).0 c.if-last-before.true)
+    (λ other same there is. (c.before-bound.ensures.exact other same there).1 is) c.in-Some.last c.in-Some.ensures ((c.before-done.ensures.exact c.in-Some.last c.in-Some.ensures.third.same (c.requires.others c.in-Some.last c.in-Some.ensures.third)).0 c.if-last-done.true)
 
 pub returns-clause-settled : goal.returns-clause-settled
 returns-clause-settled c =
@@ -25,3 +25,13 @@ returns-clause-settled c =
     (λ growth reached. settled_by_last graph.gone graph.received graph.arcs c.force.new.graph.arcs c.args.told.now.items c.force.new.told.items growth c.args.read c.args.session c.before-bound.result c.args.numbers.now c.requires.others
     (λ other same there is. (c.before-bound.ensures.exact other same there).1 is) c.in-Some.last c.in-Some.ensures reached)
     c.force.ensures.growth (rw c.choice_of.ensures at c.force.ensures.reached)
+
+pub returns-then-bound-done-clause-forces : goal.returns-then-bound-done-clause-forces
+returns-then-bound-done-clause-forces c parts choices = unforced
+
+pub returns-then-bound-done-clause-settled : goal.returns-then-bound-done-clause-settled
+returns-then-bound-done-clause-settled c = λ other third is.
+    let there = c.requires.others other third in
+    let low = (c.before-bound.ensures.exact other third.same there).1 is in
+    let few = c.if-bound-done.true in
+    inl ((c.before-done.ensures.exact other third.same there).0 (omega (arith, low, few)))

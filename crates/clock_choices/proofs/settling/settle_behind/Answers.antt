@@ -1,4 +1,4 @@
-use Rattle.std.proofs.Common.{arith}
+use Rattle.std.proofs.Common.{arith, inl}
 use Rattle.clock_choices.specs.Forcing.{unforced}
 use Rattle.clock_choices.proofs.Growths.{on_ok_two, growth_none, settled_by_first}
 use Rattle.clock_choices.proofs.settling.settle_behind.Goals as goal
@@ -9,14 +9,14 @@ returns-in_default-clause-forces c parts choices = unforced
 pub returns-in_default-clause-settled : goal.returns-in_default-clause-settled
 returns-in_default-clause-settled c = λ other third is. let low = c.in_default.ensures other third in let high = (c.after-bound.ensures.exact other third.same (c.requires.others other third)).1 is in absurd (omega (arith, high, low))
 
-pub returns-then-reaches-clause-forces : goal.returns-then-reaches-clause-forces
-returns-then-reaches-clause-forces c parts choices = unforced
+pub returns-then-done-first-clause-forces : goal.returns-then-done-first-clause-forces
+returns-then-done-first-clause-forces c parts choices = unforced
 
-pub returns-then-reaches-clause-settled : goal.returns-then-reaches-clause-settled
-returns-then-reaches-clause-settled c =
+pub returns-then-done-first-clause-settled : goal.returns-then-done-first-clause-settled
+returns-then-done-first-clause-settled c =
     let graph = c.args.graph.now in
     settled_by_first graph.gone graph.received graph.arcs graph.arcs c.args.told.now.items c.args.told.now.items (growth_none graph.gone graph.received graph.arcs c.args.told.now.items) c.args.read c.args.session c.after-bound.result c.args.numbers.now c.requires.others
-    (λ other same there is. (c.after-bound.ensures.exact other same there).1 is) c.in-Some.first c.in-Some.ensures ((c.reaches.ensures.exact).0 c.if-reaches.true)
+    (λ other same there is. (c.after-bound.ensures.exact other same there).1 is) c.in-Some.first c.in-Some.ensures ((c.after-done.ensures.exact c.in-Some.first c.in-Some.ensures.third.same (c.requires.others c.in-Some.first c.in-Some.ensures.third)).0 c.if-done-first.true)
 
 pub returns-clause-settled : goal.returns-clause-settled
 returns-clause-settled c =
@@ -25,3 +25,13 @@ returns-clause-settled c =
     (λ growth reached. settled_by_first graph.gone graph.received graph.arcs c.force.new.graph.arcs c.args.told.now.items c.force.new.told.items growth c.args.read c.args.session c.after-bound.result c.args.numbers.now c.requires.others
     (λ other same there is. (c.after-bound.ensures.exact other same there).1 is) c.in-Some.first c.in-Some.ensures reached)
     c.force.ensures.growth (rw c.choice_of.ensures at c.force.ensures.reached)
+
+pub returns-then-done-bound-clause-forces : goal.returns-then-done-bound-clause-forces
+returns-then-done-bound-clause-forces c parts choices = unforced
+
+pub returns-then-done-bound-clause-settled : goal.returns-then-done-bound-clause-settled
+returns-then-done-bound-clause-settled c = λ other third is.
+    let there = c.requires.others other third in
+    let high = (c.after-bound.ensures.exact other third.same there).1 is in
+    let few = c.if-done-bound.true in
+    inl ((c.after-done.ensures.exact other third.same there).0 (omega (arith, high, few)))
