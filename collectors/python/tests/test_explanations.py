@@ -32,25 +32,22 @@ DATA = os.path.join(TOP, "crates/cobra_examples/data")
 REAL_SPLIT = """\
 either 1.0 comes before 0.0, or 4.0 comes before 1.0: 4.0 read key1 from 0.0, and 1.0 wrote it too
 if 1.0 comes before 0.0:
-    0.0 comes before 7.0: 7.0 read key3 from 0.0
-    3.0 comes before 5.0: 5.0 read key6 from 3.0
+    2.0 comes before 5.0: 5.0 read key5 from 2.0
     5.0 comes before 0.0: 5.0 read key1 from 1.0, and 0.0, which wrote it too, comes after 1.0
+    0.0 comes before 7.0: 7.0 read key3 from 0.0
+    2.0 comes before 3.0: 7.0 read key2 from 3.0, and 2.0, which wrote it too, comes before 7.0
+    3.0 comes before 5.0: 5.0 read key6 from 3.0
     0.0 comes before 6.0: 6.0 read key3 from 0.0
     3.0 comes before 2.0: 6.0 read key2 from 2.0, and 3.0, which wrote it too, comes before 6.0
-    7.0 comes before 2.0: 7.0 read key2 from 3.0, and 2.0, which wrote it too, comes after 3.0
-    2.0 comes before 5.0: 5.0 read key5 from 2.0
-    0.0 comes before 1.0: 5.0 read key1 from 1.0, and 0.0, which wrote it too, comes before 5.0
-    so neither 0.0 nor 1.0 can come first
+    so neither 2.0 nor 3.0 can come first
 if 4.0 comes before 1.0:
-    0.0 comes before 4.0: 4.0 read key1 from 0.0
+    2.0 comes before 4.0: 4.0 read key5 from 2.0
     1.0 comes before 7.0: 7.0 read key4 from 1.0
+    2.0 comes before 3.0: 7.0 read key2 from 3.0, and 2.0, which wrote it too, comes before 7.0
     3.0 comes before 4.0: 4.0 read key6 from 3.0
     1.0 comes before 6.0: 6.0 read key4 from 1.0
     3.0 comes before 2.0: 6.0 read key2 from 2.0, and 3.0, which wrote it too, comes before 6.0
-    7.0 comes before 2.0: 7.0 read key2 from 3.0, and 2.0, which wrote it too, comes after 3.0
-    2.0 comes before 4.0: 4.0 read key5 from 2.0
-    1.0 comes before 0.0: 4.0 read key1 from 0.0, and 1.0, which wrote it too, comes before 4.0
-    so none of 0.0, 4.0 and 1.0 can come first"""
+    so neither 2.0 nor 3.0 can come first"""
 
 
 def txn(*reads, writes="", span=()):

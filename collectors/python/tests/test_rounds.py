@@ -144,7 +144,10 @@ class Overlapping(unittest.TestCase):
 
     def test_reports_are_right_of_what_they_were_begun_with(self):
         kinds, counts = set(), [0] * 4
-        for seed in range(self.RUNS):
+        # How much comes while a round is searched is up to the machine: more runs make up for it.
+        for seed in range(10 * self.RUNS):
+            if seed >= self.RUNS and len(kinds) >= 3 and min(counts) > self.AT_LEAST:
+                break
             with self.subTest(seed=seed), tempfile.TemporaryDirectory() as folder:
                 run = self.run_of(folder, seed)
                 kinds.update(run.kinds)
