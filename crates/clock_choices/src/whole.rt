@@ -3,8 +3,6 @@ ghost use Rattle.std.specs.Prelude.{◌≡◌, [], length, map, All, Contains, I
 ghost use Rattle.order_check.specs.Based.{Remains};
 ghost use Rattle.order_check.specs.Cycles.{AreNew};
 ghost use Rattle.order_check.specs.Good.{IsGood};
-ghost use Rattle.session_clocks.specs.Graphs.{HasNode};
-ghost use Rattle.txn.specs.declared.transactions.TxnId.{TxnId};
 ghost use Rattle.clock_choices.specs.Held.{IsHeld};
 ghost use Rattle.clock_choices.specs.Indexing.{IsIndex};
 ghost use Rattle.clock_choices.specs.Over.{IsOver};
@@ -22,45 +20,6 @@ use session_clocks::Graph;
 use std::alloc::Global;
 use txn::{NoMemory, TxnId};
 
-/// How many are known to come before the transaction: the more, the later it may have run.
-fn age_of(graph: &Graph, id: TxnId) -> u64
-    requires { HasNode graph.now id }
-{
-    let mut age = 0u64;
-    for session in 0..graph.gone().len() {
-        age = age.saturating_add(graph.before(id, session as u8));
-    }
-    age
-}
-
-/// The transactions in about the order in which they may have run. What is near in it is near in the rows of the graph, too, so that
-/// to settle reads in this order takes half the time. Nothing is promised of it.
-fn by_age(alloc: Global, graph: &Graph, ids: &[TxnId]) -> Result<Vec<TxnId>, NoMemory> {
-    let mut aged = Vec::with_capacity(alloc, ids.len())?;
-    for id in ids {
-        if graph.contains(*id) {
-            aged.push((age_of(graph, *id), *id))?;
-        }
-    }
-    aged.sort_by_key(|(age, _id)| *age)?;
-    let mut sorted = Vec::with_capacity(alloc, ids.len())?;
-    for (_age, id) in &aged {
-        sorted.push(*id)?;
-    }
-    Ok(sorted)
-}
-
-/// All are due, in that order.
-fn due_by_age(alloc: Global, graph: &Graph, ids: &[TxnId]) -> Result<Due, NoMemory>
-    ensures { IfOk result (λ due. (id : TxnId) → Contains ids.now id → Contains due id) }
-{
-    let mut due = Due::new(alloc, graph.gone(), graph.received())?;
-    let order = by_age(alloc, graph, ids)?;
-    due.note_all(&order)?;
-    due.note_all(ids)?;
-    Ok(due)
-}
-
 /// Adds all that is there from the start, and settles all reads.
 fn bring_all(
     alloc: Global,
@@ -77,7 +36,8 @@ fn bring_all(
     ensures held { OnOk result (IsHeld parts.now graph.new.gone graph.new.received graph.new.arcs steps.new.items) }
     ensures new { OnOk result (AreNew parts.now [] (map bare steps.new.items)) }
 {
-    let mut due = due_by_age(alloc, graph, ids)?;
+    let mut due = Due::new(alloc, graph.gone(), graph.received())?;
+    due.note_all(ids)?;
     // Each reader of the base has its turn: no writer has to look for those.
     link_txns(alloc, parts, index, graph, &mut due, u64::MAX, ids)?;
     saturate(

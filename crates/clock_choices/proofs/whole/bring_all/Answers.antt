@@ -59,15 +59,15 @@ returns-clause-held c =
     let due = c.link_txns.new.due in
     let brings = c.in_ok-link_txns.ensures.brings.0 in
     let links = c.in_ok-link_txns.ensures.brings.1 in
-    let here : (id : TxnId) → Contains ids id → Contains c.in_ok-due.due id = c.in_ok-due.ensures in
-    let but = all_due parts graph.gone graph.received graph.arcs is ids c.requires.ids all_numbers linked c.in_ok-due.due due here brings links in
+    let here : (id : TxnId) → Contains ids id → Contains c.note_all.new.self id = c.in_ok-note_all.ensures.here in
+    let but = all_due parts graph.gone graph.received graph.arcs is ids c.requires.ids all_numbers linked c.note_all.new.self due here brings links in
     let closed = rw (c.into_ids.ensures, c.deref.ensures.value) at c.saturate.ensures.closed in
     let gone = c.saturate.ensures.gone ∙ c.link_txns.ensures.gone in
     let received = c.saturate.ensures.received ∙ c.link_txns.ensures.received in
     on_ok_two c.saturate.result (λ forces closed.
     let settled = subst₂ (λ (gone received : List ℕ). IsClosedBut parts (Reaches gone received linked) (Contains due) → IsClosed parts (Reaches gone received c.saturate.new.graph.arcs)) c.link_txns.ensures.gone c.link_txns.ensures.received (closed parts index.writers index.reads) but in
     subst₂ (λ (gone received : List ℕ). IsHeld parts gone received c.saturate.new.graph.arcs c.saturate.new.steps.items) (sym gone) (sym received)
-    (held_all parts graph.gone graph.received graph.arcs is ids c.requires.ids all_numbers linked c.in_ok-due.due due here brings links c.saturate.new.graph.arcs c.saturate.new.steps.items forces settled)) (forced c) closed
+    (held_all parts graph.gone graph.received graph.arcs is ids c.requires.ids all_numbers linked c.note_all.new.self due here brings links c.saturate.new.graph.arcs c.saturate.new.steps.items forces settled)) (forced c) closed
 
 pub returns-clause-new : goal.returns-clause-new
 returns-clause-new c =
@@ -78,4 +78,4 @@ returns-clause-new c =
     let linked = c.link_txns.new.graph.arcs in
     let due = c.link_txns.new.due in
     let brings = c.in_ok-link_txns.ensures.brings.0 in
-    on_ok_weaker c.saturate.result (λ forces. new_all parts graph.gone graph.received graph.arcs is ids c.requires.ids all_numbers linked c.in_ok-due.due due c.in_ok-due.ensures brings c.in_ok-link_txns.ensures.brings.1 c.saturate.new.graph.arcs c.saturate.new.steps.items forces) (forced c)
+    on_ok_weaker c.saturate.result (λ forces. new_all parts graph.gone graph.received graph.arcs is ids c.requires.ids all_numbers linked c.note_all.new.self due c.in_ok-note_all.ensures.here brings c.in_ok-link_txns.ensures.brings.1 c.saturate.new.graph.arcs c.saturate.new.steps.items forces) (forced c)
