@@ -7,7 +7,8 @@ Each is the log of a store under load (histories.py): of any kind, with 2 to 64 
 256 by version 3, with few or many keys, and half of them with stale reads. The model
 (plain_verdicts.py) makes the known relation from its definition, and searches what that leaves
 open. The verdicts have to agree; where the model's search takes too long none is compared, and that
-is counted. A serial order is tried out, one transaction after another.
+is counted. A serial order is tried out, one transaction after another. Histories in which a read has
+too many other writers to choose from, in all, are left out: the model takes minutes for each.
 """
 import argparse
 import collections
@@ -19,8 +20,15 @@ from histories import KINDS, Store
 from judge import effect_of
 from plain_verdicts import NO, SPENT, YES, Parts, Relation, scan
 
-NODES = 3  # of the model's search, each of which takes seconds
+NODES = 40  # of the model's search
+CHOICES = 6000  # of a read and another writer of its key, which the model may look at
 PROGRAM = "crates/cobra_audit/out/cobra_audit"
+
+
+def choices_of(logs):
+    """How many pairs there are of a read and a writer of its key."""
+    writes = collections.Counter(key for log in logs for _, keys in log for key in keys)
+    return sum(writes[read[0]] for log in logs for reads, _ in log for read in reads)
 
 
 def history_of(dice):
@@ -30,6 +38,8 @@ def history_of(dice):
     kind, keys = KINDS[dice.choice(sorted(KINDS))], dice.choice((2, 8, 40, 400))
     for _ in range(dice.randint(50, 500)):
         store.execute(store.random.randrange(sessions), *kind(store.random, keys))
+    if choices_of(store.logs) > CHOICES:
+        return history_of(dice)
     opening = ["open", sessions, 4096, 3] if sessions > 64 else ["open", sessions, 4096]
     offers = [["offer", session, place, log[place : place + 64]]
               for session, log in enumerate(store.logs) for place in range(0, len(log), 64)]
