@@ -8,10 +8,13 @@ import sys
 import tempfile
 import time
 import unittest
+from unittest import mock
 
 from zanteyard import Session
 from zanteyard.program._auditor import PROGRAM
+from zanteyard.trial._throwaway_folder import ThrowawayFolder
 from zanteyard.trial.postgres_server import PostgresServer, program
+from zanteyard.trial.redis_server import RedisServer
 from zanteyard.stores.memory import MemoryStore
 
 TOP = os.path.normpath(os.path.join(os.path.dirname(os.path.abspath(__file__)), "../../.."))
@@ -162,6 +165,19 @@ class Examples(unittest.TestCase):
                 text = running.communicate(timeout=4 * ENDING)[0]
                 self.assertEqual(running.returncode, 1, text)
                 self.assertEqual((os.listdir(f"{self.folder}/tmp"), self.of_folder()), ([], []), text)
+
+    def test_an_interrupt_as_a_folder_is_made_leaves_none(self):
+        mkdir, made = os.mkdir, []
+
+        def interrupted(path, mode):
+            mkdir(path, mode)
+            made.append(path)
+            raise KeyboardInterrupt
+
+        for make in (PostgresServer().__enter__, RedisServer().__enter__, ThrowawayFolder().make):
+            with mock.patch("os.mkdir", interrupted), self.assertRaises(KeyboardInterrupt):
+                make()
+        self.assertEqual((len(made), [*filter(os.path.exists, made)]), (3, []))
 
     def is_served(self):
         """Whether a server accepts connections at a socket in the folder."""

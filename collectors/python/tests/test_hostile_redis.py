@@ -173,13 +173,18 @@ class Hostile(WithRedis, WithProgram, unittest.TestCase):
         store, client = MemoryStore(), self.client()
         self.still_audits(client, store, 1)
         up = self.names.up(client._messages.client)
-        forged, added = text_of(("lose", "forged")), 0
-        while added < 3:
+        forged = text_of(("lose", "forged"))
+
+        def is_refused():
+            """Or adds another one: the reader may be past the place of one that comes late."""
+            if self.server.refused.total >= 3:
+                return True
             number, _, more = self.tells.xinfo_stream(up)["last-generated-id"].partition(b"-")
             with suppress(ResponseError):  # the client has sent more by then
                 self.tells.xadd(up, {"m": forged, "s": b"?" * 32}, id=f"{int(number)}-{int(more) + 1}")
-                added += 1
-        self.wait_for(lambda: self.server.refused.total >= 3)
+            return False
+
+        self.assertTrue(wait_until(is_refused, pause=0.2))
         self.still_audits(client, store, 2)
         self.assertIsNone(self.live.lost)
 

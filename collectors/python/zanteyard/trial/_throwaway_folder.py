@@ -3,6 +3,7 @@
 from __future__ import annotations
 
 import os
+import secrets
 import shutil
 import subprocess
 import tempfile
@@ -10,7 +11,7 @@ import time
 from typing import Optional
 
 PID = "own_server.pid"  # in the folder: the number of the process to kill first
-TRIES = 50  # attempts to remove it: what was just killed may still create files
+TRIES = 600  # attempts to remove it: what was just killed may still create files
 # Its input ends when this program does. A process that doesn't work in the folder is a different
 # one that got the same number since.
 WATCH = f"""read -r _
@@ -24,6 +25,14 @@ while [ -e "$1" ] && [ $tries -lt {TRIES} ]; do
 done"""
 
 
+def new_path() -> str:
+    """The path for a temporary folder. It is known before the folder exists, so an interrupt at any
+    moment leaves none behind that nobody removes."""
+    return os.path.join(
+        os.path.realpath(tempfile.gettempdir()), f"zanteyard-{secrets.token_urlsafe(6)}"
+    )
+
+
 class ThrowawayFolder:
     """A temporary folder; `path` is its path, once it was made. A shell process waits for the end
     of this program."""
@@ -33,10 +42,11 @@ class ThrowawayFolder:
         self.watch: Optional[subprocess.Popen[bytes]] = None
 
     def make(self) -> None:
-        self.path = os.path.realpath(tempfile.mkdtemp(prefix="zanteyard-"))
+        self.path = new_path()
         quiet = subprocess.DEVNULL
         call = ["/bin/sh", "-c", WATCH, "sh", self.path]
         try:
+            os.mkdir(self.path, 0o700)
             self.watch = subprocess.Popen(
                 call,
                 stdin=subprocess.PIPE,

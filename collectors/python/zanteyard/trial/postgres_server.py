@@ -8,15 +8,15 @@ import shutil
 import signal
 import subprocess
 import sys
-import tempfile
 import time
 from contextlib import contextmanager
 from typing import Any, Dict, Iterator, Optional, Sequence
 
+from ._throwaway_folder import TRIES, new_path
+
 INITIAL = ("-A", "trust", "-U", "postgres", "-E", "UTF8", "--locale=C", "--no-sync")
 STARTING = 300  # seconds for a server to take connections
 STOPPING = 20  # seconds for a server to stop
-TRIES = 50  # attempts to remove its folder
 
 
 def program(name: str) -> Optional[str]:
@@ -77,10 +77,11 @@ class PostgresServer:
         subprocess.run(call, check=True, cwd=self.folder, **quiet, **self.user, **more)
 
     def __enter__(self) -> PostgresServer:
-        self.folder = tempfile.mkdtemp(prefix="zanteyard-")
+        self.folder = new_path()
         self.data = f"{self.folder}/data"
         self.dsn = f"host={self.folder} user=postgres dbname=postgres"
         try:
+            os.mkdir(self.folder, 0o700)
             if self.user:
                 shutil.chown(self.folder, "postgres", "postgres")
             self.run("initdb", "-D", self.data, *INITIAL)
