@@ -3,12 +3,12 @@
 
     python3 bench/generated.py [--histories N] [--seed N] [PROGRAM]
 
-Each is the log of a store under load (histories.py): of any kind, with 2 to 64 sessions, or up to
-256 by version 3, with few or many keys, and half of them with stale reads. The model
-(plain_verdicts.py) makes the known relation from its definition, and searches what that leaves
-open. The verdicts have to agree; where the model's search takes too long none is compared, and that
-is counted. A serial order is tried out, one transaction after another. Histories in which a read has
-too many other writers to choose from, in all, are left out: the model takes minutes for each.
+Each is the log of a store under load (histories.py): of any kind, with 2 to 64 sessions, or 256 by
+version 3, with few or many keys, and half of them with stale reads. The model (plain_verdicts.py)
+makes the known relation from its definition, and searches what that leaves open. The two verdicts
+have to agree. Where the model's search takes too long, none is compared, and that is counted.
+Histories with more than 6,000 pairs of a read and a writer of its key are left out: the model would
+take minutes for each. A serial order is tried out, one transaction after another.
 """
 import argparse
 import collections
@@ -21,7 +21,7 @@ from judge import effect_of
 from plain_verdicts import NO, SPENT, YES, Parts, Relation, scan
 
 NODES = 40  # of the model's search
-CHOICES = 6000  # of a read and another writer of its key, which the model may look at
+CHOICES = 6000  # pairs of a read and a writer of its key that the model may look at
 PROGRAM = "crates/cobra_audit/out/cobra_audit"
 
 
