@@ -1,6 +1,6 @@
 -- What is told of parts is taken where it is handed over, line after line.
 use Rattle.std.proofs.Common.{◌≡◌, ℕ, suc, ◌+◌, ◌-◌, ◌<◌, ◌≤◌, true, false, not, inl, cond, List, [], ◌∷◌, ◌++◌, length, take, drop, refl, sym, ap, subst, ◌∙◌, append_assoc, arith, length-append, length-drop, ⊎_elim}
-use Rattle.std.specs.Prelude.{map, slice_set, replicate, nat_lt}
+use Rattle.std.specs.Prelude.{map, slice_index_or, slice_set, replicate, nat_lt}
 use Rattle.std.specs.FinMap as finite
 use Rattle.std.specs.FinMap.{entries_sorted}
 use Rattle.std.specs.List.{flat_map, list_any}
@@ -13,9 +13,13 @@ use Rattle.txn.specs.declared.transactions.Txn.{Txn}
 use Rattle.txn.specs.declared.transactions.Fragment.{Fragment}
 use Rattle.txn.specs.declared.refusals.Refusal.TheVariants.{BadSession}
 use Rattle.txn.specs.History.{session_of}
+use Rattle.txn.specs.declared.transactions.Source.{Source}
+use Rattle.txn.specs.declared.transactions.Source.TheVariants.{Init, By}
+use Rattle.txn.specs.Transactions.{IsSourceFor, IsWellFormed}
 use Rattle.order_check.specs.declared.remainder.Parts.{Parts}
 use Rattle.order_check.specs.Based.{mark_of, remaining_of}
 use Rattle.order_check.specs.Good.{IsGood}
+use Rattle.order_check.specs.StandsFor.{bounded}
 use Rattle.log_text.specs.declared.commands.Wanted.TheVariants as wanted
 use Rattle.log_text.specs.declared.replies.Reply.{Reply}
 use Rattle.log_text.specs.declared.replies.Reply.TheVariants as told
@@ -26,10 +30,9 @@ use Rattle.log_text.specs.declared.versions.Version.{Version}
 use Rattle.log_text.specs.declared.versions.Version.TheVariants.{One}
 use Rattle.log_text.specs.Saved.{untold}
 use Rattle.log_text.specs.Versions.{has_form, most_sessions}
-use Rattle.round_state.specs.Opening.{IsSessions}
 use Rattle.cobra.specs.HandOver.{IsNextOffer, handed_first, handed_offer}
 use Rattle.cobra.specs.Saving.{first_told, fragment_told, handing_of, saved_told, writers_from}
-use Rattle.cobra.specs.Checkpoints.{AreSessionsTold, AreTaken, AreTxnsTold, AreWritersTold, GivenOutIsTaken, IsCheckpoint, IsLast}
+use Rattle.cobra.specs.Checkpoints.{AreSessionsTold, AreTaken, AreTxnsTold, AreWritersTold, GivenOutIsTaken, IsCheckpoint, IsLast, WiderBoundsAreKept}
 use Rattle.cobra.specs.declared.handing.Handing.{Handing}
 use Rattle.cobra.specs.declared.stages.Stage.{Stage}
 use Rattle.cobra.specs.declared.stages.Stage.TheVariants as stage
@@ -197,9 +200,39 @@ checkpoint_taken parts version given good many is =
     ))
 
 pub given_out_is_taken : GivenOutIsTaken
-given_out_is_taken parts version given good many within is = record {
-  resumes = (subst (λ (n : ℕ). IsSessions n (length parts.remain)) many (good.some_sessions, good.few_sessions, good.low_sessions), within, refl);
-  taken = checkpoint_taken parts version given good many is;
-  good = good_again parts good;
-  same = parts_again parts;
+given_out_is_taken parts version limit given good within is = record {
+  resumes = ((good.some_sessions, good.few_sessions, good.low_sessions), within, refl);
+  taken = checkpoint_taken (bounded parts (most_sessions version) limit) version given good refl is;
+  good = good_again (bounded parts (most_sessions version) limit) good;
+  same = parts_again (bounded parts (most_sessions version) limit);
+}
+
+wider_source : (few most : ℕ) (reader : TxnId) (source : Source) → few ≤ most → IsSourceFor few reader source → IsSourceFor most reader source
+wider_source few most reader Init wider is = is
+wider_source few most reader (By writer) wider is = (is.0, omega (arith, wider, is.1), is.2)
+
+wider_formed : (few most : ℕ) (id : TxnId) (txn : Txn) → few ≤ most → IsWellFormed few id txn → IsWellFormed most id txn
+wider_formed few most id txn wider formed = record {
+  lists = record {
+    reads_rise = formed.lists.reads_rise;
+    writes_rise = formed.lists.writes_rise;
+    sources = λ k d within. wider_source few most id (slice_index_or txn.reads k d).1 wider (formed.lists.sources k d within);
+  };
+  epoch = formed.epoch;
+}
+
+pub wider_bounds_are_kept : WiderBoundsAreKept
+wider_bounds_are_kept parts most limit good many low_many roomy low_limit = record {
+  some_sessions = good.some_sessions;
+  few_sessions = let few = good.few_sessions in omega (arith, few, many);
+  low_sessions = low_many;
+  marks = good.marks;
+  closed = good.closed;
+  some_limit = let some = good.some_limit in omega (arith, some, roomy);
+  low_limit = low_limit;
+  room = let room = good.room in omega (arith, room, roomy);
+  numbers = good.numbers;
+  well_formed = λ s n txn at. wider_formed parts.most_sessions most (record { session = s; number = mark_of parts s + n }) txn many (good.well_formed s n txn at);
+  short = good.short;
+  base = good.base;
 }

@@ -21,6 +21,7 @@ use Rattle.txn.specs.History.{session_of}
 use Rattle.order_check.specs.declared.remainder.Parts.{Parts}
 use Rattle.order_check.specs.Based.{mark_of, remaining_of, received_count}
 use Rattle.order_check.specs.Good.{IsGood}
+use Rattle.order_check.specs.StandsFor.{bounded}
 use Rattle.log_text.specs.declared.commands.Command.TheVariants as command
 use Rattle.log_text.specs.declared.commands.Wanted.TheVariants as wanted
 use Rattle.log_text.specs.declared.replies.Reply.TheVariants as told
@@ -30,7 +31,6 @@ use Rattle.log_text.specs.declared.versions.Opening.TheVariants.{Isolated}
 use Rattle.log_text.specs.declared.versions.Version.{Version}
 use Rattle.log_text.specs.Saved.{untold}
 use Rattle.log_text.specs.Versions.{most_sessions}
-use Rattle.round_state.specs.Opening.{IsSessions}
 use Rattle.snapshot_scripts.specs.Given.{GivenIsTaken, IsPlace, IsTakenBack, halves_from}
 use Rattle.snapshot_scripts.specs.Handed.{taken_fragment, taken_half}
 use Rattle.snapshot_scripts.specs.Isolated.{halved, half_begun, isolated_of, whole_writer}
@@ -275,14 +275,14 @@ module _ (laws : GivenIsTaken) (parts : Parts) (version : Version) (good : IsGoo
         subst (λ (n : ℕ). AreTaken (at [] (replicate n [])) rest end) (sym good.marks) (rest_taken is.writers is.remain is.writers_told is.remain_told),
       ))
 
+-- bounds have no part in what is split
+split_within : (parts : Parts) (most limit : ℕ) → AreSplitParts parts → AreSplitParts (bounded parts most limit)
+split_within parts most limit split = record { sessions = split.sessions; remain = split.remain; last = split.last }
+
 pub isolated_out_is_taken : GivenIsTaken → IsolatedOutIsTaken
-isolated_out_is_taken laws parts version limit given good split many within room is = record {
-  resumes = (
-    subst (λ (n : ℕ). IsSessions n (length parts.remain)) many (good.some_sessions, good.few_sessions, good.low_sessions),
-    within,
-    ap (λ (n : ℕ). Some (stage.Resuming (length parts.remain) n (Isolated version))) room,
-  );
-  taken = checkpoint_taken laws parts version good split many given is;
-  good = good_again parts good;
-  same = parts_again parts;
+isolated_out_is_taken laws parts version limit given good split within is = record {
+  resumes = ((good.some_sessions, good.few_sessions, good.low_sessions), within, refl);
+  taken = checkpoint_taken laws (bounded parts (most_sessions version) (2 * limit)) version good (split_within parts (most_sessions version) (2 * limit) split) refl given is;
+  good = good_again (bounded parts (most_sessions version) (2 * limit)) good;
+  same = parts_again (bounded parts (most_sessions version) (2 * limit));
 }

@@ -1,10 +1,11 @@
 -- Checkpoints: what one who asks for all that is kept is told, and what it comes to where it is handed over.
-use Rattle.std.specs.Prelude.{◌≡◌, ℕ, ◌+◌, ◌*◌, List, [], ◌∷◌, ◌++◌, length, map, Some}
+use Rattle.std.specs.Prelude.{◌≡◌, ℕ, ◌+◌, ◌*◌, ◌≤◌, List, [], ◌∷◌, ◌++◌, length, map, Some}
 use Rattle.std.specs.List.{flat_map}
 use Rattle.txn.specs.declared.transactions.TxnId.{TxnId}
 use Rattle.txn.specs.declared.transactions.Fragment.{Fragment}
 use Rattle.order_check.specs.declared.remainder.Parts.{Parts}
 use Rattle.order_check.specs.Good.{IsGood}
+use Rattle.order_check.specs.StandsFor.{bounded}
 use Rattle.log_text.specs.declared.commands.Wanted.{Wanted}
 use Rattle.log_text.specs.declared.commands.Wanted.TheVariants as wanted
 use Rattle.log_text.specs.declared.replies.Reply.{Reply}
@@ -69,12 +70,16 @@ pub record IsResumed (parts : Parts) (limit : ℕ) (opening : Opening) (given : 
   pub good : AreGoodParts (handing_of parts)
   pub same : handed_parts (handing_of parts) ≡ parts
 
--- Whatever good parts give out is taken where it is handed over, for lines of each version that has their bound of sessions and lets as many
--- transactions remain, and comes to these very parts.
+-- Whatever parts give out is taken where it is handed over, by a script of each version and limit under whose bounds they are good, and comes to
+-- these very parts under these bounds.
 abbrev pub GivenOutIsTaken : Type 0
-GivenOutIsTaken = (parts : Parts) (version : Version) (given : List Saved) → IsGood parts → parts.most_sessions ≡ most_sessions version → IsVersionLimit version parts.limit → IsCheckpoint (saved_told parts) (length parts.remain) given → IsResumed parts parts.limit (Ordered version) given
+GivenOutIsTaken = (parts : Parts) (version : Version) (limit : ℕ) (given : List Saved) → IsGood (bounded parts (most_sessions version) limit) → IsVersionLimit version limit → IsCheckpoint (saved_told parts) (length parts.remain) given → IsResumed (bounded parts (most_sessions version) limit) limit (Ordered version) given
 
 -- The same of parts whose transactions are split, which have room for two of each: what they give out is told by transactions as they were
 -- offered, and comes to these very parts again.
 abbrev pub IsolatedOutIsTaken : Type 0
-IsolatedOutIsTaken = (parts : Parts) (version : Version) (limit : ℕ) (given : List Saved) → IsGood parts → AreSplitParts parts → parts.most_sessions ≡ most_sessions version → IsIsolatedLimit version limit → parts.limit ≡ 2 * limit → IsCheckpoint (isolated_told parts) (length parts.remain) given → IsResumed parts limit (Isolated version) given
+IsolatedOutIsTaken = (parts : Parts) (version : Version) (limit : ℕ) (given : List Saved) → IsGood (bounded parts (most_sessions version) (2 * limit)) → AreSplitParts parts → IsIsolatedLimit version limit → IsCheckpoint (isolated_told parts) (length parts.remain) given → IsResumed (bounded parts (most_sessions version) (2 * limit)) limit (Isolated version) given
+
+-- Good parts are good under wider bounds, as those of a later version.
+abbrev pub WiderBoundsAreKept : Type 0
+WiderBoundsAreKept = (parts : Parts) (most limit : ℕ) → IsGood parts → parts.most_sessions ≤ most → most ≤ 256 → parts.limit ≤ limit → limit ≤ 1048576 → IsGood (bounded parts most limit)

@@ -2,7 +2,7 @@
 ghost use Rattle.std.specs.Prelude.{◌≡◌, ◌-◌, take, IfOk};
 ghost use Rattle.order_check.specs.Based.{mark_of, remaining_of, received_count};
 ghost use Rattle.order_check.specs.Good.{IsGood};
-ghost use Rattle.cobra.specs.Checkpoints.{GivenOutIsTaken, IsolatedOutIsTaken};
+ghost use Rattle.cobra.specs.Checkpoints.{GivenOutIsTaken, IsolatedOutIsTaken, WiderBoundsAreKept};
 ghost use Rattle.cobra.specs.Saving.{writers_from, first_told, fragment_told, saved_told};
 
 use log_text::{Reply, Saved, Wanted};
@@ -101,7 +101,7 @@ pub fn saved_told(alloc: Global, engine: &Engine, wanted: Wanted) -> Result<Repl
     }
 }
 
-/// Whatever is given out of good parts, line after line, is taken where it is handed over, and comes to the same parts.
+/// Whatever is given out of parts, line after line, is taken where it is handed over under bounds that they keep, and comes to the same parts.
 pub fn given_out_is_taken()
     ensures { GivenOutIsTaken }
 {}
@@ -112,3 +112,8 @@ pub fn isolated_out_is_taken()
 {
     given_is_taken();
 }
+
+/// Good parts are good under wider bounds, too.
+pub fn wider_bounds_are_kept()
+    ensures { WiderBoundsAreKept }
+{}

@@ -8,7 +8,7 @@ use Rattle.list_lemmas.proofs.Places.{place_left}
 use Rattle.txn.specs.declared.transactions.Txn.{Txn}
 use Rattle.txn.specs.declared.transactions.TxnId.{TxnId}
 use Rattle.txn.specs.declared.transactions.Fragment.{Fragment}
-use Rattle.txn.specs.Transactions.{IsFence, IsWellFormedFragment}
+use Rattle.txn.specs.Transactions.{IsFence}
 use Rattle.txn.specs.History.{History, session_of}
 use Rattle.order_check.specs.declared.remainder.Parts.{Parts}
 use Rattle.order_check.specs.declared.remainder.Kind.{Kind}
@@ -88,18 +88,15 @@ anchored_before front old new fence gone last fragment c (anchor, is, begins) = 
 -- what may come after the cut might have come before it
 next_before : (front old new : Parts) (fence : TxnId) (gone : List TxnId) (last : FinMap nat_cmp TxnId) (arrival : Arrival) → Cut front old new fence gone last → ComesNext new arrival → ComesNext old arrival
 next_before front old new fence gone last (More fragment) c next = record {
-  well_formed = subst (λ most. IsWellFormedFragment most fragment) c.leaves.most_sessions next.well_formed;
   session = (subst (λ n. fragment.session < n) c.leaves.sessions next.session.0, λ is_closed. next.session.1 (ap (λ flags. slice_get flags fragment.session) c.leaves.closed ∙ is_closed));
   next = next.next ∙ received_kept front old new fence gone last c fragment.session;
 }
 next_before front old new fence gone last (Joins fragment) c next = record {
-  well_formed = subst (λ most. IsWellFormedFragment most fragment) c.leaves.most_sessions next.well_formed;
   session = next.session ∙ c.leaves.sessions;
   first = next.first;
   anchored = anchored_before front old new fence gone last fragment c next.anchored;
 }
 next_before front old new fence gone last (Returns fragment) c next = record {
-  well_formed = subst (λ most. IsWellFormedFragment most fragment) c.leaves.most_sessions next.well_formed;
   session = subst (λ n. fragment.session < n) c.leaves.sessions next.session;
   next = next.next ∙ received_kept front old new fence gone last c fragment.session;
   anchored = anchored_before front old new fence gone last fragment c next.anchored;

@@ -6,7 +6,7 @@ use Rattle.order_check.specs.Based.{received_counts}
 use Rattle.order_check.specs.CountedFronts.{front_at, front_of, AreFrontCounts}
 use Rattle.order_check.specs.Explains.{Explains}
 use Rattle.order_check.specs.Good.{IsGood}
-use Rattle.order_check.proofs.Closing.{explains_flagged}
+use Rattle.order_check.proofs.Closing.{explains_beside}
 use Rattle.order_check.proofs.CountedFronts.{kept_is_counted, whole_counts}
 use Rattle.order_check.proofs.KeptFronts.{itself}
 
@@ -14,8 +14,8 @@ use Rattle.order_check.proofs.KeptFronts.{itself}
 pub front_explained : (parts front : Parts) (counts : List ℕ) (order : List TxnId) (found : Bool) → front ≡ front_of parts counts → IsTrue found ↔ Explains front order → (live : List Bool) → IsTrue found ↔ Explains (front_at parts counts live) order
 front_explained parts front counts order found e is live =
     let same : IsTrue found ↔ Explains (front_of parts counts) order = subst (λ (p : Parts). IsTrue found ↔ Explains p order) e is in (
-      λ h. explains_flagged (front_of parts counts) parts.closed (map not live) order (same.0 h),
-      λ h. same.1 (explains_flagged (front_of parts counts) (map not live) parts.closed order h),
+      λ h. explains_beside (front_of parts counts) (front_of parts counts) (front_at parts counts live) order (same.0 h),
+      λ h. same.1 (explains_beside (front_of parts counts) (front_at parts counts live) (front_of parts counts) order h),
     )
 
 pub whole_explained : (parts : Parts) (counts : List ℕ) (order : List TxnId) (found : Bool) → IsGood parts → counts ≡ received_counts parts → ((live : List Bool) → IsTrue found ↔ Explains (front_at parts counts live) order) → IsTrue found ↔ Explains parts order

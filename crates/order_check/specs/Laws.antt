@@ -10,7 +10,7 @@ use Rattle.order_check.specs.NoBase.{HasNoBase}
 use Rattle.order_check.specs.Explains.{Explains}
 use Rattle.order_check.specs.Verdict.{IsVerdict}
 use Rattle.order_check.specs.Whole.{ExplainsWhole, IsVerdictWhole}
-use Rattle.order_check.specs.StandsFor.{Arrival, StandsFor, IsJoiningFragment, IsNextFragment, IsReturningFragment, parts_with, parts_closed, parts_joined, parts_returned, with_fragment, with_session, history_then}
+use Rattle.order_check.specs.StandsFor.{Arrival, StandsFor, IsJoiningFragment, IsNextFragment, IsReturningFragment, bounded, parts_with, parts_closed, parts_joined, parts_returned, with_fragment, with_session, history_then}
 
 -- Where nothing is gone, an order explains the parts exactly where it explains the whole history that remains.
 abbrev pub SameOrdersAsWhole : Type 0
@@ -43,6 +43,10 @@ ReturnKeepsStandsFor = (parts : Parts) (history : History) (fragment : Fragment)
 -- Parts that stand for a history stand for it with a session closed: less may come.
 abbrev pub CloseKeepsStandsFor : Type 0
 CloseKeepsStandsFor = (parts : Parts) (history : History) (s : ℕ) → StandsFor parts history → StandsFor (parts_closed parts s) history
+
+-- Parts that stand for a history stand for it under other bounds, too.
+abbrev pub BoundsLeaveStandsFor : Type 0
+BoundsLeaveStandsFor = (parts : Parts) (history : History) (most limit : ℕ) → StandsFor parts history → StandsFor (bounded parts most limit) history
 
 -- Violated is final: where no order explains a history, none explains it with more.
 abbrev pub ViolatedIsFinal : Type 0

@@ -4,7 +4,7 @@ use Rattle.txn.specs.declared.transactions.Fragment.{Fragment}
 use Rattle.txn.specs.declared.transactions.Source.TheVariants.{By}
 use Rattle.txn.specs.declared.transactions.Txn.{Txn}
 use Rattle.txn.specs.declared.transactions.TxnId.{TxnId}
-use Rattle.txn.specs.Transactions.{IsFence, IsWellFormedFragment}
+use Rattle.txn.specs.Transactions.{IsFence}
 use Rattle.txn.specs.History.{History, session_of}
 use Rattle.order_check.specs.declared.remainder.Parts.{Parts}
 use Rattle.order_check.specs.declared.remainder.Kind.{Kind}
@@ -50,6 +50,10 @@ parts_returned parts fragment = record parts {
 abbrev pub parts_closed : Parts → ℕ → Parts
 parts_closed parts s = record parts { closed = slice_set parts.closed s true }
 
+-- parts under these bounds: of how many sessions there may be, and of how many transactions may remain
+abbrev pub bounded : Parts → ℕ → ℕ → Parts
+bounded parts most limit = record parts { most_sessions = most; limit = limit }
+
 -- a history with this arrival
 abbrev pub history_after : History → Arrival → History
 history_after history (More fragment) = with_fragment history fragment
@@ -75,9 +79,8 @@ parts_then parts (arrival ∷ more) = parts_then (parts_after parts arrival) mor
 abbrev pub IsOpenSession : Parts → ℕ → Type 0
 IsOpenSession parts s = (s < length parts.remain) × (slice_get parts.closed s ≢ Some true)
 
--- a well-formed fragment that is next in an open session
+-- a fragment that is next in an open session
 pub record IsNextFragment (parts : Parts) (fragment : Fragment) : Type 0 where
-  pub well_formed : IsWellFormedFragment parts.most_sessions fragment
   pub session : IsOpenSession parts fragment.session
   pub next : fragment.first ≡ received_count parts fragment.session
 
@@ -93,17 +96,15 @@ IsFenceFrom source txn = (txn.reads ≡ (0, By source) ∷ []) × (txn.writes �
 abbrev pub IsAnchored : Parts → Fragment → Type 0
 IsAnchored parts fragment = (anchor : TxnId) × IsAnchor parts anchor × IsSomeAnd (slice_get fragment.txns 0) (IsFenceFrom anchor)
 
--- a well-formed fragment that may be the first of a new session
+-- a fragment that may be the first of a new session
 pub record IsJoiningFragment (parts : Parts) (fragment : Fragment) : Type 0 where
-  pub well_formed : IsWellFormedFragment parts.most_sessions fragment
   pub session : fragment.session ≡ length parts.remain
   pub first : fragment.first ≡ 0
   pub anchored : IsAnchored parts fragment
 
--- A well-formed fragment with which a session may go on, whether or not it was closed. Nothing new is asked of the store by
--- it: the fence says where the session goes on, as it does for a new one.
+-- A fragment with which a session may go on, whether or not it was closed. Nothing new is asked of the store by it: the fence says
+-- where the session goes on, as it does for a new one.
 pub record IsReturningFragment (parts : Parts) (fragment : Fragment) : Type 0 where
-  pub well_formed : IsWellFormedFragment parts.most_sessions fragment
   pub session : fragment.session < length parts.remain
   pub next : fragment.first ≡ received_count parts fragment.session
   pub anchored : IsAnchored parts fragment
@@ -120,7 +121,8 @@ MayCome parts [] = ⊤
 MayCome parts (arrival ∷ more) = ComesNext parts arrival × MayCome (parts_after parts arrival) more
 
 -- The parts stand for a whole history: as much was received of each session, and whatever may still come, in the sessions that
--- are open, new ones, and ones that come back, the verdict of the history with it is that of the parts with it.
+-- are open, new ones, and ones that come back, the verdict of the history with it is that of the parts with it. Bounds play no part
+-- in it: neither how many sessions there may be nor how many transactions may remain.
 pub record StandsFor (parts : Parts) (history : History) : Type 0 where
   pub sessions : length history ≡ length parts.remain
   pub received : (s : ℕ) → received_count parts s ≡ length (session_of history s)

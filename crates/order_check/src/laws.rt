@@ -1,4 +1,4 @@
-ghost use Rattle.order_check.specs.Laws.{SameOrdersAsWhole, SameVerdictAsWhole, StandsForWhatRemains, SameVerdictAsStoodFor, OfferKeepsStandsFor, JoinKeepsStandsFor, ReturnKeepsStandsFor, CloseKeepsStandsFor, ViolatedIsFinal};
+ghost use Rattle.order_check.specs.Laws.{SameOrdersAsWhole, SameVerdictAsWhole, StandsForWhatRemains, SameVerdictAsStoodFor, OfferKeepsStandsFor, JoinKeepsStandsFor, ReturnKeepsStandsFor, CloseKeepsStandsFor, BoundsLeaveStandsFor, ViolatedIsFinal};
 
 /// An order explains parts of which nothing is gone exactly where it explains the whole history that remains.
 pub fn orders_as_of_whole()
@@ -38,6 +38,11 @@ pub fn return_keeps_stands_for()
 /// A session's closing leaves parts standing for the same history.
 pub fn close_keeps_stands_for()
     ensures { CloseKeepsStandsFor }
+{}
+
+/// Other bounds leave parts standing for the same history.
+pub fn bounds_leave_stands_for()
+    ensures { BoundsLeaveStandsFor }
 {}
 
 /// A history that no order explains stays so, whatever comes.

@@ -39,9 +39,9 @@ pub use front_laws::{
 pub use fronts::{Front, front_parts};
 pub use known_laws::{cycle_leaves_no_order, every_order_keeps_known};
 pub use laws::{
-    close_keeps_stands_for, join_keeps_stands_for, offer_keeps_stands_for, orders_as_of_whole,
-    return_keeps_stands_for, stands_for_what_remains, verdict_as_of_whole, verdict_as_stood_for,
-    violated_is_final,
+    bounds_leave_stands_for, close_keeps_stands_for, join_keeps_stands_for, offer_keeps_stands_for,
+    orders_as_of_whole, return_keeps_stands_for, stands_for_what_remains, verdict_as_of_whole,
+    verdict_as_stood_for, violated_is_final,
 };
 pub use remainder::{Base, Kind, LastWriters, Parts};
 pub use search_laws::{scans_are_bounded, scans_find_one};

@@ -62,13 +62,13 @@ good_with parts f good fits =
       some_limit = good.some_limit;
       low_limit = good.low_limit;
       room = omega (arith, sum, more, fits.room);
-      numbers = numbers_with parts f within fits.next.next fits.next.well_formed.lengths.numbers good.numbers;
+      numbers = numbers_with parts f within fits.next.next fits.well_formed.lengths.numbers good.numbers;
       well_formed = each_with (λ s n txn. IsWellFormed parts.most_sessions (record { session = s; number = mark_of parts s + n }) txn) parts f within good.well_formed
           (λ n txn h.
           let at : f.first + n ≡ mark_of parts f.session + (length before + n) = omega (arith, fits.next.next) in
-          subst (λ (m : ℕ). IsWellFormed parts.most_sessions (record { session = f.session; number = m }) txn) at (fits.next.well_formed.txns n txn (slice_get_within f.txns n txn h) h));
+          subst (λ (m : ℕ). IsWellFormed parts.most_sessions (record { session = f.session; number = m }) txn) at (fits.well_formed.txns n txn (slice_get_within f.txns n txn h) h));
       short = each_with (λ s n txn. IsShort txn) parts f within good.short (λ n txn h.
-          subst IsShort (get_or_from_slice_get f.txns n txn txn h) (All-get_or IsShort f.txns n txn (slice_get_within f.txns n txn h) fits.next.well_formed.lengths.each));
+          subst IsShort (get_or_from_slice_get f.txns n txn txn h) (All-get_or IsShort f.txns n txn (slice_get_within f.txns n txn h) fits.well_formed.lengths.each));
       base = good.base;
     }
 

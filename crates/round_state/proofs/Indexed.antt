@@ -172,7 +172,7 @@ awaited_new marks parts index f is fits = record {
       let received = remains_received parts read.reader some.0 some.1 in
       let here = subst (λ (id : TxnId). id.number < received_count parts id.session) one.reader received in
       omega (arith, here, fits.next.next);
-  once = awaited_once marks f.session f.first f.txns (λ n txn at. (fits.next.well_formed.txns n txn (slice_get_within f.txns n txn at) at).lists.reads_rise);
+  once = awaited_once marks f.session f.first f.txns (λ n txn at. (fits.well_formed.txns n txn (slice_get_within f.txns n txn at) at).lists.reads_rise);
 }
 
 -- the index has the pending reads of the parts with the fragment

@@ -105,8 +105,8 @@ tracked_more parts new marks new_marks waits e m few tracked =
 -- the fragment is next in the new session
 pub admitted_more : (parts : Parts) (f : Fragment) → IsGood parts → IsLetIn parts f → f.session ≡ length parts.remain → IsAdmitted (parts_more parts) f
 admitted_more parts f good fits new = record {
+  well_formed = fits.well_formed;
   next = record {
-    well_formed = fits.well_formed;
     session = (omega (arith, new, length_push parts.remain []), λ closed. is_open (closed_at closed));
     next = let long = ap length (remaining_same parts f.session) in omega (arith, fits.next, marks_same parts f.session, long);
   };
@@ -167,7 +167,8 @@ tracked_flagged parts new marks new_marks waits s flag e m within tracked =
 
 pub admitted_reopened : (parts : Parts) (f : Fragment) → IsLetIn parts f → IsClosedSession parts f.session → IsAdmitted (parts_flagged parts f.session false) f
 admitted_reopened parts f fits closed = record {
-  next = record { well_formed = fits.well_formed; session = (closed.0, λ is. opened parts.closed f.session is); next = fits.next };
+  well_formed = fits.well_formed;
+  next = record { session = (closed.0, λ is. opened parts.closed f.session is); next = fits.next };
   room = fits.room;
 }
   where

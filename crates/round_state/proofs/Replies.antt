@@ -199,7 +199,7 @@ joins_of parts whole f joins returns stands fits = subst (λ (n : ℕ). StandsFo
 
     by_old : (f.session ≡ length parts.remain) ⊎ (IsClosedSession parts f.session × (remaining_of parts f.session ≡ [])) → nat_eq f.session (length parts.remain) ≡ false → IsReturningFragment parts f
     by_old (inl same) apart = absurd (false≢true (sym apart ∙ eq-eqb f.session (length parts.remain) same))
-    by_old (inr (closed, none)) apart = record { well_formed = fits.well_formed; session = closed.0; next = fits.next; anchored = fits.anchored }
+    by_old (inr (closed, none)) apart = record { session = closed.0; next = fits.next; anchored = fits.anchored }
 
     first : f.session ≡ length parts.remain → f.first ≡ 0
     first same =
@@ -209,7 +209,7 @@ joins_of parts whole f joins returns stands fits = subst (λ (n : ℕ). StandsFo
 
     by_test : (t : Bool) → nat_eq f.session (length parts.remain) ≡ t → StandsFor (parts_after parts (arrival (nat_eq f.session (length parts.remain)))) (history_after whole (arrival (nat_eq f.session (length parts.remain))))
     by_test true e = subst (λ (b : Bool). StandsFor (parts_after parts (arrival b)) (history_after whole (arrival b))) (sym e)
-        (let same = eqb-true f.session (length parts.remain) e in joins parts whole f stands (record { well_formed = fits.well_formed; session = same; first = first same; anchored = fits.anchored }))
+        (let same = eqb-true f.session (length parts.remain) e in joins parts whole f stands (record { session = same; first = first same; anchored = fits.anchored }))
     by_test false e = subst (λ (b : Bool). StandsFor (parts_after parts (arrival b)) (history_after whole (arrival b))) (sym e) (returns parts whole f stands (by_old fits.session e))
 
 -- whatever histories the engine stood for, a right step is legal

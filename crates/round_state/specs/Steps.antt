@@ -44,8 +44,9 @@ IntakeFault parts fragment Repeat = IsOpenSession parts fragment.session × (fra
 IntakeFault parts fragment Backlog = IsOpenSession parts fragment.session × (fragment.first ≡ received_count parts fragment.session) × (parts.limit < sum_by length parts.remain + length fragment.txns)
 IntakeFault parts fragment refusal = ⊥
 
--- a fragment that is taken in, unless memory is wanting: it is next in an open session, and there is room for it
+-- a well-formed fragment that is taken in, unless memory is wanting: it is next in an open session, and there is room for it
 pub record IsAdmitted (parts : Parts) (fragment : Fragment) : Type 0 where
+  pub well_formed : IsWellFormedFragment parts.most_sessions fragment
   pub next : IsNextFragment parts fragment
   pub room : sum_by length parts.remain + length fragment.txns ≤ parts.limit
 
