@@ -1,4 +1,4 @@
-ghost use Rattle.std.specs.Prelude.{◌≡◌, ◌≢◌, ◌+◌, Ok, Err, Some, None, codes, map, option_map, string_bytes, IfOk, IfErr, OnOk, OnErr, IsErrOf};
+ghost use Rattle.std.specs.Prelude.{◌≡◌, ◌≢◌, ℕ, ◌+◌, ◌<◌, length, take, Ok, Err, Some, None, codes, map, option_map, string_bytes, IfOk, IfErr, OnOk, OnErr, IsErrOf};
 ghost use Rattle.std.specs.Io.KnownBytes.{Appends};
 ghost use Rattle.std.specs.IoError.{error_kind};
 ghost use Rattle.std.specs.Vec.Iter.{into_iter_items};
@@ -64,6 +64,9 @@ pub fn asked_in(alloc: Global, given: io::Result<Args>) -> Result<Asked, Failure
 /// Writes the whole text.
 pub fn tell<W: ByteSink>(sink: &mut W, text: &str) -> Result<(), Failure>
     ensures written { OnOk result (Appends (W.contents sink.old) (W.contents sink.new) text.now) }
+
+    // A proper front of the text is written.
+    ensures front { OnErr result ((n : ℕ) × (n < length text.now) × Appends (W.contents sink.old) (W.contents sink.new) (take n text.now)) }
     ensures failed { IfErr result (λ failure. (failure ≡ Failure.Device) × (W.faults sink.new ≡ W.faults sink.old + 1)) }
 {
     write_all(sink, text.as_bytes())?;

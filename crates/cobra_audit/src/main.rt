@@ -1,9 +1,9 @@
 //! The auditor: reads a script on standard input, and writes the reply to each of its lines on standard output.
 #![tactic(auto)]
 
-ghost use Rattle.std.specs.Prelude.{◌≡◌, ℕ, ◌<◌, ◌⊎◌, List, codes, Ok, Err, Some, IfSome, OnErr, option_map};
+ghost use Rattle.std.specs.Prelude.{◌≡◌, ◌≢◌, ℕ, ◌<◌, ◌⊎◌, List, length, take, codes, Ok, Err, Some, IfSome, OnErr, option_map};
 ghost use Rattle.std.specs.Io.KnownBytes.{Appends, Keeps};
-ghost use Rattle.cobra.specs.Outputs.{IsOutput, StopsForMemory};
+ghost use Rattle.cobra.specs.Outputs.{IsOutput, StopsForMemory, StopsReading, StopsWriting};
 
 use cobra::{
     Asked, ByteSink, ByteSource, Exit, Failure, Means, ReaderSource, Solvers, WriterSink, asked_in,
@@ -21,8 +21,8 @@ const USAGE: &str = "usage: cobra_audit [--help | --version] < SCRIPT";
 
 const HELP: &str =
     r#"cobra_audit is the auditor of Zanteyard: it checks from logs that a transactional key-value store was
-serializable, each session's order kept. It reads a script on standard input, and writes the reply to
-each line on standard output.
+serializable, each session's order kept, or that it kept snapshot isolation. It reads a script on
+standard input, and writes the reply to each line on standard output.
 
   cobra_audit < SCRIPT     serves the script to its end
   cobra_audit --help       writes this
@@ -42,16 +42,19 @@ The replies:
   ["report",1,"serial",[1],[[0,0]]]
 
 A round that ends with "guided", ["round",32,0,1,"guided"], searches in other ways first: it finds more
-within its budget. Other lines end a session (close), begin a round and finish it later (begin, finish),
-search for it while lines are read on (search, collect, skip), forget what is settled (truncate), have
-all made anew of what is kept (rebuild), tell the state (show), give out what is kept (save), and begin
-with what another run gave out (resume).
+within its budget. Other lines end a session (close), add one or let one come back (join), begin a round
+and finish it later (begin, finish), search for it while lines are read (search, collect, skip), hand in
+an answer from elsewhere (answer), forget what is settled (truncate), rebuild from what is kept
+(rebuild), show the state (show), give out what is kept (save), and begin with what another run gave
+out (resume).
 
 A script that begins with ["open",1,8,2] is of version 2: in it a transaction that aborted is offered
-with what it tried, as [[],[5],"aborted"], and whoever has read from it is told.
+with what it tried, as [[],[5],"aborted"], and a read from it is reported. With 3 in place of 2 there
+may be 256 sessions and a million transactions at a time, and with "snapshot" behind the number the
+question is whether the store kept snapshot isolation.
 
-The exit status is 0 at the end of the script, whatever was reported; 1 where a device failed or
-memory was wanting, which standard error then tells; 2 for other arguments.
+The exit status is 0 at the end of the script, whatever was reported; 1 if a device failed or memory
+ran out (standard error says which); 2 for other arguments.
 
 docs/FORMATS.md describes each line, reply and refusal; docs/COLLECTORS.md, what has to be logged.
 "#;
@@ -69,15 +72,20 @@ fn run<'s, E, T: Threads, R: ByteSource, W: ByteSink, P: PlainSolver + Sync, S: 
     // Status 0 says that the script was served to its end.
     ensures served { asked ≡ Ok Asked.Work → result.status ≡ 0 → IfSome (R.remaining input.old) (λ script. (replies : List ℕ) × IsOutput script replies × Appends (W.contents output.old) (W.contents output.new) replies) }
 
-    // Status 1 says that a device failed, or that memory was wanting; the words say which, and a front of an output was written.
+    // Status 1 says that a device failed, or that memory ran out; the words say which, and a front of an output was written.
     ensures statuses { asked ≡ Ok Asked.Work → (result.status ≡ 0) ⊎ (result.status ≡ 1) }
     ensures device { asked ≡ Ok Asked.Work → option_map (λ words. words.now) result.words ≡ Some (codes "device failed") → (R.faults input.old < R.faults input.new) ⊎ (W.faults output.old < W.faults output.new) }
+    ensures stops_reading { asked ≡ Ok Asked.Work → R.faults input.old < R.faults input.new → IfSome (R.remaining input.old) (λ script. (replies : List ℕ) × StopsReading script (R.remaining input.new) replies × Appends (W.contents output.old) (W.contents output.new) replies) }
+    ensures stops_writing { asked ≡ Ok Asked.Work → W.faults output.old < W.faults output.new → IfSome (R.remaining input.old) (λ script. (replies : List ℕ) × StopsWriting script (R.remaining input.new) replies × Appends (W.contents output.old) (W.contents output.new) replies) }
     ensures memory { asked ≡ Ok Asked.Work → option_map (λ words. words.now) result.words ≡ Some (codes "out of memory") → IfSome (R.remaining input.old) (λ script. (replies : List ℕ) × StopsForMemory script (R.remaining input.new) replies × Appends (W.contents output.old) (W.contents output.new) replies) }
-    ensures said { asked ≡ Ok Asked.Work → result.status ≡ 1 → (option_map (λ words. words.now) result.words ≡ Some (codes "device failed")) ⊎ (option_map (λ words. words.now) result.words ≡ Some (codes "out of memory")) }
+    ensures said { result.status ≡ 1 → (option_map (λ words. words.now) result.words ≡ Some (codes "device failed")) ⊎ (option_map (λ words. words.now) result.words ≡ Some (codes "out of memory")) }
 
+    // The text is written, or a front of it where the device failed.
     ensures help { asked ≡ Ok Asked.Help → result.status ≡ 0 → Appends (W.contents output.old) (W.contents output.new) HELP.now }
     ensures version { asked ≡ Ok Asked.Version → result.status ≡ 0 → Appends (W.contents output.old) (W.contents output.new) VERSION.now }
-    ensures printed { (asked ≡ Ok Asked.Help) ⊎ (asked ≡ Ok Asked.Version) → (result.status ≡ 0) ⊎ (W.faults output.old < W.faults output.new) }
+    ensures help_front { asked ≡ Ok Asked.Help → result.status ≢ 0 → (n : ℕ) × (n < length HELP.now) × Appends (W.contents output.old) (W.contents output.new) (take n HELP.now) }
+    ensures version_front { asked ≡ Ok Asked.Version → result.status ≢ 0 → (n : ℕ) × (n < length VERSION.now) × Appends (W.contents output.old) (W.contents output.new) (take n VERSION.now) }
+    ensures printed { (asked ≡ Ok Asked.Help) ⊎ (asked ≡ Ok Asked.Version) → (result.status ≡ 0) ⊎ ((result.status ≡ 1) × (option_map (λ words. words.now) result.words ≡ Some (codes "device failed")) × (W.faults output.old < W.faults output.new)) }
 
     // Other arguments: nothing is written but how the program is used.
     ensures unknown { asked ≡ Ok Asked.Unknown → (result.status ≡ 2) × (option_map (λ words. words.now) result.words ≡ Some USAGE.now) × Keeps (W.contents output.old) (W.contents output.new) }
