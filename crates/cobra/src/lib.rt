@@ -10,6 +10,7 @@ mod means;
 mod open_engine;
 mod programs;
 mod replies;
+mod resuming;
 mod rounds;
 mod saving;
 mod scripts;

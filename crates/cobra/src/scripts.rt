@@ -9,9 +9,10 @@ ghost use Rattle.cobra.specs.Scripts.{IsStep, AnswersOpen, AnswersBeside, Answer
 ghost use Rattle.cobra.specs.declared.stages.Stage.{Stage};
 
 use crate::audits::Audit;
-use crate::beginnings::{answer_handing, answer_resuming, begin};
+use crate::beginnings::begin;
 use crate::means::Means;
 use crate::replies::{certificate_of, reply_of};
+use crate::resuming::{answer_handing, answer_resuming};
 use crate::saving::saved_told;
 use crate::showing::state_told;
 use crate::stages::Stage;

@@ -1,6 +1,6 @@
 use Rattle.cobra.specs.declared.stages.Stage.TheVariants as stage
 use Rattle.cobra.proofs.OtherCommands.{anew_some, anew_none}
-use Rattle.cobra.proofs.beginnings.leave_handing.Goals as goal
+use Rattle.cobra.proofs.resuming.leave_handing.Goals as goal
 
 pub returns-in-Some : goal.returns-in-Some
 returns-in-Some c = anew_some (stage.Handing c.args.handed c.args.opening) c.args.command c.answer_first-reply.result.0 c.answer_first-reply.result.1 c.in-Some.stage c.answer_first-reply.ensures c.in-Some.is

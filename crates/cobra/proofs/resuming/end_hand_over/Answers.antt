@@ -3,7 +3,7 @@ use Rattle.cobra.specs.Audits.{unsearched}
 use Rattle.cobra.specs.HandOver.{handed_parts}
 use Rattle.cobra.specs.Scripts.{opened}
 use Rattle.cobra.proofs.Resumed.{holds_all}
-use Rattle.cobra.proofs.beginnings.end_hand_over.Goals as goal
+use Rattle.cobra.proofs.resuming.end_hand_over.Goals as goal
 
 pub returns-in-Ok : goal.returns-in-Ok
 returns-in-Ok c = (

@@ -1,5 +1,5 @@
 use Rattle.cobra.proofs.OtherCommands.{first_halves}
-use Rattle.cobra.proofs.beginnings.take_halves.Goals as goal
+use Rattle.cobra.proofs.resuming.take_halves.Goals as goal
 
 pub returns-in_default : goal.returns-in_default
 returns-in_default c =
