@@ -12,11 +12,12 @@ from zanteyard import Logged
 from zanteyard.core.errors import ZanteyardError
 from zanteyard.explain._anomalies import MEANINGS, Anomaly, name_circle
 from zanteyard.explain._arcs import IN_SESSION, IN_TIME, READ, READ_BEFORE, WRITTEN, Arc, Choice
+from zanteyard.explain._audited import audited_apart
 from zanteyard.explain._claims import BY_TIME, EXCLUDED, contradicts, excluded
 from zanteyard.explain._explanation import Explanation
 from zanteyard.explain._reasons import explanation_of
 from zanteyard.explain._report import story_lines, story_of
-from zanteyard.explain._shrinking import audited_apart, smaller
+from zanteyard.explain._shrinking import smaller
 from zanteyard.explain._standing import Standing, standing
 from zanteyard.explain._words import name as plain_name
 from zanteyard.promises._kinds import ALL, SERIALIZABLE, SNAPSHOT, STRICT

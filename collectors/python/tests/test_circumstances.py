@@ -4,12 +4,12 @@ import unittest
 from unittest import mock
 
 from zanteyard import Auditor, Session, tell_violation
+from zanteyard.explain._words import name
 from zanteyard.program._auditor import PROGRAM
 from zanteyard.core._circumstances import brief, caller, clock_of
 from zanteyard.stores.memory import MemoryStore
 from zanteyard.explain._html import page_of
 from zanteyard.core._records import Logged
-from zanteyard.explain._shrinking import name
 from zanteyard.explain._reasons import explain_history
 from zanteyard.explain._report import story_of
 

@@ -11,10 +11,10 @@ from unittest import mock
 
 from zanteyard import Logged
 from zanteyard.explain._arc_words import ArcWords
+from zanteyard.explain._audited import audited_apart
 from zanteyard.explain._explanation import Case, Explanation, laid_out
 from zanteyard.explain._reasons import explanation_of
 from zanteyard.explain._refutation import MANY, UnreadableError, _Reading, read_refutation
-from zanteyard.explain._shrinking import audited_apart
 from zanteyard.explain._words import name
 from zanteyard.promises._kinds import GENERALIZED, PREFIX, SERIALIZABLE, SESSIONLESS, SNAPSHOT
 from zanteyard.promises._kinds import STRICT, STRONG_SNAPSHOT

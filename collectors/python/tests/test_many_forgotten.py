@@ -4,7 +4,8 @@ import unittest
 
 from zanteyard import Logged
 from zanteyard.core._records import MOST
-from zanteyard.explain._shrinking import START, audited_apart, smaller
+from zanteyard.explain._audited import START, audited_apart
+from zanteyard.explain._shrinking import smaller
 from zanteyard.promises._kinds import PREFIX, SERIALIZABLE, SNAPSHOT
 
 from .test_many_transactions import AUDITOR, ROUND, WithFolder, run

@@ -13,8 +13,9 @@ import unittest
 from zanteyard import Auditor, LiveAuditor, Logged
 from zanteyard.core._own_keys import FENCE
 from zanteyard.core.errors import ImportRefusedError, ProgramTooOldError, RefusedError
+from zanteyard.explain._audited import audited_apart
 from zanteyard.explain._levels import Levels
-from zanteyard.explain._shrinking import audited_apart, smaller
+from zanteyard.explain._shrinking import smaller
 from zanteyard.imports._command import import_text
 from zanteyard.promises._kinds import GENERALIZED, SERIALIZABLE, SESSIONLESS, SNAPSHOT
 

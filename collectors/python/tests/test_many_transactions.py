@@ -18,10 +18,11 @@ from zanteyard import Auditor, Logged
 from zanteyard.cli._main import main
 from zanteyard.core.errors import ImportRefusedError, ProgramTooOldError
 from zanteyard.explain import _shrinking as shrinking
+from zanteyard.explain._audited import audited_apart, without_idle
 from zanteyard.explain._levels import Levels
 from zanteyard.explain._reasons import explain_history
 from zanteyard.explain._report import MOST_LINES, Story, story_lines
-from zanteyard.explain._shrinking import audited_apart, smaller, without_idle
+from zanteyard.explain._shrinking import smaller
 from zanteyard.explain._standing import standing
 from zanteyard.imports import _script as import_script
 from zanteyard.imports._command import import_text

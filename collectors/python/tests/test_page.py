@@ -9,11 +9,11 @@ import unittest
 import zlib
 
 from zanteyard import Logged
-from zanteyard.explain._shrinking import name
 from zanteyard.explain._charts import RoundSeen
 from zanteyard.explain._html import page_of
 from zanteyard.explain._reasons import explain_history
 from zanteyard.explain._report import Story, story_of
+from zanteyard.explain._words import name
 from zanteyard.promises._kinds import SERIALIZABLE, SNAPSHOT
 
 from .killing import PLAIN

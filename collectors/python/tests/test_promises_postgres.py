@@ -7,7 +7,8 @@ import threading
 import unittest
 
 from zanteyard import RATHER_WAIT, Auditor, AuditorApart, LiveAuditor, Session
-from zanteyard.explain._shrinking import from_start, smaller
+from zanteyard.explain._audited import from_start
+from zanteyard.explain._shrinking import smaller
 from zanteyard.explain._standing import standing
 from zanteyard.program._auditor import PROGRAM
 from zanteyard.promises._kinds import SERIALIZABLE, SNAPSHOT

@@ -10,10 +10,10 @@ from unittest import mock
 from zanteyard.core._circumstances import values_of
 from zanteyard.core._records import Logged, as_bytes, unpacked
 from zanteyard.core._redacting import redacted, redacted_bytes, without_constants
+from zanteyard.explain._audited import from_start
 from zanteyard.explain._html import page_of
 from zanteyard.explain._reasons import explain_history
 from zanteyard.explain._report import story_of
-from zanteyard.explain._shrinking import from_start
 from zanteyard.explain._violation_text import tell_violation
 from zanteyard.live._live_auditor import LiveAuditor
 from zanteyard.program._auditor import PROGRAM, Auditor

@@ -10,12 +10,13 @@ import unittest
 from contextlib import redirect_stderr, redirect_stdout
 
 from zanteyard.core._own_keys import FENCE
+from zanteyard.explain._audited import from_start
 from zanteyard.program._auditor import PROGRAM
 from zanteyard.cli._main import main
 from zanteyard.cli._statuses import STATUSES
 from zanteyard.core.errors import ScriptMistakeError
 from zanteyard.explain._scripts import ScriptRun
-from zanteyard.explain._shrinking import from_start, is_violated
+from zanteyard.explain._shrinking import is_violated
 from zanteyard.promises._kinds import SERIALIZABLE, SNAPSHOT
 
 from .plain_auditor import Plain  # this import also makes bench importable

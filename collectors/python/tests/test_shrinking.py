@@ -8,10 +8,11 @@ import unittest
 
 from zanteyard import AbortedError, Logged, Session, audited, dot_text, smaller, tell_violation
 from zanteyard.explain import _shrinking as shrinking
+from zanteyard.explain._audited import named, refuted
 from zanteyard.program._auditor import PROGRAM
 from zanteyard.explain._reasons import explain_history
 from zanteyard.stores.memory import MemoryStore
-from zanteyard.explain._shrinking import Part, named, refuted
+from zanteyard.explain._shrinking import Part
 from zanteyard.explain._words import statements_of
 
 from .test_examples import EXAMPLES

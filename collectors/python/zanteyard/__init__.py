@@ -63,9 +63,10 @@ if TYPE_CHECKING:
         StoreUnfitError,
         ZanteyardError,
     )
+    from .explain._audited import audited, from_start
     from .explain._graphviz import dot_text, draw
     from .explain._reasons import Explanation, explain_history, reasons
-    from .explain._shrinking import audited, from_start, smaller
+    from .explain._shrinking import smaller
     from .explain._violation_text import tell_violation
     from .explain._words import words
     from .live._live_auditor import LiveAuditor
@@ -93,9 +94,10 @@ _PLACES = {
         "ProgramLateError ProgramMissingError ProgramTooOldError RefusedError "
         "ScriptMistakeError StoreLateError StoreUnfitError ZanteyardError"
     ),
+    "explain._audited": "audited from_start",
     "explain._graphviz": "dot_text draw",
     "explain._reasons": "Explanation explain_history reasons",
-    "explain._shrinking": "audited from_start smaller",
+    "explain._shrinking": "smaller",
     "explain._violation_text": "tell_violation",
     "explain._words": "words",
     "live._live_auditor": "LiveAuditor",

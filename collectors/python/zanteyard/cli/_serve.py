@@ -34,7 +34,7 @@ from ..core._outcome import (
 from ..core._private_files import private
 from ..core._shared_key import ENVIRONMENT as KEY
 from ..core.errors import AuditTakenError, StrangeRedisError, ZanteyardError
-from ..explain._shrinking import from_start, refuted
+from ..explain._audited import from_start, refuted
 from ..explain._violation_text import tell_violation
 from ..journal._file import Journal
 from ..live._live_auditor import LiveAuditor

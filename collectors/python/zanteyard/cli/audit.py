@@ -17,10 +17,10 @@ from typing import Any, Iterator, List, Optional, Tuple
 
 from ..core._outcome import RATHER_LOSE_THE_AUDIT, RATHER_WAIT, Outcome, words_of_before
 from ..core._visible import say
+from ..explain._audited import from_start, refuted
 from ..explain._charts import RoundSeen
 from ..explain._html import page_of
 from ..explain._report import Story
-from ..explain._shrinking import from_start, refuted
 from ..explain._violation_text import tell_story
 from ..live._live_auditor import LiveAuditor
 from ..live._told import RoundTold

@@ -23,11 +23,12 @@ from ..promises._kinds import (
 )
 from ..promises._asking import MOST, MOST_SESSIONS
 from ._arcs import table
+from ._audited import audited, from_start, refuted
 from ._report import EXPLAINED, SHOWN
 from ._script_names import ScriptNames
 from ._script_times import ScriptTimes
 from ._scripts import MORE, ScriptHistory, ScriptRun, Verdict
-from ._shrinking import Part, audited, from_start, is_violated, refuted, smaller
+from ._shrinking import Part, is_violated, smaller
 from ._standing import listed
 
 YES, NO, UNKNOWN, PENDING = "yes", "no", "unknown", "so far"

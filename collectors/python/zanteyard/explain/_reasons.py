@@ -8,9 +8,9 @@ from ..core._outcome import VIOLATED
 from ..core._records import History, Naming
 from ..program._binaries import PROGRAM
 from ..promises._kinds import SERIALIZABLE, Promise
+from ._audited import Audited, audited_apart
 from ._explanation import Explanation as Explanation
 from ._refutation import UnreadableError, read_refutation
-from ._shrinking import Audited, audited_apart
 from ._words import name
 
 

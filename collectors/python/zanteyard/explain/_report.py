@@ -14,12 +14,13 @@ from ..core._records import AuditId, History, Logged, Naming, Pending, ShownId
 from ..promises._kinds import SERIALIZABLE, Promise
 from ._anomalies import Anomaly, find_anomaly, meaning_of, name_circle
 from ._arcs import transaction_of
+from ._audited import audited_apart, from_start, refuted
 from ._claims import contradicts
 from ._explanation import Explanation, Reasons, laid_out
 from ._reasons import explanation_of
 from ._script_names import PART, REST
 from ._scripts import ScriptHistory, Verdict
-from ._shrinking import NAMED, SECONDS, audited_apart, from_start, refuted, smaller
+from ._shrinking import NAMED, SECONDS, smaller
 from ._standing import Apart, Standing, standing
 from ._words import version as version_text
 from ._words import words

@@ -11,7 +11,8 @@ from ..core._records import History, Logged, ShownId
 from ..core.errors import CantBeAskedError, ZanteyardError
 from ..promises._kinds import ALL, SERIALIZABLE, WITHOUT_SESSIONS, Promise, stronger, weaker
 from ._arcs import table
-from ._shrinking import SECONDS, Part, audited, smaller
+from ._audited import audited
+from ._shrinking import SECONDS, Part, smaller
 
 FEW = 64  # transactions of a violation whose promises are checked, at most
 

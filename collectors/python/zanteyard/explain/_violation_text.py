@@ -11,10 +11,11 @@ from ..core._records import History, Naming, ShownId
 from ..core._visible import say, shown
 from ..program._binaries import PROGRAM
 from ..promises._kinds import SERIALIZABLE, Promise
+from ._audited import audited_apart
 from ._graphviz import draw
 from ._reasons import explanation_of
 from ._report import Story, story_of
-from ._shrinking import SECONDS, audited_apart, smaller
+from ._shrinking import SECONDS, smaller
 from ._standing import standing
 from ._words import name, words
 

@@ -8,7 +8,8 @@ from typing import Any, Callable, Dict, List, Mapping, Sequence
 
 from ..core._outcome import RATHER_WAIT
 from ..explain._anomalies import find_anomaly
-from ..explain._shrinking import from_start, refuted, smaller
+from ..explain._audited import from_start, refuted
+from ..explain._shrinking import smaller
 from ..program._auditor import Auditor
 from ..session._session import Session
 from .lockstep import Seen

@@ -11,9 +11,10 @@ from typing import Tuple
 from ..core._own_keys import FENCE
 from ..core._records import ABORTED, AuditId, History, Logged, Read, ShownId, Source
 from ..core._visible import visible
+from ..explain._audited import audited_apart, from_start, named, refuted
 from ..explain._reasons import explanation_of
 from ..explain._report import Story, story_lines, story_of
-from ..explain._shrinking import audited_apart, from_start, named, refuted, smaller
+from ..explain._shrinking import smaller
 from ..explain._standing import standing
 from ..explain._words import version
 from ..promises._asking import ids_of
