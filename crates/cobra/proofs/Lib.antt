@@ -2,6 +2,7 @@ pub mod AskedLines
 pub mod BesideRounds
 pub mod Checkpoints
 pub mod GivenOut
+pub mod GivenSizes
 pub mod HandedWriters
 pub mod HeldCommands
 pub mod IsolatedAnswers

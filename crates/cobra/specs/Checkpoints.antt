@@ -1,5 +1,5 @@
 -- Checkpoints: what one who asks for all that is kept is told, and what it comes to where it is handed over.
-use Rattle.std.specs.Prelude.{◌≡◌, ℕ, ◌+◌, ◌*◌, ◌≤◌, List, [], ◌∷◌, ◌++◌, length, map, Some}
+use Rattle.std.specs.Prelude.{◌≡◌, ℕ, ◌+◌, ◌*◌, ◌≤◌, ◌⊎◌, List, [], ◌∷◌, ◌++◌, length, map, Some}
 use Rattle.std.specs.List.{flat_map}
 use Rattle.txn.specs.declared.transactions.TxnId.{TxnId}
 use Rattle.txn.specs.declared.transactions.Fragment.{Fragment}
@@ -15,6 +15,7 @@ use Rattle.log_text.specs.declared.saved.Saved.TheVariants as saved
 use Rattle.log_text.specs.declared.versions.Opening.{Opening}
 use Rattle.log_text.specs.declared.versions.Opening.TheVariants.{Ordered, Isolated}
 use Rattle.log_text.specs.declared.versions.Version.{Version}
+use Rattle.log_text.specs.Laws.{IsGivenAtOnce}
 use Rattle.log_text.specs.Saved.{handed_by}
 use Rattle.log_text.specs.Versions.{most_sessions}
 use Rattle.snapshot_scripts.specs.SplitParts.{AreSplitParts}
@@ -79,6 +80,10 @@ GivenOutIsTaken = (parts : Parts) (version : Version) (limit : ℕ) (given : Lis
 -- offered, and comes to these very parts again.
 abbrev pub IsolatedOutIsTaken : Type 0
 IsolatedOutIsTaken = (parts : Parts) (version : Version) (limit : ℕ) (given : List Saved) → IsGood (bounded parts (most_sessions version) (2 * limit)) → AreSplitParts parts → IsIsolatedLimit version limit → IsCheckpoint (isolated_told parts) (length parts.remain) given → IsResumed (bounded parts (most_sessions version) (2 * limit)) limit (Isolated version) given
+
+-- What good parts give out at once, also by transactions as they were offered, is no more than fits into a line.
+abbrev pub GivenOutFits : Type 0
+GivenOutFits = (parts : Parts) (wanted : Wanted) (given : Saved) → IsGood parts → (saved_told parts wanted ≡ told.Saved given) ⊎ (isolated_told parts wanted ≡ told.Saved given) → IsGivenAtOnce given
 
 -- Good parts are good under wider bounds, as those of a later version.
 abbrev pub WiderBoundsAreKept : Type 0

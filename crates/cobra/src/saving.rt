@@ -2,7 +2,7 @@
 ghost use Rattle.std.specs.Prelude.{◌≡◌, ◌-◌, take, IfOk};
 ghost use Rattle.order_check.specs.Based.{mark_of, remaining_of, received_count};
 ghost use Rattle.order_check.specs.Good.{IsGood};
-ghost use Rattle.cobra.specs.Checkpoints.{GivenOutIsTaken, IsolatedOutIsTaken, WiderBoundsAreKept};
+ghost use Rattle.cobra.specs.Checkpoints.{GivenOutFits, GivenOutIsTaken, IsolatedOutIsTaken, WiderBoundsAreKept};
 ghost use Rattle.cobra.specs.Saving.{writers_from, first_told, fragment_told, saved_told};
 
 use log_text::{Reply, Saved, Wanted};
@@ -112,6 +112,11 @@ pub fn isolated_out_is_taken()
 {
     given_is_taken();
 }
+
+/// What good parts give out at once is no more than fits into a line.
+pub fn given_out_fits()
+    ensures { GivenOutFits }
+{}
 
 /// Good parts are good under wider bounds, too.
 pub fn wider_bounds_are_kept()

@@ -13,6 +13,7 @@ pub mod OwedRead
 pub mod ReportsRead
 pub mod SameTrees
 pub mod SavedData
+pub mod SavedLengths
 pub mod SavedRead
 pub mod TokensRead
 pub mod ToldTexts

@@ -4,6 +4,7 @@ pub mod Commands
 pub mod Held
 pub mod Items
 pub mod Kept
+pub mod Laws
 pub mod Lines
 pub mod Lists
 pub mod Names

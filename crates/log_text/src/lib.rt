@@ -6,6 +6,7 @@ mod building;
 mod commands;
 mod fragments;
 mod handed;
+mod laws;
 mod lines;
 mod lists;
 mod names;
@@ -21,6 +22,7 @@ mod trees;
 mod versions;
 
 pub use commands::{Command, Effort, Wanted};
+pub use laws::saved_lines_fit;
 pub use lines::{read_line, read_line_within};
 pub use names::Names;
 pub use replies::{Reply, write_reply};
