@@ -1,8 +1,8 @@
 -- What reports show is read as it was written, and nothing else is read in its place.
-use Rattle.std.proofs.Common.{◌≡◌, ℕ, ◌≤◌, List, [], ◌∷◌, Option, Some, None, codes, refl, ap, sym, ◌∙◌, subst, inl, inr, arith}
+use Rattle.std.proofs.Common.{◌≡◌, ℕ, List, map, Option, Some, None, codes, refl, sym, ◌∙◌, subst, inl, inr}
 use Rattle.std.specs.Prelude.{◌⊎◌, All, IsUtf8, MatchOption}
-use Rattle.serde_json.specs.Data.{Data, string, array, Items, no_items, item, depth}
-use Rattle.serde_json.specs.Read.{read, max_depth}
+use Rattle.serde_json.specs.Data.{Data, string, array, Items, no_items, item}
+use Rattle.serde_json.specs.Read.{read}
 use Rattle.serde_json.specs.View.{items_of}
 use Rattle.txn.specs.declared.transactions.TxnId.{TxnId}
 use Rattle.order_check.specs.declared.remainder.Kind.{Kind}
@@ -11,66 +11,56 @@ use Rattle.log_text.specs.declared.replies.Reply.{Reply}
 use Rattle.log_text.specs.declared.replies.Reply.TheVariants as reply
 use Rattle.log_text.specs.declared.shown.Shown.{Shown}
 use Rattle.log_text.specs.declared.shown.Shown.TheVariants.{Order, Refuted}
-use Rattle.log_text.specs.ReadBack.{IsNamed, CanBeRead, IsSameShown, ReportsThat}
+use Rattle.log_text.specs.Items.{each_of}
+use Rattle.log_text.specs.ReadBack.{IsNamed, CanBeRead, IsSameShown, ReportsThat, SaysReply}
 use Rattle.log_text.specs.Refutations.{nodes_of}
 use Rattle.log_text.specs.Replies.{HasKindOfOrder, kind_name}
-use Rattle.log_text.specs.Saved.{number_data}
 use Rattle.log_text.specs.Shown.{id_of, Shows, ShowsAs, Reports, IsReportOf, ShowsIn, IsShownIn}
 use Rattle.log_text.specs.Told.{id_data, reply_data}
 use Rattle.log_text.proofs.SameTrees.{same_tree}
-use Rattle.log_text.proofs.SavedRead.{each_read, session_read, list_depth, number_depth}
-use Rattle.log_text.proofs.TreesRead.{nodes_read, violated_depth}
+use Rattle.log_text.proofs.SavedRead.{each_read, session_read}
+use Rattle.log_text.proofs.TreesRead.{nodes_read}
 
 id_read : (id : TxnId) → IsNamed id → id_of (id_data id) ≡ Some id
 id_read id h = rw (session_read id.session h) refl
 
-id_depth : (id : TxnId) → depth (id_data id) ≤ 1
-id_depth id = list_depth number_data 0 number_depth (id.session ∷ id.number ∷ [])
-
-ordered_depth : (round : ℕ) (k : Kind) (counts : List ℕ) (order : List TxnId) → depth (array (items_of (reply_data (reply.Order round k counts order)))) ≤ 127
-ordered_depth round k counts order = omega (arith, list_depth number_data 0 number_depth counts, list_depth id_data 1 id_depth order)
-
-spent_depth : (round : ℕ) (counts : List ℕ) → depth (array (items_of (reply_data (reply.Spent round counts)))) ≤ 127
-spent_depth round counts = omega (arith, list_depth number_data 0 number_depth counts)
+pub ids_read : (order : List TxnId) → All IsNamed order → each_of id_of (items_of (map id_data order)) ≡ Some order
+ids_read order names = each_read id_of id_data IsNamed id_read order names
 
 -- ---- what was written is read
 
-reads_as : (d e : Data) (bytes : List ℕ) → d ≡ e → depth e ≤ 127 → (depth d ≤ max_depth → read bytes ≡ Some d) → read bytes ≡ Some e
-reads_as d e bytes is low reads = reads (subst (λ (x : Data). depth x ≤ 127) (sym is) low) ∙ ap (λ (x : Data). Some x) is
-
-order_back : (bytes : List ℕ) (round : ℕ) (k : Kind) (counts : List ℕ) (order : List TxnId) → IsUtf8 bytes → read bytes ≡ Some (array (items_of (reply_data (reply.Order round k counts order))))
+order_back : (bytes : List ℕ) (round : ℕ) (k : Kind) (counts : List ℕ) (order : List TxnId) → SaysReply bytes (reply.Order round k counts order)
     → (string (kind_name k) ≡ string (codes "serial")) ⊎ (string (kind_name k) ≡ string (codes "pending")) → All IsNamed order → ShowsIn bytes (Order order)
-order_back bytes round k counts order utf8 reads kinds names = record {
-  utf8 = utf8;
+order_back bytes round k counts order says kinds names = record {
+  utf8 = says.utf8;
   said = array (items_of (reply_data (reply.Order round k counts order)));
-  reads = reads;
-  is = (refl, (kinds, each_read id_of id_data IsNamed id_read order names));
+  reads = says.reads;
+  is = (refl, (kinds, ids_read order names));
 }
 
 only_said : (bytes : List ℕ) (d e : Data) → read bytes ≡ Some d → read bytes ≡ Some e → d ≡ e
 only_said bytes d e one two = let same : Some d ≡ Some e = sym one ∙ two in cc
 
-nothing_back : (bytes : List ℕ) (round : ℕ) (counts : List ℕ) → read bytes ≡ Some (array (items_of (reply_data (reply.Spent round counts)))) → (shown : Shown) → ¬ ShowsIn bytes shown
-nothing_back bytes round counts reads shown shows =
-    subst (λ (d : Data). IsReportOf d shown) (only_said bytes shows.said (array (items_of (reply_data (reply.Spent round counts)))) shows.reads reads) shows.is
+nothing_back : (bytes : List ℕ) (round : ℕ) (counts : List ℕ) → SaysReply bytes (reply.Spent round counts) → (shown : Shown) → ¬ ShowsIn bytes shown
+nothing_back bytes round counts says shown shows =
+    subst (λ (d : Data). IsReportOf d shown) (only_said bytes shows.said (array (items_of (reply_data (reply.Spent round counts)))) shows.reads says.reads) shows.is
 
-pub report_back : (d : Data) (bytes : List ℕ) (given : Reply) → d ≡ array (items_of (reply_data given)) → IsUtf8 bytes → (depth d ≤ max_depth → read bytes ≡ Some d)
-    → HasKindOfOrder given → (found : Option Shown) → ReportsThat given found → CanBeRead found → IsShownIn bytes found
-report_back d bytes (reply.Order round kind.Serial counts order) is utf8 reads of found same = subst (λ (f : Option Shown). CanBeRead f → IsShownIn bytes f) (sym same)
-    (order_back bytes round kind.Serial counts order utf8 (reads_as d _ bytes is (ordered_depth round kind.Serial counts order) reads) (inl refl))
-report_back d bytes (reply.Order round kind.Pending counts order) is utf8 reads of found same = subst (λ (f : Option Shown). CanBeRead f → IsShownIn bytes f) (sym same)
-    (order_back bytes round kind.Pending counts order utf8 (reads_as d _ bytes is (ordered_depth round kind.Pending counts order) reads) (inr refl))
-report_back d bytes (reply.Violated round counts tree) is utf8 reads of found same = subst (λ (f : Option Shown). CanBeRead f → IsShownIn bytes f) (sym same) (λ names. record {
-  utf8 = utf8;
+pub report_back : (bytes : List ℕ) (given : Reply) → SaysReply bytes given → HasKindOfOrder given → (found : Option Shown) → ReportsThat given found → CanBeRead found → IsShownIn bytes found
+report_back bytes (reply.Order round kind.Serial counts order) says of found same =
+    subst (λ (f : Option Shown). CanBeRead f → IsShownIn bytes f) (sym same) (order_back bytes round kind.Serial counts order says (inl refl))
+report_back bytes (reply.Order round kind.Pending counts order) says of found same =
+    subst (λ (f : Option Shown). CanBeRead f → IsShownIn bytes f) (sym same) (order_back bytes round kind.Pending counts order says (inr refl))
+report_back bytes (reply.Violated round counts tree) says of found same = subst (λ (f : Option Shown). CanBeRead f → IsShownIn bytes f) (sym same) (λ names. record {
+  utf8 = says.utf8;
   said = array (items_of (reply_data (reply.Violated round counts tree)));
-  reads = reads_as d _ bytes is (violated_depth round counts tree) reads;
+  reads = says.reads;
   is = (refl, (refl, record { nodes = nodes_read tree names.0; merged = names.1 }));
 })
-report_back d bytes (reply.Spent round counts) is utf8 reads of found same = subst (λ (f : Option Shown). CanBeRead f → IsShownIn bytes f) (sym same)
-    (λ names shown shows. nothing_back bytes round counts (reads_as d _ bytes is (spent_depth round counts) reads) shown shows)
-report_back d bytes (reply.Order round kind.Violated counts order) is utf8 reads of found same = absurd of
-report_back d bytes (reply.Order round kind.Spent counts order) is utf8 reads of found same = absurd of
-report_back d bytes given is utf8 reads of found same = absurd same
+report_back bytes (reply.Spent round counts) says of found same =
+    subst (λ (f : Option Shown). CanBeRead f → IsShownIn bytes f) (sym same) (λ names. nothing_back bytes round counts says)
+report_back bytes (reply.Order round kind.Violated counts order) says of found same = absurd of
+report_back bytes (reply.Order round kind.Spent counts order) says of found same = absurd of
+report_back bytes given says of found same = absurd same
 
 -- ---- nothing else is read
 

@@ -1,10 +1,9 @@
 -- The data of what is given out are those of a line of a hand-over.
-use Rattle.std.proofs.Common.{◌≡◌, inl, ℕ, ◌≤◌, List, [], ◌∷◌, Bool, true, false, map, nat_le, Option, Some, ◌+◌, refl, sym, ap, subst, ◌∙◌, arith}
-use Rattle.std.specs.Prelude.{All, IsUtf8, ⊤}
+use Rattle.std.proofs.Common.{◌≡◌, inl, ℕ, ◌≤◌, List, [], ◌∷◌, Bool, true, false, map, nat_le, Option, Some, ◌+◌, refl, ap, ◌∙◌, arith}
+use Rattle.std.specs.Prelude.{All, ⊤}
 use Rattle.std.proofs.lemmas.List.Elements.{All-head, All-tail}
 use Rattle.std.proofs.lemmas.Bool.Decides.{nat_tests}
 use Rattle.serde_json.specs.Data.{Data, boolean, array, depth, items_depth}
-use Rattle.serde_json.specs.Read.{read, max_depth}
 use Rattle.serde_json.specs.View.{items_of}
 use Rattle.txn.specs.declared.transactions.TxnId.{TxnId}
 use Rattle.txn.specs.declared.transactions.Source.{Source}
@@ -19,6 +18,7 @@ use Rattle.log_text.specs.declared.commands.Command.TheVariants as command
 use Rattle.log_text.specs.Items.{each_of}
 use Rattle.log_text.specs.Numbers.{whole_number, session_of}
 use Rattle.log_text.specs.Saved.{number_data, list_data, writer_data, read_data, txn_data, saved_data, handed_by, IsReadable, NamesSessions}
+use Rattle.log_text.specs.ReadBack.{SaysReply}
 use Rattle.log_text.specs.Told.{reply_data}
 
 -- each of a list is read as something made of what it was
@@ -91,10 +91,10 @@ list_depth as_data n low xs = omega (arith, each_depth as_data n low xs)
 pub number_depth : (n : ℕ) → depth (number_data n) ≤ 0
 number_depth n = omega arith
 
-flag_depth : (b : Bool) → depth (boolean b) ≤ 0
+pub flag_depth : (b : Bool) → depth (boolean b) ≤ 0
 flag_depth b = omega arith
 
-writer_depth : (entry : ℕ × TxnId) → depth (writer_data entry) ≤ 1
+pub writer_depth : (entry : ℕ × TxnId) → depth (writer_data entry) ≤ 1
 writer_depth entry = list_depth number_data 0 number_depth (entry.0 ∷ entry.1.session ∷ entry.1.number ∷ [])
 
 read_depth : (read : ℕ × Source) → depth (read_data read) ≤ 1
@@ -110,8 +110,6 @@ saved_depth (MarksBegun marks closed begun) = omega (arith, list_depth number_da
 saved_depth (Last last) = omega (arith, list_depth writer_data 1 writer_depth last)
 saved_depth (Offer fragment) = omega (arith, list_depth txn_data 3 txn_depth fragment.txns)
 
-pub saved_is_command : (d : Data) (bytes : List ℕ) (given : Reply) → d ≡ array (items_of (reply_data given)) → IsUtf8 bytes → (depth d ≤ max_depth → read bytes ≡ Some d)
-    → (saved : Saved) → given ≡ reply.Saved saved → NamesSessions saved → IsCommand bytes (handed_by saved)
-saved_is_command d bytes given is utf8 reads saved same names =
-    let here : d ≡ array (items_of (saved_data saved)) = is ∙ ap (λ (r : Reply). array (items_of (reply_data r))) same in
-    record { utf8 = utf8; said = d; reads = reads (subst (λ e. depth e ≤ 127) (sym here) (saved_depth saved)); is = inl (ap command_of here ∙ saved_read saved names) }
+pub saved_is_command : (bytes : List ℕ) (given : Reply) → SaysReply bytes given → (saved : Saved) → given ≡ reply.Saved saved → NamesSessions saved → IsCommand bytes (handed_by saved)
+saved_is_command bytes given says saved same names =
+    record { utf8 = says.utf8; said = array (items_of (reply_data given)); reads = says.reads; is = inl (ap (λ (r : Reply). command_of (array (items_of (reply_data r)))) same ∙ saved_read saved names) }

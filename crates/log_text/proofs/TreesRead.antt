@@ -1,9 +1,10 @@
 -- The data that a tree is written as are read as the tree's items.
-use Rattle.std.proofs.Common.{◌≡◌, ℕ, ◌≤◌, List, [], ◌∷◌, ◌++◌, map, Option, Some, None, option_map, option_and_then, codes, refl, ap, ◌∙◌, arith}
+use Rattle.std.proofs.Common.{◌≡◌, ℕ, ◌≤◌, List, [], ◌∷◌, ◌++◌, map, Option, Some, None, option_map, option_and_then, refl, ap, ◌∙◌, arith}
 use Rattle.std.specs.Prelude.{All}
 use Rattle.std.proofs.lemmas.List.Elements.{All-head, All-tail}
-use Rattle.serde_json.specs.Data.{Data, string, array, depth, items_depth}
+use Rattle.serde_json.specs.Data.{Data, depth, items_depth}
 use Rattle.serde_json.specs.View.{items_of}
+use Rattle.txn.specs.declared.transactions.TxnId.{TxnId}
 use Rattle.txn.specs.declared.choices.Arc.{Arc}
 use Rattle.txn.specs.declared.choices.Arc.TheVariants.{Session, Read, Base, Taken}
 use Rattle.txn.specs.declared.choices.Choice.{Choice}
@@ -13,16 +14,20 @@ use Rattle.txn.specs.declared.choices.Side.TheVariants.{First, Second}
 use Rattle.refutation.specs.declared.trees.Leaf.{Leaf}
 use Rattle.refutation.specs.declared.trees.Leaf.TheVariants.{Cycle, NoWrite, Gone}
 use Rattle.refutation.specs.declared.trees.Tree.{Tree, Close, Force', Split'}
-use Rattle.log_text.specs.declared.replies.Reply.TheVariants as reply
+use Rattle.snapshot_histories.specs.Halves.{event_at}
+use Rattle.snapshot_histories.specs.declared.events.Event.{Event}
+use Rattle.snapshot_histories.specs.declared.events.Event.TheVariants.{Begin, Commit}
 use Rattle.log_text.specs.declared.tree_items.TreeItem.TheVariants as node
 use Rattle.log_text.specs.Items.{each_of, list_of, with_both}
 use Rattle.log_text.specs.ReadBack.{NamesInChoice, NamesInArc, NamesInStep, NamesInLeaf, NamesInTree}
 use Rattle.log_text.specs.Refutations.{choice_of, side_of, arc_of, node_of, nodes_of}
 use Rattle.log_text.specs.Saved.{number_data}
-use Rattle.log_text.specs.Told.{array_data, choice_data, arc_data, cycle_data, step_data, split_data, leaf_data, nodes_data, reply_data}
+use Rattle.log_text.specs.Names.{key_told}
+use Rattle.log_text.specs.Told.{event_data, name_data, choice_data, arc_data, cycle_data, step_data, split_data, leaf_data, nodes_data}
 use Rattle.log_text.specs.Trees.{side_number}
-use Rattle.log_text.specs.declared.names.Names.TheVariants.{Ids}
-use Rattle.log_text.proofs.SavedRead.{each_read, session_read, each_depth, list_depth, number_depth}
+use Rattle.log_text.specs.declared.names.Names.{Names}
+use Rattle.log_text.specs.declared.names.Names.TheVariants.{Ids, Events}
+use Rattle.log_text.proofs.SavedRead.{each_read, session_read, each_depth, list_depth}
 
 choice_read : (choice : Choice) → NamesInChoice choice → choice_of (choice_data Ids choice) ≡ Some choice
 choice_read choice h = rw (session_read choice.reader.session h.0, session_read choice.writer.session h.1, session_read choice.other.session h.2) refl
@@ -88,37 +93,47 @@ nodes_read (Split' choice p first q second) h =
     each_of-append node_of (nodes_data Ids first) (nodes_data Ids second) ∙ rw (nodes_read first h.1, nodes_read second h.2) refl in
     rw (split_read choice h.0, both) refl
 
--- ---- how deep they are
+-- ---- how deep they are, by either names
 
-named_depth : (word numbers : List ℕ) → depth (array_data (string word ∷ map number_data numbers)) ≤ 1
-named_depth word numbers = omega (arith, each_depth number_data 0 number_depth numbers)
+event_flat : (event : Event) → items_depth (items_of (event_data event)) ≤ 0
+event_flat (Begin id) = omega arith
+event_flat (Commit id) = omega arith
 
-choice_depth : (choice : Choice) → depth (choice_data Ids choice) ≤ 1
-choice_depth choice = list_depth number_data 0 number_depth (choice.reader.session ∷ choice.reader.number ∷ choice.key ∷ choice.writer.session ∷ choice.writer.number ∷ choice.other.session ∷ choice.other.number ∷ [])
-
-arc_depth : (arc : Arc) → depth (arc_data Ids arc) ≤ 1
-arc_depth (Session from to) = named_depth (codes "session") (from.session ∷ from.number ∷ to.session ∷ to.number ∷ [])
-arc_depth (Read key from to) = named_depth (codes "read") (key ∷ from.session ∷ from.number ∷ to.session ∷ to.number ∷ [])
-arc_depth (Base key from to) = named_depth (codes "base") (key ∷ from.session ∷ from.number ∷ to.session ∷ to.number ∷ [])
-arc_depth (Taken from to) = named_depth (codes "taken") (from.session ∷ from.number ∷ to.session ∷ to.number ∷ [])
-
-step_depth : (step : ForceStep) → depth (step_data Ids step) ≤ 3
-step_depth step = omega (arith, choice_depth step.choice, list_depth (arc_data Ids) 1 arc_depth step.cycle)
-
-leaf_depth : (leaf : Leaf) → depth (leaf_data Ids leaf) ≤ 3
-leaf_depth (Cycle arcs) = omega (arith, list_depth (arc_data Ids) 1 arc_depth arcs)
-leaf_depth (NoWrite reader key) = omega (arith, named_depth (codes "nowrite") (reader.session ∷ reader.number ∷ key ∷ []))
-leaf_depth (Gone reader key) = omega (arith, named_depth (codes "gone") (reader.session ∷ reader.number ∷ key ∷ []))
+pub name_flat : (names : Names) (id : TxnId) → items_depth (items_of (name_data names id)) ≤ 0
+name_flat Ids id = omega arith
+name_flat Events half = event_flat (event_at half)
 
 both_depth : (ds es : List Data) (n : ℕ) → items_depth (items_of ds) ≤ n → items_depth (items_of es) ≤ n → items_depth (items_of (ds ++ es)) ≤ n
 both_depth [] es n one two = two
 both_depth (d ∷ ds) es n one two = omega (arith, one, both_depth ds es n (omega (arith, one)) two)
 
-nodes_depth : (tree : Tree) → items_depth (items_of (nodes_data Ids tree)) ≤ 3
-nodes_depth (Close leaf) = omega (arith, leaf_depth leaf)
-nodes_depth (Force' steps p rest) = both_depth (map (step_data Ids) steps) (nodes_data Ids rest) 3 (each_depth (step_data Ids) 3 step_depth steps) (nodes_depth rest)
-nodes_depth (Split' choice p first q second) =
-    omega (arith, choice_depth choice, both_depth (nodes_data Ids first) (nodes_data Ids second) 3 (nodes_depth first) (nodes_depth second))
+ends_flat : (names : Names) (from to : TxnId) → items_depth (items_of (name_data names from ++ name_data names to)) ≤ 0
+ends_flat names from to = both_depth (name_data names from) (name_data names to) 0 (name_flat names from) (name_flat names to)
 
-pub violated_depth : (round : ℕ) (counts : List ℕ) (tree : Tree) → depth (array (items_of (reply_data (reply.Violated round counts tree)))) ≤ 127
-violated_depth round counts tree = omega (arith, list_depth number_data 0 number_depth counts, nodes_depth tree)
+choice_depth : (names : Names) (choice : Choice) → depth (choice_data names choice) ≤ 1
+choice_depth names choice =
+    let writers = name_data names choice.writer ++ name_data names choice.other in
+    omega (arith, both_depth (name_data names choice.reader) (number_data (key_told names choice.key) ∷ writers) 0 (name_flat names choice.reader) (omega (arith, ends_flat names choice.writer choice.other)))
+
+arc_depth : (names : Names) (arc : Arc) → depth (arc_data names arc) ≤ 1
+arc_depth names (Session from to) = omega (arith, ends_flat names from to)
+arc_depth names (Read key from to) = omega (arith, ends_flat names from to)
+arc_depth names (Base key from to) = omega (arith, ends_flat names from to)
+arc_depth names (Taken from to) = omega (arith, ends_flat names from to)
+
+step_depth : (names : Names) (step : ForceStep) → depth (step_data names step) ≤ 3
+step_depth names step = omega (arith, choice_depth names step.choice, list_depth (arc_data names) 1 (arc_depth names) step.cycle)
+
+reader_flat : (names : Names) (reader : TxnId) (key : ℕ) → items_depth (items_of (name_data names reader ++ number_data (key_told names key) ∷ [])) ≤ 0
+reader_flat names reader key = both_depth (name_data names reader) (number_data (key_told names key) ∷ []) 0 (name_flat names reader) (omega arith)
+
+leaf_depth : (names : Names) (leaf : Leaf) → depth (leaf_data names leaf) ≤ 3
+leaf_depth names (Cycle arcs) = omega (arith, list_depth (arc_data names) 1 (arc_depth names) arcs)
+leaf_depth names (NoWrite reader key) = omega (arith, reader_flat names reader key)
+leaf_depth names (Gone reader key) = omega (arith, reader_flat names reader key)
+
+pub nodes_depth : (names : Names) (tree : Tree) → items_depth (items_of (nodes_data names tree)) ≤ 3
+nodes_depth names (Close leaf) = omega (arith, leaf_depth names leaf)
+nodes_depth names (Force' steps p rest) = both_depth (map (step_data names) steps) (nodes_data names rest) 3 (each_depth (step_data names) 3 (step_depth names) steps) (nodes_depth names rest)
+nodes_depth names (Split' choice p first q second) =
+    omega (arith, choice_depth names choice, both_depth (nodes_data names first) (nodes_data names second) 3 (nodes_depth names first) (nodes_depth names second))

@@ -1,5 +1,6 @@
--- What reports show is read as it was written.
-use Rattle.std.specs.Prelude.{◌≡◌, ◌≤◌, ⊤, All, Option, Some, None}
+-- What replies say, and what reports show, is read as it was written.
+use Rattle.std.specs.Prelude.{◌≡◌, ℕ, ◌≤◌, ⊤, List, All, Option, Some, None, IsUtf8}
+use Rattle.serde_json.specs.Read.{read}
 use Rattle.txn.specs.declared.transactions.TxnId.{TxnId}
 use Rattle.txn.specs.declared.choices.Arc.{Arc}
 use Rattle.txn.specs.declared.choices.Arc.TheVariants.{Session, Read, Base, Taken}
@@ -13,6 +14,12 @@ use Rattle.log_text.specs.declared.replies.Reply.TheVariants as reply
 use Rattle.log_text.specs.declared.shown.Shown.{Shown}
 use Rattle.log_text.specs.declared.shown.Shown.TheVariants as shown
 use Rattle.log_text.specs.Refutations.{IsMerged}
+use Rattle.log_text.specs.Told.{array_data, reply_data}
+
+-- The text is UTF-8, and `serde_json` reads it as the reply's data.
+pub record SaysReply (text : List ℕ) (given : Reply) : Type 0 where
+  pub utf8 : IsUtf8 text
+  pub reads : read text ≡ Some (array_data (reply_data given))
 
 -- the session is one up to 255, as lines name them
 abbrev pub IsNamed : TxnId → Type 0

@@ -1,4 +1,4 @@
--- For private clauses: as which data replies are written.
+-- As which data replies are written.
 use Rattle.std.specs.Prelude.{◌≡◌, ℕ, List, [], ◌∷◌, ◌++◌, codes, map}
 use Rattle.serde_json.specs.Data.{Data, boolean, string, array}
 use Rattle.serde_json.specs.View.{view, items_of}

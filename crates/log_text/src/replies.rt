@@ -1,7 +1,7 @@
 ghost use Rattle.std.specs.Prelude.{◌≡◌, ℕ, List, Option, IfOk, OnOk};
 ghost use Rattle.log_text.specs.Replies.{line_of, text_of, HasKindOfOrder, kind_name};
 ghost use Rattle.log_text.specs.Commands.{IsCommand};
-ghost use Rattle.log_text.specs.ReadBack.{CanBeRead, ReportsThat};
+ghost use Rattle.log_text.specs.ReadBack.{CanBeRead, ReportsThat, SaysReply};
 ghost use Rattle.log_text.specs.Saved.{GainsData, NamesSessions, handed_by};
 ghost use Rattle.log_text.specs.Shown.{IsShownIn};
 ghost use Rattle.log_text.specs.declared.shown.Shown.{Shown};
@@ -255,6 +255,7 @@ fn value_of(alloc: Global, reply: &Reply) -> Result<Value, NoMemory>
 /// The reply's text: one JSON array with no space in it.
 fn reply_bytes(alloc: Global, reply: &Reply) -> Result<Vec<u8>, NoMemory>
     ensures text { IfOk result (λ bytes. bytes.items ≡ text_of reply.now) }
+    ensures says { IfOk result (λ bytes. SaysReply bytes.items reply.now) }
     ensures reads_back { IfOk result (λ bytes. (saved : Saved) → reply.now ≡ Reply.Saved saved → NamesSessions saved → IsCommand bytes.items (handed_by saved)) }
     ensures report_reads_back { IfOk result (λ bytes. HasKindOfOrder reply.now → (found : Option Shown) → ReportsThat reply.now found → CanBeRead found → IsShownIn bytes.items found) }
 {
@@ -268,6 +269,7 @@ fn reply_bytes(alloc: Global, reply: &Reply) -> Result<Vec<u8>, NoMemory>
 pub fn write_reply(alloc: Global, reply: &Reply) -> Result<Vec<u8>, NoMemory>
     requires { HasKindOfOrder reply.now }
     ensures line { IfOk result (λ bytes. bytes.items ≡ line_of reply.now) }
+    ensures says { IfOk result (λ bytes. SaysReply (text_of reply.now) reply.now) }
     ensures reads_back { IfOk result (λ bytes. (saved : Saved) → reply.now ≡ Reply.Saved saved → NamesSessions saved → IsCommand (text_of reply.now) (handed_by saved)) }
     ensures report_reads_back { IfOk result (λ bytes. (found : Option Shown) → ReportsThat reply.now found → CanBeRead found → IsShownIn (text_of reply.now) found) }
 {
