@@ -1,17 +1,16 @@
 -- How much is given out at once.
-use Rattle.std.proofs.Common.{◌≡◌, ℕ, ◌-◌, ◌≤◌, ◌⊎◌, true, false, Bool, List, [], ◌∷◌, length, take, drop, inl, inr, sym, subst, arith, cond}
-use Rattle.std.specs.Prelude.{◌/◌, ◌%◌, All, ⊤, map, nat_eq, nat_lt}
+use Rattle.std.proofs.Common.{ℕ, ◌-◌, ◌≤◌, true, false, Bool, List, [], ◌∷◌, length, drop, inl, inr, subst, arith, cond}
+use Rattle.std.specs.Prelude.{◌/◌, ◌%◌, All, ⊤, slice_index_or, nat_eq, nat_lt}
 use Rattle.std.proofs.lemmas.List.{length-take}
 use Rattle.std.proofs.lemmas.List.Elements.{All-cons, All-drop, All-head, All-nil, All-tail, All-take}
 use Rattle.std.proofs.lemmas.List.{length-map}
 use Rattle.std.proofs.lemmas.Option.{slice_get-get_or}
 use Rattle.txn.specs.declared.transactions.Txn.{Txn}
-use Rattle.txn.specs.declared.transactions.TxnId.{TxnId}
 use Rattle.txn.specs.declared.transactions.Fragment.{Fragment}
 use Rattle.txn.specs.declared.refusals.Refusal.TheVariants.{BadSession}
 use Rattle.txn.specs.Transactions.{IsShort}
 use Rattle.order_check.specs.declared.remainder.Parts.{Parts}
-use Rattle.order_check.specs.Based.{remaining_of}
+use Rattle.order_check.specs.Based.{mark_of, remaining_of}
 use Rattle.order_check.specs.Good.{IsGood}
 use Rattle.log_text.specs.Laws.{IsGivenAtOnce}
 use Rattle.log_text.specs.declared.commands.Wanted.{Wanted}
@@ -20,10 +19,11 @@ use Rattle.log_text.specs.declared.replies.Reply.{Reply}
 use Rattle.log_text.specs.declared.replies.Reply.TheVariants as told
 use Rattle.log_text.specs.declared.saved.Saved.{Saved}
 use Rattle.log_text.specs.declared.saved.Saved.TheVariants as saved
-use Rattle.snapshot_scripts.specs.Isolated.{isolated_of}
-use Rattle.snapshot_scripts.specs.Wholes.{begun_txns, whole_fragment, whole_read, whole_txns}
+use Rattle.snapshot_scripts.specs.Isolated.{isolated_of, whole_writer}
+use Rattle.snapshot_scripts.specs.Splitting.{split_wanted}
+use Rattle.snapshot_scripts.specs.Wholes.{begun_txns, whole_read, whole_txn, whole_txns}
 use Rattle.cobra.specs.Checkpoints.{GivenOutFits}
-use Rattle.cobra.specs.Saving.{first_told, fragment_told, isolated_told, saved_told, split_wanted}
+use Rattle.cobra.specs.Saving.{first_told, fragment_told, saved_told, writers_from}
 
 -- what a reply gives out, if anything, is no more than fits
 abbrev Fits : Reply → Type 0
@@ -56,7 +56,7 @@ fits parts (wanted.Last key) good = omega (arith, length-take 16384 (writers_fro
 fits parts (wanted.Remain s n) good = fits_if (nat_lt s (length parts.remain)) (fragment_told parts s n) (few_told parts s n good)
 
 short_whole : (begin commit : Txn) → IsShort begin → IsShort commit → IsShort (whole_txn begin commit)
-short_whole begin commit one other = record { reads = let few = one.reads in omega (arith, length-map whole_read begin.reads, few); writes = other.writes }
+short_whole begin commit one other = record { reads = let few = one.reads in omega (arith, length-map begin.reads whole_read, few); writes = other.writes }
 
 few_whole : (halves : List Txn) → All IsShort halves → (length (whole_txns halves) ≤ length halves) × All IsShort (whole_txns halves)
 few_whole [] short = (omega arith, All-nil IsShort)
@@ -79,8 +79,8 @@ few_either false halves few = let fewer = few_whole halves few.1 in (omega (arit
 
 -- what is told of halves is told of no more transactions
 fits_whole : (reply : Reply) → Fits reply → Fits (isolated_of reply)
-fits_whole (told.Saved (saved.Marks marks closed)) few = (omega (arith, few.0, length-map (λ n. n / 2) marks), few.1, omega (arith, few.0, length-map (λ mark. nat_eq (mark % 2) 1) marks))
-fits_whole (told.Saved (saved.Last last)) few = omega (arith, few, length-map whole_writer last)
+fits_whole (told.Saved (saved.Marks marks closed)) few = (omega (arith, few.0, length-map marks (λ n. n / 2)), few.1, omega (arith, few.0, length-map marks (λ mark. nat_eq (mark % 2) 1)))
+fits_whole (told.Saved (saved.Last last)) few = omega (arith, few, length-map last whole_writer)
 fits_whole (told.Saved (saved.Offer halves)) few = few_either (nat_eq (halves.first % 2) 1) halves.txns few
 fits_whole (told.Saved (saved.MarksBegun marks closed begun)) few = few
 fits_whole reply few = tt

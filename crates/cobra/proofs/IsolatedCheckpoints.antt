@@ -167,8 +167,8 @@ module _ (laws : GivenIsTaken) (parts : Parts) (version : Version) (good : IsGoo
     are : AreHalvesFrom s mark halves
     are = subst (λ (hs : List Txn). AreHalvesFrom s mark hs) rem (split.remain s)
 
-    bounded : mark + length halves ≤ 2 ^ 48
-    bounded = let most = good.numbers s in omega (arith, most, ap (λ (hs : List Txn). length hs) rem)
+    low_end : mark + length halves ≤ 2 ^ 48
+    low_end = let most = good.numbers s in omega (arith, most, ap (λ (hs : List Txn). length hs) rem)
 
     -- so many halves of it were handed over
     abbrev so_far : ℕ → Stage
@@ -209,17 +209,17 @@ module _ (laws : GivenIsTaken) (parts : Parts) (version : Version) (good : IsGoo
 
     isolated_txns : (n j : ℕ) (fragments : List Fragment) → first_told parts s (2 * min n (2 ^ 47)) ≡ mark + j → j ≤ length halves → IsPlace mark j → AreTxnsTold (isolated_told parts) s n fragments → AreTaken (so_far j) (map saved.Offer fragments) (at last (done ++ halves ∷ empties))
     isolated_txns n j [] place within place_of so =
-        let back = laws.remain s mark j halves are within place_of bounded in
+        let back = laws.remain s mark j halves are within place_of low_end in
         let end : piece j ≡ so.0 = ap offer_in (sym (piece_told n j place) ∙ so.1) in
         let none : drop j halves ≡ [] = back.over (ap (λ (f : Fragment). f.txns) end ∙ so.2) in
         ap (λ (hs : List Txn). at last (done ++ hs ∷ empties)) (sym (taken_all j halves none))
     isolated_txns n j (fragment ∷ more) place within place_of so =
-        let back = laws.remain s mark j halves are within place_of bounded in
+        let back = laws.remain s mark j halves are within place_of low_end in
         let same : piece j ≡ fragment = ap offer_in (sym (piece_told n j place) ∙ so.0) in
         let k : ℕ = length (take back.count (drop j halves)) in
         let n_next : ℕ = (piece j).first + length (piece j).txns in
         let still : j + k ≤ length halves = omega (arith, within, length-take back.count (drop j halves), length-drop j halves) in
-        let at_next : first_told parts s (2 * min n_next (2 ^ 47)) ≡ mark + (j + k) = omega (arith, back.next, still, bounded, ap (λ (hs : List Txn). length hs) rem) in
+        let at_next : first_told parts s (2 * min n_next (2 ^ 47)) ≡ mark + (j + k) = omega (arith, back.next, still, low_end, ap (λ (hs : List Txn). length hs) rem) in
         let so_more : AreTxnsTold (isolated_told parts) s n_next more = subst (λ (f : Fragment). AreTxnsTold (isolated_told parts) s (f.first + length f.txns) more) (sym same) so.1 in
         subst (λ (f : Fragment). AreTaken (so_far j) (saved.Offer f ∷ map saved.Offer more) (at last (done ++ halves ∷ empties))) same (
           so_far (j + k),
