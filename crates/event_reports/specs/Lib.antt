@@ -1,2 +1,3 @@
 pub mod EventsShown
 pub mod Halved
+pub mod Laws

@@ -3,6 +3,8 @@
 
 mod atoms;
 mod entries;
+mod laws;
 mod reports;
 
+pub use laws::events_read_back;
 pub use reports::read_events;
