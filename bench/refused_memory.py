@@ -2,7 +2,8 @@
 """Refuses each allocation and each thread of the programs in turn, with a C library.
 
 Run it at the top of the repository, after `rt run < /dev/null` has built each program in its crate,
-or with COBRA_AUDIT, COBRA_CHECK and COBRA_DEMO naming them. It needs cc:
+or with COBRA_AUDIT, COBRA_CHECK and COBRA_DEMO naming them, and after `rt test` in
+crates/library_tests and crates/search_tests. What isn't built is left out. It needs cc:
 
     python3 bench/refused_memory.py [--every N] [--only WORD] [--lasting]
 
@@ -10,20 +11,22 @@ For each run in its table, and each n up to the run's number of allocations, the
 its nth allocation refused; with --lasting all are refused from the nth on, until it has answered a
 line. Then one of the following has to happen; it prints a line per run with how often each did:
 
-- given again: cobra_audit has answered a line NoMemory. Then the state is the one before the line,
+- given again: the auditor has answered a line NoMemory. Then the state is the one before the line,
   a round is open exactly if one was open before, and when the line is given again it is answered as
   usual, a collect after its search.
 - ended: with status 1 and `out of memory`, after whole lines that are a prefix of the right output.
 - nothing seen: the library goes on without the memory that was refused.
+- passed: a test that calls again what was refused memory, and checks what it answers then.
 
 If workers share a round's search, its report only has to be one that the plain model (`judge.py`)
 finds right.
 
 The runs are the worked scripts of crates/cobra_examples/data, as a whole; four of them step by
-step, with workers, and handed over to another run; their stored replies for cobra_check; and the
-demonstration. --every takes only each Nth allocation, --only the runs whose name contains WORD. At
-the end it prints which commands of cobra_audit were answered NoMemory, and how often while a round
-was open. The status is 1 if anything else happened.
+step, with workers, and handed over to another run; their stored replies for cobra_check; the
+demonstration; and the tests in which memory may be refused, but not those with --lasting. --every
+takes only each Nth allocation, --only the runs whose name contains WORD. At the end it prints which
+commands of the auditor were answered NoMemory, and how often while a round was open. The status is
+1 if anything else happened.
 """
 import argparse
 import json
@@ -99,6 +102,12 @@ ENDED = (1, b"out of memory\n")
 FOR_EVER = 2**63
 SECONDS = 300.0  # within which a program has to end
 STEPS = ("real_split", "first_cut", "gone_read", "unordered_writers")
+# Tests that pass whichever allocation is refused. They call the store, and the solver of one
+# thread, once more where memory was refused.
+TESTS = (("library_tests", "stores::a_fault_acts_once_where_it_applies"),
+         ("library_tests", "stores::an_honest_store_answers_the_last_writer"),
+         ("search_tests", "orders::refused_memory_changes_no_answer"),
+         ("search_tests", "searches::refused_memory_changes_no_answer_of_a_search"))
 DEMONSTRATION = b"lost-update 1\n"
 PROGRAMS = {}  # paths by program name, set by a caller
 
@@ -109,6 +118,10 @@ def has_compiler():
 
 def path_of(name):
     return PROGRAMS.get(name) or os.environ.get(name.upper()) or f"crates/{name}/out/{name}"
+
+
+def tests_of(crate):
+    return f"crates/{crate}/out/{crate}_tests"
 
 
 class Shim:
@@ -125,13 +138,13 @@ class Shim:
         with open(self.counted, "r+b") as file:
             self.page = mmap.mmap(file.fileno(), 4096)
 
-    def start(self, program, refused=0, is_lasting=False, thread=0):
-        """Starts the program over pipes. `refused` is the number of an allocation, or of a thread,
-        or 0."""
+    def start(self, program, *words, refused=0, is_lasting=False, thread=0):
+        """Starts the program over pipes, with these arguments. `refused` is the number of an
+        allocation, or of a thread, or 0."""
         last = FOR_EVER if is_lasting else refused
         struct.pack_into("5Q", self.page, 0, 0, refused, last, 0, thread)
         pipes = {"stdin": subprocess.PIPE, "stdout": subprocess.PIPE, "stderr": subprocess.PIPE}
-        return subprocess.Popen([program], bufsize=0, **pipes,
+        return subprocess.Popen([program, *words], bufsize=0, **pipes,
                                 env={"LD_PRELOAD": self.library, "PAGE": self.counted})
 
     def lift(self):
@@ -142,19 +155,21 @@ class Shim:
         """How many allocations, and how many threads, the last program has requested."""
         return struct.unpack_from("Q", self.page)[0], struct.unpack_from("Q", self.page, 24)[0]
 
-    def run(self, program, given, **refused):
+    def run(self, program, given, *words, **refused):
         """The output for a whole input, the status and the messages."""
-        with self.start(program, **refused) as running:
+        with self.start(program, *words, **refused) as running:
             told, said = running.communicate(given, timeout=SECONDS)
         return told, (running.returncode, said)
 
 
 class Audit:
-    """A script for cobra_audit, given line by line. With `is_judged`, when workers share a search,
-    a report may differ from that of the run in which nothing was refused."""
+    """A script for an auditor, which is the first word of the name, given line by line. With
+    `is_judged`, when workers share a search, a report may differ from that of the run in which
+    nothing was refused."""
 
     def __init__(self, name, lines, owed=None, is_judged=False):
         self.name, self.lines = name, [line + b"\n" for line in lines]
+        self.path = path_of(name.split(",")[0])
         self.owed, self.shows, self.is_judged = owed, None, is_judged
         self.refused, self.in_rounds = Counter(), 0  # commands; those while a round was open
 
@@ -172,7 +187,7 @@ class Audit:
 
     def run(self, shim, shows=False, **refused):
         """The replies, the states before each line, where memory ran out, and the end."""
-        with shim.start(path_of("cobra_audit"), **refused) as running:
+        with shim.start(self.path, **refused) as running:
             replies, states, again, search = [], [], [], b""
             for line in self.lines:
                 if shows:
@@ -249,22 +264,39 @@ def ask(running, line):
 class Whole:
     """A program that is given its whole input at once."""
 
-    def __init__(self, name, program, given):
-        self.name, self.program, self.given, self.owed = name, program, given, None
+    def __init__(self, name, given):
+        self.name, self.path, self.given, self.owed = name, path_of(name.split(",")[0]), given, None
 
     def prepare(self, shim):
-        self.owed, ended = shim.run(path_of(self.program), self.given)
+        self.owed, ended = shim.run(self.path, self.given)
         if ended != (0, b""):
             raise Wrong(f"{self.name}: with nothing refused it ends with {ended}")
         return shim.counts()
 
     def way(self, shim, **refused):
-        told, ended = shim.run(path_of(self.program), self.given, **refused)
+        told, ended = shim.run(self.path, self.given, **refused)
         if (told, ended) == (self.owed, (0, b"")):
             return "nothing seen"
         if ended == ENDED and self.owed.startswith(told) and (not told or told.endswith(b"\n")):
             return "ended"
         raise Wrong(f"it ends with {ended}, and has written {told!r}")
+
+
+class Tested:
+    """A test of a crate, which has to pass."""
+
+    def __init__(self, crate, test):
+        self.name, self.path, self.test = f"{crate}, {test}", tests_of(crate), test
+
+    def prepare(self, shim):
+        self.way(shim)
+        return shim.counts()
+
+    def way(self, shim, **refused):
+        told, (status, said) = shim.run(self.path, b"", self.test, **refused)
+        if status or not told.endswith(b"test result: ok\n"):
+            raise Wrong(f"it ends with {status}, and has written {told!r}, {said!r}")
+        return "passed"
 
 
 def lines_of(path):
@@ -326,13 +358,13 @@ def runs(data):
             yield Audit(f"cobra_audit, {name} with workers", with_workers(lines), is_judged=True)
             yield Audit(f"cobra_audit, {name} handed over", handed_over(lines))
             turns = b"".join(line + b"\n" + reply + b"\n" for line, reply in zip(lines, replies))
-            yield Whole(f"cobra_check, {name}", "cobra_check", turns)
-    yield Whole("cobra_demo, lost-update 1", "cobra_demo", DEMONSTRATION)
+            yield Whole(f"cobra_check, {name}", turns)
+    yield Whole("cobra_demo, lost-update 1", DEMONSTRATION)
+    yield from (Tested(*each) for each in TESTS)
 
 
 def is_built(run):
-    name = run.name.split(",")[0]
-    return os.access(path_of(name), os.X_OK)
+    return os.access(run.path, os.X_OK)
 
 
 def ways_of(shim, run, numbers, **how):
@@ -358,7 +390,7 @@ def main():
     with tempfile.TemporaryDirectory() as folder:
         shim = Shim(folder)
         for run in runs(os.path.join(HERE, "../crates/cobra_examples/data")):
-            if asked.only not in run.name:
+            if asked.only not in run.name or asked.lasting and isinstance(run, Tested):
                 continue
             if not is_built(run):
                 print(f"{run.name}: not built")

@@ -182,23 +182,22 @@ def refused(program):
     """For each kind: how often what was refused was added again, and how often the program ended
     instead. Any other end is reported."""
     with tempfile.TemporaryDirectory() as folder:
-        trial = refused_memory.Trial(program, folder)
+        shim = refused_memory.Shim(folder)
         print("| Kind | Allocations | Added once more | Ended | Not seen | WRONG |\n|---|---|---|---|---|---|")
         for kind in histories.KINDS:
             given = history(kind, 40, AGAIN, 6).encode("ascii")
-            wanted, status, allocations = told_with(trial, given, 0)
+            wanted, status, allocations = told_with(shim, program, given, 0)
             assert status == 0 and len(relation_in(wanted)) > 100, wanted
-            ends = [end_of(told_with(trial, given, number), wanted) for number in range(1, allocations + 1)]
+            ends = [end_of(told_with(shim, program, given, number), wanted) for number in range(1, allocations + 1)]
             counts = [ends.count(end) for end in ("again", "ended", "not seen", "wrong")]
             print(f"| {kind} | {allocations:,} | " + " | ".join(f"{count:,}" for count in counts) + " |", flush=True)
 
 
-def told_with(trial, given, number):
+def told_with(shim, program, given, number):
     """The program's output if its allocation of this number is refused, its status, and how many
     allocations it made."""
-    settings = {"LD_PRELOAD": trial.shim, "REFUSED": str(number), "COUNTED": trial.counted}
-    ran = subprocess.run([trial.program], input=given, env=settings, capture_output=True, check=False)
-    return ran.stdout.splitlines(), ran.returncode, int.from_bytes(pathlib.Path(trial.counted).read_bytes()[:8], "little")
+    told, (status, _) = shim.run(program, given, refused=number)
+    return told.splitlines(), status, shim.counts()[0]
 
 
 def relation_in(lines):

@@ -18,6 +18,7 @@ there instead of running it.
 import argparse
 import json
 import os
+import random
 import select
 import subprocess
 import time
@@ -30,6 +31,8 @@ LONGEST, MOST = 8388608, 256
 LINE, ROUND = (2.0, 64.0), (10.0, 128.0)  # limits in seconds and MiB
 DEAREST = 2**64 - 1 - MOST  # keys of twenty digits from here on
 BUDGETS = (4096, 65536)
+# A round of this should take at most twice as long as with one node.
+HONEST = "store, 4 in 5 write 256 keys"
 
 
 def compact(told):
@@ -125,6 +128,20 @@ def blind(count, keys, sessions=64, is_one=False):
         session = sessions // 2 + number % (sessions - sessions // 2)
         source = written[0] if is_one else written[number * 7919 % half]
         made[session].append([[[key, *source] for key in every], []])
+    return made
+
+
+def written_whole(count, sessions=16):
+    """A store that executes one transaction after another: four in five write all of 256 keys, half
+    of these without reading, and all others read all keys."""
+    draw, keys = random.Random(1), list(range(1, MOST + 1))
+    made, last = [[] for _ in range(sessions)], ("init",)
+    for _ in range(count):
+        session, kind = draw.randrange(sessions), draw.randrange(5)
+        reads = [] if kind < 2 else [[key, *last] for key in keys]
+        made[session].append([reads, keys if kind < 4 else []])
+        if kind < 4:
+            last = session, len(made[session]) - 1
     return made
 
 
@@ -263,6 +280,7 @@ def rounds(size, some):
         "blind, 16 keys": partial(blind, size, 16),
         "blind, 256 keys": partial(blind, size, MOST),
         "blind, 256 keys, an eighth as many": partial(blind, size // 8, MOST),
+        HONEST: partial(written_whole, size * 10 // 13),
         "1 key read from the start": partial(from_the_start, size, 1),
         "256 keys read from the start": partial(from_the_start, size, MOST),
         "256 keys read from the start, an eighth as many": partial(from_the_start, size // 8, MOST),
@@ -278,6 +296,7 @@ def rounds(size, some):
     }
     asked = [(f"round of {budget}, {what}", what, [budget, 0, 1])
              for what in made for budget in BUDGETS]
+    asked.append((f"round of 1, {HONEST}", HONEST, [1, 0, 1]))
     asked += [(f"round of 65536, depth 6, 16 workers, {what}", what, [65536, 6, 16])
               for what in ("blind, 1 key", "one read, all others blind",
                            "pairs that nothing orders", "chain of 256 keys and open pairs")]

@@ -264,7 +264,7 @@ class Words(unittest.TestCase):
     def test_a_split(self):
         """The worked script: two writers of key 1 and two of key 2, in either order."""
         with open(os.path.join(DATA, "real_split.replies"), encoding="utf-8") as file:
-            items = json.loads(file.read().splitlines()[-1])[4]
+            items = next(report[4] for report in map(json.loads, file) if report[0] == "report")
         with open(os.path.join(DATA, "real_split.jsonl"), encoding="utf-8") as file:
             lines = [json.loads(line) for line in file]
         history = of_log([line[3] for line in lines if line[0] == "offer"])

@@ -214,7 +214,7 @@ class Audited(unittest.TestCase):
     def test_a_round_that_is_spent_changes_nothing(self):
         """On a history that needs a search, the round is spent, and a larger budget decides it."""
         with open(os.path.join(TOP, "crates/cobra_examples/data/real_split.jsonl"), "rb") as file:
-            *lines, _ = file.read().splitlines()
+            lines = [line for line in file.read().splitlines() if not line.startswith(b'["round"')]
         asked = [b'["show"]', b'["round",1,0,1]', b'["show"]', b'["round",1,6,16]', b'["show"]',
                  b'["round",32,0,1]']
         told = replies_to(*lines, *asked)[len(lines):]

@@ -20,10 +20,14 @@ def compact(told):
 
 
 def worked(name):
-    """The lines of a worked script up to its last round, without it."""
+    """The lines of a worked script up to its last rounds, without them."""
     with open(os.path.join(WORKED, f"{name}.jsonl"), "rb") as file:
         lines = file.read().splitlines()
-    return lines[:max(at for at, line in enumerate(lines) if command_of(line)[0] == "round")]
+    words = [command_of(line)[0] for line in lines]
+    end = max(at for at, word in enumerate(words) if word == "round")
+    while words[end - 1] == "round":
+        end -= 1
+    return lines[:end]
 
 
 def made(log):

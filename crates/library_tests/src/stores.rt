@@ -250,8 +250,8 @@ fn last_reads(
     reads_at_last(rt, alloc, &mut store, row.last)
 }
 
-/// This and the next may also be run with each allocation refused in turn: `rt try --test --fail-alloc N`. A request that was refused memory
-/// is then executed as ever, once it is asked again.
+/// `bench/refused_memory.py` also runs this and the next with each allocation refused in turn. A request that was refused memory is then executed
+/// as ever, once it is asked again. The gate refuses none.
 #[test]
 fn a_fault_acts_once_where_it_applies(rt: HostRuntime) -> Result<(), Fail> {
     for row in rows() {

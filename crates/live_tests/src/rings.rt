@@ -245,13 +245,15 @@ fn two_threads_lose_nothing(rt: HostRuntime) -> Result<(), Fail> {
     Ok(())
 }
 
-/// Both ends go into threads of their own, and the sender's end comes back.
+/// Both ends go into threads of their own, and come back. The sender ends by an end, since the reader is still there.
 #[test]
 fn the_ends_move_into_spawned_threads(rt: HostRuntime) -> Result<(), Fail> {
     let (sender, reader) = ring(rt.alloc(), 3)?;
     let sending = thread::spawn(&rt, move || send_all(sender).end())?;
-    let reading = thread::spawn(&rt, move || take_all(reader).1)?;
-    assert_eq!(&rt; reading.join(&rt), 200);
-    let _ = sending.join(&rt);
+    let reading = thread::spawn(&rt, move || take_all(reader))?;
+    let (reader, taken) = reading.join(&rt);
+    assert_eq!(&rt; taken, 200);
+    assert!(&rt; sending.join(&rt).is_some());
+    drop(reader);
     Ok(())
 }

@@ -10,6 +10,11 @@ use test_histories::{EMPTY, ID_0_0, ID_1_0, ID_2_0, ID_3_0, Table};
 use txn::Source::{By, Init};
 use txn::{NoMemory, TxnId};
 
+const ID_8_0: TxnId = TxnId {
+    session: 8,
+    number: 0,
+};
+
 /// Four writers and four readers: each way to order the writers of key 1 and those of key 2 fails one of the readers.
 const REAL_SPLIT: Table = Table {
     marks: &[0; 8],
@@ -24,6 +29,26 @@ const REAL_SPLIT: Table = Table {
         &[(&[(2, By(ID_3_0)), (3, By(ID_0_0)), (4, By(ID_1_0))], &[])],
     ],
     closed: &[false; 8],
+    ..EMPTY
+};
+
+/// The same, but 6.0 doesn't read from 0.0. It overwrites key 7 of a ninth transaction, which it comes after; 0.0 has read that, so that it comes
+/// before 6.0, whatever else is taken. One side of the first open choice is refuted by this step and those that are forced beyond the choice.
+const FORCED_AND_SPLIT: Table = Table {
+    marks: &[0; 9],
+    remain: &[
+        &[(&[(7, By(ID_8_0))], &[1, 3])],
+        &[(&[], &[1, 4])],
+        &[(&[], &[2, 5])],
+        &[(&[], &[2, 6])],
+        &[(&[(1, By(ID_0_0)), (5, By(ID_2_0)), (6, By(ID_3_0))], &[])],
+        &[(&[(1, By(ID_1_0)), (5, By(ID_2_0)), (6, By(ID_3_0))], &[])],
+        &[(&[(2, By(ID_2_0)), (4, By(ID_1_0)), (8, By(ID_8_0))], &[7])],
+        &[(&[(2, By(ID_3_0)), (3, By(ID_0_0)), (4, By(ID_1_0))], &[])],
+        &[(&[], &[7, 8])],
+    ],
+    closed: &[false; 9],
+    limit: 16,
     ..EMPTY
 };
 
@@ -174,7 +199,7 @@ struct Row {
     said: Said,
 }
 
-static ROWS: [Row; 29] = [
+static ROWS: [Row; 33] = [
     Row {
         table: EMPTY,
         open: 0,
@@ -385,6 +410,35 @@ static ROWS: [Row; 29] = [
         depth: 6,
         said: "no",
     },
+    // a cube's tree needs steps of its root and steps beyond it
+    Row {
+        table: FORCED_AND_SPLIT,
+        open: 4,
+        budget: 32,
+        depth: 0,
+        said: "no",
+    },
+    Row {
+        table: FORCED_AND_SPLIT,
+        open: 4,
+        budget: 32,
+        depth: 1,
+        said: "no",
+    },
+    Row {
+        table: FORCED_AND_SPLIT,
+        open: 4,
+        budget: 32,
+        depth: 2,
+        said: "no",
+    },
+    Row {
+        table: FORCED_AND_SPLIT,
+        open: 4,
+        budget: 32,
+        depth: 6,
+        said: "no",
+    },
     Row {
         table: TEN_CHOICES,
         open: 10,
@@ -423,7 +477,7 @@ fn is_force(tree: &Tree) -> bool {
     matches!(tree, Tree::Force { .. })
 }
 
-/// Whether each node of steps has some.
+/// Whether each node of steps has some, and none of them stands right below another.
 fn is_neat(tree: &Tree) -> bool {
     match tree {
         Tree::Close(_) => true,
@@ -441,7 +495,7 @@ fn said_by(answer: &Answer) -> Said {
     match answer {
         Answer::Yes(_) => "yes",
         Answer::No(tree) if is_neat(tree) => "no",
-        Answer::No(_) => "a tree with a node of steps that is empty",
+        Answer::No(_) => "a tree with a node of steps that is empty, or right below another",
         Answer::Spent => "spent",
         Answer::NoMemory => "no memory",
     }
@@ -494,7 +548,7 @@ fn answers_at_last(rt: &impl Abort, alloc: Global, row: &Row) {
     }
 }
 
-/// To be run with each allocation refused in turn: `rt try --test --fail-alloc N`.
+/// The gate refuses no memory: `bench/refused_memory.py` runs this with each allocation refused in turn.
 #[test]
 fn refused_memory_changes_no_answer_of_a_search(rt: HostRuntime) {
     for row in rows() {

@@ -49,10 +49,9 @@ fn compare<R: Threads + Sync>(
     requires { (1 ≤ bounds.budget) × (bounds.budget ≤ 4096) × (bounds.depth ≤ 6) }
 {
     let single = Single.solve(alloc, problem, bounds.budget, bounds.depth, 1);
-    let said = if has_split(&single) {
-        "no, by a split"
-    } else {
-        said_by(&single)
+    let said = match said_by(&single) {
+        "no" if has_split(&single) => "no, by a split",
+        other => other,
     };
     let single = format!(in alloc; "{single:?}")?;
     let shared = Shared::new(rt, OpenGate);
@@ -85,7 +84,7 @@ fn a_worked_refutation_is_the_same_with_all_numbers_of_workers(
 }
 
 /// What came of generated histories: those with more open choices than are split at most, shared searches that answered something else than the
-/// solver of one thread, and how often each kind was told, a no without a split apart from one by a split.
+/// solver of one thread, how often each kind was told, a no without a split apart from one by a split, and answers unlike those that it gives.
 #[derive(Drop, Debug, PartialEq)]
 struct Tally {
     deep: u64,
@@ -94,6 +93,7 @@ struct Tally {
     no: u64,
     split: u64,
     spent: u64,
+    unlike: u64,
 }
 
 impl Tally {
@@ -103,7 +103,8 @@ impl Tally {
             "yes" => self.yes = self.yes.saturating_add(1),
             "no" => self.no = self.no.saturating_add(1),
             "no, by a split" => self.split = self.split.saturating_add(1),
-            _ => self.spent = self.spent.saturating_add(1),
+            "spent" => self.spent = self.spent.saturating_add(1),
+            _ => self.unlike = self.unlike.saturating_add(1),
         }
     }
 }
@@ -117,6 +118,7 @@ fn generated_histories_have_one_answer(rt: HostRuntime) -> Result<(), Fail> {
         no: 0,
         split: 0,
         spent: 0,
+        unlike: 0,
     };
     let mut dice = Dice::of(1);
     for round in 0..200u64 {
@@ -140,6 +142,7 @@ fn generated_histories_have_one_answer(rt: HostRuntime) -> Result<(), Fail> {
         no: 0,
         split: 74,
         spent: 21,
+        unlike: 0,
     };
     assert_eq!(&rt; tally, wanted);
     Ok(())

@@ -57,11 +57,29 @@ pub fn choices(alloc: Global, count: usize) -> Result<Vec<Choice>, NoMemory>
     Ok(choices)
 }
 
-/// A word for the answer.
+fn is_force(tree: &Tree) -> bool {
+    matches!(tree, Tree::Force { .. })
+}
+
+/// Whether each node of steps has some, and none of them stands right below another.
+fn is_neat(tree: &Tree) -> bool {
+    match tree {
+        Tree::Close(_) => true,
+        Tree::Force { steps, rest } => !steps.is_empty() && !is_force(rest) && is_neat(rest),
+        Tree::Split {
+            choice: _,
+            first,
+            second,
+        } => is_neat(first) && is_neat(second),
+    }
+}
+
+/// A word for the answer, if a tree in it is as the searches make them.
 pub fn said_by(answer: &Answer) -> &'static str {
     match answer {
         Answer::Yes(_) => "yes",
-        Answer::No(_) => "no",
+        Answer::No(tree) if is_neat(tree) => "no",
+        Answer::No(_) => "a tree with a node of steps that is empty, or right below another",
         Answer::Spent => "spent",
         Answer::NoMemory => "no memory",
     }

@@ -182,16 +182,18 @@ fn small_histories_have_the_kind_that_all_orders_tell(rt: HostRuntime) -> Result
     Ok(())
 }
 
-/// Of so many numbers of workers, how many have the guided search answer something else than over the plain search of one thread.
-fn count_others<R: Threads + Sync>(
+/// What the plain search says; and of so many numbers of workers, how many have the guided search answer something else than over the plain
+/// search of one thread.
+fn compare<R: Threads + Sync>(
     rt: &R,
     alloc: Global,
     problem: &Problem,
     nodes: u64,
     depth: u64,
-) -> Result<u64, NoMemory>
+) -> Result<(&'static str, u64), NoMemory>
     requires { (1 ≤ nodes) × (nodes ≤ 63) × (depth ≤ 6) }
 {
+    let plain = said_by(&Single.solve(alloc, problem, nodes, depth, 1));
     let single = Guided::new(Conflicts, Single).solve(alloc, problem, nodes, depth, 1);
     let single = format!(in alloc; "{single:?}")?;
     let shared = Guided::new(Conflicts, Shared::new(rt, OpenGate));
@@ -202,7 +204,7 @@ fn count_others<R: Threads + Sync>(
             others = others.saturating_add(1);
         }
     }
-    Ok(others)
+    Ok((plain, others))
 }
 
 /// The plain search looks at no node with few of them, and is spent with one at depth 0.
@@ -213,8 +215,8 @@ fn answers_are_the_same_with_all_numbers_of_workers(rt: HostRuntime) -> Result<(
         let parts = history_by(rt.alloc(), &mut dice)?;
         let problem = problem_of(&rt, rt.alloc(), &parts)?;
         let nodes = few_nodes(&problem);
-        assert_eq!(&rt; count_others(&rt, rt.alloc(), &problem, nodes, 6)?, 0);
-        assert_eq!(&rt; count_others(&rt, rt.alloc(), &problem, 1, 0)?, 0);
+        assert_eq!(&rt; compare(&rt, rt.alloc(), &problem, nodes, 6)?, ("spent", 0));
+        assert_eq!(&rt; compare(&rt, rt.alloc(), &problem, 1, 0)?, ("spent", 0));
     }
     Ok(())
 }
