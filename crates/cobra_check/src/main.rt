@@ -2,11 +2,12 @@
 //! output what it finds of each report.
 #![tactic(auto)]
 
-ghost use Rattle.std.specs.Prelude.{◌≡◌, ℕ, ◌<◌, ◌⊎◌, ◌++◌, List, codes, true, false, Ok, Err, Some, IfSome, OnErr, option_map};
+ghost use Rattle.std.specs.Prelude.{◌≡◌, ℕ, ◌<◌, ◌⊎◌, List, codes, true, false, Ok, Err, Some, IfSome, OnErr, option_map};
 ghost use Rattle.std.specs.Io.KnownBytes.{Appends, Keeps};
 ghost use Rattle.report_checking.specs.Checking.{IsAllRight};
 ghost use Rattle.report_checking.specs.RightReports.{StopsAtWrong};
-ghost use Rattle.report_checking.specs.Telling.{Tells, last_line};
+ghost use Rattle.report_checking.specs.Outcomes.{FindsAll, TellsFirst};
+ghost use Rattle.report_checking.specs.Telling.{AppendsFront, told_of};
 
 use cobra::{
     Asked, ByteSink, ByteSource, Exit, Failure, ReaderSource, WriterSink, asked_in, exit_of, tell,
@@ -48,9 +49,12 @@ fn run<R: ByteSource, W: ByteSink>(
     ensures right { asked ≡ Ok Asked.Work → result.status ≡ 0 → IfSome (R.remaining input.old) IsAllRight }
     ensures wrong { asked ≡ Ok Asked.Work → result.status ≡ 3 → IfSome (R.remaining input.old) StopsAtWrong }
 
-    // What was written tells of one reply after another, and at its end the same as the status.
-    ensures told_right { asked ≡ Ok Asked.Work → result.status ≡ 0 → (tally : _) × (text : List ℕ) × Tells tally text × Appends (W.contents output.old) (W.contents output.new) (text ++ last_line tally true) }
-    ensures told_wrong { asked ≡ Ok Asked.Work → result.status ≡ 3 → (tally : _) × (text : List ℕ) × Tells tally text × Appends (W.contents output.old) (W.contents output.new) (text ++ last_line tally false) }
+    // What was written is a line of each reply, by what was found of it, and at its end the same as the status.
+    ensures told_right { asked ≡ Ok Asked.Work → result.status ≡ 0 → (all : _) × IfSome (R.remaining input.old) (λ bytes. FindsAll true bytes all) × Appends (W.contents output.old) (W.contents output.new) (told_of all true) }
+    ensures told_wrong { asked ≡ Ok Asked.Work → result.status ≡ 3 → (all : _) × IfSome (R.remaining input.old) (λ bytes. FindsAll false bytes all) × Appends (W.contents output.old) (W.contents output.new) (told_of all false) }
+
+    // With status 1 a front was written of what is written of the input's first replies, or of all and with the last line.
+    ensures told_front { asked ≡ Ok Asked.Work → result.status ≡ 1 → (text : List ℕ) × IfSome (R.remaining input.old) (λ bytes. TellsFirst bytes text) × AppendsFront (W.contents output.old) (W.contents output.new) text }
 
     ensures statuses { asked ≡ Ok Asked.Work → (result.status ≡ 0) ⊎ (result.status ≡ 1) ⊎ (result.status ≡ 3) }
 

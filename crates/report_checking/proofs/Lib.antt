@@ -1,5 +1,6 @@
 pub mod CheckedLines
 pub mod EarnedReports
+pub mod Fronts
 pub mod NoBraces
 pub mod OtherReplies
 pub mod OwedReplies
@@ -9,4 +10,6 @@ pub mod ScriptReplies
 pub mod SplitFaults
 pub mod SplitReplies
 pub mod Stopping
+pub mod Tallies
 pub mod ToldLines
+pub mod UnshownReplies

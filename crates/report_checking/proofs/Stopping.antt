@@ -1,5 +1,5 @@
 -- Where the check of a script stops.
-use Rattle.std.proofs.Common.{◌≡◌, ℕ, List, ◌∷◌, ◌++◌, Option, Some, None, ap, sym, ◌∙◌, subst, arith, inl, inr}
+use Rattle.std.proofs.Common.{◌≡◌, ℕ, List, [], ◌∷◌, ◌++◌, Option, Some, None, ap, sym, ◌∙◌, subst, arith, inl, inr}
 use Rattle.std.specs.Prelude.{Bool}
 use Rattle.std.proofs.lemmas.Bool.{not_from_false}
 use Rattle.polygraph.specs.declared.solving.Answer.{Answer}
@@ -20,11 +20,12 @@ use Rattle.log_text.specs.declared.versions.Opening.TheVariants.{Ordered, Isolat
 use Rattle.log_text.specs.declared.versions.Version.{Version}
 use Rattle.report_checking.specs.Isolation.{IsShownBy, names_of, told_by}
 use Rattle.report_checking.specs.OwedLines.{ScriptState}
-use Rattle.report_checking.specs.Reading.{HoldsScript, EarnsBeside, EarnsIn, IsFairTo, IsFairNext, IsOtherwiseNext, IsRead, StopsOn}
-use Rattle.report_checking.specs.RightReports.{OwesReport, OwesIsolation, OwesReportIn, shown_of, TellsRightReport, HasWrongNext}
+use Rattle.report_checking.specs.Reading.{HoldsScript, Finds, FindsNext, EarnsBeside, EarnsIn, IsFairTo, IsFairNext, IsOtherwiseNext, IsRead, StopsOn}
+use Rattle.report_checking.specs.RightReports.{OwesReport, OwesIsolation, OwesReportIn, shown_of, TellsRightReport, IsWrongReply, HasFault}
 use Rattle.report_checking.specs.declared.findings.Found.{Found}
 use Rattle.report_checking.specs.declared.findings.Found.TheVariants as found
 use Rattle.report_checking.specs.declared.findings.Fault.{Fault}
+use Rattle.report_checking.specs.declared.findings.Fault.TheVariants as fault
 use Rattle.report_checking.specs.declared.open_scripts.OpenScript.{OpenScript}
 use Rattle.report_checking.proofs.CheckedLines.{next_line}
 use Rattle.report_checking.proofs.ScriptReplies.{same_engine, no_right_other, no_unchecked}
@@ -62,28 +63,43 @@ no_right_report (Some script) (Some before) next line stored why holds said fair
     (subst (λ (n : Names). IsShownBy n stored (shown_of right.report.certificate)) names right.shows)
     (subst (λ (n : Names). stored ≡ text_of (told_by n (report_of right.report))) names right.text_is)
 
+-- what is wrong with the reply that was read behind the line
+fault_of : (state : Option ScriptState) (line stored : List ℕ) (left : List (List ℕ)) (script new : Option OpenScript) (next : Next) (why : Fault) → IsWrongReply state line stored → HoldsScript script state → IsTold line next
+    → Finds script next stored (found.Wrong why) new → HasFault state (line ∷ stored ∷ left) why
+fault_of state line stored left script new next (fault.Other text) wrong holds said finds = let after = finds line said state holds in (wrong, after.1.0, after.0, after.1.1)
+fault_of state line stored left script new next (fault.Unshown it) wrong holds said finds = (wrong, finds line said state holds)
+fault_of state line stored left script new next fault.Missing wrong holds said finds = absurd finds
+fault_of state line stored left script new next fault.TooLong wrong holds said finds = absurd finds
+
 -- what was read behind the line
-wrong_behind : (limit : ℕ) (left : List (List ℕ)) (after : Option (List (List ℕ))) (line : List ℕ) (next stored : Next) (script : Option OpenScript) (state : Option ScriptState) (why : Fault) → limit ≡ 1073741824 → HoldsScript script state → IsTold line next → IsNextOf limit (Some left) stored after
-    → IsFairNext script next stored (found.Wrong why) → IsOtherwiseNext script next stored (found.Wrong why) → HasWrongNext state (line ∷ left)
-wrong_behind limit left after line next (Line bytes) script state why long holds said is fair otherwise =
-    subst (λ ls. HasWrongNext state (line ∷ ls)) (sym is.2) (inr (record {
+wrong_behind : (limit : ℕ) (left : List (List ℕ)) (after : Option (List (List ℕ))) (line : List ℕ) (next stored : Next) (script new : Option OpenScript) (state : Option ScriptState) (why : Fault) → limit ≡ 1073741824 → HoldsScript script state → IsTold line next → IsNextOf limit (Some left) stored after
+    → FindsNext script next stored (found.Wrong why) new → IsFairNext script next stored (found.Wrong why) → IsOtherwiseNext script next stored (found.Wrong why) → HasFault state (line ∷ left) why
+wrong_behind limit left after line next (Line bytes) script new state why long holds said is finds fair otherwise =
+    let wrong : IsWrongReply state line bytes.items = record {
       report = no_right_report script state next line bytes.items why holds said fair;
       other = no_right_other script state next line bytes.items why holds said otherwise;
       checked = no_unchecked script state next line bytes.items why holds said otherwise;
-    }))
-wrong_behind limit left after line next TooLong script state why long holds said is fair otherwise =
-    subst (λ ls. HasWrongNext state (line ∷ ls)) (sym is.3) (inl (omega (arith, is.4, long)))
-wrong_behind limit left after line next End script state why long holds said is fair otherwise =
-    subst (λ ls. HasWrongNext state (line ∷ ls)) (sym is.1) tt
+    } in
+    subst (λ ls. HasFault state (line ∷ ls) why) (sym is.2) (fault_of state line bytes.items is.0 script new next why wrong holds said finds)
+wrong_behind limit left after line next TooLong script new state fault.TooLong long holds said is finds fair otherwise =
+    subst (λ ls. HasFault state (line ∷ ls) fault.TooLong) (sym is.3) (omega (arith, is.4, long))
+wrong_behind limit left after line next TooLong script new state why long holds said is finds fair otherwise = absurd finds
+wrong_behind limit left after line next End script new state fault.Missing long holds said is finds fair otherwise =
+    subst (λ ls. HasFault state (line ∷ ls) fault.Missing) (sym is.1) tt
+wrong_behind limit left after line next End script new state why long holds said is finds fair otherwise = absurd finds
 
-pub stops_at : (limit : ℕ) (b c : Option (List (List ℕ))) (next line stored : Next) (got : Found) (old : Option OpenScript) → limit ≡ 1073741824 → ((bytes : List ℕ) → IsRead bytes next → IsTold bytes line) → IsNextOf limit b stored c → IsFairNext old line stored got → IsOtherwiseNext old line stored got → StopsOn limit b next old got
-stops_at limit b c next line stored got old long told second fair otherwise input a s is some why wrong =
+pub stops_at : (limit : ℕ) (b c : Option (List (List ℕ))) (next line stored : Next) (got : Found) (old new : Option OpenScript) → limit ≡ 1073741824 → ((bytes : List ℕ) → IsRead bytes next → IsTold bytes line) → IsNextOf limit b stored c → FindsNext old line stored got new → IsFairNext old line stored got → IsOtherwiseNext old line stored got → StopsOn limit b next old got
+stops_at limit b c next line stored got old new long told second finds fair otherwise input a all s is some why wrong =
     let one = next_line limit s.left b next (omega (arith, long)) (subst (λ (o : Option (List (List ℕ))). IsNextOf limit o next b) s.left_is is) some in record {
       front = s.front;
       left = one.0 ∷ one.1;
       split = s.split ∙ ap (λ ls. s.front ++ ls) one.3;
       state = s.state;
+      right = all;
       checks = s.checks;
-      wrong = wrong_behind limit one.1 c one.0 line stored old s.state why long s.holds (told one.0 one.4)
-          (subst (λ (o : Option (List (List ℕ))). IsNextOf limit o stored c) one.2 second) (subst (IsFairNext old line stored) wrong fair) (subst (IsOtherwiseNext old line stored) wrong otherwise);
+      why = why;
+      wrong = wrong_behind limit one.1 c one.0 line stored old new s.state why long s.holds (told one.0 one.4)
+          (subst (λ (o : Option (List (List ℕ))). IsNextOf limit o stored c) one.2 second) (subst (λ (f : Found). FindsNext old line stored f new) wrong finds)
+          (subst (IsFairNext old line stored) wrong fair) (subst (IsOtherwiseNext old line stored) wrong otherwise);
+      all_is = ap (λ (f : Found). all ++ f ∷ []) wrong;
     }

@@ -1,32 +1,151 @@
 -- What is written of one reply after another.
-use Rattle.std.proofs.Common.{◌≡◌, ℕ, List, [], ◌++◌, Option, sym, subst, append-nil}
+use Rattle.std.proofs.Common.{◌≡◌, ◌≢◌, ℕ, List, [], ◌∷◌, ◌++◌, Option, Some, None, Bool, true, false, IfSome, IsTrue, refl, ap, sym, ◌∙◌, subst, append-nil, inl, inr}
 use Rattle.std.specs.Io.KnownBytes.{Appends}
 use Rattle.std.proofs.KnownBytes.{Appends-nil, Appends-trans}
-use Rattle.report_checking.specs.Telling.{Tells, TellsNext, none, one, no_tally, counted, found_line}
-use Rattle.report_checking.specs.declared.findings.Advance.{Advance}
-use Rattle.report_checking.specs.declared.findings.Advance.TheVariants as advance
+use Rattle.byte_lines.specs.declared.lines.Next.{Next}
+use Rattle.byte_lines.specs.declared.lines.Next.TheVariants.{End}
+use Rattle.byte_lines.specs.LineReaders.{IsNextOf}
+use Rattle.byte_lines.specs.Lines.{lines}
+use Rattle.report_checking.specs.Checking.{IsAllRight, start}
+use Rattle.report_checking.specs.Outcomes.{FindsAll, FindsRightFirst, TellsFirst}
+use Rattle.report_checking.specs.Reading.{Advances, IsChecking, IsFine, LeadsOn, StopsOn, TellsFront}
+use Rattle.report_checking.specs.RightReports.{StopsAtWrong}
+use Rattle.report_checking.specs.Telling.{AppendsFront, TellsNext, counted, found_line, last_line, lines_told, no_tally, one_more, tally_of, told_of}
+use Rattle.report_checking.specs.declared.findings.Fault.{Fault}
 use Rattle.report_checking.specs.declared.findings.Found.{Found}
+use Rattle.report_checking.specs.declared.findings.Found.TheVariants as found
+use Rattle.report_checking.specs.declared.open_scripts.OpenScript.{OpenScript}
 use Rattle.report_checking.specs.declared.texts.Tally.{Tally}
+use Rattle.report_checking.proofs.CheckedLines.{advances_fine, advances_to, first_of, may_find}
+use Rattle.report_checking.proofs.Fronts.{front_all, front_behind}
+use Rattle.report_checking.proofs.Tallies.{counted_push, lines_push, number_counted}
 
--- this much was written, which tells of what was counted
-abbrev pub HasTold : Tally → Option (List ℕ) → Option (List ℕ) → Type 0
-HasTold tally before after = (text : List ℕ) × Tells tally text × Appends before after text
+-- So far this was found, counted and written, and, where it is told what was left, checked.
+pub record HasTold (left : Option (List ℕ)) (ahead : Option (List (List ℕ))) (script : Option OpenScript) (tally : Tally) (before after : Option (List ℕ)) : Type 0 where
+  pub all : List Found
+  pub counts : tally ≡ tally_of all
+  pub writes : Appends before after (lines_told 0 all)
+  pub checks : (input : List ℕ) → left ≡ Some input → IsChecking input ahead script all
 
-pub told_none : (tally : Tally) (before : Option (List ℕ)) → tally ≡ no_tally → HasTold tally before before
-told_none tally before is = ([], subst (λ (t : Tally). Tells t []) (sym is) none, Appends-nil before)
+-- at the end this was found, counted and written
+abbrev pub EndsTold : Bool → Option (List ℕ) → Tally → Option (List ℕ) → Option (List ℕ) → Type 0
+EndsTold right left tally before after = (all : List Found) × (tally ≡ tally_of all) × IfSome left (λ input. FindsAll right input all) × Appends before after (lines_told 0 all)
 
-told_one : (old new : Tally) (first before after : Option (List ℕ)) (given : Found) → HasTold old first before → new ≡ counted old given → Appends before after (found_line new.replies given) → HasTold new first after
-told_one old new first before after given so is more = (
-  so.0 ++ found_line new.replies given,
-  subst (λ (t : Tally). Tells t (so.0 ++ found_line t.replies given)) (sym is) (one old so.0 given so.1),
-  Appends-trans first before after so.0 (found_line new.replies given) so.2 more,
+-- a front was written of what is written of the first replies
+abbrev pub FailsTold : Option (List ℕ) → Option (List ℕ) → Option (List ℕ) → Type 0
+FailsTold left before after = (text : List ℕ) × IfSome left (λ input. TellsFirst input text) × AppendsFront before after text
+
+if_some : (left : Option (List ℕ)) (P : List ℕ → Type 0) → ((input : List ℕ) → left ≡ Some input → P input) → IfSome left P
+if_some None P is = tt
+if_some (Some input) P is = is input refl
+
+pub told_none : (left : Option (List ℕ)) (ahead : Option (List (List ℕ))) (script : Option OpenScript) (tally : Tally) (before : Option (List ℕ)) → tally ≡ no_tally → ((input : List ℕ) → left ≡ Some input → IsChecking input ahead script []) → HasTold left ahead script tally before before
+told_none left ahead script tally before is checks = record { all = []; counts = is; writes = Appends-nil before; checks = checks }
+
+-- one more is counted
+counted_next : (old new : Tally) (all : List Found) (given : Found) → old ≡ tally_of all → new ≡ counted old given → new ≡ tally_of (all ++ given ∷ [])
+counted_next old new all given so is = is ∙ ap (λ (t : Tally). counted t given) so ∙ sym (counted_push all given)
+
+-- and its line written
+written_next : (old new : Tally) (all : List Found) (given : Found) (first before after : Option (List ℕ)) → old ≡ tally_of all → new ≡ counted old given → Appends first before (lines_told 0 all) → Appends before after (found_line new.replies given) → Appends first after (lines_told 0 (all ++ given ∷ []))
+written_next old new all given first before after so is was writes =
+    let number : new.replies ≡ one_more (tally_of all).replies = ap (λ (t : Tally). t.replies) is ∙ number_counted old given ∙ ap (λ (t : Tally). one_more t.replies) so in
+    subst (Appends first after) (ap (λ n. lines_told 0 all ++ found_line n given) number ∙ sym (lines_push all given))
+    (Appends-trans first before after (lines_told 0 all) (found_line new.replies given) was writes)
+
+-- one more reply that isn't wrong
+pub told_more : (left : Option (List ℕ)) (a c : Option (List (List ℕ))) (script after_script : Option OpenScript) (old new : Tally) (first before after : Option (List ℕ)) (next : Option Found) (given : Found) → next ≡ Some given → IsFine given
+    → HasTold left a script old first before → TellsNext next old new before after → Advances a script next c after_script → HasTold left c after_script new first after
+told_more left a c script after_script old new first before after next given is fine so tells advances =
+    let tells_it = subst (λ (it : Option Found). TellsNext it old new before after) is tells in
+    let advances_it = subst (λ (it : Option Found). Advances a script it c after_script) is advances in record {
+      all = so.all ++ given ∷ [];
+      counts = counted_next old new so.all given so.counts tells_it.0;
+      writes = written_next old new so.all given first before after so.counts tells_it.0 so.writes tells_it.1;
+      checks = λ input told. advances_fine a c given script after_script fine advances_it input so.all (so.checks input told);
+    }
+
+-- one more that is
+pub told_wrong : (left : Option (List ℕ)) (a c : Option (List (List ℕ))) (script after_script : Option OpenScript) (old new : Tally) (first before after : Option (List ℕ)) (next : Option Found) (given : Found) (why : Fault) → next ≡ Some given → given ≡ found.Wrong why
+    → HasTold left a script old first before → TellsNext next old new before after → Advances a script next c after_script → EndsTold false left new first after
+told_wrong left a c script after_script old new first before after next given why is wrong so tells advances =
+    let same : next ≡ Some (found.Wrong why) = is ∙ ap (λ (it : Found). Some it) wrong in
+    let tells_it = subst (λ (it : Option Found). TellsNext it old new before after) same tells in
+    let advances_it = subst (λ (it : Option Found). Advances a script it c after_script) same advances in (
+      so.all ++ found.Wrong why ∷ [],
+      counted_next old new so.all (found.Wrong why) so.counts tells_it.0,
+      if_some left (λ input. FindsAll false input (so.all ++ found.Wrong why ∷ [])) (λ input told. advances_it input so.all (so.checks input told)),
+      written_next old new so.all (found.Wrong why) first before after so.counts tells_it.0 so.writes tells_it.1,
+    )
+
+pub told_end : (left : Option (List ℕ)) (a c : Option (List (List ℕ))) (script after_script : Option OpenScript) (old new : Tally) (first before after : Option (List ℕ)) → HasTold left a script old first before → TellsNext None old new before after → Advances a script None c after_script → EndsTold true left new first after
+told_end left a c script after_script old new first before after so tells advances = (
+  so.all,
+  tells.0 ∙ so.counts,
+  if_some left (λ input. FindsAll true input so.all) (λ input is. advances input so.all (so.checks input is)),
+  subst (Appends first after) (append-nil (lines_told 0 so.all)) (Appends-trans first before after (lines_told 0 so.all) [] so.writes tells.1),
 )
 
-pub told_more : (next : Advance) (old new : Tally) (first before after : Option (List ℕ)) → HasTold old first before → TellsNext next old new before after → HasTold new first after
-told_more advance.On old new first before after so more = told_one old new first before after more.0 so more.1 more.2
-told_more advance.Wrong old new first before after so more = told_one old new first before after more.0 so more.1 more.2
-told_more advance.End old new first before after so more = (
-  so.0,
-  subst (λ (t : Tally). Tells t so.0) (sym more.0) so.1,
-  subst (λ (text : List ℕ). Appends first after text) (append-nil so.0) (Appends-trans first before after so.0 [] so.2 more.1),
+pub told_front : (left : Option (List ℕ)) (a : Option (List (List ℕ))) (script : Option OpenScript) (tally : Tally) (first before after : Option (List ℕ)) → HasTold left a script tally first before → TellsFront a script tally before after → FailsTold left first after
+told_front left a script tally first before after so (inl nothing) = (
+  lines_told 0 so.all,
+  if_some left (λ input. TellsFirst input (lines_told 0 so.all)) (λ input is. inl (so.all, inl (first_of input a script so.all (so.checks input is)), refl)),
+  front_all first after (lines_told 0 so.all) (subst (Appends first after) (append-nil (lines_told 0 so.all)) (Appends-trans first before after (lines_told 0 so.all) [] so.writes nothing)),
+)
+told_front left a script tally first before after so (inr next) =
+    let all : List Found = so.all ++ next.0 ∷ [] in
+    let line = found_line (one_more tally.replies) next.0 in
+    let same : lines_told 0 so.all ++ line ≡ lines_told 0 all = ap (λ (t : Tally). lines_told 0 so.all ++ found_line (one_more t.replies) next.0) so.counts ∙ sym (lines_push so.all next.0) in (
+      lines_told 0 all,
+      if_some left (λ input. TellsFirst input (lines_told 0 all)) (λ input is. inl (all, next.1 input so.all (so.checks input is), refl)),
+      subst (AppendsFront first after) same (front_behind first before after (lines_told 0 so.all) line so.writes next.2),
+    )
+
+-- the line of what was found wasn't written to its end
+pub line_front : (limit now : ℕ) (a b c : Option (List (List ℕ))) (next : Next) (given : Found) (old new : Option OpenScript) (tally more : Tally) (before after : Option (List ℕ)) → now ≡ limit → IsNextOf limit a next b → next ≢ End → LeadsOn now b next old given c new → StopsOn now b next old given
+    → more ≡ counted tally given → AppendsFront before after (found_line more.replies given) → TellsFront a old tally before after
+line_front limit now a b c next given old new tally more before after same is some leads stops counts front =
+    inr (
+      given,
+      may_find a c given old new (advances_to limit now a b c next given old new same is some leads stops),
+      subst (λ n. AppendsFront before after (found_line n given)) (ap (λ (t : Tally). t.replies) counts ∙ number_counted tally given) front,
+    )
+
+-- ---- what a check comes to
+
+pub all_right : (left : Option (List ℕ)) (tally : Tally) (before after : Option (List ℕ)) → EndsTold true left tally before after → IfSome left IsAllRight
+all_right None tally before after ends = tt
+all_right (Some input) tally before after ends = (ends.0, ends.2)
+
+pub stops_wrong : (left : Option (List ℕ)) (tally : Tally) (before after : Option (List ℕ)) → EndsTold false left tally before after → IfSome left StopsAtWrong
+stops_wrong None tally before after ends = tt
+stops_wrong (Some input) tally before after ends = (ends.0, ends.2)
+
+-- nothing was written yet
+pub told_nothing : (left before : Option (List ℕ)) → FailsTold left before before
+told_nothing left before = (
+  [],
+  if_some left (λ input. TellsFirst input []) (λ input is. inl ([], inl (record { front = []; left = lines input; split = refl; state = None; checks = start }), refl)),
+  front_all before before [] (Appends-nil before),
+)
+
+-- the last line is written behind the others
+pub told_whole : (right : Bool) (left : Option (List ℕ)) (tally : Tally) (first before after : Option (List ℕ)) → EndsTold right left tally first before → Appends before after (last_line tally right)
+    → (all : List Found) × IfSome left (λ input. FindsAll right input all) × Appends first after (told_of all right)
+told_whole right left tally first before after ends writes = (
+  ends.0,
+  ends.2,
+  Appends-trans first before after (lines_told 0 ends.0) (last_line (tally_of ends.0) right) ends.3 (subst (λ (t : Tally). Appends before after (last_line t right)) ends.1 writes),
+)
+
+last_finds : (right : Bool) (left : Option (List ℕ)) (all : List Found) → IfSome left (λ input. FindsAll right input all) → IfSome left (λ input. TellsFirst input (told_of all right))
+last_finds right None all finds = tt
+last_finds right (Some input) all finds = inr (all, right, finds, refl)
+
+-- or a front of it
+pub told_last : (right : Bool) (left : Option (List ℕ)) (tally : Tally) (first before after : Option (List ℕ)) → EndsTold right left tally first before → AppendsFront before after (last_line tally right) → FailsTold left first after
+told_last right left tally first before after ends front = (
+  told_of ends.0 right,
+  last_finds right left ends.0 ends.2,
+  front_behind first before after (lines_told 0 ends.0) (last_line (tally_of ends.0) right) ends.3 (subst (λ (t : Tally). AppendsFront before after (last_line t right)) ends.1 front),
 )

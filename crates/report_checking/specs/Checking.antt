@@ -9,6 +9,9 @@ use Rattle.log_text.specs.Replies.{text_of}
 use Rattle.byte_lines.specs.Lines.{lines}
 use Rattle.cobra.specs.Outputs.{Asks}
 use Rattle.report_checking.specs.OwedLines.{OwesLine, ScriptState}
+use Rattle.report_checking.specs.Telling.{what_of}
+use Rattle.report_checking.specs.declared.findings.Found.{Found}
+use Rattle.report_checking.specs.declared.findings.Found.TheVariants as found
 
 -- the stored reply to a line is the text of what is owed
 pub record IsRightReply (old : Option ScriptState) (line stored : List ℕ) (new : Option ScriptState) : Type 0 where
@@ -55,17 +58,20 @@ pub record IsUnchecked (old : Option ScriptState) (line stored : List ℕ) (new 
   pub text_is : stored ≡ text_of (told.No NoMemory)
   pub left : new ≡ left_by command old
 
--- From the beginning of a script on: lines and stored replies by turns, each of which is right, or says that memory was wanting; and what
--- they lead to.
-pub data Checks : List (List ℕ) → Option ScriptState → Type 0 where
-  start : Checks [] None
-  right : (front : List (List ℕ)) (line stored : List ℕ) (at new : Option ScriptState)
-      → Checks front at → IsRightReply at line stored new
-      → Checks (front ++ line ∷ stored ∷ []) new
-  unchecked : (front : List (List ℕ)) (line stored : List ℕ) (at new : Option ScriptState)
-      → Checks front at → IsUnchecked at line stored new
-      → Checks (front ++ line ∷ stored ∷ []) new
+-- From the beginning of a script on: lines and stored replies by turns, each of which is right, or says that memory was wanting; what they
+-- lead to; and what is found of the replies: of a right one what it tells, as a report of some kind, and of another that it isn't checked.
+pub data Checks : List (List ℕ) → Option ScriptState → List Found → Type 0 where
+  start : Checks [] None []
+  right : (front : List (List ℕ)) (line stored : List ℕ) (at new : Option ScriptState) (all : List Found)
+      → Checks front at all → (reply : IsRightReply at line stored new)
+      → Checks (front ++ line ∷ stored ∷ []) new (all ++ found.Right (what_of reply.answer) ∷ [])
+  unchecked : (front : List (List ℕ)) (line stored : List ℕ) (at new : Option ScriptState) (all : List Found)
+      → Checks front at all → IsUnchecked at line stored new
+      → Checks (front ++ line ∷ stored ∷ []) new (all ++ found.Unchecked ∷ [])
 
--- All lines of the input are the lines of a script and right replies to them, by turns.
+-- All lines of the input are the lines of a script and right replies to them, by turns; and this is found of the replies.
+abbrev pub FindsRight : List ℕ → List Found → Type 0
+FindsRight input all = (end : Option ScriptState) × Checks (lines input) end all
+
 abbrev pub IsAllRight : List ℕ → Type 0
-IsAllRight input = (end : Option ScriptState) × Checks (lines input) end
+IsAllRight input = (all : List Found) × FindsRight input all

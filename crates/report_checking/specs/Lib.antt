@@ -1,7 +1,9 @@
 pub mod Checking
 pub mod Isolation
+pub mod Outcomes
 pub mod OwedLines
 pub mod Owing
 pub mod Reading
 pub mod RightReports
 pub mod Telling
+pub mod Unshown

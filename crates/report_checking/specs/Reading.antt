@@ -1,5 +1,5 @@
 -- For private clauses: what single calls of the checker come to, whatever histories its engine stood for.
-use Rattle.std.specs.Prelude.{◌≡◌, ◌≢◌, ℕ, ◌<◌, ◌⊎◌, ⊤, Bool, true, false, not, nat_eq, List, ◌++◌, length, Option, Some, None}
+use Rattle.std.specs.Prelude.{◌≡◌, ◌≢◌, ℕ, ◌<◌, ◌⊎◌, ⊤, Bool, true, false, not, nat_eq, List, [], ◌∷◌, ◌++◌, length, Option, Some, None}
 use Rattle.std.specs.List.{list_any}
 use Rattle.txn.specs.declared.refusals.Refusal.{Refusal}
 use Rattle.txn.specs.declared.refusals.Refusal.TheVariants.{NoMemory, NoRound, RoundOpen, BadLine}
@@ -40,20 +40,25 @@ use Rattle.cobra.specs.Outputs.{Asks, IsTold}
 use Rattle.cobra.specs.Saving.{saved_told}
 use Rattle.cobra.specs.Scripts.{AreVersionSessions, IsIsolatedLimit, IsIsolatedRefusal, IsVersionLimit, IsVersionRefusal, state_told}
 use Rattle.cobra.specs.StepReplies.{certificate_of, report_of, reply_of}
-use Rattle.report_checking.specs.Checking.{IsRightReply, IsUnchecked, TakesMemory, Checks, IsAllRight, left_by}
+use Rattle.report_checking.specs.Checking.{IsRightReply, IsUnchecked, TakesMemory, Checks, FindsRight, left_by}
 use Rattle.report_checking.specs.Isolation.{IsShownBy, names_of, told_by}
 use Rattle.report_checking.specs.OwedLines.{Owes, ScriptState}
 use Rattle.report_checking.specs.Owing.{BeginsSearch, IsEarned}
-use Rattle.report_checking.specs.RightReports.{shown_of, StopsAtWrong}
+use Rattle.report_checking.specs.Outcomes.{FindsFirst}
+use Rattle.report_checking.specs.RightReports.{shown_of, FindsWrong}
+use Rattle.report_checking.specs.Telling.{what_of, found_line, one_more, AppendsFront}
+use Rattle.report_checking.specs.Unshown.{EndsWrong, IsUnshown}
 use Rattle.report_checking.specs.declared.findings.Found.{Found}
 use Rattle.report_checking.specs.declared.open_scripts.OpenScript.{OpenScript}
 use Rattle.report_checking.specs.declared.findings.Found.TheVariants as found
 use Rattle.report_checking.specs.declared.findings.Fault.{Fault}
 use Rattle.report_checking.specs.declared.findings.Fault.TheVariants as fault
-use Rattle.report_checking.specs.declared.findings.Advance.{Advance}
-use Rattle.report_checking.specs.declared.findings.Advance.TheVariants as advance
 use Rattle.report_checking.specs.declared.findings.Owed.{Owed}
 use Rattle.report_checking.specs.declared.findings.Owed.TheVariants as owed
+use Rattle.report_checking.specs.declared.findings.Unshown.{Unshown}
+use Rattle.report_checking.specs.declared.findings.Unshown.TheVariants as unshown
+use Rattle.report_checking.specs.declared.texts.Tally.{Tally}
+use Rattle.std.specs.Io.KnownBytes.{Appends}
 
 -- whatever histories stood beside the old engine, some stand beside the new one, of which this is so
 abbrev pub Leads : EngineState → EngineState → (State → State → Type 0) → Type 0
@@ -87,6 +92,11 @@ abbrev pub IsOwedBy : (Reply → Type 0) → Owed → Type 0
 IsOwedBy P (owed.Reply answer) = HasKindOfOrder answer × P answer
 IsOwedBy P (owed.Nothing why) = ⊤
 
+-- of what isn't shown this is so
+abbrev pub Unshows : (Unshown → Type 0) → Owed → Type 0
+Unshows P (owed.Reply answer) = ⊤
+Unshows P (owed.Nothing why) = P why
+
 -- a reply that is owed is of a kind that has its certificate
 abbrev pub IsOfKind : Owed → Type 0
 IsOfKind (owed.Reply answer) = HasKindOfOrder answer
@@ -100,21 +110,22 @@ IsRead line End = ⊥
 
 -- What was found of a stored reply.
 abbrev pub Finds : Option OpenScript → Next → List ℕ → Found → Option OpenScript → Type 0
-Finds old next stored (found.Right what) new = (line : List ℕ) → IsTold line next → LeadsScript old new (λ before after. IsRightReply before line stored after)
+Finds old next stored (found.Right what) new = (line : List ℕ) → IsTold line next → LeadsScript old new (λ before after. (reply : IsRightReply before line stored after) × (what ≡ what_of reply.answer))
 Finds old next stored found.Unchecked new = (line : List ℕ) → IsTold line next → LeadsScript old new (λ before after. IsUnchecked before line stored after)
 Finds old next stored (found.Wrong (fault.Other text)) new = (line : List ℕ) → IsTold line next → LeadsScript old new (λ before after. (stored ≢ text.items) × IsRightReply before line text.items after)
-Finds old next stored other new = ⊤
+Finds old next stored (found.Wrong (fault.Unshown why)) new = (line : List ℕ) → IsTold line next → (before : Option ScriptState) → HoldsScript old before → IsUnshown before line stored why
+Finds old next stored other new = ⊥
 
 -- What is found of a stored reply where this one is owed.
 abbrev pub IsFoundBy : Reply → List ℕ → Found → Type 0
-IsFoundBy answer stored (found.Right what) = stored ≡ text_of answer
+IsFoundBy answer stored (found.Right what) = (stored ≡ text_of answer) × (what ≡ what_of answer)
 IsFoundBy answer stored (found.Wrong (fault.Other text)) = (stored ≢ text.items) × (text.items ≡ text_of answer)
 IsFoundBy answer stored other = ⊥
 
 -- the same where it may be that nothing is owed; want of memory of our own isn't found
 abbrev pub IsFoundOf : Owed → List ℕ → Found → Type 0
 IsFoundOf (owed.Reply answer) stored given = IsFoundBy answer stored given × (answer ≢ told.No NoMemory)
-IsFoundOf (owed.Nothing why) stored (found.Wrong (fault.Unshown shown)) = ⊤
+IsFoundOf (owed.Nothing why) stored (found.Wrong (fault.Unshown told_why)) = told_why ≡ why
 IsFoundOf (owed.Nothing why) stored other = ⊥
 
 -- whether a brace stands in the text
@@ -131,44 +142,73 @@ abbrev pub script_left : Command → Option OpenScript → Option OpenScript
 script_left (Collect waits) (Some script) = Some (record script { searched = false })
 script_left command script = script
 
+-- what the stored reply to a command of a script doesn't show
+abbrev pub IsUnshownIn : Option OpenScript → Command → List ℕ → Unshown → Type 0
+IsUnshownIn None (Resume sessions limit opening) stored unshown.Beginning = ⊤
+IsUnshownIn None command stored why = ⊥
+IsUnshownIn (Some script) command stored why = EndsWrong (names_of script.opening) script.engine command stored why
+
 -- What is found of a stored reply to a command.
 abbrev pub FindsFor : Option OpenScript → Command → List ℕ → Found → Option OpenScript → Type 0
-FindsFor old command stored (found.Right what) new = (answer : Reply) × (stored ≡ text_of answer) × LeadsScript old new (λ before after. Owes before command answer after)
+FindsFor old command stored (found.Right what) new = (answer : Reply) × (stored ≡ text_of answer) × (what ≡ what_of answer) × LeadsScript old new (λ before after. Owes before command answer after)
 FindsFor old command stored found.Unchecked new = TakesMemory old command × (stored ≡ text_of (told.No NoMemory)) × LeadsScript old new (λ before after. after ≡ left_by command before)
 FindsFor old command stored (found.Wrong (fault.Other text)) new = (answer : Reply) × (stored ≢ text.items) × (text.items ≡ text_of answer) × LeadsScript old new (λ before after. Owes before command answer after)
-FindsFor old command stored other new = ⊤
+FindsFor old command stored (found.Wrong (fault.Unshown why)) new = IsUnshownIn old command stored why
+FindsFor old command stored other new = ⊥
 
 -- What is found of what was read behind a line.
 abbrev pub FindsNext : Option OpenScript → Next → Next → Found → Option OpenScript → Type 0
 FindsNext old line (Line stored) given new = Finds old line stored.items given new
-FindsNext old line other (found.Wrong why) new = ⊤
+FindsNext old line TooLong (found.Wrong fault.TooLong) new = ⊤
+FindsNext old line End (found.Wrong fault.Missing) new = ⊤
 FindsNext old line other given new = ⊥
 
 -- nothing wrong was found
 abbrev pub IsFine : Found → Type 0
 IsFine given = (why : Fault) → given ≢ found.Wrong why
 
--- A script is being checked: what was checked so far, and the lines that are ahead.
-pub record IsChecking (input : List ℕ) (ahead : Option (List (List ℕ))) (script : Option OpenScript) : Type 0 where
+-- A script is being checked: what was checked so far, and the lines that are ahead; and this was found so far.
+pub record IsChecking (input : List ℕ) (ahead : Option (List (List ℕ))) (script : Option OpenScript) (all : List Found) : Type 0 where
   pub left : List (List ℕ)
   pub left_is : ahead ≡ Some left
   pub front : List (List ℕ)
   pub split : lines input ≡ front ++ left
   pub state : Option ScriptState
-  pub checks : Checks front state
+  pub checks : Checks front state all
   pub holds : HoldsScript script state
 
 -- From what was ahead behind a line, what was found of the reply to it leads on, unless that is wrong.
 abbrev pub LeadsOn : ℕ → Option (List (List ℕ)) → Next → Option OpenScript → Found → Option (List (List ℕ)) → Option OpenScript → Type 0
-LeadsOn limit b next old given c new = (input : List ℕ) (a : Option (List (List ℕ))) → IsChecking input a old → IsNextOf limit a next b → next ≢ End → IsFine given → IsChecking input c new
+LeadsOn limit b next old given c new = (input : List ℕ) (a : Option (List (List ℕ))) (all : List Found) → IsChecking input a old all → IsNextOf limit a next b → next ≢ End → IsFine given → IsChecking input c new (all ++ given ∷ [])
 
--- One more line and its reply were checked, or the end was reached.
-abbrev pub Advances : Option (List (List ℕ)) → Option OpenScript → Advance → Option (List (List ℕ)) → Option OpenScript → Type 0
-Advances old script advance.On new after = (input : List ℕ) → IsChecking input old script → IsChecking input new after
-Advances old script advance.End new after = (input : List ℕ) → IsChecking input old script → IsAllRight input
-Advances old script advance.Wrong new after = (input : List ℕ) → IsChecking input old script → StopsAtWrong input
+-- The end was reached, or one more line and its reply were checked, of which this was found.
+abbrev pub Advances : Option (List (List ℕ)) → Option OpenScript → Option Found → Option (List (List ℕ)) → Option OpenScript → Type 0
+Advances old script None new after = (input : List ℕ) (all : List Found) → IsChecking input old script all → FindsRight input all
+Advances old script (Some (found.Wrong why)) new after = (input : List ℕ) (all : List Found) → IsChecking input old script all → FindsWrong input (all ++ found.Wrong why ∷ [])
+Advances old script (Some given) new after = (input : List ℕ) (all : List Found) → IsChecking input old script all → IsChecking input new after (all ++ given ∷ [])
+
+-- the next line has a reply, of which this may be found
+abbrev pub MayFind : Option (List (List ℕ)) → Option OpenScript → Found → Type 0
+MayFind ahead script given = (input : List ℕ) (all : List Found) → IsChecking input ahead script all → FindsFirst input (all ++ given ∷ [])
+
+-- Where the next line and its reply weren't checked to the end, nothing was written; or a front of the line of what was found.
+abbrev pub TellsFront : Option (List (List ℕ)) → Option OpenScript → Tally → Option (List ℕ) → Option (List ℕ) → Type 0
+TellsFront ahead script tally before after =
+    Appends before after []
+    ⊎ ((given : Found) × MayFind ahead script given × AppendsFront before after (found_line (one_more tally.replies) given))
 
 -- ---- Of right reports.
+
+-- what is found, as the answer of a search
+abbrev pub answer_of : Option Shown → solved.Answer
+answer_of None = answers.Spent
+answer_of (Some (shown.Order order)) = answers.Yes order
+answer_of (Some (shown.Refuted tree)) = answers.No tree
+
+-- what isn't so where the answer is wrong
+abbrev pub unshown_of : solved.Answer → Unshown
+unshown_of (answers.Yes order) = unshown.Order
+unshown_of answer = unshown.Refutation
 
 -- The answer is what is shown, a tree wherever it is kept in memory.
 abbrev pub IsAnswerOf : Option Shown → solved.Answer → Type 0
@@ -240,7 +280,7 @@ IsFairNext old line other given = ⊤
 
 -- Where what was found of the reply behind a line is wrong, the script stops there.
 abbrev pub StopsOn : ℕ → Option (List (List ℕ)) → Next → Option OpenScript → Found → Type 0
-StopsOn limit b next old given = (input : List ℕ) (a : Option (List (List ℕ))) → IsChecking input a old → IsNextOf limit a next b → next ≢ End → (why : Fault) → given ≡ found.Wrong why → StopsAtWrong input
+StopsOn limit b next old given = (input : List ℕ) (a : Option (List (List ℕ))) (all : List Found) → IsChecking input a old all → IsNextOf limit a next b → next ≢ End → (why : Fault) → given ≡ found.Wrong why → FindsWrong input (all ++ given ∷ [])
 
 -- ---- Of right replies that are no reports.
 

@@ -1,5 +1,5 @@
 -- Scripts of which a stored reply is told wrong: the first such reply isn't a right one.
-use Rattle.std.specs.Prelude.{◌≡◌, ◌<◌, ◌⊎◌, ⊤, ℕ, true, false, List, [], ◌∷◌, ◌++◌, length, Option, Some, None}
+use Rattle.std.specs.Prelude.{◌≡◌, ◌≢◌, ◌<◌, ⊤, ℕ, true, false, List, [], ◌∷◌, ◌++◌, length, Option, Some, None}
 use Rattle.log_text.specs.declared.commands.Command.{Command}
 use Rattle.log_text.specs.declared.commands.Command.TheVariants.{Finish, Round, Collect, Answer}
 use Rattle.log_text.specs.declared.replies.Reply.{Reply}
@@ -19,10 +19,15 @@ use Rattle.round_state.specs.declared.steps.StepReply.TheVariants as reply
 use Rattle.snapshot_scripts.specs.Legal.{LegalIsolation}
 use Rattle.cobra.specs.Outputs.{Asks}
 use Rattle.cobra.specs.StepReplies.{certificate_of, report_of}
-use Rattle.report_checking.specs.Checking.{Checks, IsUnchecked}
+use Rattle.report_checking.specs.Checking.{Checks, IsRightReply, IsUnchecked}
 use Rattle.report_checking.specs.Isolation.{IsOwedIsolation, IsShownBy, names_of, told_by}
 use Rattle.report_checking.specs.OwedLines.{OwesLine, ScriptState}
 use Rattle.report_checking.specs.Owing.{IsOwedReport}
+use Rattle.report_checking.specs.Unshown.{IsUnshown}
+use Rattle.report_checking.specs.declared.findings.Fault.{Fault}
+use Rattle.report_checking.specs.declared.findings.Fault.TheVariants as fault
+use Rattle.report_checking.specs.declared.findings.Found.{Found}
+use Rattle.report_checking.specs.declared.findings.Found.TheVariants as found
 
 -- what the text of a report with this certificate is to show
 abbrev pub shown_of : Certificate → Option Shown
@@ -91,18 +96,26 @@ pub record IsWrongReply (old : Option ScriptState) (line stored : List ℕ) : Ty
   pub other : ¬ IsRightOther old line stored
   pub checked : (new : Option ScriptState) → ¬ IsUnchecked old line stored new
 
--- What is wrong with the next line and its reply: the line has no reply, or one that is longer than any that is read (1 GiB), or one that is
--- wrong.
-abbrev pub HasWrongNext : Option ScriptState → List (List ℕ) → Type 0
-HasWrongNext state [] = ⊥
-HasWrongNext state (line ∷ []) = ⊤
-HasWrongNext state (line ∷ stored ∷ left) = (1073741824 < length stored) ⊎ IsWrongReply state line stored
+-- What is wrong with the next line and its reply: the line has no reply; or one that is longer than any that is read (1 GiB); or one that is
+-- wrong, where this other text is a right reply to the line; or one that is wrong, where it doesn't show this.
+abbrev pub HasFault : Option ScriptState → List (List ℕ) → Fault → Type 0
+HasFault state (line ∷ []) fault.Missing = ⊤
+HasFault state (line ∷ stored ∷ left) fault.TooLong = 1073741824 < length stored
+HasFault state (line ∷ stored ∷ left) (fault.Other text) = IsWrongReply state line stored × (stored ≢ text.items) × (new : Option ScriptState) × IsRightReply state line text.items new
+HasFault state (line ∷ stored ∷ left) (fault.Unshown why) = IsWrongReply state line stored × IsUnshown state line stored why
+HasFault state left why = ⊥
 
--- The input's lines were checked up to a reply that is wrong.
-pub record StopsAtWrong (input : List ℕ) : Type 0 where
+-- The input's lines were checked up to a reply that is wrong; and this is found of the replies, of the last one what is wrong with it.
+pub record FindsWrong (input : List ℕ) (all : List Found) : Type 0 where
   pub front : List (List ℕ)
   pub left : List (List ℕ)
   pub split : lines input ≡ front ++ left
   pub state : Option ScriptState
-  pub checks : Checks front state
-  pub wrong : HasWrongNext state left
+  pub right : List Found
+  pub checks : Checks front state right
+  pub why : Fault
+  pub wrong : HasFault state left why
+  pub all_is : all ≡ right ++ found.Wrong why ∷ []
+
+abbrev pub StopsAtWrong : List ℕ → Type 0
+StopsAtWrong input = (all : List Found) × FindsWrong input all

@@ -1,13 +1,11 @@
--- What is written of stored replies: a line of each report, each cut and each reply that isn't right or isn't checked, and a last one that
--- counts what was checked.
-use Rattle.std.specs.Prelude.{◌≡◌, ℕ, ◌+◌, ◌-◌, ◌^◌, ⊤, Bool, true, false, min, List, [], ◌++◌, codes, Option, Some, None}
+-- What is written of stored replies, by what was found of them: a line of each report, each cut and each reply that isn't right or isn't
+-- checked, and a last one that counts what was checked.
+use Rattle.std.specs.Prelude.{◌≡◌, ℕ, ◌+◌, ◌-◌, ◌^◌, Bool, true, false, min, List, [], ◌∷◌, ◌++◌, length, count_by, codes, Option, Some, None}
 use Rattle.std.specs.Fmt.{decimal}
 use Rattle.order_check.specs.declared.remainder.Kind.TheVariants as kinds
 use Rattle.log_text.specs.declared.replies.Reply.{Reply}
 use Rattle.log_text.specs.declared.replies.Reply.TheVariants as told
 use Rattle.std.specs.Io.KnownBytes.{Appends}
-use Rattle.report_checking.specs.declared.findings.Advance.{Advance}
-use Rattle.report_checking.specs.declared.findings.Advance.TheVariants as advance
 use Rattle.report_checking.specs.declared.findings.Fault.{Fault}
 use Rattle.report_checking.specs.declared.findings.Fault.TheVariants as fault
 use Rattle.report_checking.specs.declared.findings.Found.{Found}
@@ -28,25 +26,32 @@ what_of (told.Spent round counts) = what.Report kinds.Spent
 what_of (told.Cut fence gone last) = what.Cut
 what_of other = what.Other
 
--- a reply that is found right is told to be what it is
-abbrev pub IsWhatOf : Reply → Found → Type 0
-IsWhatOf answer (found.Right told_to_be) = told_to_be ≡ what_of answer
-IsWhatOf answer other = ⊤
+-- a number as it is counted: up to the greatest one
+abbrev pub as_counted : ℕ → ℕ
+as_counted n = min n (2 ^ 64 - 1)
 
--- one more, up to the greatest number
-abbrev pub one_more : ℕ → ℕ
-one_more n = min (n + 1) (2 ^ 64 - 1)
+-- a right report that isn't spent
+abbrev pub is_report : Found → Bool
+is_report (found.Right (what.Report kinds.Spent)) = false
+is_report (found.Right (what.Report kind)) = true
+is_report other = false
 
--- nothing was checked
-abbrev pub no_tally : Tally
-no_tally = record { replies = 0; reports = 0; spent = 0; unchecked = 0 }
+abbrev pub is_spent : Found → Bool
+is_spent (found.Right (what.Report kinds.Spent)) = true
+is_spent other = false
 
--- A reply more: a spent report is counted by itself, and no other reply is counted as a report.
-abbrev pub counted : Tally → Found → Tally
-counted tally (found.Right (what.Report kinds.Spent)) = record tally { replies = one_more tally.replies; spent = one_more tally.spent }
-counted tally (found.Right (what.Report kind)) = record tally { replies = one_more tally.replies; reports = one_more tally.reports }
-counted tally found.Unchecked = record tally { replies = one_more tally.replies; unchecked = one_more tally.unchecked }
-counted tally other = record tally { replies = one_more tally.replies }
+abbrev pub is_unchecked : Found → Bool
+is_unchecked found.Unchecked = true
+is_unchecked other = false
+
+-- How many replies there are, and of them how many reports, spent ones by themselves, and how many that aren't checked.
+abbrev pub tally_of : List Found → Tally
+tally_of all = record {
+  replies = as_counted (length all);
+  reports = as_counted (count_by is_report all);
+  spent = as_counted (count_by is_spent all);
+  unchecked = as_counted (count_by is_unchecked all);
+}
 
 -- the words for a reply that is right, where it has a line
 abbrev pub words_of : What → Option (List ℕ)
@@ -95,15 +100,37 @@ last_line tally is_right =
     verdict_word is_right ++ (codes ": replies " ++ (decimal tally.replies ++ (codes " reports " ++ (decimal tally.reports
     ++ (codes " spent " ++ (decimal tally.spent ++ (codes " not-checked " ++ (decimal tally.unchecked ++ codes "\n"))))))))
 
--- One reply after another, each of which is counted and told of by its number.
-pub data Tells : Tally → List ℕ → Type 0 where
-  none : Tells no_tally []
-  one : (tally : Tally) (text : List ℕ) (given : Found) → Tells tally text
-      → Tells (counted tally given) (text ++ found_line (counted tally given).replies given)
+-- The lines of one reply after another, each by its number. So many replies went before.
+abbrev pub lines_told : ℕ → List Found → List ℕ
+lines_told before [] = []
+lines_told before (given ∷ all) = found_line (as_counted (before + 1)) given ++ lines_told (before + 1) all
+
+-- the lines of all replies, and the last line
+abbrev pub told_of : List Found → Bool → List ℕ
+told_of all is_right = lines_told 0 all ++ last_line (tally_of all) is_right
+
+-- a front of the text was written
+abbrev pub AppendsFront : Option (List ℕ) → Option (List ℕ) → List ℕ → Type 0
+AppendsFront before after text = (written : List ℕ) × (rest : List ℕ) × (text ≡ written ++ rest) × Appends before after written
 
 -- ---- For private clauses.
 
--- what is written of the next line and its reply, and counted
-abbrev pub TellsNext : Advance → Tally → Tally → Option (List ℕ) → Option (List ℕ) → Type 0
-TellsNext advance.End old new before after = (new ≡ old) × Appends before after []
-TellsNext other old new before after = (given : Found) × (new ≡ counted old given) × Appends before after (found_line new.replies given)
+-- one more, up to the greatest number
+abbrev pub one_more : ℕ → ℕ
+one_more n = as_counted (n + 1)
+
+-- nothing was checked
+abbrev pub no_tally : Tally
+no_tally = record { replies = 0; reports = 0; spent = 0; unchecked = 0 }
+
+-- a reply more
+abbrev pub counted : Tally → Found → Tally
+counted tally (found.Right (what.Report kinds.Spent)) = record tally { replies = one_more tally.replies; spent = one_more tally.spent }
+counted tally (found.Right (what.Report kind)) = record tally { replies = one_more tally.replies; reports = one_more tally.reports }
+counted tally found.Unchecked = record tally { replies = one_more tally.replies; unchecked = one_more tally.unchecked }
+counted tally other = record tally { replies = one_more tally.replies }
+
+-- what is counted and written of what was found of the next line's reply, where there is a next line
+abbrev pub TellsNext : Option Found → Tally → Tally → Option (List ℕ) → Option (List ℕ) → Type 0
+TellsNext None old new before after = (new ≡ old) × Appends before after []
+TellsNext (Some given) old new before after = (new ≡ counted old given) × Appends before after (found_line new.replies given)

@@ -1,10 +1,10 @@
 //! What a stored report shows. It isn't believed: the engine judges it, and the text of the report that it earns is
 //! compared with the stored one.
-ghost use Rattle.std.specs.Prelude.{Option, IfOk};
+ghost use Rattle.std.specs.Prelude.{◌≡◌, Option, IfOk};
 ghost use Rattle.log_text.specs.ReadBack.{IsSameShown};
 ghost use Rattle.log_text.specs.declared.shown.Shown.{Shown};
 ghost use Rattle.report_checking.specs.Isolation.{IsShownBy};
-ghost use Rattle.report_checking.specs.Reading.{IsAnswerOf};
+ghost use Rattle.report_checking.specs.Reading.{IsAnswerOf, answer_of};
 
 use event_reports::read_events;
 use log_text::{Names, Shown, read_shown};
@@ -14,7 +14,8 @@ use txn::NoMemory;
 
 /// As the answer of a search: Spent where it is neither an order nor a tree.
 fn as_answer(found: Option<Shown>) -> Answer
-    ensures { (shown : Option Shown) → IsSameShown found shown → IsAnswerOf shown result }
+    ensures is { result ≡ answer_of found }
+    ensures same { (shown : Option Shown) → IsSameShown found shown → IsAnswerOf shown result }
 {
     match found {
         Some(Shown::Order(order)) => Answer::Yes(order),
@@ -25,7 +26,8 @@ fn as_answer(found: Option<Shown>) -> Answer
 
 /// What the reply shows, where it tells of transactions by these names.
 fn shown_by(alloc: Global, names: Names, stored: &[u8]) -> Result<Option<Shown>, NoMemory>
-    ensures { IfOk result (λ found. (shown : Option Shown) → IsShownBy names stored.now shown → IsSameShown found shown) }
+    ensures shown { IfOk result (IsShownBy names stored.now) }
+    ensures only { IfOk result (λ found. (shown : Option Shown) → IsShownBy names stored.now shown → IsSameShown found shown) }
 {
     match names {
         Names::Ids => read_shown(alloc, stored),
@@ -35,7 +37,8 @@ fn shown_by(alloc: Global, names: Names, stored: &[u8]) -> Result<Option<Shown>,
 
 /// The answer of a search that this reply tells: the order or the tree that it shows, and Spent where it shows neither.
 pub(crate) fn answer_told(alloc: Global, names: Names, stored: &[u8]) -> Result<Answer, NoMemory>
-    ensures { IfOk result (λ answer. (shown : Option Shown) → IsShownBy names stored.now shown → IsAnswerOf shown answer) }
+    ensures shown { IfOk result (λ answer. (found : Option Shown) × IsShownBy names stored.now found × (answer ≡ answer_of found)) }
+    ensures only { IfOk result (λ answer. (shown : Option Shown) → IsShownBy names stored.now shown → IsAnswerOf shown answer) }
 {
     Ok(as_answer(shown_by(alloc, names, stored)?))
 }

@@ -1,14 +1,15 @@
-ghost use Rattle.std.specs.Prelude.{◌≡◌, ℕ, ◌+◌, ◌<◌, ◌⊎◌, ◌++◌, List, [], Some, None, IfOk, IfSome, IsTrue, OnOk, IsErrOf};
+ghost use Rattle.std.specs.Prelude.{◌≡◌, ℕ, ◌+◌, ◌<◌, ◌⊎◌, List, [], Some, None, IfOk, IfSome, IsTrue, OnOk, OnErr, OnSome, IsErrOf};
 ghost use Rattle.std.specs.Io.KnownBytes.{Appends};
 ghost use Rattle.byte_lines.specs.LineReaders.{lines_ahead, lines_left};
 ghost use Rattle.report_checking.specs.Checking.{IsAllRight};
-ghost use Rattle.report_checking.specs.Reading.{IsRead, IsFine, FindsNext, LeadsOn, Advances, IsFairNext, IsOtherwiseNext, StopsOn};
+ghost use Rattle.report_checking.specs.Reading.{IsRead, IsFine, FindsNext, LeadsOn, Advances, IsFairNext, IsOtherwiseNext, StopsOn, TellsFront};
 ghost use Rattle.report_checking.specs.RightReports.{StopsAtWrong};
-ghost use Rattle.report_checking.specs.Telling.{Tells, TellsNext, last_line, no_tally};
-ghost use Rattle.report_checking.specs.declared.texts.Tally.{Tally};
+ghost use Rattle.report_checking.specs.Outcomes.{FindsAll, TellsFirst};
+ghost use Rattle.report_checking.specs.Telling.{AppendsFront, TellsNext, lines_told, no_tally, tally_of, told_of};
 ghost use Rattle.cobra.specs.Outputs.{IsTold};
+ghost use Rattle.report_checking.specs.declared.findings.Found.{Found};
 
-use crate::findings::{Advance, Fault, Found};
+use crate::findings::{Fault, Found};
 use crate::pairs::Replay;
 use crate::texts::{Tally, tell, tell_tally};
 use byte_lines::{ByteSink, ByteSource, Failure, LONGEST_LINE, LineReader, Next};
@@ -77,7 +78,7 @@ fn check_reply<R: ByteSource>(
     Ok(found)
 }
 
-/// Checks the next line and its reply, and tells what is found of it.
+/// Checks the next line and its reply, and tells what is found of it: nothing where there is no line.
 fn check_next<R: ByteSource, W: ByteSink>(
     alloc: Global,
     reader: &mut LineReader,
@@ -85,29 +86,27 @@ fn check_next<R: ByteSource, W: ByteSink>(
     tally: &mut Tally,
     source: &mut R,
     sink: &mut W,
-) -> Result<Advance, Failure>
+) -> Result<Option<Found>, Failure>
     requires limit { reader.old.limit ≡ LONGEST_REPLY }
     requires fresh { reader.old.under_way ≡ Some [] }
-    ensures on { IfOk result (λ advance. Advances (lines_ahead reader.old (R.remaining source.old)) replay.old.script advance (lines_ahead reader.new (R.remaining source.new)) replay.new.script) }
-    ensures fresh { IfOk result (λ advance. advance ≡ Advance.On → reader.new.under_way ≡ Some []) }
+    ensures on { IfOk result (λ found. Advances (lines_ahead reader.old (R.remaining source.old)) replay.old.script found (lines_ahead reader.new (R.remaining source.new)) replay.new.script) }
+    ensures fresh { IfOk result (λ found. OnSome found (reader.new.under_way ≡ Some [])) }
     ensures limit { reader.new.limit ≡ reader.old.limit }
-    ensures fewer { IfOk result (λ advance. advance ≡ Advance.On → lines_left reader.new (R.reads_left source.new) < lines_left reader.old (R.reads_left source.old)) }
-    ensures told { IfOk result (λ advance. TellsNext advance tally.old tally.new (W.contents sink.old) (W.contents sink.new)) }
+    ensures fewer { IfOk result (λ found. IfSome found (λ given. IsFine given → lines_left reader.new (R.reads_left source.new) < lines_left reader.old (R.reads_left source.old))) }
+    ensures told { IfOk result (λ found. TellsNext found tally.old tally.new (W.contents sink.old) (W.contents sink.new)) }
+    ensures front { OnErr result (TellsFront (lines_ahead reader.old (R.remaining source.old)) replay.old.script tally.old (W.contents sink.old) (W.contents sink.new)) }
     ensures ok { OnOk result ((R.faults source.new ≡ R.faults source.old) × (W.faults sink.new ≡ W.faults sink.old)) }
     ensures device { IsErrOf result Failure.Device → ((R.faults source.new ≡ R.faults source.old + 1) × (W.faults sink.new ≡ W.faults sink.old)) ⊎ ((R.faults source.new ≡ R.faults source.old) × (W.faults sink.new ≡ W.faults sink.old + 1)) }
     ensures memory { IsErrOf result Failure.NoMemory → (R.faults source.new ≡ R.faults source.old) × (W.faults sink.new ≡ W.faults sink.old) }
 {
     let next = reader.next_line(source)?;
     if let Next::End = next {
-        return Ok(Advance::End);
+        return Ok(None);
     }
     let found = check_reply(alloc, reader, replay, next, source)?;
     tally.count(&found);
     tell(alloc, sink, tally.replies, &found)?;
-    match found {
-        Found::Wrong(_) => Ok(Advance::Wrong),
-        _ => Ok(Advance::On),
-    }
+    Ok(Some(found))
 }
 
 /// Checks line after line, up to the first reply that is wrong. Answers whether none was.
@@ -126,17 +125,18 @@ fn check_lines<R: ByteSource, W: ByteSink>(
     requires uncounted { tally.old ≡ no_tally }
     ensures right { IfOk result (λ right. IsTrue right → IfSome (R.remaining source.old) IsAllRight) }
     ensures wrong { IfOk result (λ right. ¬ IsTrue right → IfSome (R.remaining source.old) StopsAtWrong) }
-    ensures told { OnOk result ((text : List ℕ) × Tells tally.new text × Appends (W.contents sink.old) (W.contents sink.new) text) }
+    ensures told { IfOk result (λ right. (all : List Found) × (tally.new ≡ tally_of all) × IfSome (R.remaining source.old) (λ input. FindsAll right input all) × Appends (W.contents sink.old) (W.contents sink.new) (lines_told 0 all)) }
+    ensures front { OnErr result ((text : List ℕ) × IfSome (R.remaining source.old) (λ input. TellsFirst input text) × AppendsFront (W.contents sink.old) (W.contents sink.new) text) }
     ensures ok { OnOk result ((R.faults source.new ≡ R.faults source.old) × (W.faults sink.new ≡ W.faults sink.old)) }
     ensures device { IsErrOf result Failure.Device → ((R.faults source.new ≡ R.faults source.old + 1) × (W.faults sink.new ≡ W.faults sink.old)) ⊎ ((R.faults source.new ≡ R.faults source.old) × (W.faults sink.new ≡ W.faults sink.old + 1)) }
     ensures memory { IsErrOf result Failure.NoMemory → (R.faults source.new ≡ R.faults source.old) × (W.faults sink.new ≡ W.faults sink.old) }
 {
     loop {
-        let advance = check_next(alloc, reader, replay, tally, source, sink)?;
-        match advance {
-            Advance::On => {}
-            Advance::Wrong => return Ok(false),
-            Advance::End => return Ok(true),
+        let Some(found) = check_next(alloc, reader, replay, tally, source, sink)? else {
+            return Ok(true);
+        };
+        if let Found::Wrong(_) = found {
+            return Ok(false);
         }
     }
 }
@@ -156,7 +156,8 @@ fn check_all<R: ByteSource, W: ByteSink>(
     requires unopened { replay.old.script ≡ None }
     ensures right { IfOk result (λ right. IsTrue right → IfSome (R.remaining source.old) IsAllRight) }
     ensures wrong { IfOk result (λ right. ¬ IsTrue right → IfSome (R.remaining source.old) StopsAtWrong) }
-    ensures told { IfOk result (λ right. (tally : Tally) × (text : List ℕ) × Tells tally text × Appends (W.contents sink.old) (W.contents sink.new) (text ++ last_line tally right)) }
+    ensures told { IfOk result (λ right. (all : List Found) × IfSome (R.remaining source.old) (λ input. FindsAll right input all) × Appends (W.contents sink.old) (W.contents sink.new) (told_of all right)) }
+    ensures front { OnErr result ((text : List ℕ) × IfSome (R.remaining source.old) (λ input. TellsFirst input text) × AppendsFront (W.contents sink.old) (W.contents sink.new) text) }
     ensures ok { OnOk result ((R.faults source.new ≡ R.faults source.old) × (W.faults sink.new ≡ W.faults sink.old)) }
     ensures device { IsErrOf result Failure.Device → ((R.faults source.new ≡ R.faults source.old + 1) × (W.faults sink.new ≡ W.faults sink.old)) ⊎ ((R.faults source.new ≡ R.faults source.old) × (W.faults sink.new ≡ W.faults sink.old + 1)) }
     ensures memory { IsErrOf result Failure.NoMemory → (R.faults source.new ≡ R.faults source.old) × (W.faults sink.new ≡ W.faults sink.old) }
@@ -177,8 +178,11 @@ pub fn check_replies<R: ByteSource, W: ByteSink>(
 ) -> Result<bool, Failure>
     ensures right { IfOk result (λ right. IsTrue right → IfSome (R.remaining source.old) IsAllRight) }
     ensures wrong { IfOk result (λ right. ¬ IsTrue right → IfSome (R.remaining source.old) StopsAtWrong) }
-    // What is written tells of one reply after another, and at its end whether all are right.
-    ensures told { IfOk result (λ right. (tally : Tally) × (text : List ℕ) × Tells tally text × Appends (W.contents sink.old) (W.contents sink.new) (text ++ last_line tally right)) }
+    // What is written is a line of each reply, by what is found of it, and at its end whether all are right.
+    ensures told { IfOk result (λ right. (all : List Found) × IfSome (R.remaining source.old) (λ input. FindsAll right input all) × Appends (W.contents sink.old) (W.contents sink.new) (told_of all right)) }
+
+    // After a failure a front of what is written of the input's first replies, or of all and with the last line.
+    ensures front { OnErr result ((text : List ℕ) × IfSome (R.remaining source.old) (λ input. TellsFirst input text) × AppendsFront (W.contents sink.old) (W.contents sink.new) text) }
 
     // One of the devices failed, once, where that is the answer, and else none did.
     ensures ok { OnOk result ((R.faults source.new ≡ R.faults source.old) × (W.faults sink.new ≡ W.faults sink.old)) }

@@ -52,15 +52,6 @@ pub(crate) enum Owed {
     Nothing(Unshown),
 }
 
-/// What came of a line and its reply.
-#[derive(Clone, Copy, Debug, PartialEq, Eq)]
-pub(crate) enum Advance {
-    On,
-    Wrong,
-    /// There was no line.
-    End,
-}
-
 pub(crate) fn what_of(answer: &Reply) -> What
     ensures { result ≡ what_of answer.now }
 {

@@ -7,7 +7,8 @@ ghost use Rattle.log_text.specs.declared.versions.Opening.TheVariants as opening
 ghost use Rattle.report_checking.specs.Isolation.{OwesIsolated, names_of};
 ghost use Rattle.report_checking.specs.OwedLines.{OwesIn};
 ghost use Rattle.report_checking.specs.Owing.{BeginsSearch, FinishesWhere, IsOfEngine, IsStep, OwesBeside, searched_after};
-ghost use Rattle.report_checking.specs.Reading.{Leads, LeadsIn, LeadsSplit, IsOwedBy, IsToldOf, OfRight, OwesText, IsAlone, EarnsWhere, GivesWhere, EarnsBeside, EarnsIn, GivesBeside, GivesIn, GivesIsolated, isolated_owed};
+ghost use Rattle.report_checking.specs.Reading.{Leads, LeadsIn, LeadsSplit, IsOwedBy, IsToldOf, OfRight, OwesText, IsAlone, EarnsWhere, GivesWhere, EarnsBeside, EarnsIn, GivesBeside, GivesIn, GivesIsolated, isolated_owed, Unshows};
+ghost use Rattle.report_checking.specs.Unshown.{ShowsWrongOf, EndsWrong};
 
 use crate::findings::Owed;
 use crate::owed::{owed_finish, owed_open, owed_step};
@@ -89,6 +90,7 @@ impl OpenScript {
         ensures owed { IfOk result (IsOwedBy (λ answer. Leads self.old.engine self.new.engine (λ before after. FinishesWhere may refusal self.old.searched before answer self.new.searched after))) }
         ensures opening { self.new.opening ≡ self.old.opening }
         ensures right { IfOk result (λ owed. OfRight names (EarnsWhere may self.old.engine) stored.now (λ text. OwesText names text owed)) }
+        ensures unshown { IfOk result (Unshows (ShowsWrongOf names stored.now self.old.engine.asked)) }
         ensures alone { IfOk result (IsAlone (GivesWhere may refusal self.old.engine)) }
     {
         if may {
@@ -122,6 +124,7 @@ impl OpenScript {
         ensures owed { IfOk result (IsOwedBy (λ answer. Leads self.old.engine self.new.engine (λ before after. OwesBeside version self.old.searched before command answer self.new.searched after))) }
         ensures opening { self.new.opening ≡ self.old.opening }
         ensures right { IfOk result (λ owed. OfRight names (EarnsBeside self.old.searched self.old.engine command) stored.now (λ text. OwesText names text owed)) }
+        ensures unshown { IfOk result (Unshows (EndsWrong names self.old.engine command stored.now)) }
         ensures alone { IfOk result (IsAlone (GivesBeside version self.old.searched self.old.engine command)) }
     {
         let owed = owed_open(&mut self.engine, alloc, version, names, command, stored)?;
@@ -141,6 +144,7 @@ impl OpenScript {
         ensures owed { IfOk result (IsOwedBy (λ answer. Leads self.old.engine self.new.engine (λ before after. OwesBeside version self.old.searched before command answer self.new.searched after))) }
         ensures opening { self.new.opening ≡ self.old.opening }
         ensures right { IfOk result (λ owed. OfRight names (EarnsBeside self.old.searched self.old.engine command) stored.now (λ text. OwesText names text owed)) }
+        ensures unshown { IfOk result (Unshows (EndsWrong names self.old.engine command stored.now)) }
         ensures alone { IfOk result (IsAlone (GivesBeside version self.old.searched self.old.engine command)) }
     {
         match command {
@@ -168,6 +172,7 @@ impl OpenScript {
         ensures owed { IfOk result (IsOwedBy (λ answer. LeadsSplit self.old.engine self.new.engine (λ before after. OwesIsolated version self.old.searched before command answer self.new.searched after))) }
         ensures opening { self.new.opening ≡ self.old.opening }
         ensures right { IfOk result (λ owed. OfRight named.Events (EarnsIn (openings.Isolated version) self.old.searched self.old.engine command) stored.now (λ text. OwesText named.Ids text owed)) }
+        ensures unshown { IfOk result (Unshows (EndsWrong named.Events self.old.engine command stored.now)) }
         ensures alone { IfOk result (IsAlone (GivesIsolated version self.old.searched self.old.engine command)) }
     {
         // Laws that the proof cites. They do nothing when they run.
@@ -193,6 +198,7 @@ impl OpenScript {
         ensures owed { IfOk result (IsOwedBy (λ answer. LeadsIn self.old.opening self.old.engine self.new.engine (λ before after. OwesIn self.old.opening self.old.searched before command answer self.new.searched after))) }
         ensures opening { self.new.opening ≡ self.old.opening }
         ensures right { IfOk result (λ owed. OfRight (names_of self.old.opening) (EarnsIn self.old.opening self.old.searched self.old.engine command) stored.now (λ text. OwesText named.Ids text owed)) }
+        ensures unshown { IfOk result (Unshows (EndsWrong (names_of self.old.opening) self.old.engine command stored.now)) }
         ensures alone { IfOk result (IsAlone (GivesIn self.old.opening self.old.searched self.old.engine command)) }
     {
         match self.opening {

@@ -6,7 +6,8 @@ ghost use Rattle.round_state.specs.Runs.{Holds};
 ghost use Rattle.round_state.specs.Steps.{StepsTo};
 ghost use Rattle.cobra.specs.Scripts.{IsTakenIn};
 ghost use Rattle.report_checking.specs.Owing.{IsEarned, IsPlain, IsStep, OwesFinish, OwesRound, OwesOpen};
-ghost use Rattle.report_checking.specs.Reading.{Leads, IsOwedBy, IsToldOf, Earns, OfRight, OwesText, IsTakenAs, IsRefusedBy, Gives, IsAlone};
+ghost use Rattle.report_checking.specs.Reading.{Leads, IsOwedBy, IsToldOf, Earns, OfRight, OwesText, IsTakenAs, IsRefusedBy, Gives, IsAlone, Unshows, unshown_of};
+ghost use Rattle.report_checking.specs.Unshown.{ShowsWrongOf, EndsWrong};
 
 use crate::certificates::answer_told;
 use crate::findings::{Owed, Unshown};
@@ -20,7 +21,9 @@ use std::alloc::{AllocError, Global};
 use txn::{NoMemory, Refusal};
 
 /// What isn't so where this answer is wrong.
-fn unshown_by(answer: &Answer) -> Unshown {
+fn unshown_by(answer: &Answer) -> Unshown
+    ensures { result ≡ unshown_of answer.now }
+{
     match answer {
         Answer::Yes(_) => Unshown::Order,
         Answer::No(_) | Answer::Spent | Answer::NoMemory => Unshown::Refutation,
@@ -46,6 +49,7 @@ pub(crate) fn owed_finish(
 ) -> Result<Owed, NoMemory>
     ensures owed { IfOk result (IsOwedBy (λ answer. Leads engine.old engine.new (λ before after. OwesFinish before answer after))) }
     ensures right { IfOk result (λ owed. OfRight names (IsEarned engine.old) stored.now (λ text. OwesText names text owed)) }
+    ensures unshown { IfOk result (Unshows (ShowsWrongOf names stored.now engine.old.asked)) }
     ensures none { IfOk result (λ owed. engine.old.asked ≡ None → owed ≡ Owed.Reply (Reply.No Refusal.NoRound)) }
 {
     let answer = answer_told(alloc, names, stored)?;
@@ -66,6 +70,7 @@ fn owed_round(
 ) -> Result<Owed, NoMemory>
     ensures owed { IfOk result (IsOwedBy (λ answer. Leads engine.old engine.new (λ before after. OwesRound before answer after))) }
     ensures right { IfOk result (λ owed. (begun : EngineState) → StepsTo engine.old Step.Begin StepReply.Done begun → OfRight names (IsEarned begun) stored.now (λ text. OwesText names text owed)) }
+    ensures unshown { IfOk result (Unshows (λ why. (begun : EngineState) × StepsTo engine.old Step.Begin StepReply.Done begun × ShowsWrongOf names stored.now begun.asked why)) }
     ensures refused { IfOk result (IsAlone (IsRefusedBy engine.old Step.Begin)) }
 {
     match engine.step(alloc, Step::Begin) {
@@ -119,6 +124,7 @@ pub(crate) fn owed_open(
 ) -> Result<Owed, NoMemory>
     ensures owed { IfOk result (IsOwedBy (λ answer. Leads engine.old engine.new (λ before after. OwesOpen version before command answer after))) }
     ensures right { IfOk result (λ owed. OfRight names (Earns engine.old command) stored.now (λ text. OwesText names text owed)) }
+    ensures unshown { IfOk result (Unshows (EndsWrong names engine.old command stored.now)) }
     ensures alone { IfOk result (IsAlone (Gives version engine.old command)) }
 {
     match command {

@@ -5,8 +5,7 @@ ghost use Rattle.txn.specs.declared.refusals.Refusal.TheVariants as refusals;
 ghost use Rattle.report_checking.specs.Checking.{TakesMemory};
 ghost use Rattle.log_text.specs.declared.names.Names.TheVariants as named;
 ghost use Rattle.report_checking.specs.OwedLines.{Owes};
-ghost use Rattle.report_checking.specs.Telling.{IsWhatOf};
-ghost use Rattle.report_checking.specs.Reading.{LeadsScript, MayGoOn, script_left, IsOwedBy, IsOfKind, Finds, FindsFor, IsFoundBy, IsFoundOf, EarnsScript, OfRight, OwesText, names_in, IsFair, IsFairTo, GivesScript, IsAlone, IsOtherwise, IsOtherwiseTo, has_brace};
+ghost use Rattle.report_checking.specs.Reading.{LeadsScript, MayGoOn, script_left, IsOwedBy, IsOfKind, Finds, FindsFor, IsFoundBy, IsFoundOf, EarnsScript, OfRight, OwesText, names_in, IsFair, IsFairTo, GivesScript, IsAlone, IsOtherwise, IsOtherwiseTo, has_brace, Unshows, IsUnshownIn};
 
 use crate::findings::{Fault, Found, Owed, Unshown, What, what_of};
 use crate::open_scripts::OpenScript;
@@ -95,6 +94,7 @@ impl Replay {
     fn owed(&mut self, alloc: Global, command: Command, stored: &[u8]) -> Result<Owed, NoMemory>
         ensures owed { IfOk result (IsOwedBy (λ answer. LeadsScript self.old.script self.new.script (λ before after. Owes before command answer after))) }
         ensures right { IfOk result (λ owed. OfRight (names_in self.old.script) (EarnsScript self.old.script command) stored.now (λ text. OwesText named.Ids text owed)) }
+        ensures unshown { IfOk result (Unshows (IsUnshownIn self.old.script command stored.now)) }
         ensures alone { IfOk result (IsAlone (GivesScript self.old.script command)) }
     {
         if let Some(script) = &mut self.script {
@@ -237,8 +237,7 @@ fn is_text_of(alloc: Global, answer: &Reply, stored: &[u8]) -> Result<bool, NoMe
 /// What is found of a stored reply, where this one is owed.
 fn found_by(alloc: Global, answer: &Reply, stored: &[u8]) -> Result<Found, NoMemory>
     requires { HasKindOfOrder answer.now }
-    ensures found { IfOk result (IsFoundBy answer.now stored.now) }
-    ensures what { IfOk result (IsWhatOf answer.now) }
+    ensures { IfOk result (IsFoundBy answer.now stored.now) }
 {
     let text = text_of(alloc, answer)?;
     if text.as_slice() == stored {

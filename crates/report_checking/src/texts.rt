@@ -1,7 +1,7 @@
 //! What is told of replies.
-ghost use Rattle.std.specs.Prelude.{◌≡◌, ◌+◌, IfOk, OnOk, IsErrOf, option_map, string_bytes};
+ghost use Rattle.std.specs.Prelude.{◌≡◌, ◌+◌, IfOk, OnOk, OnErr, IsErrOf, option_map, string_bytes};
 ghost use Rattle.std.specs.Io.KnownBytes.{Appends};
-ghost use Rattle.report_checking.specs.Telling.{counted, words_of, words_of_fault, found_line, last_line, no_tally, numbered, text_owed, verdict_word};
+ghost use Rattle.report_checking.specs.Telling.{AppendsFront, counted, words_of, words_of_fault, found_line, last_line, no_tally, numbered, text_owed, verdict_word};
 
 use crate::findings::{Fault, Found, Unshown, What};
 use byte_lines::{ByteSink, Failure, write_all};
@@ -114,6 +114,7 @@ fn tell_words<W: ByteSink>(
     more: &[u8],
 ) -> Result<(), Failure>
     ensures told { OnOk result (Appends (W.contents sink.old) (W.contents sink.new) (numbered number words.now more.now)) }
+    ensures front { OnErr result (AppendsFront (W.contents sink.old) (W.contents sink.new) (numbered number words.now more.now)) }
     ensures ok { OnOk result (W.faults sink.new ≡ W.faults sink.old) }
     ensures device { IsErrOf result Failure.Device → W.faults sink.new ≡ W.faults sink.old + 1 }
     ensures memory { IsErrOf result Failure.NoMemory → W.faults sink.new ≡ W.faults sink.old }
@@ -133,6 +134,7 @@ pub(crate) fn tell<W: ByteSink>(
     found: &Found,
 ) -> Result<(), Failure>
     ensures told { OnOk result (Appends (W.contents sink.old) (W.contents sink.new) (found_line number found.now)) }
+    ensures front { OnErr result (AppendsFront (W.contents sink.old) (W.contents sink.new) (found_line number found.now)) }
     ensures ok { OnOk result (W.faults sink.new ≡ W.faults sink.old) }
     ensures device { IsErrOf result Failure.Device → W.faults sink.new ≡ W.faults sink.old + 1 }
     ensures memory { IsErrOf result Failure.NoMemory → W.faults sink.new ≡ W.faults sink.old }
@@ -159,6 +161,7 @@ pub(crate) fn tell_tally<W: ByteSink>(
     is_right: bool,
 ) -> Result<(), Failure>
     ensures told { OnOk result (Appends (W.contents sink.old) (W.contents sink.new) (last_line tally.now is_right)) }
+    ensures front { OnErr result (AppendsFront (W.contents sink.old) (W.contents sink.new) (last_line tally.now is_right)) }
     ensures ok { OnOk result (W.faults sink.new ≡ W.faults sink.old) }
     ensures device { IsErrOf result Failure.Device → W.faults sink.new ≡ W.faults sink.old + 1 }
     ensures memory { IsErrOf result Failure.NoMemory → W.faults sink.new ≡ W.faults sink.old }

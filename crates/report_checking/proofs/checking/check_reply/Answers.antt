@@ -12,4 +12,4 @@ returns-clause-fewer g c = λ fine.
 
 pub returns-clause-stops : goal.returns-clause-stops
 returns-clause-stops g c =
-    stops_at c.args.reader.now.limit _ _ c.args.next c.as_line-line.result c.in_ok-stored.stored c.in_ok-found.found c.args.replay.now.script c.requires.limit c.as_line-line.ensures (c.in_ok-stored.ensures.next c.requires.fresh) c.in_ok-found.ensures.fair c.in_ok-found.ensures.otherwise
+    stops_at c.args.reader.now.limit _ _ c.args.next c.as_line-line.result c.in_ok-stored.stored c.in_ok-found.found c.args.replay.now.script c.found_behind.new.replay.script c.requires.limit c.as_line-line.ensures (c.in_ok-stored.ensures.next c.requires.fresh) c.in_ok-found.ensures.finds c.in_ok-found.ensures.fair c.in_ok-found.ensures.otherwise

@@ -6,6 +6,8 @@ use Rattle.report_checking.specs.Reading.{IsToldOf}
 use Rattle.report_checking.proofs.RightReports.{right_judged}
 use Rattle.report_checking.proofs.OwedReplies.{show_owed, saved_owed, out_of_place}
 use Rattle.report_checking.proofs.OtherReplies.{told_alone, taken_alone, judged_alone, finish_alone, one_alone}
+use Rattle.report_checking.specs.Unshown.{EndsWrong}
+use Rattle.report_checking.proofs.UnshownReplies.{unshows_told, unshows_taken}
 use Rattle.report_checking.proofs.owed.owed_open.Goals as goal
 
 pub returns-in-Offer-clause-owed : goal.returns-in-Offer-clause-owed
@@ -208,3 +210,30 @@ returns-in-Last-clause-alone c = rw c.in-Last.is (λ answer told. inr (inr (sym 
 
 pub returns-clause-alone : goal.returns-clause-alone
 returns-clause-alone c = rw c.in-Resumed.is (λ answer told. inr (inr (sym told)))
+
+pub returns-in-Offer-clause-unshown : goal.returns-in-Offer-clause-unshown
+returns-in-Offer-clause-unshown c = IfOk-weaker c.owed_offer.result _ _ (λ given. unshows_taken (EndsWrong c.args.names c.args.engine.now c.args.command c.args.stored.now) c.args.version c.args.engine.now c.in-Offer.logged (step.Offer c.in-Offer.logged) given) c.owed_offer.ensures.told
+
+pub returns-in-Join-clause-unshown : goal.returns-in-Join-clause-unshown
+returns-in-Join-clause-unshown c = IfOk-weaker c.owed_join.result _ _ (λ given. unshows_taken (EndsWrong c.args.names c.args.engine.now c.args.command c.args.stored.now) c.args.version c.args.engine.now c.in-Join.logged (step.Join c.in-Join.logged) given) c.owed_join.ensures.told
+
+pub returns-in-Close-clause-unshown : goal.returns-in-Close-clause-unshown
+returns-in-Close-clause-unshown c = IfOk-weaker c.owed_step.result _ _ (λ given. unshows_told (EndsWrong c.args.names c.args.engine.now c.args.command c.args.stored.now) c.args.engine.now (step.Close c.in-Close.session) given) c.owed_step.ensures.told
+
+pub returns-in-Begin-clause-unshown : goal.returns-in-Begin-clause-unshown
+returns-in-Begin-clause-unshown c = IfOk-weaker c.owed_step-in-Begin.result _ _ (λ given. unshows_told (EndsWrong c.args.names c.args.engine.now c.args.command c.args.stored.now) c.args.engine.now step.Begin given) c.owed_step-in-Begin.ensures.told
+
+pub returns-in-Answer-clause-unshown : goal.returns-in-Answer-clause-unshown
+returns-in-Answer-clause-unshown c = IfOk-weaker c.owed_step-in-Answer.result _ _ (λ given. unshows_told (EndsWrong c.args.names c.args.engine.now c.args.command c.args.stored.now) c.args.engine.now (step.Judge c.certificate_of.result) given) c.owed_step-in-Answer.ensures.told
+
+pub returns-in-Truncate-clause-unshown : goal.returns-in-Truncate-clause-unshown
+returns-in-Truncate-clause-unshown c = IfOk-weaker c.owed_step-in-Truncate.result _ _ (λ given. unshows_told (EndsWrong c.args.names c.args.engine.now c.args.command c.args.stored.now) c.args.engine.now step.Truncate given) c.owed_step-in-Truncate.ensures.told
+
+pub returns-in-Rebuild-clause-unshown : goal.returns-in-Rebuild-clause-unshown
+returns-in-Rebuild-clause-unshown c = IfOk-weaker c.owed_step-in-Rebuild.result _ _ (λ given. unshows_told (EndsWrong c.args.names c.args.engine.now c.args.command c.args.stored.now) c.args.engine.now step.Rebuild given) c.owed_step-in-Rebuild.ensures.told
+
+pub returns-in-Finish-clause-unshown : goal.returns-in-Finish-clause-unshown
+returns-in-Finish-clause-unshown c = rw c.in-Finish.is c.owed_finish.ensures.unshown
+
+pub returns-in-Round-clause-unshown : goal.returns-in-Round-clause-unshown
+returns-in-Round-clause-unshown c = rw c.in-Round.is c.owed_round.ensures.unshown

@@ -4,6 +4,12 @@ use Rattle.report_checking.specs.Reading.{Leads, IsOwedBy}
 use Rattle.report_checking.proofs.OwedReplies.{round_owed_by, begin_refused}
 use Rattle.report_checking.proofs.RightReports.{right_begun, right_not_begun}
 use Rattle.report_checking.proofs.OtherReplies.{begun_alone, refused_alone}
+use Rattle.report_checking.specs.Unshown.{ShowsWrongOf}
+use Rattle.round_state.specs.EngineState.{EngineState}
+use Rattle.round_state.specs.Steps.{StepsTo}
+use Rattle.round_state.specs.declared.steps.Step.TheVariants as step
+use Rattle.round_state.specs.declared.steps.StepReply.TheVariants as reply
+use Rattle.report_checking.proofs.UnshownReplies.{unshows_weaker}
 use Rattle.report_checking.proofs.owed.owed_round.Goals as goal
 
 pub returns-in-Done-clause-owed : goal.returns-in-Done-clause-owed
@@ -30,3 +36,7 @@ returns-in-Done-clause-refused c =
 pub returns-in_ok-reply_of-in_default-clause-refused : goal.returns-in_ok-reply_of-in_default-clause-refused
 returns-in_ok-reply_of-in_default-clause-refused c =
     refused_alone c.args.engine.now c.step.new.self c.step.result c.in_ok-reply_of-in_default.field-0 c.step.ensures.right c.in_ok-reply_of-in_default.ensures
+
+pub returns-in-Done-clause-unshown : goal.returns-in-Done-clause-unshown
+returns-in-Done-clause-unshown c =
+    IfOk-weaker c.owed_finish.result _ _ (λ given. unshows_weaker (ShowsWrongOf c.args.names c.args.stored.now c.step.new.self.asked) (λ why. (begun : EngineState) × StepsTo c.args.engine.now step.Begin reply.Done begun × ShowsWrongOf c.args.names c.args.stored.now begun.asked why) (λ why is. (c.step.new.self, c.in-Done.ensures.right, is)) given) c.owed_finish.ensures.unshown

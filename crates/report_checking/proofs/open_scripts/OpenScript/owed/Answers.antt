@@ -17,3 +17,9 @@ returns-in-Isolated-clause-right c = rw c.in-Isolated.is c.owed_isolated.ensures
 
 pub returns-in-Isolated-clause-alone : goal.returns-in-Isolated-clause-alone
 returns-in-Isolated-clause-alone c = rw c.in-Isolated.is c.owed_isolated.ensures.alone
+
+pub returns-in-Ordered-clause-unshown : goal.returns-in-Ordered-clause-unshown
+returns-in-Ordered-clause-unshown c = rw c.in-Ordered.is c.owed_beside.ensures.unshown
+
+pub returns-in-Isolated-clause-unshown : goal.returns-in-Isolated-clause-unshown
+returns-in-Isolated-clause-unshown c = rw c.in-Isolated.is c.owed_isolated.ensures.unshown

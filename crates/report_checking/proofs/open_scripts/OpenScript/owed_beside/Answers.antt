@@ -1,6 +1,9 @@
 use Rattle.std.proofs.lemmas.Result.{IfOk-weaker}
 use Rattle.report_checking.proofs.OwedReplies.{begins_owed, collect_owed}
 use Rattle.report_checking.proofs.OtherReplies.{begins_alone}
+use Rattle.round_state.specs.declared.steps.Step.TheVariants as step
+use Rattle.report_checking.specs.Unshown.{EndsWrong}
+use Rattle.report_checking.proofs.UnshownReplies.{unshows_told}
 use Rattle.report_checking.proofs.open_scripts.OpenScript.owed_beside.Goals as goal
 
 pub returns-in-BeginSearch-clause-owed : goal.returns-in-BeginSearch-clause-owed
@@ -30,3 +33,12 @@ returns-in-Finish-clause-owed c = rw c.in-Finish.is c.finish_where-in-Finish.ens
 
 pub returns-in-Finish-clause-right : goal.returns-in-Finish-clause-right
 returns-in-Finish-clause-right c = rw c.in-Finish.is c.finish_where-in-Finish.ensures.right
+
+pub returns-in-Collect-clause-unshown : goal.returns-in-Collect-clause-unshown
+returns-in-Collect-clause-unshown c = rw c.in-Collect.is c.finish_where.ensures.unshown
+
+pub returns-in-Finish-clause-unshown : goal.returns-in-Finish-clause-unshown
+returns-in-Finish-clause-unshown c = rw c.in-Finish.is c.finish_where-in-Finish.ensures.unshown
+
+pub returns-in-Skip-clause-unshown : goal.returns-in-Skip-clause-unshown
+returns-in-Skip-clause-unshown c = IfOk-weaker c.skip.result _ _ (λ given. unshows_told (EndsWrong c.args.names c.args.self.now.engine c.args.command c.args.stored.now) c.args.self.now.engine step.Abandon given) c.skip.ensures.told

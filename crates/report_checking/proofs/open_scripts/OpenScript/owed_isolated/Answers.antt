@@ -1,5 +1,7 @@
 use Rattle.std.proofs.lemmas.Result.{IfOk-weaker}
 use Rattle.report_checking.proofs.SplitReplies.{Laws, asked_by, fault_by, owed_told, right_told, alone_told, faulty_by, faulty_right, faulty_alone}
+use Rattle.log_text.specs.declared.names.Names.TheVariants.{Events}
+use Rattle.report_checking.proofs.UnshownReplies.{unshows_split}
 use Rattle.report_checking.proofs.open_scripts.OpenScript.owed_isolated.Goals as goal
 
 pub returns-in_ok-owed-in-Ok-clause-owed : goal.returns-in_ok-owed-in-Ok-clause-owed
@@ -41,3 +43,10 @@ returns-in-Err-clause-alone c =
     let judged = rw c.in-Err.is at c.in_ok-split.ensures.split in
     let fault = fault_by c.args.version c.most_sessions.result c.args.command c.in-Err.refusal c.most_sessions.ensures judged in
     faulty_alone c.args.version c.args.self.now.searched c.args.self.now.engine c.args.command c.in-Err.refusal fault
+
+pub returns-in_ok-owed-in-Ok-clause-unshown : goal.returns-in_ok-owed-in-Ok-clause-unshown
+returns-in_ok-owed-in-Ok-clause-unshown c =
+    let judged = rw c.in-Ok.is at c.in_ok-split.ensures.split in
+    let asked = asked_by c.args.version c.most_sessions.result c.args.command c.in-Ok.split c.most_sessions.ensures judged in
+    IfOk-weaker c.isolated_owed.result _ _
+    (λ given is. unshows_split Events c.args.self.now.engine c.args.command c.in-Ok.split c.args.stored.now c.in_ok-owed-in-Ok.owed given asked.1 c.in_ok-owed-in-Ok.ensures.unshown is) c.isolated_owed.ensures

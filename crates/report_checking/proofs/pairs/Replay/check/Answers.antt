@@ -14,7 +14,7 @@ returns-in-Some-clause-finds c =
 pub returns-in-None-clause-finds : goal.returns-in-None-clause-finds
 returns-in-None-clause-finds c =
     let none = rw c.in-None.is at c.in_ok-command.ensures.none in
-    IfOk-weaker c.found_by.result _ _ (finds_none c.args.self.now.script c.args.next.now c.args.stored.now none) c.found_by.ensures.found
+    IfOk-weaker c.found_by.result _ _ (finds_none c.args.self.now.script c.args.next.now c.args.stored.now none) c.found_by.ensures
 
 pub returns-in-Some-clause-fair : goal.returns-in-Some-clause-fair
 returns-in-Some-clause-fair c =
@@ -24,7 +24,7 @@ returns-in-Some-clause-fair c =
 pub returns-in-None-clause-fair : goal.returns-in-None-clause-fair
 returns-in-None-clause-fair c =
     let none = rw c.in-None.is at c.in_ok-command.ensures.none in
-    IfOk-weaker c.found_by.result _ _ (λ got is. fair_none c.args.self.now.script c.args.next.now c.args.stored.now none got) c.found_by.ensures.found
+    IfOk-weaker c.found_by.result _ _ (λ got is. fair_none c.args.self.now.script c.args.next.now c.args.stored.now none got) c.found_by.ensures
 
 pub returns-in-Some-clause-otherwise : goal.returns-in-Some-clause-otherwise
 returns-in-Some-clause-otherwise c =
@@ -34,4 +34,4 @@ returns-in-Some-clause-otherwise c =
 pub returns-in-None-clause-otherwise : goal.returns-in-None-clause-otherwise
 returns-in-None-clause-otherwise c =
     let none = rw c.in-None.is at c.in_ok-command.ensures.none in
-    IfOk-weaker c.found_by.result _ _ (otherwise_none c.args.self.now.script c.args.next.now c.args.stored.now none) c.found_by.ensures.found
+    IfOk-weaker c.found_by.result _ _ (otherwise_none c.args.self.now.script c.args.next.now c.args.stored.now none) c.found_by.ensures

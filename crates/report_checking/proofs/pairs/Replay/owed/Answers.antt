@@ -17,5 +17,8 @@ returns-in-Some-clause-owed c =
 pub returns-in-Some-clause-right : goal.returns-in-Some-clause-right
 returns-in-Some-clause-right c = rw c.in-Some.is c.owed.ensures.right
 
+pub returns-in-Some-clause-unshown : goal.returns-in-Some-clause-unshown
+returns-in-Some-clause-unshown c = rw c.in-Some.is c.owed.ensures.unshown
+
 pub returns-in-Some-clause-alone : goal.returns-in-Some-clause-alone
 returns-in-Some-clause-alone c = rw c.in-Some.is c.owed.ensures.alone

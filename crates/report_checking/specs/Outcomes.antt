@@ -1,0 +1,31 @@
+-- What a check of an input comes to, and what is written of it.
+use Rattle.std.specs.Prelude.{◌≡◌, ℕ, ◌⊎◌, Bool, true, false, List, ◌++◌, Option}
+use Rattle.byte_lines.specs.Lines.{lines}
+use Rattle.report_checking.specs.Checking.{Checks, FindsRight}
+use Rattle.report_checking.specs.OwedLines.{ScriptState}
+use Rattle.report_checking.specs.RightReports.{FindsWrong}
+use Rattle.report_checking.specs.Telling.{lines_told, told_of}
+use Rattle.report_checking.specs.declared.findings.Found.{Found}
+
+-- This is found of the input's replies, by whether all are right.
+abbrev pub FindsAll : Bool → List ℕ → List Found → Type 0
+FindsAll true input all = FindsRight input all
+FindsAll false input all = FindsWrong input all
+
+-- The first lines of the input are those of a script and right replies to them, by turns; and this is found of the replies.
+pub record FindsRightFirst (input : List ℕ) (all : List Found) : Type 0 where
+  pub front : List (List ℕ)
+  pub left : List (List ℕ)
+  pub split : lines input ≡ front ++ left
+  pub state : Option ScriptState
+  pub checks : Checks front state all
+
+-- this is found of the input's first replies, of which the last one may be wrong
+abbrev pub FindsFirst : List ℕ → List Found → Type 0
+FindsFirst input all = FindsRightFirst input all ⊎ FindsWrong input all
+
+-- The text is what is written of the input's first replies, or of all that are checked, with the last line.
+abbrev pub TellsFirst : List ℕ → List ℕ → Type 0
+TellsFirst input text =
+    ((all : List Found) × FindsFirst input all × (text ≡ lines_told 0 all))
+    ⊎ ((all : List Found) × (is_right : Bool) × FindsAll is_right input all × (text ≡ told_of all is_right))
