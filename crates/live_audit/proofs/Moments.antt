@@ -1,17 +1,14 @@
 -- When rounds are made.
-use Rattle.std.proofs.Common.{◌≡◌, ℕ, ◌+◌, ◌≤◌, Bool, true, false, List, [], ◌∷◌, ◌++◌, length, nat_lt, Option, Some, None, refl, sym, ap, ◌∙◌, subst, arith, length-append, append_assoc}
-use Rattle.std.specs.Prelude.{if◌then◌else◌}
+use Rattle.std.proofs.Common.{◌≡◌, ℕ, ◌+◌, Bool, true, false, List, [], ◌∷◌, ◌++◌, Option, Some, None, refl, sym, ap, ◌∙◌, subst, arith, append-nil, append_assoc}
 use Rattle.std.specs.Option.{option_to_list}
-use Rattle.fragment_intake.specs.declared.rules.Item.{Item}
-use Rattle.fragment_intake.specs.declared.rules.Item.TheVariants as item
 use Rattle.fragment_intake.specs.declared.rules.Parcel.{Parcel}
 use Rattle.report_queue.specs.declared.entries.Entry.{Entry}
 use Rattle.report_queue.specs.declared.entries.Entry.TheVariants.{Accepted, Refused, Report, Cut, Skipped, End}
 use Rattle.round_state.specs.EngineState.{EngineState}
 use Rattle.live_audit.specs.CoreState.{CoreState}
-use Rattle.live_audit.specs.Moments.{rounds_in, one_more, unasked_after, IsLook, Turns, none, one, IsTimed}
+use Rattle.live_audit.specs.Moments.{rounds_in, unasked_after, unasked_since, HasTaken, IsLook, Turns, IsTimed}
 use Rattle.live_audit.specs.Running.{IsRoundTold}
-use Rattle.live_audit.specs.Told.{IsTold, IsSkipped, IsOutcome, IsFollowUp}
+use Rattle.live_audit.specs.Told.{AreTold, IsSkipped, IsOutcome, IsFollowUp}
 
 pub rounds_more : (sent more : List Entry) → rounds_in (sent ++ more) ≡ rounds_in sent + rounds_in more
 rounds_more [] more = omega arith
@@ -21,12 +18,6 @@ rounds_more (Accepted collector place ∷ sent) more = rounds_more sent more
 rounds_more (Refused collector place refusal ∷ sent) more = rounds_more sent more
 rounds_more (Cut gone ∷ sent) more = rounds_more sent more
 rounds_more (End ∷ sent) more = rounds_more sent more
-
--- what became of a parcel is no round
-told_quiet : (parcel : Parcel) (entry : Entry) → IsTold parcel entry → rounds_in (entry ∷ []) ≡ 0
-told_quiet parcel (Accepted collector place) told = refl
-told_quiet parcel (Refused collector place refusal) told = refl
-told_quiet parcel entry told = absurd told
 
 -- what an open round came to is one, and the cut behind it is none
 pub outcome_counts : (old new : EngineState) (outcome : Entry) (more : Option Entry) → IsOutcome old outcome new → IsFollowUp outcome more → rounds_in (outcome ∷ option_to_list more) ≡ 1
@@ -41,27 +32,58 @@ pub skipped_counts : (old : EngineState) (entry : Entry) → IsSkipped old entry
 skipped_counts old (Skipped refusal) told = refl
 skipped_counts old entry told = absurd told
 
-one_more_at_most : (unasked : ℕ) → one_more unasked ≤ unasked + 1
-one_more_at_most unasked = elim (nat_lt unasked 1024) as (λ b. (if b then unasked + 1 else unasked) ≤ unasked + 1) [ true ↦ omega arith | false ↦ omega arith ]
+-- Parcels that were taken, one after another.
 
-counted_at_most : (unasked : ℕ) (taken : Item) (entry : Entry) → unasked_after unasked taken entry ≤ unasked + 1
-counted_at_most unasked item.End entry = omega arith
-counted_at_most unasked (item.Fragment logged) (Accepted collector place) = one_more_at_most unasked
-counted_at_most unasked (item.Join logged) (Accepted collector place) = one_more_at_most unasked
-counted_at_most unasked (item.Close session) (Accepted collector place) = one_more_at_most unasked
-counted_at_most unasked (item.Fragment logged) entry = omega arith
-counted_at_most unasked (item.Join logged) entry = omega arith
-counted_at_most unasked (item.Close session) entry = omega arith
+told_more : (parcels more : List Parcel) (entries others : List Entry) → AreTold parcels entries → AreTold more others → AreTold (parcels ++ more) (entries ++ others)
+told_more [] more [] others told also = also
+told_more (parcel ∷ parcels) more (entry ∷ entries) others told also = (told.0, told_more parcels more entries others told.1 also)
+told_more [] more (entry ∷ entries) others told also = absurd told
+told_more (parcel ∷ parcels) more [] others told also = absurd told
 
-pub look_quiet : (found : Bool) (unasked : ℕ) (taken : List Parcel) (sent : List Entry) (unasked_now : ℕ) (taken_now : List Parcel) (sent_now : List Entry) → IsLook found unasked taken sent unasked_now taken_now sent_now → rounds_in sent_now ≡ rounds_in sent
-look_quiet true unasked taken sent unasked_now taken_now sent_now look = omega (arith, ap rounds_in look.3, rounds_more sent (look.1 ∷ []), told_quiet look.0 look.1 look.4)
-look_quiet false unasked taken sent unasked_now taken_now sent_now look = ap rounds_in look.2
+since_more : (unasked : ℕ) (parcels more : List Parcel) (entries others : List Entry) → AreTold parcels entries → unasked_since unasked (parcels ++ more) (entries ++ others) ≡ unasked_since (unasked_since unasked parcels entries) more others
+since_more unasked [] more [] others told = refl
+since_more unasked (parcel ∷ parcels) more (entry ∷ entries) others told = since_more (unasked_after unasked parcel.item entry) parcels more entries others told.1
+since_more unasked [] more (entry ∷ entries) others told = absurd told
+since_more unasked (parcel ∷ parcels) more [] others told = absurd told
 
--- what is counted more was taken
-pub look_counts : (found : Bool) (unasked : ℕ) (taken : List Parcel) (sent : List Entry) (unasked_now : ℕ) (taken_now : List Parcel) (sent_now : List Entry) → IsLook found unasked taken sent unasked_now taken_now sent_now → unasked_now + length taken ≤ unasked + length taken_now
-look_counts true unasked taken sent unasked_now taken_now sent_now look =
-    omega (arith, look.5, counted_at_most unasked look.0.item look.1, ap (λ (l : List Parcel). length l) look.2, length-append taken (look.0 ∷ []))
-look_counts false unasked taken sent unasked_now taken_now sent_now look = omega (arith, look.0, ap (λ (l : List Parcel). length l) look.1)
+pub taken_on : (first second third : ℕ) (taken taken_then taken_now : List Parcel) (sent sent_then sent_now : List Entry) → HasTaken first taken sent second taken_then sent_then → HasTaken second taken_then sent_then third taken_now sent_now → HasTaken first taken sent third taken_now sent_now
+taken_on first second third taken taken_then taken_now sent sent_then sent_now one two = record {
+  parcels = one.parcels ++ two.parcels;
+  entries = one.entries ++ two.entries;
+  taken_is = two.taken_is ∙ ap (λ (l : List Parcel). l ++ two.parcels) one.taken_is ∙ append_assoc taken one.parcels two.parcels;
+  sent_is = two.sent_is ∙ ap (λ (l : List Entry). l ++ two.entries) one.sent_is ∙ append_assoc sent one.entries two.entries;
+  told = told_more one.parcels two.parcels one.entries two.entries one.told two.told;
+  counted = two.counted ∙ ap (λ (n : ℕ). unasked_since n two.parcels two.entries) one.counted ∙ sym (since_more first one.parcels two.parcels one.entries two.entries one.told);
+}
+
+pub nothing_taken : (unasked : ℕ) (taken : List Parcel) (sent : List Entry) → HasTaken unasked taken sent unasked taken sent
+nothing_taken unasked taken sent = record {
+  parcels = [];
+  entries = [];
+  taken_is = sym (append-nil taken);
+  sent_is = sym (append-nil sent);
+  told = tt;
+  counted = refl;
+}
+
+-- what a look takes
+pub look_taken : (found : Bool) (unasked : ℕ) (taken : List Parcel) (sent : List Entry) (unasked_now : ℕ) (taken_now : List Parcel) (sent_now : List Entry) → IsLook found unasked taken sent unasked_now taken_now sent_now → HasTaken unasked taken sent unasked_now taken_now sent_now
+look_taken true unasked taken sent unasked_now taken_now sent_now look = record {
+  parcels = look.0 ∷ [];
+  entries = look.1 ∷ [];
+  taken_is = look.2;
+  sent_is = look.3;
+  told = (look.4, tt);
+  counted = look.5;
+}
+look_taken false unasked taken sent unasked_now taken_now sent_now look = record {
+  parcels = [];
+  entries = [];
+  taken_is = look.1 ∙ sym (append-nil taken);
+  sent_is = look.2 ∙ sym (append-nil sent);
+  told = tt;
+  counted = look.0;
+}
 
 -- a round was told, behind what was sent before
 pub round_counts : (sent sent_then sent_now entries : List Entry) → rounds_in sent_then ≡ rounds_in sent → sent_now ≡ sent_then ++ entries → rounds_in entries ≡ 1 → rounds_in sent_now ≡ rounds_in sent + 1

@@ -1,11 +1,11 @@
 -- When rounds are made.
-use Rattle.std.specs.Prelude.{◌≡◌, ℕ, ◌+◌, ◌<◌, ◌≤◌, ◌⊎◌, Bool, true, false, List, [], ◌∷◌, ◌++◌, length, nat_lt, if◌then◌else◌}
+use Rattle.std.specs.Prelude.{◌≡◌, ℕ, ◌+◌, ◌<◌, ◌≤◌, ◌⊎◌, Bool, true, false, List, [], ◌∷◌, ◌++◌, nat_lt, if◌then◌else◌}
 use Rattle.fragment_intake.specs.declared.rules.Item.{Item}
 use Rattle.fragment_intake.specs.declared.rules.Item.TheVariants as item
 use Rattle.fragment_intake.specs.declared.rules.Parcel.{Parcel}
 use Rattle.report_queue.specs.declared.entries.Entry.{Entry}
 use Rattle.report_queue.specs.declared.entries.Entry.TheVariants.{Accepted, Report, Skipped}
-use Rattle.live_audit.specs.Told.{IsTold}
+use Rattle.live_audit.specs.Told.{IsTold, AreTold}
 
 -- how many rounds the entries tell of: those that were reported, and those that were skipped
 abbrev pub rounds_in : List Entry → ℕ
@@ -28,6 +28,11 @@ unasked_after unasked item.End told = unasked
 unasked_after unasked taken (Accepted collector place) = one_more unasked
 unasked_after unasked taken told = unasked
 
+-- how many were accepted since then, once these parcels were taken too, of which these entries tell, one after another
+abbrev pub unasked_since : ℕ → List Parcel → List Entry → ℕ
+unasked_since unasked (parcel ∷ parcels) (entry ∷ entries) = unasked_since (unasked_after unasked parcel.item entry) parcels entries
+unasked_since unasked parcels entries = unasked
+
 -- A look at the desk: a parcel was found, and it is told what became of it; or none was, and nothing has changed.
 abbrev pub IsLook : Bool → ℕ → List Parcel → List Entry → ℕ → List Parcel → List Entry → Type 0
 IsLook true unasked taken sent unasked_now taken_now sent_now =
@@ -35,10 +40,24 @@ IsLook true unasked taken sent unasked_now taken_now sent_now =
     × (unasked_now ≡ unasked_after unasked parcel.item entry)
 IsLook false unasked taken sent unasked_now taken_now sent_now = (unasked_now ≡ unasked) × (taken_now ≡ taken) × (sent_now ≡ sent)
 
--- A round was made: it is told of, and what is counted since it began was taken since then.
+-- Some parcels were taken, or none, and no round was reported: what was sent since tells of these parcels and of nothing else, and each of them
+-- that was accepted is counted.
+pub record HasTaken (unasked : ℕ) (taken : List Parcel) (sent : List Entry) (unasked_now : ℕ) (taken_now : List Parcel) (sent_now : List Entry) : Type 0 where
+  pub parcels : List Parcel
+  pub entries : List Entry
+  pub taken_is : taken_now ≡ taken ++ parcels
+  pub sent_is : sent_now ≡ sent ++ entries
+  pub told : AreTold parcels entries
+  pub counted : unasked_now ≡ unasked_since unasked parcels entries
+
+-- A round was made: parcels were taken while it was searched, and then its outcome was sent. The count starts at 0 when the round begins, and
+-- each parcel that was accepted since then is counted.
 pub record IsRoundMade (taken : List Parcel) (sent : List Entry) (unasked_now : ℕ) (taken_now : List Parcel) (sent_now : List Entry) : Type 0 where
-  pub told : rounds_in sent_now ≡ rounds_in sent + 1
-  pub counted : unasked_now + length taken ≤ length taken_now
+  pub sent_then : List Entry
+  pub meanwhile : HasTaken 0 taken sent unasked_now taken_now sent_then
+  pub outcome : List Entry
+  pub sent_is : sent_now ≡ sent_then ++ outcome
+  pub told : rounds_in outcome ≡ 1
 
 -- A turn: a look at the desk, and then a round exactly if it is time for one.
 pub record IsTurn (unasked : ℕ) (taken : List Parcel) (sent : List Entry) (unasked_now : ℕ) (taken_now : List Parcel) (sent_now : List Entry) : Type 0 where

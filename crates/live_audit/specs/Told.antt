@@ -1,5 +1,5 @@
 -- What single calls of the auditor tell, beside the moves that they make.
-use Rattle.std.specs.Prelude.{◌≡◌, ◌+◌, ◌<◌, ◌^◌, ⊤, Option, Some, None}
+use Rattle.std.specs.Prelude.{◌≡◌, ◌+◌, ◌<◌, ◌^◌, ⊤, List, [], ◌∷◌, Option, Some, None}
 use Rattle.txn.specs.declared.refusals.Refusal.TheVariants as refusals
 use Rattle.fragment_intake.specs.declared.rules.Parcel.{Parcel}
 use Rattle.report_queue.specs.declared.entries.Entry.{Entry}
@@ -15,6 +15,12 @@ abbrev pub IsTold : Parcel → Entry → Type 0
 IsTold parcel (Accepted collector place) = Accepted collector place ≡ accepted parcel
 IsTold parcel (Refused collector place refusal) = Refused collector place refusal ≡ refused parcel refusal
 IsTold parcel other = ⊥
+
+-- the entries tell of these parcels, in order, of each once, and of nothing else
+abbrev pub AreTold : List Parcel → List Entry → Type 0
+AreTold [] [] = ⊤
+AreTold (parcel ∷ parcels) (entry ∷ entries) = IsTold parcel entry × AreTold parcels entries
+AreTold parcels entries = ⊥
 
 -- A round was refused at its begin.
 abbrev pub IsSkipped : EngineState → Entry → Type 0

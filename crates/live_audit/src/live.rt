@@ -1,4 +1,4 @@
-ghost use Rattle.std.specs.Prelude.{◌≡◌, ℕ, ◌+◌, ◌<◌, ◌≤◌, ◌++◌, ◌∷◌, [], map, length, All, MatchResult};
+ghost use Rattle.std.specs.Prelude.{◌≡◌, ℕ, ◌+◌, ◌<◌, ◌++◌, ◌∷◌, [], map, length, All, MatchResult};
 ghost use Rattle.std.specs.Option.{option_to_list};
 ghost use Rattle.order_check.specs.Effort.{IsEffort};
 ghost use Rattle.polygraph.specs.Solving.{IsLawful};
@@ -6,7 +6,7 @@ ghost use Rattle.report_queue.specs.Reports.{IsBefore};
 ghost use Rattle.round_state.specs.Opening.{fresh_state};
 ghost use Rattle.round_state.specs.Runs.{Holds};
 ghost use Rattle.live_audit.specs.Live.{Live};
-ghost use Rattle.live_audit.specs.Moments.{rounds_in, IsLook, IsRoundMade, IsTimed, IsTurn, Turns};
+ghost use Rattle.live_audit.specs.Moments.{rounds_in, HasTaken, IsLook, IsRoundMade, IsTimed, IsTurn, Turns};
 ghost use Rattle.live_audit.specs.Running.{AreEnded, HasEnded, HasMoved, HasPublished, IsBetweenRounds, IsLastCount, IsLastSkipped, IsRound, CanBeTold, IsSaid, told_in, reports_in};
 ghost use Rattle.live_audit.specs.Truth.{IsTrueEntry, accepted_history};
 
@@ -131,9 +131,8 @@ fn take_until<R: Wait>(
     ensures told { HasPublished running.new.core side.new.sender.sent side.new.seat.published }
     ensures round { running.new.core.engine.asked ≡ running.old.core.engine.asked }
     ensures ended { AreEnded running.new.ended side.new.pass.1 }
-    // No round is told of, and what is counted more was taken.
-    ensures quiet { rounds_in side.new.sender.sent ≡ rounds_in side.old.sender.sent }
-    ensures counted { running.new.unasked + length side.old.pass.1 ≤ running.old.unasked + length side.new.pass.1 }
+    // No round is told of, and each parcel that is accepted is counted.
+    ensures counted { HasTaken running.old.unasked side.old.pass.1 side.old.sender.sent running.new.unasked side.new.pass.1 side.new.sender.sent }
     ensures same { (side.new.pass.0 ≡ side.old.pass.0) × (side.new.sender.ring ≡ side.old.sender.ring) × (side.new.seat ≡ side.old.seat) }
 {
     let mut patience = Patience::new();
@@ -165,9 +164,8 @@ fn answer<'s, E, R: Threads + Wait, S: Solver + Sync>(
     ensures round { running.new.core.engine.asked ≡ running.old.core.engine.asked }
     ensures ended { AreEnded running.new.ended side.new.pass.1 }
     ensures same { (side.new.pass.0 ≡ side.old.pass.0) × (side.new.sender.ring ≡ side.old.sender.ring) × (side.new.seat ≡ side.old.seat) }
-    // No round is told of, and what is counted more was taken.
-    ensures quiet { rounds_in side.new.sender.sent ≡ rounds_in side.old.sender.sent }
-    ensures counted { running.new.unasked + length side.old.pass.1 ≤ running.old.unasked + length side.new.pass.1 }
+    // No round is told of, and each parcel that is accepted is counted.
+    ensures counted { HasTaken running.old.unasked side.old.pass.1 side.old.sender.sent running.new.unasked side.new.pass.1 side.new.sender.sent }
     ensures lawful { IsLawful problem.known.parts running.old.core.search.budget running.old.core.search.depth result }
 {
     let (budget, depth) = running.core.search();

@@ -1,4 +1,5 @@
 use Rattle.std.proofs.Common.{refl}
+use Rattle.live_audit.proofs.Moments.{nothing_taken}
 use Rattle.live_audit.proofs.Rounds.{lawful_by, not_moved}
 use Rattle.live_audit.proofs.live.answer.Goals as goal
 
@@ -10,6 +11,15 @@ returns-in_default-try_clone-clause-moved g c = not_moved c.args.running.now.cor
 
 pub returns-clause-moved : goal.returns-clause-moved
 returns-clause-moved g c = not_moved c.args.running.now.core c.args.side.now.pass.1 c.args.side.now.sender.sent
+
+pub returns-in_default-clause-counted : goal.returns-in_default-clause-counted
+returns-in_default-clause-counted g c = nothing_taken c.args.running.now.unasked c.args.side.now.pass.1 c.args.side.now.sender.sent
+
+pub returns-in_default-try_clone-clause-counted : goal.returns-in_default-try_clone-clause-counted
+returns-in_default-try_clone-clause-counted g c = nothing_taken c.args.running.now.unasked c.args.side.now.pass.1 c.args.side.now.sender.sent
+
+pub returns-clause-counted : goal.returns-clause-counted
+returns-clause-counted g c = nothing_taken c.args.running.now.unasked c.args.side.now.pass.1 c.args.side.now.sender.sent
 
 pub returns-in_default-clause-lawful : goal.returns-in_default-clause-lawful
 returns-in_default-clause-lawful g c =

@@ -1,6 +1,8 @@
-use Rattle.std.proofs.Common.{◌≡◌, [], ◌∷◌, length, arith, None, refl, sym, ◌∙◌, ap, append-nil}
+use Rattle.std.proofs.Common.{List, [], ◌∷◌, None, refl, sym, ◌∙◌, ap, subst, append-nil}
 use Rattle.std.specs.Option.{option_to_list}
-use Rattle.live_audit.proofs.Moments.{outcome_counts, round_counts, skipped_counts}
+use Rattle.fragment_intake.specs.declared.rules.Parcel.{Parcel}
+use Rattle.live_audit.specs.Moments.{HasTaken}
+use Rattle.live_audit.proofs.Moments.{nothing_taken, outcome_counts, skipped_counts}
 use Rattle.live_audit.proofs.Rounds.{asked_lawful, between_after, moved_on, outcome_numbered, round_moved, skipped_alone, skipped_told, told_numbered}
 use Rattle.live_audit.proofs.live.make_round_meanwhile.Goals as goal
 
@@ -44,20 +46,22 @@ returns-in-Err-clause-between g c =
 pub returns-in-Ok-clause-made : goal.returns-in-Ok-clause-made
 returns-in-Ok-clause-made g c =
     let found = c.answer-answer in let told = c.answered-outcome in
-    let first = c.args.side.now in let then = found.new.side in let last = c.tell.new.side in
-    let taken : length last.pass.1 ≡ length then.pass.1 = ap (λ pass. length pass.1) c.tell.ensures.same.0 in
+    let first = c.args.side.now in let then = found.new.side in
     record {
-      told = round_counts first.sender.sent then.sender.sent last.sender.sent (told.result.0 ∷ option_to_list told.result.1) found.ensures.quiet c.tell.ensures.sent
-          (outcome_counts found.new.running.core.engine told.new.self.engine told.result.0 told.result.1 told.ensures.told told.ensures.more);
-      counted = omega (arith, found.ensures.counted, taken);
+      sent_then = then.sender.sent;
+      meanwhile = subst (λ (taken : List Parcel). HasTaken 0 first.pass.1 first.sender.sent found.new.running.unasked taken then.sender.sent) (sym (ap (λ pass. pass.1) c.tell.ensures.same.0)) found.ensures.counted;
+      outcome = told.result.0 ∷ option_to_list told.result.1;
+      sent_is = c.tell.ensures.sent;
+      told = outcome_counts found.new.running.core.engine told.new.self.engine told.result.0 told.result.1 told.ensures.told told.ensures.more;
     }
 
 pub returns-in-Err-clause-made : goal.returns-in-Err-clause-made
 returns-in-Err-clause-made g c =
-    let first = c.args.side.now in let last = c.tell-in-Err.new.side in
-    let taken : length last.pass.1 ≡ length first.pass.1 = ap (λ pass. length pass.1) c.tell-in-Err.ensures.same.0 in
+    let first = c.args.side.now in
     record {
-      told = round_counts first.sender.sent first.sender.sent last.sender.sent (c.in-Err.skipped ∷ []) refl c.tell-in-Err.ensures.sent
-          (skipped_counts c.args.running.now.core.engine c.in-Err.skipped c.in-Err.ensures.told);
-      counted = omega (arith, taken);
+      sent_then = first.sender.sent;
+      meanwhile = subst (λ (taken : List Parcel). HasTaken 0 first.pass.1 first.sender.sent 0 taken first.sender.sent) (sym (ap (λ pass. pass.1) c.tell-in-Err.ensures.same.0)) (nothing_taken 0 first.pass.1 first.sender.sent);
+      outcome = c.in-Err.skipped ∷ [];
+      sent_is = c.tell-in-Err.ensures.sent;
+      told = skipped_counts c.args.running.now.core.engine c.in-Err.skipped c.in-Err.ensures.told;
     }

@@ -1,5 +1,5 @@
-use Rattle.std.proofs.Common.{refl, ◌∙◌, arith}
-use Rattle.live_audit.proofs.Moments.{look_counts, look_quiet}
+use Rattle.std.proofs.Common.{refl, ◌∙◌}
+use Rattle.live_audit.proofs.Moments.{look_taken, nothing_taken, taken_on}
 use Rattle.live_audit.proofs.Rounds.{moved_on, not_moved}
 use Rattle.live_audit.proofs.live.take_until.Goals as goal
 
@@ -8,8 +8,7 @@ loop-init g c = record {
   moved = not_moved c.args.running.now.core c.args.side.now.pass.1 c.args.side.now.sender.sent;
   told = c.requires.told;
   round = refl;
-  quiet = refl;
-  counted = omega arith;
+  counted = nothing_taken c.args.running.now.unasked c.args.side.now.pass.1 c.args.side.now.sender.sent;
   ended = c.requires.ended;
   desk = refl;
   ring = refl;
@@ -25,8 +24,8 @@ loop-preserved g c =
       moved = moved_on c.args.running.now.core c.loop.running.core one.new.running.core first.pass.1 before.pass.1 after.pass.1 first.sender.sent before.sender.sent after.sender.sent i.moved one.ensures.moved;
       told = one.ensures.told;
       round = one.ensures.round ∙ i.round;
-      quiet = look_quiet one.result c.loop.running.unasked before.pass.1 before.sender.sent one.new.running.unasked after.pass.1 after.sender.sent one.ensures.look ∙ i.quiet;
-      counted = omega (arith, i.counted, look_counts one.result c.loop.running.unasked before.pass.1 before.sender.sent one.new.running.unasked after.pass.1 after.sender.sent one.ensures.look);
+      counted = taken_on c.args.running.now.unasked c.loop.running.unasked one.new.running.unasked first.pass.1 before.pass.1 after.pass.1 first.sender.sent before.sender.sent after.sender.sent i.counted
+          (look_taken one.result c.loop.running.unasked before.pass.1 before.sender.sent one.new.running.unasked after.pass.1 after.sender.sent one.ensures.look);
       ended = one.ensures.ended;
       desk = one.ensures.same.0 ∙ i.desk;
       ring = one.ensures.same.1 ∙ i.ring;
