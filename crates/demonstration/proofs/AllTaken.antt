@@ -6,10 +6,12 @@ use Rattle.fragment_intake.specs.Collectors.{Collector, Counts}
 use Rattle.fragment_intake.specs.Delivers.{of}
 use Rattle.fragment_intake.specs.declared.rules.Item.TheVariants as item
 use Rattle.fragment_intake.specs.declared.rules.Parcel.{Parcel}
-use Rattle.demonstration.specs.Work.{AreStepsFrom, IsAllWork}
+use Rattle.txn.specs.declared.transactions.Txn.{Txn}
+use Rattle.demo_store.specs.declared.requests.Executed.{Executed}
+use Rattle.demonstration.specs.Work.{AreStepsFrom, IsAllWork, done_in}
 use Rattle.report_queue.specs.declared.entries.Entry.{Entry}
 use Rattle.live_audit.specs.Running.{HasEnded}
-use Rattle.demonstration.specs.Runs.{HasAudited, HaveAllWork, HaveSubmitted, HaveWorked}
+use Rattle.demonstration.specs.Runs.{AreDoneBy, AreLogged, HasAudited, HasExecuted, HaveAllWork, HaveSubmitted, HaveWorked}
 
 -- an element of a list is its first or one of the others
 first_or_later : (x z : Parcel) (xs : List Parcel) (k : ℕ) → k < length (x ∷ xs) → get_or (x ∷ xs) k z ≡ z → (x ≡ z) ⊎ Contains xs z
@@ -88,6 +90,14 @@ all_work taken counts passes sent worked audited left = (
   subst (IsAllWork 1) (sym (second_is taken counts passes sent worked audited left)) worked.1,
   subst (IsAllWork 2) (sym (third_is taken counts passes sent worked audited left)) worked.2,
   subst (IsAllWork 3) (sym (fourth_is taken counts passes sent worked audited left)) worked.3,
+)
+
+pub all_executed : (taken : List Parcel) (counts : List ℕ) (passes : Collector × Collector × Collector × Collector) (sent : List Entry) (log : List Executed) (done : List Txn × List Txn × List Txn × List Txn) → HaveWorked passes → HasAudited taken sent → Tallied taken counts passes → AreDoneBy done passes → AreLogged done log → HasExecuted log taken
+all_executed taken counts passes sent log done worked audited left by logged = (
+  sym logged.0 ∙ by.0 ∙ ap done_in (sym (first_is taken counts passes sent worked audited left)),
+  sym logged.1 ∙ by.1 ∙ ap done_in (sym (second_is taken counts passes sent worked audited left)),
+  sym logged.2 ∙ by.2 ∙ ap done_in (sym (third_is taken counts passes sent worked audited left)),
+  sym logged.3 ∙ by.3 ∙ ap done_in (sym (fourth_is taken counts passes sent worked audited left)),
 )
 
 pub all_counts : (taken : List Parcel) (counts so_many : List ℕ) (passes : Collector × Collector × Collector × Collector) (sent : List Entry) → HaveSubmitted passes → HaveWorked passes → HasAudited taken sent → Counts so_many taken → Tallied taken counts passes → so_many ≡ 11 ∷ 11 ∷ 11 ∷ 11 ∷ []

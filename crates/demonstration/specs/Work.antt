@@ -2,6 +2,8 @@
 use Rattle.std.specs.Prelude.{◌≡◌, ℕ, ◌+◌, ◌*◌, Bool, true, false, List, [], ◌∷◌, ◌++◌, length, map, slice_get, Some, ⊤}
 use Rattle.txn.specs.declared.transactions.Txn.{Txn}
 use Rattle.logged_fragments.specs.declared.logged.LoggedFragment.{LoggedFragment}
+use Rattle.logged_fragments.specs.Effects.{effects}
+use Rattle.fragment_intake.specs.declared.rules.Item.{Item}
 use Rattle.fragment_intake.specs.declared.rules.Item.TheVariants as item
 use Rattle.fragment_intake.specs.declared.rules.Parcel.{Parcel}
 use Rattle.demo_store.specs.Logs.{IsExecuted, of_session}
@@ -48,6 +50,17 @@ IsStepOf session step parcel = (logged : LoggedFragment) × (parcel.item ≡ ite
 abbrev pub AreStepsFrom : ℕ → ℕ → List Parcel → Type 0
 AreStepsFrom session step [] = ⊤
 AreStepsFrom session step (parcel ∷ more) = IsStepOf session step parcel × AreStepsFrom session (step + 1) more
+
+-- what an item's transactions did to the store: one that aborted did nothing
+abbrev pub done_by : Item → List Txn
+done_by (item.Fragment logged) = (effects logged).txns
+done_by (item.Join logged) = (effects logged).txns
+done_by other = []
+
+-- what the parcels' transactions did to the store, in order
+abbrev pub done_in : List Parcel → List Txn
+done_in [] = []
+done_in (parcel ∷ more) = done_by parcel.item ++ done_in more
 
 -- The parcels have all that a session hands in: what is handed in of each of its nine steps, then that it is closed, and the end.
 pub record IsAllWork (session : ℕ) (parcels : List Parcel) : Type 0 where

@@ -1,6 +1,7 @@
 ghost use Rattle.std.specs.Prelude.{◌≡◌, ◌+◌, ◌<◌, ◌^◌, ◌++◌, ◌∷◌, [], length, IfOk, OnOk};
 ghost use Rattle.demonstration.specs.Runs.{HasCollected};
-ghost use Rattle.demonstration.specs.Work.{AreStepsFrom, IsHandedIn, IsNextInLog};
+ghost use Rattle.logged_fragments.specs.Effects.{effects};
+ghost use Rattle.demonstration.specs.Work.{AreStepsFrom, IsHandedIn, IsNextInLog, done_in};
 ghost use Rattle.fragment_intake.specs.Collectors.{parcel};
 
 use crate::halls::Hall;
@@ -13,12 +14,13 @@ use std::snapshot::Snapshot;
 use std::sync::{Mutex, Wait};
 use std::thread;
 use std::thread::Promise;
-use txn::{Fragment, NoMemory, Sequence};
+use txn::{Fragment, NoMemory, Sequence, Txn};
 
-/// What a collector comes back with: its pass, and whether it did all of its work.
+/// What a collector comes back with: its pass, what its transactions did to the store, and whether it did all of its work.
 #[derive(Drop)]
 pub struct Collected {
     pub pass: CollectorPass,
+    pub done: Sequence<Txn>,
     pub is_done: bool,
 }
 
@@ -75,6 +77,14 @@ fn fragment<R: Wait>(
     execute(alloc, &mut *store.lock(rt), request)
 }
 
+/// Notes what the fragment's transactions did to the store.
+fn note(done: &mut Sequence<Txn>, logged: &LoggedFragment) -> Result<(), NoMemory>
+    ensures { OnOk result (done.new ≡ done.old ++ (effects logged.now).txns) }
+{
+    let copy = logged.clone()?;
+    done.append(copy.into_effects().txns)
+}
+
 /// Submits the item, once there is room for it.
 fn submit<R: Wait>(rt: &R, desk: &Desk, pass: &mut CollectorPass, item: Item)
     requires desk { pass.old.0 ≡ desk.now.0 }
@@ -101,17 +111,19 @@ fn work<R: Wait>(
     hall: &Hall,
     session: u8,
     pass: &mut CollectorPass,
+    done: &mut Sequence<Txn>,
 ) -> Result<(), NoMemory>
     requires session { session < 4 }
     requires desk { pass.old.0 ≡ hall.now.desk.0 }
-    requires fresh { pass.old.2 ≡ [] }
+    requires fresh { (pass.old.2 ≡ []) × (done.old ≡ []) }
     ensures same { (pass.new.0 ≡ pass.old.0) × (pass.new.1 ≡ pass.old.1) }
     ensures few { length pass.new.2 < 10 }
     ensures handed { AreStepsFrom session 0 pass.new.2 }
-    ensures all { OnOk result (length pass.new.2 ≡ 9) }
+    ensures all { OnOk result ((length pass.new.2 ≡ 9) × (done.new ≡ done_in pass.new.2)) }
 {
     for step in 0..STEPS {
         let fragment = fragment(rt, alloc, &hall.store, session, step)?;
+        note(done, &fragment)?;
         submit(rt, &hall.desk, pass, Item::Fragment(fragment));
     }
     Ok(())
@@ -132,16 +144,22 @@ pub fn collect<R: Wait>(
     ensures { HasCollected pass result }
 {
     let mut pass = pass;
+    let mut done = Sequence::new(Vec::new(alloc));
     if !hall.start.wait(rt) {
         return Collected {
             pass,
+            done,
             is_done: false,
         };
     }
-    let is_done = work(rt, alloc, hall, session, &mut pass).is_ok();
+    let is_done = work(rt, alloc, hall, session, &mut pass, &mut done).is_ok();
     if is_done {
         submit(rt, &hall.desk, &mut pass, Item::Close(session));
     }
     submit(rt, &hall.desk, &mut pass, Item::End);
-    Collected { pass, is_done }
+    Collected {
+        pass,
+        done,
+        is_done,
+    }
 }

@@ -4,6 +4,7 @@
 mod auditing;
 mod collecting;
 mod commands;
+mod comparing;
 mod demos;
 mod failures;
 mod halls;

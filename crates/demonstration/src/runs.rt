@@ -3,9 +3,11 @@ ghost use Rattle.round_state.specs.Opening.{fresh_state};
 ghost use Rattle.round_state.specs.Runs.{Holds};
 ghost use Rattle.report_queue.specs.Reports.{last_of};
 ghost use Rattle.live_audit.specs.Running.{reports_in};
+ghost use Rattle.demo_store.specs.Logs.{Follows, IsAnswered};
 ghost use Rattle.demonstration.specs.Reading.{last_kind};
-ghost use Rattle.demonstration.specs.Runs.{IsRunOf, IsOfHall, HaveSubmitted, HaveWorked, HasAudited};
+ghost use Rattle.demonstration.specs.Runs.{AreDoneBy, AreLogged, IsRunOf, IsOfHall, HaveSubmitted, HaveWorked, HasAudited};
 
+use crate::comparing::{FourDone, is_log_of};
 use crate::halls::Hall;
 use crate::starting::Start;
 use crate::texts::Shown;
@@ -66,12 +68,15 @@ pub struct Outcome {
     pub store: Store,
 }
 
-/// The store that the threads shared, which has this fault. What a lock holds no contract says, so that the fault is looked at once more.
-fn store_of(store: Mutex<Store>, fault: Fault) -> Result<Store, NoMemory>
-    ensures { IfOk result (λ store. store.fault ≡ fault) }
+/// The store that the threads shared, which has this fault, and has executed what its sessions did. What a lock holds no contract says, so that both
+/// are compared once more.
+fn store_of(store: Mutex<Store>, fault: Fault, done: &FourDone) -> Result<Store, NoMemory>
+    ensures fault { IfOk result (λ store. store.fault ≡ fault) }
+    ensures honest { IfOk result (λ store. store.fault ≡ Fault.None → Follows IsAnswered [] store.log) }
+    ensures logged { IfOk result (λ store. AreLogged done.now store.log) }
 {
     let store = store.into_inner();
-    if store.fault() == fault {
+    if store.fault() == fault && is_log_of(store.log(), done) {
         Ok(store)
     } else {
         Err(AllocError)
@@ -90,6 +95,7 @@ fn outcome_of<R: Wait>(
     requires hall { IsOfHall hall returned }
     requires submitted { HaveSubmitted returned.passes }
     requires worked { HaveWorked returned.passes }
+    requires done { AreDoneBy returned.done returned.passes }
     requires audited { HasAudited returned.side.pass.1 returned.side.sender.sent }
     requires published { returned.side.seat.published ≡ reports_in returned.side.sender.sent }
     requires heard { returned.last ≡ last_kind returned.reader.received }
@@ -101,6 +107,7 @@ fn outcome_of<R: Wait>(
 {
     let Returned {
         passes,
+        done,
         mut side,
         mut reader,
         last,
@@ -117,7 +124,7 @@ fn outcome_of<R: Wait>(
         latest: _,
     } = hall;
     let tally = desk.tally(rt, passes, side.pass);
-    let store = store_of(store, fault)?;
+    let store = store_of(store, fault, &done)?;
     let shown = Shown {
         fault,
         tally,

@@ -7,6 +7,7 @@ ghost use Rattle.demonstration.specs.Runs.{AreFresh, IsFreshSide, HasReturned, H
 
 use crate::auditing::audit;
 use crate::collecting::{Collected, CollectionOf, collect};
+use crate::comparing::FourDone;
 use crate::halls::Hall;
 use crate::reading::{Heard, HearingOf, hear};
 use fragment_intake::{CollectorPass, CollectorPasses};
@@ -22,10 +23,12 @@ use std::thread;
 use std::thread::{PromisedHandle, Scope, Threads};
 use txn::{NoMemory, Sequence};
 
-/// What the threads of a run come back with, where each did all of its work; the reader, the last report's kind, and all that was read.
+/// What the threads of a run come back with, where each did all of its work; what the collectors' transactions did; the reader, the last report's
+/// kind, and all that was read.
 #[derive(Drop)]
 pub struct Returned {
     pub passes: CollectorPasses,
+    pub done: FourDone,
     pub side: AuditorSide,
     pub reader: ReportReader,
     pub last: Option<Kind>,
@@ -106,6 +109,7 @@ fn join_all<R: Threads>(
     }
     Ok(Returned {
         passes: (first.pass, second.pass, third.pass, fourth.pass),
+        done: (first.done, second.done, third.done, fourth.done),
         side,
         reader: heard.reader,
         last: heard.last,
