@@ -1,7 +1,7 @@
 //! A search that is held until the reader has heard of a fragment that was submitted after its round had begun.
 ghost use Rattle.std.specs.Prelude.{◌≡◌, []};
 
-use crate::holding::Held;
+use crate::holding::{Held, Signal};
 use crate::stage::{Play, Setting, run, submit};
 use fragment_intake::{CollectorPass, Desk, Item};
 use live_audit::Effort;
@@ -101,11 +101,12 @@ fn said_by(report: &Report) -> Said {
     }
 }
 
-/// The first report and the last.
+/// The first report and the last, and how many there were.
 #[derive(Clone, Copy, Debug, PartialEq, Eq)]
 struct Heard {
     first: Option<Said>,
     last: Option<Said>,
+    rounds: u64,
 }
 
 impl Heard {
@@ -113,18 +114,30 @@ impl Heard {
         let said = said_by(report);
         self.first = Some(self.first.unwrap_or(said));
         self.last = Some(said);
+        self.rounds = self.rounds.saturating_add(1);
     }
 }
 
-/// What the threads share: the search that is held, and what the reader has heard.
+/// What the threads share: the search that is held, that both transactions were reported, and what the reader has heard.
 #[derive(Drop)]
 struct HeldPlay {
     held: Held,
+    both_reported: Signal,
     heard: Mutex<Heard>,
 }
 
+impl HeldPlay {
+    fn hear_report<R: Wait>(&self, rt: &R, report: &Report) {
+        self.heard.lock(rt).note(report);
+        if only_of(report.counts.as_slice()) == Some(2) {
+            self.both_reported.give();
+        }
+    }
+}
+
 impl Play for HeldPlay {
-    /// Collector 0 submits its second fragment only once the first search is held; the others end at once.
+    /// Collector 0 submits its second fragment, and closes its session, only once the first search is held. It ends only once a report counts both
+    /// fragments, and the others end at once.
     fn collect<R: Wait>(
         &self,
         rt: &R,
@@ -141,20 +154,21 @@ impl Play for HeldPlay {
             self.held.reached.wait();
             submit(rt, desk, pass, item_of(reading(alloc)));
             submit(rt, desk, pass, Item::Close(0));
+            self.both_reported.wait();
         }
         submit(rt, desk, pass, Item::End);
     }
 
     fn wait_to_read<R: Wait>(&self, _rt: &R) {}
 
-    /// Once the fragment at place 1 of collector 0 is accepted, the search goes on.
+    /// Once what collector 0 submitted at its place 2 is accepted, the search goes on.
     fn hear<R: Wait>(&self, rt: &R, entry: &Entry) {
         match entry {
             Entry::Accepted {
                 collector: 0,
-                place: 1,
+                place: 2,
             } => self.held.goes_on.give(),
-            Entry::Report(report) => self.heard.lock(rt).note(report),
+            Entry::Report(report) => self.hear_report(rt, report),
             _ => {}
         }
     }
@@ -176,18 +190,25 @@ fn id(number: u64) -> Option<TxnId> {
     Some(TxnId { session: 0, number })
 }
 
-/// The auditor takes a fragment while it searches: the search waits for it.
+/// The auditor takes a fragment while it searches: the search waits for it. A second round reports it, before anything else is submitted, and the
+/// third is the one at the end.
 #[test]
 fn a_fragment_is_accepted_while_a_search_is_held(rt: HostRuntime) -> Result<(), Fail> {
     let play = HeldPlay {
         held: Held::new(),
+        both_reported: Signal::new(),
         heard: Mutex::new(Heard {
             first: None,
             last: None,
+            rounds: 0,
         }),
     };
     let played = run(&rt, rt.alloc(), SETTING, &play, &play.held)?;
-    let HeldPlay { held, heard } = play;
+    let HeldPlay {
+        held,
+        both_reported,
+        heard,
+    } = play;
     let heard = heard.into_inner();
     let first = Said {
         kind: Kind::Serial,
@@ -199,10 +220,15 @@ fn a_fragment_is_accepted_while_a_search_is_held(rt: HostRuntime) -> Result<(), 
         count: Some(2),
         order: [id(0), id(1)],
     };
-    let gave_up = [held.reached.gave_up(), held.goes_on.gave_up()];
-    assert_eq!(rt; gave_up, [false; 2], "{heard:?}");
+    let gave_up = [
+        held.reached.gave_up(),
+        held.goes_on.gave_up(),
+        both_reported.gave_up(),
+    ];
+    assert_eq!(rt; gave_up, [false; 3], "{heard:?}");
     assert_eq!(rt; heard.first, Some(first), "{heard:?}");
     assert_eq!(rt; heard.last, Some(last), "{heard:?}");
+    assert_eq!(rt; heard.rounds, 3, "{heard:?}");
     assert_eq!(rt; played.tally.taken, [4, 1, 1, 1]);
     assert!(rt; played.is_made);
     Ok(())

@@ -16,7 +16,7 @@ pub struct Signal {
 }
 
 impl Signal {
-    fn new() -> Signal {
+    pub fn new() -> Signal {
         Signal {
             is_given: AtomicBool::new(false),
             gave_up: AtomicBool::new(false),
