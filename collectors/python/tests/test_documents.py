@@ -48,15 +48,15 @@ PROMISED = {
     " ExplainsWhole HasPendingWhole History effects",
     "what serve writes": "IsOutput StopsForMemory StopsReading StopsWriting IsAnswered Answers AnswersOpen AnswersBeside"
     " Finishes IsCommand command_of line_of lines asked_by",
-    "what cobra_check says": "IsAllRight Checks IsRightReply IsUnchecked IsOwedReport Owes IsWrongReply StopsAtWrong FindsAll"
-    " told_of TellsFirst HasFault IsUnshown IsShownIn",
+    "what cobra_check says": "IsAllRight Checks IsRightReply IsUnchecked IsOwedReport Owes IsWrongReply StopsAtWrong"
+    " FindsAll told_of TellsFirst HasFault IsUnshown IsShownIn",
     "steps and refusals": "StepsTo Legal Holds FragmentFault IntakeFault IsOfferRefusal IsCloseRefusal IsBeginRefusal"
     " IsFinishRefusal IsTruncateRefusal IsRebuildRefusal number_of",
     "cuts": "StandsFor KeepsStandsFor IsSettled IsLastSettled IsFound IsCutAt IsCutOf IsKeptFront IsTruncated Known",
     "joins": "IsJoiningFragment IsReturningFragment IsAnchored IsAnchor MayJoin IsLetIn IsJoinRefusal JoinFault",
     "marks": "IsNext AdmitFault CloseFault",
-    "hand-overs": "saved_told IsCheckpoint GivenOutIsTaken WiderBoundsAreKept GivenOutFits handed_parts AreGoodParts IsGood"
-    " IsResumedRefusal",
+    "hand-overs": "saved_told IsCheckpoint GivenOutIsTaken WiderBoundsAreKept GivenOutFits handed_parts AreGoodParts"
+    " IsGood IsResumedRefusal",
     "orders and refutations": "Explains Meets IsRefutation Refutes IsClosed IsArc IsCycle IsForced IsChoice IsNoWrite"
     " IsGoneRead depth_of IsJoin",
     "searches": "Scans IsPicked IsPlain MayComeTo IsLawful MayAnswer",
