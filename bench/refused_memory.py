@@ -121,7 +121,7 @@ def path_of(name):
 
 
 def tests_of(crate):
-    return f"crates/{crate}/out/{crate}_tests"
+    return os.path.join(HERE, "../crates", crate, "out", f"{crate}_tests")
 
 
 class Shim:
@@ -166,6 +166,7 @@ class Audit:
     """A script for an auditor, which is the first word of the name, given line by line. With
     `is_judged`, when workers share a search, a report may differ from that of the run in which
     nothing was refused."""
+    lasts = True  # whether all allocations may be refused from one on
 
     def __init__(self, name, lines, owed=None, is_judged=False):
         self.name, self.lines = name, [line + b"\n" for line in lines]
@@ -263,6 +264,7 @@ def ask(running, line):
 
 class Whole:
     """A program that is given its whole input at once."""
+    lasts = True
 
     def __init__(self, name, given):
         self.name, self.path, self.given, self.owed = name, path_of(name.split(",")[0]), given, None
@@ -283,7 +285,9 @@ class Whole:
 
 
 class Tested:
-    """A test of a crate, which has to pass."""
+    """A test of a crate, which has to pass. It calls again what was refused memory, so memory may
+    not be refused for ever."""
+    lasts = False
 
     def __init__(self, crate, test):
         self.name, self.path, self.test = f"{crate}, {test}", tests_of(crate), test
@@ -390,7 +394,7 @@ def main():
     with tempfile.TemporaryDirectory() as folder:
         shim = Shim(folder)
         for run in runs(os.path.join(HERE, "../crates/cobra_examples/data")):
-            if asked.only not in run.name or asked.lasting and isinstance(run, Tested):
+            if asked.only not in run.name or asked.lasting and not run.lasts:
                 continue
             if not is_built(run):
                 print(f"{run.name}: not built")

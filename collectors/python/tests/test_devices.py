@@ -56,7 +56,7 @@ class Devices(unittest.TestCase):
             numbers = [("refused", each) for each in range(1, made + 1, every)]
             numbers += [("thread", each) for each in range(1, threads + 1)]
             lasting = numbers[:len(numbers) - threads]
-            lasting = lasting[::max(len(lasting) // LASTING, 1)]
+            lasting = lasting[::max(len(lasting) // LASTING, 1)] if run.lasts else []
             for asked, how in ((numbers, {}), (lasting, {"is_lasting": True})):
                 with self.subTest(run=run.name, **how):
                     ways, wrong = refused_memory.ways_of(shim, run, asked, **how)
