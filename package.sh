@@ -6,13 +6,13 @@
 #     ./package.sh --unproved      builds the auditor without a proof, in a minute or two, for a first try; its version says so. It has
 #                                  its checks compiled in, and is about 300 times slower: ./try.sh shows a run that suits it
 #
-# It needs Python 3.9 or later with setuptools and wheel (on Debian python3-setuptools and python3-wheel), and downloads nothing.
+# It needs Python 3.11 or later with setuptools and wheel (on Debian python3-setuptools and python3-wheel), and downloads nothing.
 set -euo pipefail
 here=$(dirname "$0")
 for python in /usr/bin/python3 python3; do
-    if "$python" -c "import setuptools, wheel" 2> /dev/null; then
+    if "$python" -c "import tomllib, setuptools, wheel" 2> /dev/null; then # tomllib: 3.11
         exec "$python" "$here/collectors/python/make_wheel.py" "$@"
     fi
 done
-echo "package.sh: Python's setuptools and wheel are missing (Debian: apt-get install python3-setuptools python3-wheel)" >&2
+echo "package.sh: Python 3.11 or later with setuptools and wheel is missing (Debian: apt-get install python3-setuptools python3-wheel)" >&2
 exit 1

@@ -10,8 +10,6 @@ times, identifiers, random values) are skipped and counted. The exit status is 1
 The documentation is in Debian's package postgresql-doc-15, which no other test needs.
 """
 
-from __future__ import annotations
-
 import argparse
 import glob
 import html
@@ -19,7 +17,7 @@ import os
 import re
 import sys
 import tempfile
-from typing import Iterator, List, Tuple
+from collections.abc import Iterator
 
 TOP = os.path.join(os.path.dirname(os.path.abspath(__file__)), "..")
 sys.path[:0] = [os.path.join(TOP, "collectors/python"), os.path.join(TOP, "collectors/python/tests")]
@@ -60,9 +58,9 @@ def examples(path: str) -> Iterator[str]:
             yield whole[: whole.rindex(";") + 1]
 
 
-def script_of(path: str) -> Tuple[str, int, int]:
+def script_of(path: str) -> tuple[str, int, int]:
     """psql's input for a page, how many examples are in it, and how many were skipped."""
-    kept: List[str] = []
+    kept: list[str] = []
     left = 0
     for one in examples(path):
         if OTHERWISE.search(one) or one.count("'") % 2:

@@ -13,15 +13,13 @@ It needs PostgreSQL 15, pgbouncer, Go, the drivers and the proved programs. With
 server's folder is in memory.
 """
 
-from __future__ import annotations
-
 import argparse
 import os
 import statistics
 import subprocess
 import sys
 import tempfile
-from typing import Any, Dict, List, Optional, Tuple
+from typing import Any
 
 from proxy_cost import TOP, WAYS, Started, Way, free_port, prepared_server, wait_for
 
@@ -30,7 +28,7 @@ PYTHON = ("psycopg2", "psycopg", "asyncpg")
 JAR = "/usr/share/java/postgresql.jar"
 
 
-def commands(folder: str, asked: Any) -> Dict[str, List[str]]:
+def commands(folder: str, asked: Any) -> dict[str, list[str]]:
     """The command that starts each driver's program, without its port and what follows."""
     found = {}
     for driver in asked.driver:
@@ -43,7 +41,7 @@ def commands(folder: str, asked: Any) -> Dict[str, List[str]]:
     return found
 
 
-def run(asked: Any, call: List[str], way: Way) -> Tuple[float, float, float]:
+def run(asked: Any, call: list[str], way: Way) -> tuple[float, float, float]:
     """Transactions per second, and processor time for each, of the pooler or proxy and of the
     auditor, in microseconds."""
     before = way.used()
@@ -56,7 +54,7 @@ def run(asked: Any, call: List[str], way: Way) -> Tuple[float, float, float]:
     return count / asked.seconds, *((b - a) * 1e6 / count for a, b in zip(before, after))
 
 
-def relay(folder: str, port: int, microseconds: int) -> "Tuple[int, subprocess.Popen[bytes]]":
+def relay(folder: str, port: int, microseconds: int) -> "tuple[int, subprocess.Popen[bytes]]":
     program = os.path.join(folder, "delay")
     if not os.path.exists(program):
         call = ["go", "build", "-o", program, os.path.join(HERE, "delay.go")]
@@ -68,14 +66,14 @@ def relay(folder: str, port: int, microseconds: int) -> "Tuple[int, subprocess.P
     return listen, started
 
 
-def table(asked: Any, delay: int, started: Started, calls: Dict[str, List[str]]) -> None:
+def table(asked: Any, delay: int, started: Started, calls: dict[str, list[str]]) -> None:
     for driver, call in calls.items():
-        runs: Dict[str, List[Any]] = {name: [] for name in asked.way}
+        runs: dict[str, list[Any]] = {name: [] for name in asked.way}
         for _ in range(asked.times):
             for name in asked.way:
                 with started.turn(name) as way:
                     runs[name].append(run(asked, call, way))
-        first: Optional[float] = None
+        first: float | None = None
         for name in asked.way:
             rate, between, beside = map(statistics.median, zip(*runs[name]))
             first = first or rate

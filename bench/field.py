@@ -39,8 +39,9 @@ import sys
 import tempfile
 import threading
 import time
+from collections.abc import Generator, Iterator, Sequence
 from dataclasses import dataclass
-from typing import Any, Generator, Iterator, List, Optional, Sequence
+from typing import Any
 
 TOP = os.path.normpath(os.path.join(os.path.dirname(os.path.abspath(__file__)), ".."))
 PACKAGE = os.path.join(TOP, "collectors/python")
@@ -114,8 +115,8 @@ class Judged:
 
     verdict: str
     found: str = ""
-    seconds: Optional[float] = None  # of processor time
-    mib: Optional[float] = None
+    seconds: float | None = None  # of processor time
+    mib: float | None = None
     at: int = 0  # the line of the round that was violated
 
     @property
@@ -224,7 +225,7 @@ class Auditor:
         return judged
 
     @staticmethod
-    def reply(reply: List[Any], at: int) -> Any:
+    def reply(reply: list[Any], at: int) -> Any:
         if reply[0] == "no":
             return "refused", f"{reply[2]} at line {at}"
         return ("undecided", f"spent at line {at}") if reply[2] == "spent" else (reply[2], "")
@@ -250,7 +251,7 @@ class Peer:
         compiler = next(filter(None, map(shutil.which, COMPILERS)), None)
         if compiler is None:
             raise CantBeginError("no C++ compiler is installed (packages.txt has g++)")
-        call: List[str] = [compiler, "-std=c++17", "-O3", "-o", self.program, PEER]
+        call: list[str] = [compiler, "-std=c++17", "-O3", "-o", self.program, PEER]
         done = subprocess.run(call, capture_output=True, text=True, check=False)
         if done.returncode:
             raise CantBeginError(f"{PEER} can't be compiled: {done.stderr.strip()}")
@@ -269,7 +270,7 @@ class Peer:
         return running.told(reply["verdict"], reply["found"])
 
 
-def told_row(history: History, way: str, judged: Sequence[Optional[Judged]]) -> str:
+def told_row(history: History, way: str, judged: Sequence[Judged | None]) -> str:
     cells = [history.workload, history.level, f"{history.transactions:,}", way]
     for each in judged:
         measured = each is not None and each.seconds is not None
@@ -288,7 +289,7 @@ def heading() -> str:
     return f"{row_of(COLUMNS)}\n|{'|'.join('-' * (max(width, 4) + 2) for width in WIDTHS)}|"
 
 
-def difference(judged: Sequence[Optional[Judged]]) -> bool:
+def difference(judged: Sequence[Judged | None]) -> bool:
     """Whether both have a verdict, and not the same one."""
     told = [each.verdict for each in judged if each is not None and each.verdict in DECIDED]
     return len({*told}) > 1
@@ -297,7 +298,7 @@ def difference(judged: Sequence[Optional[Judged]]) -> bool:
 class Table:
     """Judges histories, and prints a row for each way."""
 
-    def __init__(self, auditor: Any, peer: Optional[Any], folder: str, nodes: int) -> None:
+    def __init__(self, auditor: Any, peer: Any | None, folder: str, nodes: int) -> None:
         self.auditor, self.peer, self.folder, self.nodes = auditor, peer, folder, nodes
         self.differences = 0
         print(heading(), flush=True)
@@ -378,7 +379,7 @@ def whole(least: int, most: int) -> Any:
     return number
 
 
-def arguments(words: Optional[Sequence[str]] = None) -> Any:
+def arguments(words: Sequence[str] | None = None) -> Any:
     parser = argparse.ArgumentParser(
         prog="field.py", description=__doc__, formatter_class=argparse.RawDescriptionHelpFormatter
     )
@@ -430,7 +431,7 @@ def run(asked: Any) -> int:
     return 1 if table.differences else 0
 
 
-def main(words: Optional[Sequence[str]] = None) -> int:
+def main(words: Sequence[str] | None = None) -> int:
     asked = arguments(words)
     try:
         with ended_by_signals():

@@ -8,13 +8,12 @@ Numbers count all attempts of a session; those that aborted aren't in the file. 
 (the initial state), `[key,session,number]` (the writer) or `[key,[element,..]]` (a list); a write
 is a key, or `[key,element]` (appended to a list). A line `"round"` is where all clients had met.
 """
-from __future__ import annotations
-
 import gzip
 import io
 import json
+from collections.abc import Iterator, Sequence
 from dataclasses import dataclass, field, fields
-from typing import Any, Dict, IO, Iterator, List, NamedTuple, Optional, Sequence, Set, Tuple
+from typing import Any, IO, NamedTuple
 
 FENCE = "fence"  # the key of fences
 FORM = 1
@@ -22,7 +21,7 @@ LINE = 8  # transactions of a client that are offered together
 GROUP = 192  # transactions, until all are offered
 MOST = 256  # writes of a transaction
 NODES = 65536  # of a round's search
-Id = Tuple[int, int]
+Id = tuple[int, int]
 encode = json.JSONEncoder(separators=(",", ":")).encode
 
 
@@ -49,9 +48,9 @@ class Attempt:
 
     def __init__(self, store: Any, session: int, number: int) -> None:
         self.store, self.name = store, (session, number)
-        self.reads: Dict[str, Any] = {}  # by their JSON: each once
-        self.written: Dict[str, Any] = {}
-        self.writes: List[Any] = []
+        self.reads: dict[str, Any] = {}  # by their JSON: each once
+        self.written: dict[str, Any] = {}
+        self.writes: list[Any] = []
 
     def get(self, key: str) -> Any:
         if key in self.written:
@@ -82,8 +81,8 @@ class Attempt:
 class SerialStore:
     """A store in memory, for one transaction at a time."""
 
-    def __init__(self, rows: Dict[str, Any]) -> None:
-        self.rows: Dict[str, Any] = {key: (value, ()) for key, value in rows.items()}
+    def __init__(self, rows: dict[str, Any]) -> None:
+        self.rows: dict[str, Any] = {key: (value, ()) for key, value in rows.items()}
 
     def read(self, key: str) -> Any:
         return self.rows.get(key, (None, ()))
@@ -104,7 +103,7 @@ class History:
     seed: int = 1
     aborted: int = 0  # attempts
     seconds: float = 0.0  # of recording
-    records: List[Optional[Record]] = field(default_factory=list)  # None: a round
+    records: list[Record | None] = field(default_factory=list)  # None: a round
 
     def lines(self) -> Iterator[str]:
         head = {each.name: getattr(self, each.name) for each in fields(self)}
@@ -147,7 +146,7 @@ def head_of(head: Any) -> History:
     return History(**{each.name: head[each.name] for each in fields(History) if each.name in head})
 
 
-def record_of(line: Any, sessions: int) -> Optional[Record]:
+def record_of(line: Any, sessions: int) -> Record | None:
     if line == "round":
         return None
     if not isinstance(line, list) or len(line) not in (4, 5) or line[4:] not in ([], ["own"]):
@@ -164,10 +163,10 @@ class Lists:
     """What the elements of lists say: who appended each, and who overwrote whom."""
 
     def __init__(self, records: Sequence[Record]) -> None:
-        self.appender: Dict[Tuple[str, int], Id] = {}
-        self.last: Dict[Tuple[str, Id], int] = {}  # the last element that it appended to the key
-        self.told: Dict[str, List[int]] = {}  # the longest list of each key
-        self.overwrites: Dict[Id, Set[Any]] = {}  # reads that appenders have made, though unseen
+        self.appender: dict[tuple[str, int], Id] = {}
+        self.last: dict[tuple[str, Id], int] = {}  # the last element that it appended to the key
+        self.told: dict[str, list[int]] = {}  # the longest list of each key
+        self.overwrites: dict[Id, set[Any]] = {}  # reads that appenders have made, though unseen
         for each in records:
             for key, element in (write for write in each.writes if not isinstance(write, str)):
                 self.appender[key, element] = each[:2]
@@ -177,7 +176,7 @@ class Lists:
                 if len(read) == 2:
                     self.take(*read)
 
-    def take(self, key: str, elements: List[int]) -> None:
+    def take(self, key: str, elements: list[int]) -> None:
         known = self.told.get(key, [])
         if known[: len(elements)] == elements:
             return
@@ -190,7 +189,7 @@ class Lists:
             if its is not None and source != its:
                 self.overwrites.setdefault(its, set()).add((key, source))
 
-    def source(self, key: str, elements: List[int], reader: Optional[Id]) -> Any:
+    def source(self, key: str, elements: list[int], reader: Id | None) -> Any:
         """Whom the reader of this list has read from: () is the initial state, and None is nobody
         who committed what was read. `reader` itself, if the last element is its own."""
         if not elements:
@@ -201,7 +200,7 @@ class Lists:
         is_whole = self.last[key, its] == elements[-1]
         return its if is_whole or its == reader else None
 
-    def read_by(self, reader: Id, key: str, elements: List[int]) -> Any:
+    def read_by(self, reader: Id, key: str, elements: list[int]) -> Any:
         """The same without the elements at the end that the reader appended itself."""
         upto = len(elements)
         while upto and self.appender.get((key, elements[upto - 1])) == reader:
@@ -227,14 +226,14 @@ class Scripts:
         ]
         its = [each for each in self.records if each is not None]
         self.lists = Lists(its)
-        self.number: Dict[Id, int] = {}  # in the script
+        self.number: dict[Id, int] = {}  # in the script
         counts = [0] * self.sessions
         for each in its:
             self.number[each[:2]] = counts[each.session]
             counts[each.session] += 1
         self.keys = {FENCE: 0}
         # Keys that were read from nobody who committed, with their places among these.
-        self.of_nobody: Dict[int, int] = {}
+        self.of_nobody: dict[int, int] = {}
 
     def lines(self) -> Iterator[str]:
         body = [*self.body()]
@@ -247,7 +246,7 @@ class Scripts:
         yield from body
 
     def body(self) -> Iterator[str]:
-        waiting: List[List[Any]] = [[] for _ in range(self.sessions)]
+        waiting: list[list[Any]] = [[] for _ in range(self.sessions)]
         sent, count = [0] * self.sessions, 0
         for each in [*self.records, None]:
             if each is not None:
@@ -259,7 +258,7 @@ class Scripts:
                 yield encode(self.round)
                 yield '["truncate"]'
 
-    def offers(self, waiting: List[List[Any]], sent: List[int]) -> Iterator[str]:
+    def offers(self, waiting: list[list[Any]], sent: list[int]) -> Iterator[str]:
         while any(waiting):
             for session, its in enumerate(waiting):
                 if its:
@@ -267,7 +266,7 @@ class Scripts:
                     sent[session] += len(its[:LINE])
                     del its[:LINE]
 
-    def transaction(self, record: Record) -> List[Any]:
+    def transaction(self, record: Record) -> list[Any]:
         me = record[:2]
         sources = {*self.lists.overwrites.get(me, ())}
         for key, *rest in record.reads:
@@ -279,7 +278,7 @@ class Scripts:
         reads = sorted((self.read(key, source) for key, source in sources), key=by_source)
         return [reads, sorted(writes)]
 
-    def read(self, key: str, source: Any) -> List[Any]:
+    def read(self, key: str, source: Any) -> list[Any]:
         number = self.key(key)
         if source == ():
             return [number, "init"]
@@ -292,7 +291,7 @@ class Scripts:
         return self.keys.setdefault(key, len(self.keys))
 
 
-def by_source(read: List[Any]) -> Any:
+def by_source(read: list[Any]) -> Any:
     return (read[0], -1, -1) if len(read) == 2 else tuple(read)
 
 

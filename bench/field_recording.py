@@ -6,8 +6,6 @@ how a read tells whom it read from. Every `every` transactions the clients meet,
 docs/COLLECTORS.md has it: each makes a fence; when all have, each makes a second one, and reads
 what it had written without reading it; when all have, they go on.
 """
-from __future__ import annotations
-
 import collections
 import itertools
 import json
@@ -19,7 +17,8 @@ import sys
 import tempfile
 import threading
 import time
-from typing import Any, Callable, Dict, Iterator, List, Optional, Sequence, Set
+from collections.abc import Callable, Iterator, Sequence
+from typing import Any
 
 import psycopg2
 from psycopg2 import errors
@@ -67,7 +66,7 @@ class Server(PostgresServer):
         super().start()
 
 
-def value_of(key: str, text: Optional[str]) -> Any:
+def value_of(key: str, text: str | None) -> Any:
     if text is None:
         return None
     return [int(element) for element in text.split()] if is_list(key) else json.loads(text)
@@ -101,7 +100,7 @@ class Connection:
         row = self.cursor.fetchone()
         return (None, ()) if row is None else (value_of(key, row[0]), source_of(*row[1:]))
 
-    def read_all(self, keys: Sequence[str]) -> Dict[str, Any]:
+    def read_all(self, keys: Sequence[str]) -> dict[str, Any]:
         self.send("EXECUTE get_all(%s)", [*keys])
         return {row[0]: (value_of(*row[:2]), source_of(*row[2:])) for row in self.cursor}
 
@@ -140,8 +139,8 @@ class Client:
     def __init__(self, connection: Connection, session: int, committed: Any) -> None:
         self.connection, self.session, self.committed = connection, session, committed
         self.number = 0
-        self.blind: Set[str] = set()  # keys written without being read, since the last meeting
-        self.records: List[Any] = []  # with the times of their commits; None where clients met
+        self.blind: set[str] = set()  # keys written without being read, since the last meeting
+        self.records: list[Any] = []  # with the times of their commits; None where clients met
 
     def run(self, body: Callable[[Any], None], is_own: bool = False) -> None:
         """Runs a transaction, again and again until it commits."""
@@ -176,12 +175,12 @@ class Client:
         meeting.wait()  # before somebody overwrites what others have to read
 
 
-def client_process(task: Dict[str, Any], shared: Any, failures: Any) -> None:
+def client_process(task: dict[str, Any], shared: Any, failures: Any) -> None:
     """Runs some sessions, each in a thread, and leaves their records in a file."""
     signal.signal(signal.SIGINT, signal.SIG_IGN)  # a terminal's Ctrl-C is for the parent process
     fences, meeting, counts = shared
 
-    def serve(session: int, clients: Dict[int, Client]) -> None:
+    def serve(session: int, clients: dict[int, Client]) -> None:
         try:
             client = Client(Connection(task["dsn"], task["level"]), session, counts[session])
             clients[session] = client
@@ -200,7 +199,7 @@ def client_process(task: Dict[str, Any], shared: Any, failures: Any) -> None:
             failures.put(f"session {session}: {type(error).__name__}: {error}".strip())
             meeting.abort()
 
-    clients: Dict[int, Client] = {}
+    clients: dict[int, Client] = {}
     threads = [threading.Thread(target=serve, args=(session, clients), daemon=True)
                for session in task["own"]]
     for thread in threads:
@@ -211,7 +210,7 @@ def client_process(task: Dict[str, Any], shared: Any, failures: Any) -> None:
         pickle.dump([(one.session, one.number, one.records) for one in clients.values()], file)
 
 
-def fill(dsn: str, rows: Dict[str, Any]) -> None:
+def fill(dsn: str, rows: dict[str, Any]) -> None:
     """Makes the table anew, with these rows and that of the fences."""
     connection = psycopg2.connect(dsn)
     try:
@@ -281,7 +280,7 @@ def record(
     return History(workload, level, sessions, count, seed, aborted, round(seconds, 1), records)
 
 
-def merged(logs: Sequence[List[Any]]) -> Iterator[Optional[Record]]:
+def merged(logs: Sequence[list[Any]]) -> Iterator[Record | None]:
     """All sessions' records between two meetings, by the times of their commits."""
     waiting = [collections.deque(its) for its in logs]
     while any(waiting):

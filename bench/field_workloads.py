@@ -8,13 +8,12 @@ A transaction is a function of a client, which has `get(key)`, `put(key, value)`
 is repeated as it was. What it reads may decide what it does next. Transaction number n of a
 workload is run by session n % sessions.
 """
-from __future__ import annotations
-
 import bisect
 import itertools
 import random
+from collections.abc import Callable, Iterator, Sequence
 from functools import partial
-from typing import Any, Callable, Dict, Iterator, List, Sequence
+from typing import Any
 
 Transaction = Callable[[Any], None]
 SESSIONS = 24
@@ -28,7 +27,7 @@ class Workload:
     may_skew = False
     has_lists = False
 
-    def rows(self) -> Dict[str, Any]:
+    def rows(self) -> dict[str, Any]:
         """What the store has before the first transaction."""
         return {}
 
@@ -69,7 +68,7 @@ class BlindW(Workload):
     def __init__(self, letters: str, reads: float) -> None:
         self.name, self.reads = f"BlindW-{letters}", reads
 
-    def rows(self) -> Dict[str, Any]:
+    def rows(self) -> dict[str, Any]:
         return {str(key): None for key in range(self.KEYS)}
 
     def transactions(self, draw: random.Random, sessions: int) -> Iterator[Transaction]:
@@ -114,7 +113,7 @@ class Twitter(Workload):
     name, may_skew = "C-Twitter", True
     USERS, FOLLOWED, SHOWN = 1000, 5, 10
 
-    def rows(self) -> Dict[str, Any]:
+    def rows(self) -> dict[str, Any]:
         users = range(self.USERS)
         follows = {
             f"follows {user}": [(user + at) % self.USERS for at in range(1, self.FOLLOWED + 1)]
@@ -183,7 +182,7 @@ class Rubis(Workload):
     name, may_skew = "C-RUBiS", True
     USERS, ITEMS, SHOWN = 2000, 5000, 3
 
-    def rows(self) -> Dict[str, Any]:
+    def rows(self) -> dict[str, Any]:
         users = {f"user {user}": 0 for user in range(self.USERS)}
         items = {f"item {item}": [item % self.USERS, 0] for item in range(self.ITEMS)}
         return {**users, **items}
@@ -270,8 +269,8 @@ class Tpcc(Workload):
     name = "C-TPCC"
     WAREHOUSES, DISTRICTS, CUSTOMERS, ITEMS, SHOWN = 8, 10, 30, 1000, 5
 
-    def rows(self) -> Dict[str, Any]:
-        rows: Dict[str, Any] = {f"price {item}": 1 for item in range(self.ITEMS)}
+    def rows(self) -> dict[str, Any]:
+        rows: dict[str, Any] = {f"price {item}": 1 for item in range(self.ITEMS)}
         for at in range(self.WAREHOUSES):
             rows.update({f"warehouse {at}": None, f"taken {at}": 0})
             rows.update({f"stock {at} {item}": 50 for item in range(self.ITEMS)})
@@ -328,7 +327,7 @@ class ListAppend(Workload):
     name, may_skew, has_lists = "list-append", True, True
     KEYS, LONGEST, MOST, ROWS = 64, 4, 32, 8192
 
-    def rows(self) -> Dict[str, Any]:
+    def rows(self) -> dict[str, Any]:
         """Empty lists: a row that isn't there is locked with its neighbours."""
         return {f"list {key}": [] for key in range(self.ROWS)}
 
@@ -336,7 +335,7 @@ class ListAppend(Workload):
         active, following = [*range(self.KEYS)], self.KEYS
         counts = [0] * self.KEYS  # of the elements of each active key
         while True:
-            operations: List[Any] = []
+            operations: list[Any] = []
             for _ in range(draw.randint(1, self.LONGEST)):
                 place = draw.randrange(self.KEYS)
                 key, element = f"list {active[place]}", None

@@ -30,7 +30,6 @@ import time
 from collections import Counter, defaultdict
 from dataclasses import dataclass, replace
 from multiprocessing.connection import wait
-from typing import Optional
 
 from fuzz_lines import Answers, Bytes, Grammar, Longest, Scripts
 from judge import Model, first_difference
@@ -139,7 +138,7 @@ class Run:
 
     seed: str
     lines: int
-    until: Optional[float] = None
+    until: float | None = None
     only: str = ""
 
     def is_over(self, table):

@@ -14,8 +14,6 @@ transaction's time, in microseconds. With TMPDIR=/dev/shm the server's folder is
 It needs PostgreSQL 15, pgbouncer and a built proxy (`proxy/build.sh`, or ZANTEYARD_PROXY).
 """
 
-from __future__ import annotations
-
 import argparse
 import contextlib
 import os
@@ -29,7 +27,8 @@ import sys
 import tempfile
 import time
 import urllib.request
-from typing import Any, Dict, Iterator, List, Optional, Tuple
+from collections.abc import Iterator
+from typing import Any
 
 TOP = os.path.join(os.path.dirname(os.path.abspath(__file__)), "..")
 sys.path[:0] = [os.path.join(TOP, "collectors/python"), os.path.join(TOP, "collectors/python/tests")]
@@ -101,7 +100,7 @@ def processor_time(pid: int) -> float:
     return (int(fields[11]) + int(fields[12])) / TICKS
 
 
-def descendants(pid: int) -> List[int]:
+def descendants(pid: int) -> list[int]:
     found = [pid]
     for each in found:
         with contextlib.suppress(OSError):
@@ -114,10 +113,10 @@ def descendants(pid: int) -> List[int]:
 class Way:
     """One way to the server: where clients connect, and which processes stand between."""
 
-    def __init__(self, name: str, host: str, port: int, pid: Optional[int] = None) -> None:
+    def __init__(self, name: str, host: str, port: int, pid: int | None = None) -> None:
         self.name, self.host, self.port, self.pid = name, host, port, pid
 
-    def used(self) -> Tuple[float, float]:
+    def used(self) -> tuple[float, float]:
         """Processor time so far: of what passes the traffic on, and of everything else that was
         started."""
         if self.pid is None:
@@ -141,7 +140,7 @@ class Started:
 
     def __init__(self, folder: str, host: str, port: int, proxy: str) -> None:
         self.folder, self.host, self.port, self.proxy = folder, host, port, proxy
-        self.running: List["subprocess.Popen[bytes]"] = []
+        self.running: list["subprocess.Popen[bytes]"] = []
 
     def way(self, name: str) -> Way:
         if name == "direct":
@@ -150,7 +149,7 @@ class Started:
         url = f"postgresql://postgres@{self.host}:{self.port}/postgres"
         environment = dict(os.environ, ZANTEYARD_PROXY=self.proxy)
         environment["PYTHONPATH"] = os.path.join(TOP, "collectors/python")
-        as_user: Dict[str, Any] = {}
+        as_user: dict[str, Any] = {}
         if name == "pgbouncer":
             path = os.path.join(self.folder, "pgbouncer.ini")
             with open(path, "w", encoding="utf-8") as file:
@@ -163,10 +162,11 @@ class Started:
             if os.geteuid() == 0:
                 as_user = {"user": "postgres", "group": "postgres"}
         elif name == "passing":
-            call = [self.proxy, "--pass", "--listen", f"127.0.0.1:{listen}", "--server", url]
+            call = [self.proxy, "--pass", "--trust-clients", "--listen", f"127.0.0.1:{listen}", "--server", url]
         else:
             figures = f"127.0.0.1:{free_port()}"
             call = [sys.executable, "-m", "zanteyard", "watch", url, "--log", "WARNING"]
+            call.append("--trust-clients")
             call += ["--listen", f"127.0.0.1:{listen}", "--metrics", figures]
         log = open(os.path.join(self.folder, f"{name}.log"), "wb")
         started = subprocess.Popen(
@@ -197,7 +197,7 @@ class Started:
         self.running = []
 
 
-def latencies(folder: str) -> Tuple[float, float]:
+def latencies(folder: str) -> tuple[float, float]:
     """Microseconds of a transaction according to pgbench's logs: the median and the 99th
     percentile."""
     taken = []
@@ -215,7 +215,7 @@ def latencies(folder: str) -> Tuple[float, float]:
 class Figures:
     """The figures of one run."""
 
-    def __init__(self, rate: float, between: float, beside: float, late: Tuple[float, float]):
+    def __init__(self, rate: float, between: float, beside: float, late: tuple[float, float]):
         self.rate, self.between, self.beside, self.late = rate, between, beside, late
 
 
@@ -242,7 +242,7 @@ def run(asked: Any, folder: str, way: Way, work: str, protocol: str, clients: in
     return Figures(float(rate[1]), used[0], used[1], latencies(folder))
 
 
-def middle(runs: List[Figures], name: str) -> float:
+def middle(runs: list[Figures], name: str) -> float:
     return statistics.median(getattr(each, name) for each in runs)
 
 
@@ -252,7 +252,7 @@ def table(asked: Any, folder: str, started: Started) -> None:
     for work in asked.work:
         for protocol in asked.protocol:
             for clients in asked.clients:
-                runs: Dict[str, List[Figures]] = {name: [] for name in asked.way}
+                runs: dict[str, list[Figures]] = {name: [] for name in asked.way}
                 for _ in range(asked.times):
                     for name in asked.way:
                         with started.turn(name) as way:
@@ -271,7 +271,7 @@ def table(asked: Any, folder: str, started: Started) -> None:
 
 
 @contextlib.contextmanager
-def prepared_server(folder: str, scale: int) -> Iterator[Tuple[Server, str]]:
+def prepared_server(folder: str, scale: int) -> Iterator[tuple[Server, str]]:
     """A server with pgbench's tables, prepared for an audit, and the proxy's program. The folder is
     removed afterwards, unless something went wrong."""
     proxy = proxy_program(folder)
@@ -284,10 +284,6 @@ def prepared_server(folder: str, scale: int) -> Iterator[Tuple[Server, str]]:
         call = [postgres_program("pgbench") or "pgbench", "-i", "-q", "-s", str(scale)]
         call += ["-h", "127.0.0.1", "-p", str(server.port), "-U", "postgres", "postgres"]
         subprocess.run(call, check=True, capture_output=True)
-        prepare = [sys.executable, "-m", "zanteyard", "prepare", "--create"]
-        prepare.append(f"postgresql://postgres@127.0.0.1:{server.port}/postgres")
-        environment = dict(os.environ, PYTHONPATH=os.path.join(TOP, "collectors/python"))
-        subprocess.run(prepare, check=False, capture_output=True, env=environment)
         yield server, proxy
     except BaseException:
         print(f"what the programs logged is in {folder}", file=sys.stderr)

@@ -23,8 +23,6 @@ listed by name.
 It needs PostgreSQL 15, psycopg2, a built proxy (ZANTEYARD_PROXY, or Go) and the proved programs.
 """
 
-from __future__ import annotations
-
 import argparse
 import contextlib
 import os
@@ -39,7 +37,8 @@ import tempfile
 import threading
 import time
 import urllib.request
-from typing import Any, Callable, Dict, Iterator, List, Optional, Tuple
+from collections.abc import Callable, Iterator
+from typing import Any
 
 TOP = os.path.join(os.path.dirname(os.path.abspath(__file__)), "..")
 sys.path[:0] = [os.path.join(TOP, "collectors/python"), os.path.join(TOP, "collectors/python/tests")]
@@ -139,7 +138,7 @@ def shop(cursor: Any, chance: random.Random) -> None:
         cursor.execute("UPDATE shop_totals SET total = %s WHERE item = %s", (total % 1000, item))
 
 
-WORKS: Dict[str, Callable[[Any, random.Random], None]] = {
+WORKS: dict[str, Callable[[Any, random.Random], None]] = {
     "skew": skew, "lost": lost, "bank": bank, "shop": shop,
 }
 PGBENCH = {
@@ -157,7 +156,7 @@ class Client:
     def __init__(self, asked: Any, work: str, dsn: str, ends: threading.Event) -> None:
         self.asked, self.work, self.dsn, self.ends = asked, work, dsn, ends
         self.committed = self.again = self.connected = 0
-        self.failed: Dict[str, int] = {}
+        self.failed: dict[str, int] = {}
 
     def run(self, number: int) -> None:
         chance = random.Random(f"{self.work} {number}")
@@ -191,9 +190,9 @@ class Client:
 class Disturber:
     """What happens next to the applications, without the proxy."""
 
-    def __init__(self, server: Server, works: List[str], ends: threading.Event) -> None:
+    def __init__(self, server: Server, works: list[str], ends: threading.Event) -> None:
         self.server, self.works, self.ends = server, works, ends
-        self.did: Dict[str, int] = {}
+        self.did: dict[str, int] = {}
         self.chance = random.Random(1)
 
     def run(self) -> None:
@@ -229,9 +228,9 @@ class Disturber:
         ))
 
 
-def used(pid: int) -> Dict[str, Tuple[float, float]]:
+def used(pid: int) -> dict[str, tuple[float, float]]:
     """MiB in memory and processor seconds of each of a program's processes, by name."""
-    told: Dict[str, Tuple[float, float]] = {}
+    told: dict[str, tuple[float, float]] = {}
     for each in descendants(pid):
         with contextlib.suppress(OSError, AttributeError):
             with open(f"/proc/{each}/status", encoding="utf-8") as file:
@@ -250,7 +249,7 @@ class Watch:
         self.listen, self.metrics = free_port(), free_port()
         self.saved = os.path.join(folder, "violations")
         url = f"postgresql://postgres@127.0.0.1:{server.port}/postgres"
-        call = [sys.executable, "-m", "zanteyard", "watch", url, "--log", "WARNING"]
+        call = [sys.executable, "-m", "zanteyard", "watch", url, "--log", "WARNING", "--trust-clients"]
         call += ["--listen", f"127.0.0.1:{self.listen}", "--metrics", f"127.0.0.1:{self.metrics}"]
         call += ["--save", self.saved]
         if asked.promise:
@@ -273,8 +272,8 @@ class Watch:
                         raise SystemExit(f"watch doesn't listen: {text.read()}") from None
                 time.sleep(0.1)
 
-    def figures(self) -> Dict[str, float]:
-        told: Dict[str, float] = {}
+    def figures(self) -> dict[str, float]:
+        told: dict[str, float] = {}
         with contextlib.suppress(OSError):
             place = f"http://127.0.0.1:{self.metrics}/metrics"
             with urllib.request.urlopen(place, timeout=10) as page:
@@ -284,7 +283,7 @@ class Watch:
                         told[found[1]] = told.get(found[1], 0.0) + float(found[2])
         return told
 
-    def proxies(self) -> List[int]:
+    def proxies(self) -> list[int]:
         found = []
         for each in descendants(self.process.pid):
             with contextlib.suppress(OSError):
@@ -302,7 +301,7 @@ class Watch:
             raise SystemExit("watch didn't end within 180 seconds") from None
 
 
-def every(seconds: Optional[float], ends: threading.Event, action: Callable[[], None]) -> None:
+def every(seconds: float | None, ends: threading.Event, action: Callable[[], None]) -> None:
     while seconds and not ends.wait(seconds):
         action()
 
@@ -321,10 +320,6 @@ def everything(asked: Any, folder: str) -> Iterator[Any]:
             call = [postgres_program("pgbench") or "pgbench", "-i", "-q", "-s", "5"]
             call += ["-h", "127.0.0.1", "-p", str(server.port), "-U", "postgres", "postgres"]
             subprocess.run(call, check=True, capture_output=True)
-        prepare = [sys.executable, "-m", "zanteyard", "prepare", "--create"]
-        prepare.append(f"postgresql://postgres@127.0.0.1:{server.port}/postgres")
-        environment = dict(os.environ, PYTHONPATH=os.path.join(TOP, "collectors/python"))
-        subprocess.run(prepare, check=False, capture_output=True, env=environment)
         yield server, Watch(asked, folder, server, proxy)
     finally:
         server.stop()
@@ -374,7 +369,7 @@ def soak(asked: Any, server: Server, watch: Watch) -> int:
     began = time.monotonic()
     print("minute committed    taken    reads  waiting behind  meeting  longest violations  MiB and "
           "processors", flush=True)
-    before: Dict[str, Tuple[float, float]] = {}
+    before: dict[str, tuple[float, float]] = {}
     meetings = took = 0.0
     at = began
     try:

@@ -10,8 +10,6 @@ takes from one. It starts a server of its own, and ends with the audit's status:
 serial, 1 if it was violated.
 """
 
-from __future__ import annotations
-
 import argparse
 import importlib
 import os
@@ -150,10 +148,10 @@ class Watch:
     def __init__(self, cluster):
         url = f"postgresql://postgres@/postgres?host={cluster.folder}"
         self.socket = f"{cluster.folder}/.s.PGSQL.{PORT}"
-        words = ["watch", url, "--listen", self.socket, "--log", "CRITICAL"]
+        words = ["watch", url, "--listen", self.socket, "--log", "CRITICAL", "--trust-clients"]
         self.process = subprocess.Popen(
             [sys.executable, "-m", "zanteyard", *words],
-            env={**os.environ, "PYTHONPATH": PACKAGE},
+            env={**os.environ, "PYTHONPATH": PACKAGE, "RUNTIME_DIRECTORY": cluster.folder},
             stdout=subprocess.PIPE,
             text=True,
         )
@@ -184,8 +182,9 @@ class Watch:
             return probe.connect_ex(self.socket) == 0
 
     def end(self):
-        """Ends it after a last round, and the proxy, too. Returns its status."""
-        self.process.send_signal(signal.SIGTERM)
+        """Ends it after a last round, and the proxy, too: after SIGTERM that would go on. Returns
+        its status."""
+        self.process.send_signal(signal.SIGINT)
         status = self.process.wait(ENDING)
         self.printing.join()
         return status

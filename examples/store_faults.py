@@ -1,6 +1,6 @@
 """Which level of a store has which fault: clients are driven in lockstep at each, and audited.
 
-    python3 examples/store_faults.py mariadb|redis|sqlite [--journal wal|delete] [--dsn DSN]
+    python3 examples/store_faults.py mariadb|redis|sqlite [--journal-mode wal|delete] [--dsn DSN]
         [--level LEVEL --fault FAULT | --at-once SECONDS | --promises]
 
 It starts a server of its own in a temporary folder, or uses the one that --dsn names. With a level

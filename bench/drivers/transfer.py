@@ -5,14 +5,12 @@
 psycopg2 and psycopg have a process per client, asyncpg a process per four clients.
 """
 
-from __future__ import annotations
-
 import asyncio
 import multiprocessing
 import random
 import sys
 import time
-from typing import Any, List
+from typing import Any
 
 READ = "SELECT abalance FROM pgbench_accounts WHERE aid = %s"
 WRITE = "UPDATE pgbench_accounts SET abalance = %s WHERE aid = %s"
@@ -91,7 +89,7 @@ def part(driver: str, port: int, clients: int, ready: Any, seconds: float, rows:
 
 def main(driver: str, *numbers: str) -> None:
     port, clients, rows = int(numbers[0]), int(numbers[1]), int(numbers[3])
-    sizes: List[int] = [1] * clients
+    sizes: list[int] = [1] * clients
     if driver == "asyncpg":
         sizes = [min(TOGETHER, clients - done) for done in range(0, clients, TOGETHER)]
     ready, told = multiprocessing.Barrier(len(sizes)), multiprocessing.Queue()

@@ -9,15 +9,14 @@ import statements count, including those in functions. The status is 1 if packag
 then its imports are printed.
 """
 
-from __future__ import annotations
-
 import argparse
 import ast
 import os
 import sys
 from collections import defaultdict
+from collections.abc import Iterator, Sequence
 from graphlib import CycleError, TopologicalSorter
-from typing import Dict, Iterator, List, NamedTuple, Optional, Sequence
+from typing import NamedTuple
 
 HERE = os.path.dirname(os.path.abspath(__file__))
 TOP = "(top)"  # the modules outside of packages
@@ -32,21 +31,21 @@ class Import(NamedTuple):
 
 
 class Graph(NamedTuple):
-    modules: Dict[str, int]  # how many each package has
-    imports: List[Import]
+    modules: dict[str, int]  # how many each package has
+    imports: list[Import]
 
-    def below(self) -> Dict[str, List[str]]:
+    def below(self) -> dict[str, list[str]]:
         """What each package imports, sorted."""
-        found: Dict[str, List[str]] = {package: [] for package in self.modules}
+        found: dict[str, list[str]] = {package: [] for package in self.modules}
         for each in sorted({(it.package, it.imported) for it in self.imports}):
             found[each[0]].append(each[1])
         return found
 
-    def in_order(self) -> List[str]:
+    def in_order(self) -> list[str]:
         """All packages, each after those that it imports. Raises CycleError."""
         sorter = TopologicalSorter(self.below())
         sorter.prepare()
-        ordered: List[str] = []
+        ordered: list[str] = []
         while sorter.is_active():
             ready = sorted(sorter.get_ready())
             ordered.extend(ready)
@@ -57,8 +56,8 @@ class Graph(NamedTuple):
 def graph_of(folder: str) -> Graph:
     """The graph of the package in this folder."""
     name = os.path.basename(os.path.abspath(folder))
-    modules: Dict[str, int] = defaultdict(int)
-    imports: List[Import] = []
+    modules: dict[str, int] = defaultdict(int)
+    imports: list[Import] = []
     paths = [os.path.join(at, it) for at, _, names in os.walk(folder) for it in names]
     for path in sorted(it for it in paths if it.endswith(".py")):
         parts = os.path.relpath(path, folder)[: -len(".py")].split(os.sep)
@@ -117,7 +116,7 @@ def as_lines(graph: Graph) -> Iterator[str]:
 
 
 def as_dot(graph: Graph) -> Iterator[str]:
-    counts: Dict[tuple[str, str], int] = defaultdict(int)
+    counts: dict[tuple[str, str], int] = defaultdict(int)
     for each in graph.imports:
         counts[each.package, each.imported] += 1
     yield "digraph packages {"
@@ -141,7 +140,7 @@ def as_modules(graph: Graph, folder: str) -> Iterator[str]:
                 yield f"  {name}: {sentence.rstrip('.')}"
 
 
-def main(words: Optional[Sequence[str]] = None) -> int:
+def main(words: Sequence[str] | None = None) -> int:
     asked = argparse.ArgumentParser(description="Draws which packages import which.")
     how = asked.add_mutually_exclusive_group()
     how.add_argument("--dot", action="store_true", help="print Graphviz text")

@@ -7,8 +7,6 @@ after the gate. `--unproved` builds one without proofs for a first try, with the
 takes the given one; its version says so everywhere.
 """
 
-from __future__ import annotations
-
 import argparse
 import contextlib
 import hashlib
@@ -21,8 +19,8 @@ import sys
 import sysconfig
 import tempfile
 import time
+from collections.abc import Iterator, Sequence
 from concurrent.futures import ThreadPoolExecutor
-from typing import Iterator, List, Optional, Sequence
 
 HERE = os.path.dirname(os.path.abspath(__file__))
 TOP = os.path.normpath(os.path.join(HERE, "../.."))
@@ -131,7 +129,7 @@ def taken_from(trying: "subprocess.Popen[bytes]", name: str, folder: str) -> str
     raise CantPackError(f"rt try has built no {name}: run it by hand to see why")
 
 
-def all_unproved(names: Sequence[str], folder: str) -> List[str]:
+def all_unproved(names: Sequence[str], folder: str) -> list[str]:
     """In parallel: each takes a minute or two of a processor."""
     print(f"building without proofs: {', '.join(names)} (a minute or two on an idle machine)")
     print(f"(checks are compiled in: some {SLOWER} times slower than what is proved)", flush=True)
@@ -203,7 +201,7 @@ def wheel_of(folder: str, output: str) -> str:
     return os.path.join(output, ended.stdout.split()[-1])
 
 
-def arguments(words: Optional[Sequence[str]]) -> argparse.Namespace:
+def arguments(words: Sequence[str] | None) -> argparse.Namespace:
     asked = argparse.ArgumentParser(prog="package.sh", description="Makes the wheel.")
     asked.add_argument("--output", default=os.path.join(TOP, "out"), help="folder (out)")
     how = asked.add_mutually_exclusive_group()
@@ -223,7 +221,7 @@ def arguments(words: Optional[Sequence[str]]) -> argparse.Namespace:
     return asked.parse_args(words)
 
 
-def main(words: Optional[Sequence[str]] = None) -> int:
+def main(words: Sequence[str] | None = None) -> int:
     asked = arguments(words)
     os.makedirs(asked.output, exist_ok=True)
     try:

@@ -1,15 +1,14 @@
 #!/usr/bin/env python3
 """Runs the tests in several parallel processes, since most of them wait for servers and clients.
 
-    ./run_tests.py [--processes N] [--seconds N] [--slowest N] [MODULE ...]
+    ./run_tests.py [--processes N] [--seconds N] [--slowest N] [--again N] [MODULE ...]
 
 Each process runs one module after another, and has its own folder for temporary files and its own
 server, which its modules share. A module's output is printed as a whole, in alphabetical order. The
 status is 1 if a test fails, if a process ends by itself, or if the time is up; then each running
-thread is shown.
+thread is shown. With --again N, if at most N modules failed, these are run once more, one at a
+time, after all others: what fails only next to other tests is listed, and isn't a failure.
 """
-
-from __future__ import annotations
 
 import argparse
 import contextlib
@@ -25,7 +24,8 @@ import threading
 import time
 import unittest
 from collections import Counter
-from typing import Any, Dict, Iterator, List, NamedTuple, Optional, TextIO
+from collections.abc import Iterator
+from typing import Any, NamedTuple, TextIO
 
 HERE = os.path.dirname(os.path.abspath(__file__))
 # These take longest, and are started first.
@@ -44,10 +44,10 @@ class Ran(NamedTuple):
     """The result of a module. `problem` is empty if there is none."""
 
     tests: int
-    skipped: List[str]  # why, for each that was skipped
+    skipped: list[str]  # why, for each that was skipped
     problem: str
     seconds: float
-    slow: List[Any]  # a pair for each test: its seconds, and its name
+    slow: list[Any]  # a pair for each test: its seconds, and its name
 
 
 LATE = Ran(0, [], "it hasn't ended in time", 0.0, [])
@@ -59,7 +59,7 @@ LATE = Ran(0, [], "it hasn't ended in time", 0.0, [])
 class Timed(unittest.TextTestResult):
     def __init__(self, *arguments: Any) -> None:
         super().__init__(*arguments)
-        self.slow: List[Any] = []
+        self.slow: list[Any] = []
 
     def startTest(self, test: unittest.TestCase) -> None:
         self.began = time.monotonic()
@@ -105,11 +105,11 @@ def told_to(path: str) -> Iterator[None]:
 class Names:
     """The modules that are left to run; safe for use by several threads."""
 
-    def __init__(self, names: List[str]) -> None:
+    def __init__(self, names: list[str]) -> None:
         self._left = sorted(names, key=lambda it: (LONG.index(it) if it in LONG else len(LONG), it))
         self._turn = threading.Lock()
 
-    def next(self) -> Optional[str]:
+    def next(self) -> str | None:
         with self._turn:
             return self._left.pop(0) if self._left else None
 
@@ -117,10 +117,10 @@ class Names:
 class Worker(threading.Thread):
     """Has a process, replaced if it ends."""
 
-    def __init__(self, folder: str, number: int, names: Names, results: Dict[str, Ran]) -> None:
+    def __init__(self, folder: str, number: int, names: Names, results: dict[str, Ran]) -> None:
         super().__init__(daemon=True)
         self.folder, self.number, self.names, self.results = folder, number, names, results
-        self.process: Optional[subprocess.Popen[str]] = None
+        self.process: subprocess.Popen[str] | None = None
         self.is_stopped = False
 
     def run(self) -> None:
@@ -162,7 +162,7 @@ class Worker(threading.Thread):
             self.process.stdin.flush()
         return self.process.stdout.readline()
 
-    def environment(self) -> Dict[str, str]:
+    def environment(self) -> dict[str, str]:
         """With a folder of its own. Compiled files are kept for the hundreds of programs that tests
         start, even if the tree is read-only."""
         own, compiled = (os.path.join(self.folder, it) for it in (str(self.number), "compiled"))
@@ -182,10 +182,10 @@ class Worker(threading.Thread):
             process.wait()
 
 
-def run_all(names: List[str], count: int, seconds: float) -> Dict[str, Ran]:
+def run_all(names: list[str], count: int, seconds: float) -> dict[str, Ran]:
     """Runs all in this many processes, for at most this many seconds; prints their output."""
     ends, waiting = time.monotonic() + seconds, Names(names)
-    results: Dict[str, Ran] = {}
+    results: dict[str, Ran] = {}
     told = 0
     with folder_of_its_own() as folder:
         workers = [Worker(folder, at, waiting, results) for at in range(count)]
@@ -232,7 +232,7 @@ def tell(name: str, ran: Ran, folder: str) -> None:
             print(file.read().rstrip("\n"), flush=True)
 
 
-def summary(results: Dict[str, Ran], seconds: float, slowest: int) -> Iterator[str]:
+def summary(results: dict[str, Ran], seconds: float, slowest: int) -> Iterator[str]:
     slow = sorted((each for ran in results.values() for each in ran.slow), reverse=True)
     for taken, test in slow[:slowest]:
         yield f"{taken:8.2f} s  {test}"
@@ -246,11 +246,27 @@ def summary(results: Dict[str, Ran], seconds: float, slowest: int) -> Iterator[s
             yield f"FAILED: {name}: {ran.problem}"
 
 
+def run_again(results: dict[str, Ran], most: int, seconds: float) -> Iterator[str]:
+    """Runs each module that failed once more, by itself, if they are few, and enters what it comes
+    to. Gives a line for each that passes."""
+    failed = sorted(name for name, ran in results.items() if ran.problem)
+    if not failed or len(failed) > most or any(results[name] is LATE for name in failed):
+        return
+    ends = time.monotonic() + seconds
+    for name in failed:
+        before = results[name]
+        print(f"once more, by itself: {name} ({before.problem})", flush=True)
+        results[name] = run_all([name], 1, ends - time.monotonic())[name]
+        if not results[name].problem:
+            yield f"FAILED ONCE, then passed by itself: {name}: {before.problem}"
+
+
 def main() -> int:
     words = argparse.ArgumentParser(description=__doc__.splitlines()[0])
     words.add_argument("--processes", type=int, default=3, help="side by side (3)")
     words.add_argument("--seconds", type=float, default=3600.0, help="for all of them (3600)")
     words.add_argument("--slowest", type=int, default=0, help="so many tests are named at the end")
+    words.add_argument("--again", type=int, default=0, help="rerun up to so many that failed (0)")
     words.add_argument("--one-of-them", action="store_true", help=argparse.SUPPRESS)
     words.add_argument("modules", nargs="*", metavar="MODULE", help="as tests.test_live; else all")
     asked = words.parse_args()
@@ -263,6 +279,9 @@ def main() -> int:
     signal.signal(signal.SIGTERM, lambda *_: sys.exit(1))
     began = time.monotonic()
     results = run_all(sorted(names), min(asked.processes, len(names)), asked.seconds)
+    left = asked.seconds - (time.monotonic() - began)
+    for line in list(run_again(results, asked.again, left)):
+        print(line)
     for line in summary(results, time.monotonic() - began, asked.slowest):
         print(line)
     return int(any(ran.problem for ran in results.values()))

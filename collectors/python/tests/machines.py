@@ -90,7 +90,7 @@ class Machines(unittest.TestCase):
     def daemon(self, *more, sessions=8, every=60):
         folder = self.folder_of_its_own()
         self.log = f"{folder}/log"
-        call = [sys.executable, "-m", "zanteyard", "serve", "--journal", f"{self.folder}/audit", "--redis", self.redis.dsn, "--store", self.cluster.dsn]
+        call = [sys.executable, "-m", "zanteyard", "serve", "--folder", f"{self.folder}/audit", "--redis", self.redis.dsn, "--store", self.cluster.dsn]
         call += ["--audit", "bank", "--sessions", str(sessions), "--every", str(every), "--rather-wait", "--round-seconds", "600"]
         call += ["--silence", str(self.silence), "--script", f"{self.folder}/script.{len(self.daemons)}", *more]
         with open(self.log, "wb") as log:

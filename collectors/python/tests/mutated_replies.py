@@ -4,21 +4,22 @@ formed."""
 import copy
 import json
 import random
-from typing import Any, Callable, Dict, Iterator, List, Optional, Tuple
+from collections.abc import Callable, Iterator
+from typing import Any
 
-Reply = List[Any]
+Reply = list[Any]
 KINDS = ("serial", "pending", "violated", "spent")
 OK, REFUSED = ["ok"], ["no", 13, "NoCut"]
 
 
-def changed_kind(draw: random.Random, reply: Reply, others: List[Reply]) -> Optional[Reply]:
+def changed_kind(draw: random.Random, reply: Reply, others: list[Reply]) -> Reply | None:
     """Another kind; a spent report has no certificate."""
     kind = draw.choice([other for other in KINDS if other != reply[2]])
     certificate = [] if kind == "spent" else (reply[4:] or [[]])
     return reply[:2] + [kind, reply[3]] + certificate
 
 
-def changed_count(draw: random.Random, reply: Reply, others: List[Reply]) -> Optional[Reply]:
+def changed_count(draw: random.Random, reply: Reply, others: list[Reply]) -> Reply | None:
     """One transaction more or less in a session, or one session less."""
     counts = list(reply[3])
     at = draw.randrange(len(counts))
@@ -29,7 +30,7 @@ def changed_count(draw: random.Random, reply: Reply, others: List[Reply]) -> Opt
     return reply[:3] + [counts] + reply[4:]
 
 
-def changed_list(draw: random.Random, items: List[Any]) -> None:
+def changed_list(draw: random.Random, items: list[Any]) -> None:
     """An item dropped, doubled, or swapped with its neighbour or with any other one."""
     at = draw.randrange(len(items))
     way = draw.randrange(4)
@@ -42,7 +43,7 @@ def changed_list(draw: random.Random, items: List[Any]) -> None:
         items[at], items[by] = items[by], items[at]
 
 
-def places(part: Any) -> Iterator[Tuple[List[Any], int]]:
+def places(part: Any) -> Iterator[tuple[list[Any], int]]:
     """The places of numbers in it."""
     for at, item in enumerate(part):
         if isinstance(item, list):
@@ -51,7 +52,7 @@ def places(part: Any) -> Iterator[Tuple[List[Any], int]]:
             yield part, at
 
 
-def lists_in(part: Any) -> Iterator[List[Any]]:
+def lists_in(part: Any) -> Iterator[list[Any]]:
     """The lists of lists in it, itself included: orders, trees and cycles."""
     if part and isinstance(part[-1], list):
         yield part
@@ -68,7 +69,7 @@ def changed_number(draw: random.Random, part: Any) -> None:
         items[at] = max(0, items[at] + draw.choice((-1, 1, 1, -2, 2)))
 
 
-def changed_certificate(draw: random.Random, reply: Reply, others: List[Reply]) -> Optional[Reply]:
+def changed_certificate(draw: random.Random, reply: Reply, others: list[Reply]) -> Reply | None:
     """An order's ids, or the items of a tree, of one of its cycles, or a number in it."""
     if len(reply) < 5 or not reply[4]:
         return None
@@ -80,7 +81,7 @@ def changed_certificate(draw: random.Random, reply: Reply, others: List[Reply]) 
     return reply[:4] + [certificate]
 
 
-def turned_cycle(draw: random.Random, reply: Reply, others: List[Reply]) -> Optional[Reply]:
+def turned_cycle(draw: random.Random, reply: Reply, others: list[Reply]) -> Reply | None:
     """A cycle that begins with another one of its arcs."""
     if len(reply) < 5 or reply[2] != "violated":
         return None
@@ -94,7 +95,7 @@ def turned_cycle(draw: random.Random, reply: Reply, others: List[Reply]) -> Opti
     return reply[:4] + [tree]
 
 
-def of_another_round(draw: random.Random, reply: Reply, others: List[Reply]) -> Optional[Reply]:
+def of_another_round(draw: random.Random, reply: Reply, others: list[Reply]) -> Reply | None:
     """Another report of the script, unchanged or with this one's number."""
     found = [other for other in others if other[0] == "report" and other != reply]
     if not found:
@@ -103,7 +104,7 @@ def of_another_round(draw: random.Random, reply: Reply, others: List[Reply]) -> 
     return other if draw.randrange(2) else reply[:2] + other[2:]
 
 
-def changed_cut(draw: random.Random, reply: Reply, others: List[Reply]) -> Optional[Reply]:
+def changed_cut(draw: random.Random, reply: Reply, others: list[Reply]) -> Reply | None:
     """A number of a cut, or one of its lists, changed."""
     cut = copy.deepcopy(reply)
     if draw.randrange(2):
@@ -113,28 +114,28 @@ def changed_cut(draw: random.Random, reply: Reply, others: List[Reply]) -> Optio
     return cut
 
 
-def refused(draw: random.Random, reply: Reply, others: List[Reply]) -> Optional[Reply]:
+def refused(draw: random.Random, reply: Reply, others: list[Reply]) -> Reply | None:
     """A refusal in its place."""
     return REFUSED
 
 
-def granted(draw: random.Random, reply: Reply, others: List[Reply]) -> Optional[Reply]:
+def granted(draw: random.Random, reply: Reply, others: list[Reply]) -> Reply | None:
     """`ok` in its place."""
     return OK
 
 
-Change = Callable[[random.Random, Reply, List[Reply]], Optional[Reply]]
-OF_A_REPORT: List[Change] = [
+Change = Callable[[random.Random, Reply, list[Reply]], Reply | None]
+OF_A_REPORT: list[Change] = [
     changed_kind, changed_count, changed_certificate, changed_certificate, changed_certificate,
     changed_certificate, turned_cycle, of_another_round, refused, granted,
 ]
-CHANGES: Dict[str, List[Change]] = {
+CHANGES: dict[str, list[Change]] = {
     "report": OF_A_REPORT, "cut": [changed_cut, changed_cut, granted, refused],
     "ok": [refused], "no": [granted],
 }
 
 
-def mutations(draw: random.Random, replies: List[bytes]) -> Iterator[Tuple[int, str, bytes]]:
+def mutations(draw: random.Random, replies: list[bytes]) -> Iterator[tuple[int, str, bytes]]:
     """One mutation for each kind of change of each report and cut, and some of other replies: which
     reply, the change's name, and the changed text."""
     read = [json.loads(reply) for reply in replies]

@@ -11,7 +11,7 @@ import subprocess
 import tempfile
 import threading
 import time
-from typing import Any, Dict, List, Optional
+from typing import Any
 
 from zanteyard.trial.postgres_server import trusted_plugins
 
@@ -26,14 +26,14 @@ SETTINGS = (
 )
 
 
-def postgres_program(name: str) -> Optional[str]:
+def postgres_program(name: str) -> str | None:
     """The path of PostgreSQL's program of this name; None if it isn't installed."""
     places = glob.glob(f"/usr/lib/postgresql/*/bin/{name}")
     places.sort(key=lambda path: int(path.split("/")[4]))
     return places[-1] if places else shutil.which(name)
 
 
-def proxy_program(folder: str) -> Optional[str]:
+def proxy_program(folder: str) -> str | None:
     """The proxy that ZANTEYARD_PROXY names, or one built in the folder. None without Go or its
     libraries."""
     given = os.environ.get("ZANTEYARD_PROXY")
@@ -58,13 +58,13 @@ class Server:
         self.folder = folder
         self.data = os.path.join(folder, "data")
         as_postgres = {"user": "postgres", "group": "postgres"}
-        self.user: Dict[str, Any] = as_postgres if os.geteuid() == 0 else {}
+        self.user: dict[str, Any] = as_postgres if os.geteuid() == 0 else {}
         os.mkdir(folder)
         if self.user:
             shutil.chown(folder, "postgres", "postgres")
 
     def run(self, name: str, *arguments: str) -> None:
-        quiet: Dict[str, Any] = {"stdin": subprocess.DEVNULL, "stdout": subprocess.DEVNULL}
+        quiet: dict[str, Any] = {"stdin": subprocess.DEVNULL, "stdout": subprocess.DEVNULL}
         call = [postgres_program(name) or name, *arguments]
         environment = dict(os.environ, LC_ALL="C")
         subprocess.run(
@@ -79,7 +79,7 @@ class Server:
         done = ["cp", "-a", other.data, self.data]
         subprocess.run(done, check=True, timeout=LIMIT, **self.user)
 
-    def start(self, port: Optional[int] = None) -> None:
+    def start(self, port: int | None = None) -> None:
         """Starts it at this port, or at a free one."""
         if port is None:
             at_a_free_port(self.start)
@@ -105,6 +105,18 @@ class Server:
             raise AssertionError(done.stderr)
 
 
+def listening(path: str) -> int:
+    """The port at which a proxy listens, once its log names it."""
+    ends = time.monotonic() + LIMIT
+    while time.monotonic() < ends:
+        with open(path, encoding="utf-8") as log:
+            for line in log:
+                if "listening on 127.0.0.1:" in line and line.endswith("\n"):
+                    return int(line.rsplit(":", 1)[1])
+        time.sleep(0.02)
+    raise AssertionError("the proxy doesn't listen")
+
+
 class Proxy:
     """The proxy in front of a server, with a parent that reads its feed."""
 
@@ -112,18 +124,18 @@ class Proxy:
         self.log = os.path.join(folder, "proxy.log")
         call = [program, "--listen", "127.0.0.1:0", "--between", "200ms", "--look", "100ms"]
         source = f"host=127.0.0.1 port={server.port} user=postgres dbname=postgres sslmode=disable"
-        pipes: Dict[str, Any] = {"stdin": subprocess.PIPE, "stdout": subprocess.PIPE}
+        pipes: dict[str, Any] = {"stdin": subprocess.PIPE, "stdout": subprocess.PIPE}
         with open(self.log, "w", encoding="utf-8") as log:
             self.process = subprocess.Popen(
-                [*call, "--server", source], stderr=log, text=True, **pipes
+                [*call, "--trust-clients", "--server", source], stderr=log, text=True, **pipes
             )
-        self.offers: List[List[int]] = []
-        self.events: Dict[str, Any] = {}
+        self.offers: list[list[int]] = []
+        self.events: dict[str, Any] = {}
         self.changed = threading.Condition()
         threading.Thread(target=self._read, daemon=True).start()
         try:
             self.until("started")
-            self.port = self._port()
+            self.port = listening(self.log)
         except BaseException:
             self.stop()
             raise
@@ -140,16 +152,6 @@ class Proxy:
         with self.changed:
             self.events["ended"] = self.events.get("ended", {"reason": "the proxy has ended"})
             self.changed.notify_all()
-
-    def _port(self) -> int:
-        ends = time.monotonic() + LIMIT
-        while time.monotonic() < ends:
-            with open(self.log, encoding="utf-8") as log:
-                for line in log:
-                    if "listening on 127.0.0.1:" in line:
-                        return int(line.rsplit(":", 1)[1])
-            time.sleep(0.02)
-        raise AssertionError("the proxy doesn't listen")
 
     def say(self, **command: Any) -> None:
         assert self.process.stdin
@@ -168,12 +170,12 @@ class Proxy:
         with open(self.log, encoding="utf-8") as log:
             return log.read()[-3000:]
 
-    def reads_by_user(self) -> Dict[str, int]:
+    def reads_by_user(self) -> dict[str, int]:
         """Ends the audit, and counts the offered reads of each user."""
         self.say(command="stop")
         self.until("stopped")
         self.say(command="describe", id=1, transactions=self.offers)
-        counts: Dict[str, int] = {}
+        counts: dict[str, int] = {}
         for each in self.until("transactions")["transactions"]:
             if each.get("known") and not each["fence"]:
                 counts[each["user"]] = counts.get(each["user"], 0) + len(each["reads"])
@@ -196,8 +198,8 @@ class Pair:
 
     def __init__(self) -> None:
         self.folder = ""
-        self.proxy: Optional[Proxy] = None
-        self.servers: List[Server] = []
+        self.proxy: Proxy | None = None
+        self.servers: list[Server] = []
 
     def make_folder(self) -> None:
         self.folder = tempfile.mkdtemp(prefix="zanteyard-pair-")
@@ -210,12 +212,6 @@ class Pair:
         for each in (direct, behind):
             self.servers.append(each)
             each.start()
-        self.sql(
-            "postgres",
-            "CREATE TABLE public.zanteyard_fence (id int PRIMARY KEY, n bigint);"
-            "INSERT INTO public.zanteyard_fence VALUES (0, 0);"
-            "GRANT SELECT, UPDATE ON public.zanteyard_fence TO public;",
-        )
         self.proxy = Proxy(program, behind, self.folder)
 
     def sql(self, user: str, text: str) -> None:
@@ -231,7 +227,7 @@ class Pair:
         self.sql("postgres", as_postgres + f"GRANT CREATE ON DATABASE postgres TO {user};")
         self.sql(user, setup)
 
-    def run(self, user: str, call: List[str], **environment: str) -> List[str]:
+    def run(self, user: str, call: list[str], **environment: str) -> list[str]:
         """What the program prints, directly and through the proxy; both runs at the same time."""
         assert self.proxy
         began = []

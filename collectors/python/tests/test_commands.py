@@ -336,7 +336,7 @@ class Help(unittest.TestCase):
             self.assertIn(f"\n    {name}", whole)
         status, out, err = run("help", "nothing")
         self.assertEqual((status, out), (2, ""))
-        self.assertIn("invalid choice: 'nothing'", err)
+        self.assertIn("there is no command 'nothing'", err)
 
     def completed(self, line, **more):
         """What a shell is told that has this line, by the functions of argcomplete."""
@@ -471,7 +471,7 @@ print(before == signal.SIG_DFL, signal.getsignal(signal.SIGINT) == signal.defaul
     def test_what_is_interrupted_later(self):
         for name, place, told in (
             ("check", "zanteyard.cli._scripts._run_of", "undecided: interrupted\n"),
-            ("import", "zanteyard.imports._command._text_of", "interrupted\n"),
+            ("import", "zanteyard.imports._command.text_of", "interrupted\n"),
         ):
             with self.subTest(name=name):
                 words = shlex.split(COMMANDS[name].example)[1:]

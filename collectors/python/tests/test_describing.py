@@ -4,13 +4,14 @@ import json
 import sys
 import threading
 import unittest
+from dataclasses import dataclass
 from unittest import mock
 
 from tests import watch_feed as feed
 from zanteyard.watch._describing import AT_ONCE, Describing
 from zanteyard.watch._explaining import Explaining
 from zanteyard.watch._feed import answered_of
-from zanteyard.watch._retained import Retained
+from zanteyard.watch._kept import Kept
 from zanteyard.watch._violations import Answered, Held
 
 MANY = 3 * AT_ONCE - 10
@@ -90,9 +91,18 @@ class Questions(unittest.TestCase):
 class OfManyTransactions:
     """A violation that involves all of IDS."""
 
+    edges, keys, lost = (), {5}, None
+
     @staticmethod
     def involved():
         return IDS
+
+
+@dataclass(frozen=True)
+class Explained:
+    transactions: object
+    title: str = "lost update"
+    group: str = ""
 
 
 class Explanations(unittest.TestCase):
@@ -100,11 +110,11 @@ class Explanations(unittest.TestCase):
 
     def setUp(self):
         self.told, self.asked = [], []
-        patched = mock.patch("zanteyard.watch._explaining.explained", lambda *its: its[3])
+        patched = mock.patch("zanteyard.watch._explaining.explained", lambda *its: Explained(its[3].transactions))
         patched.start()
         self.addCleanup(patched.stop)
-        self.explaining = Explaining("no program", self.told.append)
-        self.explaining.begin([], OfManyTransactions, self.ask)
+        self.explaining = Explaining("no program", lambda one, _: self.told.append(one))
+        self.explaining.begin([], [OfManyTransactions], self.ask)
 
     def ask(self, number, some):
         self.asked.append((number, some))
@@ -131,13 +141,11 @@ class Explanations(unittest.TestCase):
 class Involved(unittest.TestCase):
     """All transactions that an explanation may mention, though a refutation names few."""
 
-    def held(self, certificate, *lines, marks=()):
-        retained = Retained()
-        for line in (["open", 8, 4096, 2], *lines):
-            retained.note(json.dumps(line, separators=(",", ":")).encode())
-        retained.forget(marks)
+    def held(self, certificate, *lines, marks=(0,) * 8):
+        lines = [["marks", [*marks], [False] * 8], *lines]
+        kept = Kept([json.dumps(line, separators=(",", ":")).encode() for line in lines])
         report = ["report", 1, "violated", [100] * 8, certificate]
-        return Held(retained, report, b'["show",[0],[0],[false],[],0]')
+        return Held(kept, report)
 
     def test_what_the_refutation_names_comes_first(self):
         lines = [feed.offer(at, 0, *([[[5, "init"]], []] for _ in range(100))) for at in range(8)]
@@ -156,7 +164,11 @@ class Involved(unittest.TestCase):
         certificate = [["nowrite", 1, 1, 5]]
         its = self.held(certificate, *lines).involved()
         self.assertEqual(its, [(1, 1), (0, 0), (0, 2), (2, 0), (2, 2), (3, 0)])
-        its = self.held(certificate, *lines, marks=[(0, 0), (0, 1), (1, 0)]).involved()
+        lines[:2] = [
+            feed.offer(0, 2, [[[5, 0, 0], [6, 0, 1]], []]),
+            feed.offer(1, 1, [[[5, 2, 0]], []], [[[7, 2, 1]], []]),
+        ]
+        its = self.held(certificate, *lines, marks=(2, 1, 0, 0, 0, 0, 0, 0)).involved()
         self.assertEqual(its, [(1, 1), (0, 2), (2, 0), (2, 2), (3, 0)])
 
 

@@ -196,6 +196,9 @@ class Licences(unittest.TestCase):
                 left += on.get(crate, [])
         self.assert_named(taken - on.keys())
         self.assertGreater(len(taken - on.keys()), 5)
+        wheel = self.page.split("\n## In the wheel: `cobra_audit`")[1].split("\n## ")[0]
+        of_the_kit = {name for below in on.values() for name in below} - on.keys()
+        self.assertEqual(of_the_kit.intersection(re.findall(r"`(\w+)`", wheel)) - taken, set())
 
     @unittest.skipUnless(shutil.which("go"), "Go is not installed")
     def test_each_module_that_the_proxy_takes(self):

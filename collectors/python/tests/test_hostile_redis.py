@@ -288,7 +288,7 @@ class Daemons(WithRedis, unittest.TestCase):
     def serve(self):
         folder = tempfile.TemporaryDirectory()
         self.addCleanup(folder.cleanup)
-        call = [sys.executable, "-m", "zanteyard", "serve", "--journal", f"{folder.name}/audit", "--redis", self.redis.dsn]
+        call = [sys.executable, "-m", "zanteyard", "serve", "--folder", f"{folder.name}/audit", "--redis", self.redis.dsn]
         self.log = f"{folder.name}/log"
         with open(self.log, "wb") as log:
             daemon = subprocess.Popen(call, stderr=log, env={**os.environ, "PYTHONPATH": PLACE})
@@ -318,7 +318,7 @@ class Daemons(WithRedis, unittest.TestCase):
 
     def test_without_a_key_it_does_not_begin(self):
         with tempfile.TemporaryDirectory() as folder:
-            call = [sys.executable, "-m", "zanteyard", "serve", "--journal", f"{folder}/audit", "--redis", self.redis.dsn]
+            call = [sys.executable, "-m", "zanteyard", "serve", "--folder", f"{folder}/audit", "--redis", self.redis.dsn]
             for more, why in ((["--key", "/dev/null"], b"/dev/null"), ([], b"zanteyard key FILE")):
                 environment = {**os.environ, "PYTHONPATH": PLACE, "ZANTEYARD_KEY": ""}
                 ran = subprocess.run([*call, *more], stderr=subprocess.PIPE, env=environment, timeout=SOON)

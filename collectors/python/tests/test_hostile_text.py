@@ -182,7 +182,7 @@ class Calls(Outputs):
             ["watch", "x", "--sample", EVIL], ["watch", "x", "--tables", EVIL],
             ["watch", "x", "--redis", EVIL], ["watch", "x", "--key", EVIL],
             ["proxy", "x", "--listen", EVIL], ["prepare", f"postgresql://127.0.0.1:1/{EVIL}"],
-            ["prepare", EVIL], ["journal", EVIL], ["serve", "--journal", "x", "--metrics", EVIL],
+            ["prepare", EVIL], ["journal", EVIL], ["serve", "--folder", "x", "--metrics", EVIL],
             ["audit", EVIL], ["audit", "postgres", "--workload", EVIL],
             ["check", "s", "--nodes", EVIL], ["check", "s", "--promise", EVIL],
         ):
@@ -325,7 +325,7 @@ class Audits(Outputs):
 
     def test_the_daemon(self):
         """In such a folder, until a signal."""
-        words = ["serve", "--journal", os.path.basename(self.path("j" + NAME)), "--log", "DEBUG"]
+        words = ["serve", "--folder", os.path.basename(self.path("j" + NAME)), "--log", "DEBUG"]
         environment = {**os.environ, "PYTHONPATH": os.path.dirname(PACKAGE)}
         with subprocess.Popen(
             [sys.executable, "-m", "zanteyard", *words], env=environment,

@@ -4,6 +4,8 @@ import contextlib
 import gzip
 import io
 import os
+import re
+import subprocess
 import sys
 import tempfile
 import unittest
@@ -17,6 +19,7 @@ from zanteyard.imports._edn import EdnReader
 from zanteyard.imports._edn_lines import EdnLines, PlainMicros
 from zanteyard.imports._guess import history_form
 from zanteyard.imports._jepsen import read_jepsen
+from zanteyard.program._binaries import PROGRAM
 
 from . import recordings, test_import
 from .recordings import judged_script, seeded
@@ -225,17 +228,63 @@ class Options(unittest.TestCase):
             self.assertRegex(err, "^refused: a.edn.gz can't be decompressed: ")
             self.assertNotIn("b.jsonl", os.listdir(folder))
 
+    @unittest.skipUnless(os.path.isfile(PROGRAM), f"{PROGRAM} is not built")
     def test_a_history_in_place_of_a_script(self):
+        """It is checked in one step, with the same verdict and the same words as in two."""
+        statuses = set()
         for form, name, _ in test_import.Samples().shown():
-            with self.subTest(name=name):
-                path, err = os.path.join(SAMPLES, name), io.StringIO()
+            path = os.path.join(SAMPLES, name)
+            with self.subTest(name=name), tempfile.TemporaryDirectory() as folder:
+                script, packed = f"{folder}/script.jsonl", f"{folder}/{name}.gz"
+                with open(path, "rb") as plain, gzip.open(packed, "wb") as file:
+                    file.write(plain.read())
+                _, about = self.ran("import", form, path, "-o", script)
+                status, two = self.ran("check", script)
+                statuses.add(status)
+                said = [line for line in about[1:] if "begin and end times" not in line]
+                first = about[0].replace(f"{script}:", f"{name}, read as {form}:")
+                verdict = re.sub("^(line [0-9]+|at the end):", f"{name}:", two[0])
+                for file in (path, packed):
+                    got, one = self.ran("check", file)
+                    self.assertEqual(got, status)
+                    its = [line.replace(f"{name}.gz", name) for line in one]
+                    self.assertEqual(its, [first, *said, verdict, *two[1:]])
+                for command in ("levels", "explain"):
+                    got, one = self.ran(command, path)
+                    wanted, two = self.ran(command, script)
+                    self.assertEqual(got, wanted)
+                    self.assertEqual(one[-1], two[-1])
+                self.assertEqual({*os.listdir(folder)} - {f"{name}.gz"},
+                                 {it for it in os.listdir(folder) if it.startswith("script")})
+        self.assertLessEqual({0, 1, 3}, statuses)
+        self.assertIsNone(history_form(b'["open",2,8]\n'))
+        self.assertIsNone(history_form(b""))
+
+    @unittest.skipUnless(os.path.isfile(PROGRAM), f"{PROGRAM} is not built")
+    def test_a_history_with_times(self):
+        status, lines = self.ran("check", "--promise", "strict", f"{SAMPLES}/registers.json")
+        self.assertEqual(status, 0)
+        self.assertIn("real-time order explains every read", "\n".join(lines))
+
+    def test_a_history_that_cant_be_read_again(self):
+        """From a pipe, what tells the form can't be read twice."""
+        with tempfile.TemporaryDirectory() as folder:
+            pipe, err = f"{folder}/pipe", io.StringIO()
+            os.mkfifo(pipe)
+            with subprocess.Popen(["cp", f"{SAMPLES}/registers.edn", pipe]):
                 with contextlib.redirect_stderr(err), mock.patch.dict(
                     os.environ, {"COBRA_AUDIT": sys.executable}
                 ):
-                    self.assertEqual(main(("check", path)), 2)
-                self.assertIn(f"`zanteyard import {form} {path} -o SCRIPT`", err.getvalue())
-        self.assertIsNone(history_form(b'["open",2,8]\n'))
-        self.assertIsNone(history_form(b""))
+                    self.assertEqual(main(("check", pipe)), 2)
+        self.assertIn("is a history, not a script: save it to a file", err.getvalue())
+
+    @staticmethod
+    def ran(*words):
+        """The status of a command, and the lines that it printed."""
+        out = io.StringIO()
+        with contextlib.redirect_stdout(out):
+            status = main(words)
+        return status, out.getvalue().splitlines()
 
     def run_import(self, path, script):
         out, err = io.StringIO(), io.StringIO()

@@ -329,6 +329,31 @@ class Harmless(WithProgram):
         self.assertRegex(str(outcome.failure), "no session is free for a client: 1 clients have one")
         self.assertEqual(live.report.kind, "serial")
 
+    def test_the_next_audit_has_a_session_for_a_client_that_had_none_however_soon_it_begins(self):
+        for new in (True, False):
+            with self.subTest(new=new):
+                live, store = self.live(1, every=1000, policy=Policy(30.0, True, 0.01)), MemoryStore()
+                whole = live.lose
+
+                def lose(error):
+                    whole(error)
+                    until = time.monotonic() + SOON
+                    while not live.earlier and time.monotonic() < until:
+                        time.sleep(0.001)
+
+                if new:
+                    live.session(store.connect()).run(add_one("x"))
+                comes = None if new else live.session(store.connect())
+                with mock.patch.object(live, "lose", lose):
+                    if new:
+                        with mock.patch.object(live._pool, "take", lambda *_: None):
+                            comes = live.session(store.connect())
+                    else:
+                        comes.place = live._cant_join(comes, ValueError("for a test"))
+                self.assertFalse(comes.place.is_audited)
+                self.assertEqual((len(live.earlier), live._pool.sessions), (1, 2))
+                self.assertEqual(len(live.stop().earlier), 1)
+
     def test_who_comes_before_a_cut_has_a_session(self):
         """A meeting closes sessions without clients; these return after the next cut."""
         live, store = self.live(64, every=1000), MemoryStore()

@@ -13,7 +13,8 @@ import shutil
 import signal
 import tempfile
 import unittest
-from typing import Any, Iterator
+from collections.abc import Iterator
+from typing import Any
 from unittest import mock
 
 from zanteyard import Auditor, LiveAuditor, Session

@@ -59,7 +59,7 @@ class Package(unittest.TestCase):
             for key, value in os.environ.items()
             if not key.startswith("COBRA_") and key != "PYTHONPATH"
         }
-        made = cls.run_it(f"{TOP}/package.sh", *how, "--output", cls.folder)
+        made = cls.run_it(f"{TOP}/package.sh", *how, "--output", f"{cls.folder}/out")
         cls.wheel = made.stdout.split()[-1] if not made.returncode else None
         cls.said = made.stdout + made.stderr
         cls.commands = commands_of_the_readme()
@@ -137,24 +137,6 @@ class Package(unittest.TestCase):
             text = self.zanteyard("help", command).stdout
             for name in re.findall(r"docs/([A-Z_]+\.md)", text):
                 self.assertTrue(os.path.isfile(f"{folder}/{name}"), name)
-
-    def test_a_first_try(self):
-        """./try.sh, with these tests' auditor."""
-        folder = os.path.join(self.folder, "try")
-        its = {**self.environment, "COBRA_AUDIT": os.path.abspath(PROGRAM)}
-        for _ in range(2):  # the second one makes its folder again
-            ended = subprocess.run(
-                [f"{TOP}/try.sh", folder], env=its, capture_output=True, text=True, timeout=1800
-            )
-            self.assertEqual(ended.returncode, 0, ended.stdout + ended.stderr)
-            self.assertRegex(ended.stdout, "(?m)^counter at autocommit: violated: ")
-            self.assertRegex(ended.stdout, "(?m)^  so n.* can come first$")
-            self.assertIn(f"The violation's page is {folder}/violation.html", ended.stdout)
-            with open(f"{folder}/violation.html", encoding="utf-8") as file:
-                self.assertIn("These transactions can't have run one at a time", file.read())
-        ended = subprocess.run([f"{TOP}/try.sh", self.folder], env=its, capture_output=True, text=True)
-        self.assertEqual(ended.returncode, 1)
-        self.assertIn(f"{self.folder} exists, and isn't from an earlier try", ended.stderr)
 
     def test_python_dash_m_is_the_same(self):
         ended = self.run_it(f"{self.folder}/venv/bin/python", "-m", "zanteyard", "--version")

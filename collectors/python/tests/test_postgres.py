@@ -139,7 +139,7 @@ class Postgres(unittest.TestCase):
         self.assertEqual(done, [[fence("init"), fence((1, 0))], [fence((0, 0))], []])
         run = dict(self.auditor.history[1][0].statements)
         self.assertEqual(run[(FENCE, (0, 0))], run[(FENCE,)])
-        self.assertIn(f"WHERE key = '{FENCE}' FOR UPDATE", run[(FENCE,)])
+        self.assertIn(f"WHERE key OPERATOR(pg_catalog.=) '{FENCE}' FOR UPDATE", run[(FENCE,)])
         self.assertEqual(self.kind(), "serial")
 
     def all_at_once(self, auditor, level, deed, times=25):
@@ -346,6 +346,56 @@ class Postgres(unittest.TestCase):
         # About a name that isn't among the last ones, nobody knows.
         self.assertEqual(asked(*how, ticket=never, seconds=60.0)[0], "unknown")
 
+    def test_nothing_that_others_have_made_is_called(self):
+        """Functions and operators in front of PostgreSQL's own: whoever called one would lend its
+        rights to who made it. Here each call fails."""
+        fails = "LANGUAGE plpgsql AS $$BEGIN RAISE EXCEPTION 'somebody else''s function is called'; END$$"
+        made = ["CREATE SCHEMA m"]
+        kinds = ("text", "int", "bigint", "oid", "name", "numeric")
+        for symbol in ("=", ">", ">=", "||", "%"):
+            for left, right in ((left, right) for left in kinds for right in kinds):
+                function = f"m.f{len(made)}"
+                made.append(f"CREATE FUNCTION {function}({left}, {right}) RETURNS {'text' if symbol == '||' else 'boolean'} {fails}")
+                made.append(f"CREATE OPERATOR m.{symbol} (LEFTARG = {left}, RIGHTARG = {right}, FUNCTION = {function})")
+        for call in (
+            "concat_ws(text, bigint, oid, oid, text)", "concat_ws(text, bigint, oid, oid)", "concat_ws(text, numeric, numeric)",
+            "concat_ws(text, int, bigint, text)", "concat_ws(text, text, text)", "array_to_string(text[], text)",
+            "string_to_array(text, text)", "chr(int)", "left(text, int)", "strpos(text, text)", "pg_backend_pid()",
+            "current_database()", "pg_is_in_recovery()", "pg_current_xact_id()", "pg_xact_status(xid8)", "pg_control_system()",
+            "pg_walfile_name(pg_lsn)", "pg_current_wal_lsn()", "pg_postmaster_start_time()", "pg_terminate_backend(int)",
+        ):
+            made.append(f"CREATE FUNCTION m.{call} RETURNS text {fails}")
+        made.append("ALTER DATABASE postgres SET search_path = m, public, pg_catalog")
+        self.addCleanup(self.run_all, ("ALTER DATABASE postgres RESET search_path", "DROP SCHEMA m CASCADE"))
+        self.run_all(made)
+        with psycopg2.connect(self.dsn) as hostile, hostile.cursor() as cursor:
+            with self.assertRaisesRegex(psycopg2.Error, "somebody else's"):
+                cursor.execute("SELECT 'a'::text = 'a'::text")
+        hostile.close()
+        prepare(self.dsn)
+        prepare(self.dsn, "public.another")
+        a, b, c = self.sessions()
+        a.run(lambda t: (t.put("x", "1"), t.put("y", "1")))
+        b.run(lambda t: (t.get_all(["x", "y"]), t.exchange("x", "2")))
+        self.assertEqual(c.run(lambda t: t.get("x")), "2")
+        for session in (a, b, c):
+            session.fence()
+        self.assertEqual(self.kind(), "serial")
+        b.run(lambda t: t.put("z", "1"))
+        self.assertEqual(b.store.outcome(), "committed")
+        _, *how = a.store.asks()
+        one = PostgresStore(self.dsn)
+        one.begin_alone(60.0)
+        one.exchange("mark", "", ("run", 0, 0))
+        done = one.ticket(("mark", "run", 0, 0))
+        one.close()
+        self.assertEqual(asked(*how, ticket=done, seconds=60.0)[0], "committed")
+
+    def run_all(self, statements):
+        with self.admin.cursor() as cursor:
+            for statement in statements:
+                cursor.execute(statement)
+
     @mock.patch("zanteyard.session._transaction.LEAST", SOON)  # a tenth of a second is too short on a busy machine
     def test_the_answer_to_a_fence_is_lost(self):
         a = self.sessions(store=Lossy)[0]
@@ -356,7 +406,7 @@ class Postgres(unittest.TestCase):
         self.assertEqual(self.count_at_once("read committed"), "violated")
         told = list(words(smaller(self.auditor.history, seconds=SOON)))
         self.assertEqual(told[2], "0.1 read x from 0.0, wrote x")
-        self.assertEqual(told[3], "    read x: SELECT value, run, session, number FROM zanteyard WHERE key = 'x'")
+        self.assertEqual(told[3], "    read x: SELECT value, run, session, number FROM zanteyard WHERE key OPERATOR(pg_catalog.=) 'x'")
         self.assertTrue(told[4].startswith("    wrote x: INSERT INTO zanteyard VALUES ('x', '2', 'run', 0, 1) ON CONFLICT"), told[4])
 
     def test_a_connection_that_breaks_before_the_commit(self):

@@ -42,7 +42,7 @@ class Hosts(unittest.TestCase):
         self.assertIn("pg_is_in_recovery()", STATUS)
         with PostgresServer() as server:
             prepare(server.dsn)
-            text = with_table(STATUS, "zanteyard").replace("pg_is_in_recovery()", "true")
+            text = with_table(STATUS, "zanteyard").replace("pg_catalog.pg_is_in_recovery()", "true")
             row = first_row(server.dsn, text, ("1", "x", "run", 0, 0), time.monotonic() + SOON)
             self.assertEqual(row[:2], (None, False))
             self.assertEqual(len(row[2].split()), 3)  # and no timeline

@@ -1,7 +1,5 @@
 """Programs with common drivers print the same with and without the proxy."""
 
-from __future__ import annotations
-
 import difflib
 import importlib.util
 import os

@@ -35,7 +35,7 @@ class Serving(unittest.TestCase):
         self.socket = f"{self.folder}/audit/audit.socket"
 
     def serve(self, *more):
-        call = [sys.executable, "-m", "zanteyard", "serve", "--journal", f"{self.folder}/audit", "--sessions", "4", "--every", "20", *more]
+        call = [sys.executable, "-m", "zanteyard", "serve", "--folder", f"{self.folder}/audit", "--sessions", "4", "--every", "20", *more]
         log = open(f"{self.folder}/log", "wb")
         self.addCleanup(log.close)
         path = os.pathsep.join([*filter(None, [os.environ.get("FAILING")]), PLACE])

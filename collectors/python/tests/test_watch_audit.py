@@ -6,7 +6,6 @@ import sys
 import tempfile
 import threading
 import unittest
-from unittest import mock
 
 from tests import watch_feed as feed
 from tests.made_up_programs import made_up
@@ -63,7 +62,9 @@ class Audits(unittest.TestCase):
         self.board, intake, self.commands = Board("shop"), Intake(), Commands()
         self.changed = threading.Condition()
         self.told = []
-        self.explaining = Explaining(PROGRAM, self.board.violation)
+        self.explaining = Explaining(
+            PROGRAM, lambda one, _: self.board.violation(one), groups=self.board.groups
+        )
         auditing = Auditing(PROGRAM, **more)
         self.watching = Watching(auditing, self.board, intake, self.tell, self.explaining)
         self.watching.start()
@@ -105,7 +106,7 @@ class Audits(unittest.TestCase):
         status = self.stop()
         self.assertEqual(status.whole_kind, "serial")
         self.assertEqual((status.rounds_count, status.violations_count), (2, 0))
-        self.assertEqual((status.seen.offered, status.seen.whole), (8, 11))
+        self.assertEqual((status.seen.offered, status.seen.totals.transactions.all), (8, 11))
         self.assertEqual(status.notes, ("take care",))
         self.assertEqual([its["marks"] for its in self.told_of("cut")], [[0] * 64] * 2)
 
@@ -126,12 +127,13 @@ class Audits(unittest.TestCase):
         self.assertEqual([its["marks"][:3] for its in self.told_of("cut")], [[2, 0, 0]] * 2)
         self.assertEqual((status.cuts, status.forgotten, status.remaining), (1, 2, 1))
 
-    def test_a_violation_is_explained_and_another_audit_begins(self):
-        self.begin([feed.started(), feed.OPEN, *feed.LOST_UPDATE, *feed.ROUND, ("await", "restart")])
-        self.fake_has("restart")
+    def test_a_violation_is_explained_and_the_audit_goes_on(self):
+        self.begin([feed.started(), feed.OPEN, *feed.LOST_UPDATE, *feed.ROUND, ("await", "cut")])
+        self.fake_has("cut")
         status = self.stop()
         self.assertEqual((status.whole_kind, status.kind), ("violated", "serial"))
-        self.assertEqual((status.audit, status.violations_count), (2, 1))
+        self.assertEqual((status.audit, status.violations_count), (1, 1))
+        self.assertEqual(self.told_of("restart"), [])
         (found,) = status.violations
         self.assertEqual(found.title, "lost update")
         self.assertEqual([one.label for one in found.told], ["T1", "T2", "T3"])
@@ -147,22 +149,6 @@ class Audits(unittest.TestCase):
                 self.assertIn(wanted, text)
         asked = self.told_of("describe")
         self.assertEqual([sorted(its["transactions"]) for its in asked], [[[0, 0], [1, 0], [2, 0]]])
-
-    def test_all_of_a_large_violation_are_described_before_another_audit(self):
-        """Which makes the proxy forget them. Here another audit is due at once."""
-        patched = mock.patch("zanteyard.watch._watching.PAUSES", (0.0,))
-        patched.start()
-        self.addCleanup(patched.stop)
-        lines = [feed.offer(0, at, [[[5, 0, at - 1] if at else [5, "init"]], [5]]) for at in range(600)]
-        skew = [feed.offer(at, 0, [[[5, 0, 599], [6, "init"]], [at]]) for at in (5, 6)]
-        self.begin([feed.started(), feed.OPEN, *lines, *skew, *feed.ROUND, ("await", "restart")])
-        self.fake_has("restart")
-        (found,) = self.stop().violations
-        self.assertLessEqual({(5, 0), (6, 0)}, {one.id for one in found.told})
-        for one in found.told:
-            self.assertTrue(one.its.statements)
-        sent = [its["command"] for its in self.told if its["command"] != "cut"]
-        self.assertEqual(sent, ["describe"] * 3 + ["restart", "stop"])
 
     def until(self, is_so):
         """Waits for it, two minutes at most."""

@@ -22,6 +22,7 @@ from zanteyard.watch._described import Described, Statement
 from zanteyard.watch._feed import answered_of, seen_of
 from zanteyard.watch._serving import Pages
 from zanteyard.watch._state import Ended, Status
+from zanteyard.watch._totals import Total
 from zanteyard.watch._style import NOW, SCRIPT, STYLE
 from zanteyard.core._visible import escaped, visible, visible_lines
 from zanteyard.watch._text import counted
@@ -110,18 +111,25 @@ class Live(unittest.TestCase):
 
     def test_what_it_says(self):
         for one, wanted in (
-            (status(), ["No violation so far", "72.7 % of 11", "an aggregate", "checked up to "]),
+            (status(), ["No violation so far", "54.5 % of 11", "an aggregate", "checked up to "]),
             (
                 status(),
                 [
-                    "<p>4 of the row reads were of versions from before the audit.</p>",
-                    "<p>2 of the row reads were of versions that unchecked transactions wrote.</p>",
+                    "54.5 %: 6 of 11 transactions; 2 more in part; 1 more rolled back",
+                    "45.0 %: 9 of 20 SELECTs",
+                    "78.9 %: 15 of 19 rows read; 5 more rolled back",
+                    "<p>4 of the checked rows were in a version from before the audit.</p>",
+                    "<p>2 of the checked rows were in a version that an unchecked transaction ",
+                    "<p>8 SELECTs asked by a condition, ",
+                    "<h2>Checked in part</h2>",
+                    "<h2>Not checked</h2>",
+                    "select the rows, and add them up",
                 ],
             ),
             (status(kind="running", rounds_count=0), ["Nothing has been checked yet"]),
             (
                 status(violations=(violation(),), violations_count=22),
-                ["22 violations found", "/violation/1", "21 more violations, whose"],
+                ["22 violations found", "/violation/1", "The first of each shape has its own page"],
             ),
             (
                 status(kind="pending", pending=("1.0 read key 5",), pending_count=1),
@@ -148,8 +156,7 @@ class Live(unittest.TestCase):
 
     def test_what_comes_from_outside_is_made_safe(self):
         its = feed.coverage(
-            folded={EVIL: 3},
-            reads={"offered": 1, "left_out": {EVIL: 4}},
+            totals={"rows_read": feed.total(5, 1, {EVIL: 1}, {EVIL: 3})},
             unseen=[{"shape": EVIL, "reason": EVIL, "reads": True, "count": 1, "first": feed.AT}],
         )
         one = status(
@@ -163,11 +170,6 @@ class Live(unittest.TestCase):
             self.assertNotIn("<script>alert", text)
             self.assertEqual(set("\x1b\u202e\u200b\x00") & set(text), set())
             self.assertGreaterEqual(text.count("\\u202egnp"), 5)
-
-    def test_what_was_aborted_doesnt_count_as_left_out(self):
-        its = {"offered": 6, "left_out": {"it aborted": 500, "its version is unknown": 2}}
-        seen = seen_of(feed.coverage(reads=its))
-        self.assertEqual((seen.left_out_count, seen.whole_reads), (2, 8))
 
     def test_a_share_is_whole_only_if_nothing_is_missing(self):
         for part, whole, wanted in ((9999999, 10000000, "99.9 %"), (5, 5, "100 %"), (0, 0, "0 %")):
@@ -219,28 +221,55 @@ class Endings(unittest.TestCase):
             ({"kind": "spent"}, 4),
             ({"kind": "running"}, 4),
             (lost, 4),
-            ({"seen": seen_of(feed.coverage(offered=2))}, 4),
+            ({"seen": seen_of(feed.coverage(totals={}))}, 4),
+            ({"at_least": 45.0}, 0),
+            ({"at_least": 46.0}, 5),
+            ({"at_least": 46.0, **violated}, 1),
+            ({"at_least": 46.0, **lost}, 4),
         ):
             with self.subTest(more=more):
                 self.assertEqual(ending.status_of(status(**more)), wanted)
 
     def test_an_audit_that_checked_nothing_isnt_serial(self):
-        its = status(seen=seen_of({}))
+        """And says whether anybody was there, and what was left out."""
+        its = status(seen=seen_of({}), database="shop")
         self.assertEqual(
             [*ending.lines_of(its)],
-            ["nothing was checked: no application read or wrote a table through the proxy"],
+            ["nothing was checked: no application connected to the database shop through the proxy"],
         )
+        its = status(
+            seen=seen_of(feed.coverage(totals={})), database="shop"
+        )
+        first, *rest = ending.lines_of(its)
+        self.assertEqual(
+            first,
+            "nothing was checked: the audit saw no row that 5 connections to the database shop "
+            "read or wrote",
+        )
+        self.assertEqual(rest[-1].strip(), "SELECT count(*) FROM orders WHERE customer = $1")
+
+    def test_what_was_run_but_not_checked_is_counted(self):
+        totals = {"transactions": feed.total(9, 0, {}, {"no statement of it was seen": 8}, 1)}
+        its = status(seen=seen_of(feed.coverage(totals=totals)))
+        told = [*ending.lines_of(its)]
+        self.assertTrue(told[0].startswith("nothing: 0 of 9 transactions were checked"), told)
+        unseen = "no statement of it was seen: the statements below say why"
+        self.assertIn(f"             8 transactions  {unseen}", told)
+        waits = "the audit ended before its next round: the log says why it ended"
+        self.assertIn(f"             1 transactions  {waits}", told)
 
     def test_earlier_audits_count(self):
         its = status(earlier_seen=seen_of(feed.coverage()))
-        self.assertIn("16 of 22 transactions", next(ending.lines_of(its)))
+        self.assertIn("12 of 22 transactions", next(ending.lines_of(its)))
 
 
 class Feeds(unittest.TestCase):
     def test_fields_that_are_missing_or_wrong(self):
-        for event in ({}, {"reads": 5, "unseen": [7, {}], "folded": None, "committed": "x"}):
+        wrong = {"transactions": {"all": "x", "in_part": 7}, "selects": 5}
+        for event in ({}, {"reads": 5, "unseen": [7, {}], "totals": wrong, "committed": "x"}):
             seen = seen_of(event)
-            self.assertEqual((seen.offered, seen.whole, seen.reads), (0, 0, 0))
+            totals = seen.totals
+            self.assertEqual((seen.offered, totals.transactions, totals.selects.all), (0, Total(), 0))
 
     def test_what_is_described(self):
         its = [feed.described(1, 2), {"session": 3, "number": 4, "known": False}]

@@ -3,7 +3,9 @@ import argparse
 import contextlib
 import glob
 import io
+import json
 import os
+import re
 import sys
 import unittest
 from unittest import mock
@@ -12,6 +14,7 @@ from zanteyard.cli._main import main
 from zanteyard.trial.postgres_server import PostgresServer, program
 from zanteyard.watch import _facts as facts
 from zanteyard.watch import _hosts as hosts
+from zanteyard.watch._address import _LIMITED
 from zanteyard.watch._database import Database, DatabaseError, without_password
 from zanteyard.watch._facts import Server
 from zanteyard.watch._patterns import table_patterns
@@ -22,6 +25,7 @@ try:
     import psycopg2
 except ImportError:
     psycopg2 = None
+TOP = os.path.normpath(os.path.join(os.path.dirname(os.path.abspath(__file__)), "../../.."))
 TABLES = '''
 CREATE TABLE right_one (id int PRIMARY KEY);
 CREATE TABLE two (a uuid, b text, PRIMARY KEY (a, b));
@@ -95,6 +99,35 @@ class Hosts(unittest.TestCase):
             with self.assertRaisesRegex(DatabaseError, "names several"):
                 Database(url)
 
+    @unittest.skipIf(psycopg2 is None, "psycopg2 is not installed")
+    def test_what_is_not_followed_is_refused_by_name(self):
+        """Before anything connects: nothing listens there."""
+        for word in (
+            "channel_binding=require", "gssencmode=require", "replication=database",
+            "target_session_attrs=standby", "sslcrl=x", "sslcrldir=x", "requirepeer=postgres",
+            "sslpassword=secret",
+        ):
+            for url in (f"postgresql://a@127.0.0.1:1/x?{word}", f"host=127.0.0.1 port=1 {word}"):
+                with self.assertRaisesRegex(DatabaseError, f"^{word.split('=')[0]}=") as caught:
+                    Database(url)
+                self.assertNotIn("secret", str(caught.exception))
+
+    def test_the_proxy_refuses_the_same(self):
+        """The words and values of the proxy's own table."""
+        path = os.path.join(TOP, "proxy/src/zanteyard/address/address.go")
+        if not os.path.isfile(path):
+            self.skipTest("the proxy's sources aren't here")
+        with open(path, encoding="utf-8") as file:
+            source = file.read()
+        limited = r'^\t"(\w+)": +\{"\w*", (?:among|none|amongKeys)\('
+        in_go = set(re.findall(limited, source, re.MULTILINE))
+        self.assertEqual(in_go - {"sslmode", "sslsni"}, set(_LIMITED))  # libpq refuses these
+        for name, (values, words) in _LIMITED.items():
+            line = next(it for it in source.split("\n") if it.startswith(f'\t"{name}":'))
+            for value in values if "among(" in line else ():
+                self.assertIn(f'"{value}"', line)
+            self.assertIn(words, source)
+
     def test_names_as_sql_has_them(self):
         for name, wanted in (("a_1", "a_1"), ("A", '"A"'), ('a"b', '"a""b"'), ("1a", '"1a"')):
             self.assertEqual(quoted(name), wanted)
@@ -141,6 +174,11 @@ class Reports(unittest.TestCase):
                 "            " + hosts.DOCKER_NOTE,
                 "  note    pg_walinspect isn't created",
                 "            create it",
+                "the least role for an audit",
+                "  CREATE ROLE zanteyard LOGIN REPLICATION PASSWORD '..'",
+                "  GRANT CONNECT ON DATABASE \"shop\" TO zanteyard (if PUBLIC may not connect)",
+                "  GRANT EXECUTE ON FUNCTION pg_get_wal_record_info(pg_lsn) TO zanteyard (if the "
+                "extension pg_walinspect is there)",
                 "the tables: 1 of 2 tables can be audited",
                 "  b: no primary key",
                 "    add one",
@@ -194,14 +232,21 @@ class OverAServer(unittest.TestCase):
 
     def test_1_what_is_missing(self):
         status, lines = self.prepare()
-        self.assertEqual(status, 2)
+        self.assertEqual(status, 1)
+        (line,) = self.prepare("--json")[1]
+        its = json.loads(line)
+        self.assertEqual((its["ready"], its["server"]["database"]), (False, "postgres"))
+        missing = [each for each in its["findings"] if each["needed"] and not each["right"]]
+        self.assertEqual(
+            missing[0]["sentence"], "wal_level is replica, but must be logical"
+        )
+        self.assertIn("ALTER SYSTEM SET wal_level", missing[0]["remedy"])
         whole = "\n".join(lines)
         for wanted in (
             "MISSING wal_level is replica, but must be logical",
-            f"MISSING the table {facts.FENCE} doesn't exist",
             "ok      the role postgres has the right to replicate",
             "note    max_slot_wal_keep_size has no limit",
-            "2 things are missing",
+            "1 thing is missing",
         ):
             self.assertIn(wanted, whole)
         self.assertEqual("wal2json isn't installed" in whole, not plugin_is_installed())
@@ -218,27 +263,49 @@ class OverAServer(unittest.TestCase):
             url = self.url.replace("postgres@", "carol@")
             self.assertNotIn("no_such_plugin", "\n".join(self.prepare(url=url)[1]))
 
-    def test_2_what_can_be_created(self):
+    def test_2_a_nothing_is_created(self):
         with Database(self.url) as database:
             database.run("ALTER SYSTEM SET wal_level = 'logical'")
         self.cluster.stop()
         self.cluster.start()
-        status, lines = self.prepare("--create")
+        with Database(self.url) as database:
+            before = database.one("SELECT count(*) FROM pg_class")
+        status, lines = self.prepare()
         self.assertEqual(status, 0, lines)
         self.assertEqual(lines[-1], "ready: an audit can begin")
-        self.assertEqual(self.prepare("--create")[0], 0)  # a second time changes nothing
         with Database(self.url) as database:
-            self.assertEqual(database.run(f"SELECT id, n FROM {facts.FENCE}"), [(0, 0)])
+            self.assertEqual(database.one("SELECT count(*) FROM pg_class"), before)
             slots = database.one("SELECT count(*) FROM pg_replication_slots")
         self.assertEqual(slots, 0)  # the slots that were tried are gone
 
-    def test_3_a_tables(self):
+    def test_2_b_a_table_that_an_earlier_version_made(self):
+        drop = "DROP TABLE public.zanteyard_fence"
+        self.assertNotIn(drop, "\n".join(self.prepare()[1]))
         with Database(self.url) as database:
+            database.run("CREATE TABLE public.zanteyard_fence (id integer PRIMARY KEY, n bigint)")
+        status, lines = self.prepare()
+        self.assertEqual((status, lines[-1]), (0, "ready: an audit can begin"))
+        at = [line.strip() for line in lines].index(drop)
+        self.assertIn("nothing uses it any more", lines[at - 1])
+        with Database(self.url) as database:
+            database.run(drop)
+        self.assertNotIn(drop, "\n".join(self.prepare()[1]))
+
+    def test_2_c_an_option_of_an_earlier_version(self):
+        errors = io.StringIO()
+        with contextlib.redirect_stderr(errors), self.assertRaises(SystemExit) as ended:
+            self.prepare("--create")
+        self.assertEqual(ended.exception.code, 2)
+        self.assertIn("an audit creates no table", errors.getvalue())
+
+    def test_3_a_tables(self):
+        with Database(self.url, options="-c search_path=public") as database:
             text = TABLES
             if not database.one("SELECT 1 FROM pg_collation WHERE collprovider = 'i' LIMIT 1"):
                 text = TABLES[: TABLES.index(NO_ICU)]
             for statement in filter(str.strip, text.split(";")):
                 database.run(statement)
+        with Database(self.url) as database:
             found = {table.name: table for table in tables_of(database)}
         seen = {name for name, table in found.items() if table.is_seen}
         self.assertEqual(
@@ -264,7 +331,6 @@ class OverAServer(unittest.TestCase):
         self.assertEqual(
             (found["public.parts_1"].kind, found["public.seen"].kind), ("partition", "view")
         )
-        self.assertNotIn(facts.FENCE, found)
         self.assertNotIn("public.temporary", found)
 
     def test_3_b_those_that_are_asked_for(self):
@@ -286,12 +352,106 @@ class OverAServer(unittest.TestCase):
             database.run("CREATE ROLE bob LOGIN")
         url = self.url.replace("postgres@", "bob@")
         status, lines = self.prepare(url=url)
-        self.assertEqual(status, 2)
+        self.assertEqual(status, 1)
         at = lines.index("  MISSING the role bob lacks the right to replicate")
         self.assertIn("ALTER ROLE bob REPLICATION", lines[at + 1])
         with Database(self.url) as database:
             database.run("ALTER ROLE bob REPLICATION")
         self.assertEqual(self.prepare(url=url)[0], 0)
+
+    def test_4_b_the_least_role(self):
+        """What is printed is enough, and a superuser learns that it needn't be one."""
+        lines = self.prepare()[1]
+        at = lines.index(
+            "the role: the role postgres is a superuser, which an audit doesn't need; this one is enough"
+        )
+        made = [line.strip().split(" (if ")[0] for line in lines[at + 1 : at + 4]]
+        with Database(self.url, options="-c search_path=public") as database:
+            if database.one("SELECT 1 FROM pg_available_extensions WHERE name = 'pg_walinspect'"):
+                database.run("CREATE EXTENSION pg_walinspect")
+            else:
+                made = made[:2]
+            for statement in made:
+                database.run(statement)
+        status, lines = self.prepare(url=self.url.replace("postgres@", "zanteyard@"))
+        self.assertEqual((status, lines[-1]), (0, "ready: an audit can begin"), lines)
+        self.assertIn("the least role for an audit", lines)
+        self.assertFalse([it for it in lines if "pg_read_server_files" in it], lines)
+        if len(made) > 2:
+            self.assertIn("  ok      pg_walinspect exists, and zanteyard may call it", lines)
+
+    def test_4_b_whose_extension_it_is(self):
+        """The proxy calls a function of pg_walinspect only if nobody else can have made it, and
+        `prepare` says so."""
+        made = (
+            "CREATE FUNCTION m.pg_get_wal_record_info(pg_lsn) RETURNS TABLE(description text) LANGUAGE plpgsql AS "
+            "$$BEGIN ALTER ROLE maker SUPERUSER; RETURN QUERY SELECT ''::text; END$$"
+        )
+        hers = "the extension pg_walinspect or its function doesn't belong to a superuser"
+        with Database(self.url, options="-c search_path=public") as database:
+            if not database.one("SELECT 1 FROM pg_available_extensions WHERE name = 'pg_walinspect'"):
+                self.skipTest("this PostgreSQL has no pg_walinspect")
+            for statement in ("CREATE ROLE maker LOGIN", "CREATE SCHEMA m AUTHORIZATION maker"):
+                database.run(statement)
+            self.addCleanup(self.without_maker)
+            for change, wanted in (
+                ("SELECT 1", "  ok      pg_walinspect exists, and postgres may call it"),
+                ("UPDATE pg_extension SET extowner = 'maker'::regrole WHERE extname = 'pg_walinspect'", hers),
+                (f"SET ROLE maker; {made}; RESET ROLE; ALTER EXTENSION pg_walinspect DROP FUNCTION "
+                 "pg_get_wal_record_info(pg_lsn); ALTER EXTENSION pg_walinspect ADD FUNCTION "
+                 "m.pg_get_wal_record_info(pg_lsn)", hers),
+            ):
+                database.run("DROP EXTENSION IF EXISTS pg_walinspect")
+                database.run("CREATE EXTENSION pg_walinspect")
+                database.run(change)
+                lines = self.prepare()[1]
+                self.assertTrue([it for it in lines if wanted in it], (change, lines))
+
+    def without_maker(self):
+        with Database(self.url) as database:
+            database.run("DROP EXTENSION pg_walinspect")
+            database.run("DROP FUNCTION IF EXISTS public.pg_get_wal_record_info(pg_lsn)")
+            database.run("DROP SCHEMA m CASCADE")
+            database.run("DROP ROLE maker")
+
+    def test_4_c_rules_that_ask_for_nothing(self):
+        lines = self.prepare()[1]
+        self.assertTrue([it for it in lines if "ask a client for no credential" in it], lines)
+
+    def test_4_d_nobody_gains_a_right(self):
+        """Whatever the database's owner has put in front of PostgreSQL's own names isn't called."""
+        gains = (
+            "LANGUAGE plpgsql AS $$BEGIN IF (SELECT rolsuper FROM pg_catalog.pg_roles WHERE rolname "
+            "OPERATOR(pg_catalog.=) current_user) THEN ALTER ROLE intruder SUPERUSER; END IF; "
+        )
+        made = ["CREATE ROLE intruder LOGIN", "CREATE SCHEMA m AUTHORIZATION intruder", "SET ROLE intruder"]
+        for at, (left, right) in enumerate(
+            (left, right) for left in ("oid", "name", "text", '"char"') for right in ("oid", "name", "text", '"char"', "int")
+        ):
+            for to, symbol in enumerate(("=", "<>", "~", "!~")):
+                made.append(f"CREATE FUNCTION m.f{at}_{to}({left}, {right}) RETURNS boolean {gains} RETURN true; END$$")
+                made.append(f"CREATE OPERATOR m.{symbol} (LEFTARG = {left}, RIGHTARG = {right}, FUNCTION = m.f{at}_{to})")
+        for call in ("current_setting(text)", "current_database()", "count(oid)", "unnest(int2vector)", "to_regclass(text)"):
+            made.append(f"CREATE FUNCTION m.{call} RETURNS text {gains} RETURN 'x'; END$$")
+        ask = "SELECT rolsuper FROM pg_catalog.pg_roles WHERE rolname OPERATOR(pg_catalog.=) 'intruder'"
+        with Database(self.url, options="-c search_path=public") as database:
+            for statement in made:
+                database.run(statement)
+            database.run("RESET ROLE")
+            database.run("ALTER DATABASE postgres SET search_path = m, public, pg_catalog")
+            self.addCleanup(self.forget)
+        with Database(self.url, options="") as database:
+            database.run("SELECT 1 FROM pg_roles WHERE rolname = rolname")
+            self.assertTrue(database.one(ask), "the database isn't hostile")
+            database.run("ALTER ROLE intruder NOSUPERUSER")
+        self.prepare()
+        with Database(self.url) as database:
+            self.assertFalse(database.one(ask))
+
+    def forget(self):
+        with Database(self.url) as database:
+            database.run("ALTER DATABASE postgres RESET search_path")
+            database.run("DROP SCHEMA m CASCADE")
 
     def test_5_no_room_for_a_slot(self):
         name = "zanteyard_test"
@@ -304,7 +464,7 @@ class OverAServer(unittest.TestCase):
             finally:
                 for at in range(most):
                     database.run("SELECT pg_drop_replication_slot(%s)", (f"{name}{at}",))
-        self.assertEqual(status, 2)
+        self.assertEqual(status, 1)
         self.assertIn(f"MISSING max_replication_slots is {most}", "\n".join(lines))
 
 

@@ -10,7 +10,6 @@ import unittest
 from tests import test_watch_audit, test_watch_run, test_watch_whole
 from tests import watch_feed as feed
 from zanteyard.cli._commands import parser
-from zanteyard.core._records import AuditId
 from zanteyard.program._binaries import PROGRAM
 from zanteyard.promises._kinds import SNAPSHOT
 from zanteyard.trial.postgres_server import program
@@ -22,7 +21,6 @@ from zanteyard.watch._figures import families
 from zanteyard.watch._intake import Intake
 from zanteyard.watch._live_page import whole_page
 from zanteyard.watch._proxy_program import proxy_path
-from zanteyard.watch._retained import Retained
 from zanteyard.watch._run import Plan, Run
 from zanteyard.watch._violation_page import violation_page
 from zanteyard.watch._violations import keys_of
@@ -48,6 +46,24 @@ class Words(unittest.TestCase):
         asked = parser().parse_args(["watch", "postgresql://a/b"])
         self.assertFalse([it for it in call_of("proxy", asked)[0] if it.startswith("--promise")])
 
+    def test_what_a_proxy_beside_another_server_is_told(self):
+        asked = parser().parse_args(["proxy", "postgresql://a/b", "--redis", "redis://c", "--audit", "d", "--key", "e"])
+        call, _ = call_of("proxy", asked)
+        self.assertEqual(call[:3], ["proxy", "--server", "postgresql://a/b"])
+        self.assertFalse([it for it in call if it.startswith(("--promise", "--rollbacks", "--sample"))])
+
+    def test_a_list_of_processes_shows_no_password(self):
+        for url in (
+            "postgresql://u:s3cret@a/b",
+            "postgresql://u@a/b?password=s3cret",
+            "postgresql://u@a/b?sslpassword=s3cret",
+            "host=a user=u password=s3cret",
+        ):
+            call, environment = call_of("proxy", parser().parse_args(["watch", url]))
+            self.assertNotIn("s3cret", " ".join(call))
+            known = [environment.get(name, "") for name in ("ZANTEYARD_URL", "PGPASSWORD")]
+            self.assertIn("s3cret", "".join(known))
+
     def test_keys_of_a_refutation(self):
         """One that names begins and commits."""
         choice = [0, 1, "begin", 5, 1, 0, "commit", 2, 0, "commit"]
@@ -55,24 +71,14 @@ class Words(unittest.TestCase):
         self.assertEqual(keys_of([["nowrite", 0, 1, "begin", 3]]), {3})
         self.assertEqual(keys_of([["force", choice, 1, [arc]], ["cycle", [arc]]]), {5, 7})
 
-    def test_what_has_begun_has_no_reads(self):
-        """A transaction whose begin is forgotten, and whose commit isn't."""
-        retained = Retained()
-        retained.note(b'["open",2,8,2]')
-        retained.note(b'["offer",0,0,[[[[5,"init"]],[6]],[[[6,0,0]],[]]]]')
-        retained.forget([], [[0, 0]])
-        found = retained.transactions()
-        self.assertEqual(found[AuditId((0, 0))], [[], [6]])
-        self.assertEqual(found[AuditId((0, 1))], [[[6, 0, 0]], []])
-        retained.forget([[0, 0]])
-        self.assertEqual([*retained.transactions()], [AuditId((0, 1))])
-
 
 class ByAFeed(test_watch_audit.Audits):
     def begin(self, parts, promise=SNAPSHOT, **more):
         self.board, intake = Board("shop", "proved", promise), Intake()
         self.commands, self.changed, self.told = test_watch_audit.Commands(), threading.Condition(), []
-        self.explaining = Explaining(PROGRAM, self.board.violation, promise)
+        self.explaining = Explaining(
+            PROGRAM, lambda one, _: self.board.violation(one), promise, self.board.groups
+        )
         auditing = Auditing(PROGRAM, promise=promise, **more)
         self.watching = Watching(auditing, self.board, intake, self.tell, self.explaining)
         self.watching.start()
@@ -90,8 +96,8 @@ class ByAFeed(test_watch_audit.Audits):
         self.assertIn("order of begins and commits satisfies snapshot isolation", page)
 
     def test_a_violation_says_what_it_breaks(self):
-        self.begin([feed.started(), OPEN, *feed.LOST_UPDATE, *feed.ROUND, ("await", "restart")])
-        self.fake_has("restart")
+        self.begin([feed.started(), OPEN, *feed.LOST_UPDATE, *feed.ROUND, ("await", "cut")])
+        self.fake_has("cut")
         status = self.stop()
         (found,) = status.violations
         self.assertEqual(found.title, "lost update")
@@ -110,9 +116,9 @@ class ByAFeed(test_watch_audit.Audits):
 
     def test_a_violation_says_what_it_leaves_standing(self):
         """In an audit for serializability."""
-        parts = [feed.started(), OPEN, *WRITE_SKEW, *feed.ROUND, ("await", "restart")]
+        parts = [feed.started(), OPEN, *WRITE_SKEW, *feed.ROUND, ("await", "cut")]
         self.begin(parts, test_watch_audit.Board("").status().promise)
-        self.fake_has("restart")
+        self.fake_has("cut")
         status = self.stop()
         (found,) = status.violations
         self.assertIn("leaves snapshot isolation standing", "\n".join(found.lines()))
@@ -153,7 +159,7 @@ class OverAServer(test_watch_whole.Whole):
         self.folder = tempfile.mkdtemp()
         self.addCleanup(shutil.rmtree, self.folder, ignore_errors=True)
         self.told = []
-        call = [proxy_path(), "--server", self.url, "--listen", f"{self.folder}/.s.PGSQL.6432"]
+        call = [proxy_path(), "--trust-clients", "--server", self.url, "--listen", f"{self.folder}/.s.PGSQL.6432"]
         self.watch = Run(
             Plan([*call, "--promise=snapshot"], PROGRAM, "shop", promise=SNAPSHOT), self.told.append
         )
@@ -199,7 +205,8 @@ class OverAServer(test_watch_whole.Whole):
         self.until(skew, lambda status: is_done(status) or status.violations)
         told = self.finish()
         self.assertEqual(self.status, 0, told)
-        self.assertRegex(told, "(?m)^kept: .* transactions were checked for snapshot isolation, in ")
+        checked = "(?m)^kept: .* transactions\\b.* were checked for snapshot isolation, in "
+        self.assertRegex(told, checked)
 
     def test_read_committed_loses_updates(self):
         one, other = self.connect(), self.connect()

@@ -15,7 +15,6 @@ from zanteyard.cli._main import main
 from zanteyard.program._binaries import PROGRAM
 from zanteyard.trial.postgres_server import PostgresServer, program
 from zanteyard.trial.redis_server import RedisServer, redis_server
-from zanteyard.watch import _facts as facts
 from zanteyard.watch import _figures as figures
 from zanteyard.watch import _live_page as live_page
 from zanteyard.watch._database import Database
@@ -106,8 +105,7 @@ class OneAudit(unittest.TestCase):
             database.run("ALTER SYSTEM SET wal_level = 'logical'")
         cls.cluster.stop()
         cls.cluster.start()
-        with Database(cls.url) as database:
-            facts.create(database)
+        with Database(cls.url, options="-c search_path=public") as database:
             database.run("CREATE TABLE stock (id int PRIMARY KEY, qty int NOT NULL)")
             database.run("INSERT INTO stock VALUES (7, 1000000), (8, 1000000)")
 
@@ -117,8 +115,8 @@ class OneAudit(unittest.TestCase):
         made = "(umask 077; head -c 32 /dev/urandom | base64 > audit.key)"  # as in docs/WATCH.md
         subprocess.run(made, shell=True, check=True, cwd=self.folder)
         self.key = os.path.join(self.folder, "audit.key")
-        self.environment = {**os.environ, "ZANTEYARD_REDIS": self.redis.dsn}
-        call = [proxy_path(), "--server", self.url, "--listen", self.socket(6432)]
+        self.environment = {**os.environ, "ZANTEYARD_REDIS": self.redis.dsn, "RUNTIME_DIRECTORY": self.folder}
+        call = [proxy_path(), "--trust-clients", "--server", self.url, "--listen", self.socket(6432)]
         call += ["--audit", "shop", "--key", self.key]
         self.told, self.status = [], None
         self.watch = Run(
@@ -140,7 +138,7 @@ class OneAudit(unittest.TestCase):
         running.join()
 
     def begin_other(self):
-        words = ["-m", "zanteyard", "proxy", self.url, "--listen", self.socket(6433)]
+        words = ["-m", "zanteyard", "proxy", "--trust-clients", self.url, "--listen", self.socket(6433)]
         words += ["--audit", "shop", "--key", self.key, "--name", "web-2"]
         log = open(f"{self.folder}/log", "a", encoding="utf-8")
         self.addCleanup(log.close)

@@ -1,6 +1,7 @@
 """A whole run of `zanteyard watch`, with a fake proxy and the real auditor."""
 import json
 import os
+import re
 import shutil
 import signal
 import socket
@@ -30,6 +31,7 @@ SERIAL = [
     *feed.ROUND,
     feed.coverage(),
 ]
+TOLD_APART = "its writes couldn't be told apart: put BEGIN and COMMIT around the statement"
 try:
     import psycopg2
 except ImportError:
@@ -87,18 +89,39 @@ class Runs(InAFolder):
         self.assertEqual(
             told,
             [
-                "serial: 8 of 11 transactions were checked, in 2 rounds",
-                "  15 of 19 row reads and 6 of 9 row writes were checked",
-                "  4 of the row reads were of versions from before the audit",
-                "  2 of the row reads were of versions that unchecked transactions wrote",
-                "  1 more transaction read and wrote no row that the audit sees",
+                "serial: 6 of 11 transactions, 9 of 20 SELECTs and 6 of 9 written rows were checked, "
+                "in 2 rounds",
+                "                           all     checked     in part  not checked  rolled back",
+                "  transactions              11           6           2            3            1",
+                "  SELECTs                   20           9           1           10            1",
+                "  writes                     9           6           0            3            0",
+                "  rows read                 19          15           0            4            5",
+                "  rows written               9           6           0            3            0",
+                "  8 SELECTs asked by a condition, not by a whole key: rows that it passed over "
+                "(phantoms) weren't checked",
+                "  3 SELECTs found no row",
+                "  4 of the checked rows were in a version from before the audit",
+                "  2 of the checked rows were in a version that an unchecked transaction wrote",
+                "  1 of the checked rows had been written by the transaction that read them",
+                "  1 of those that were rolled back had only read: --rollbacks checks such transactions",
+                "  1 more statement defined something, called a procedure or the like: not looked into",
+                "  2 more transactions, with 5 rows written, bypassed the proxy",
+                "  1 more commit had no row, such as those of the server's own ANALYZE",
+                "  checked in part",
+                "             2 transactions  some statements weren't seen: the statements below say why",
+                "             1 SELECTs       a subquery: run it as a SELECT of its own",
                 "  not checked",
-                "             3 transactions  committed without the proxy",
-                "             4 row reads     its version is unknown",
-                "             3 row writes    committed without the proxy",
+                f"             3 transactions  {TOLD_APART}",
+                "             7 SELECTs       an aggregate: select the rows, and add them up",
+                "             3 SELECTs       it found no row: ask by a whole primary key, at "
+                "repeatable read or serializable",
+                f"             3 writes        {TOLD_APART}",
+                "             4 rows read     its version is unknown: it was written before the audit, "
+                "or by what isn't audited",
+                f"             3 rows written  {TOLD_APART}",
                 "  statements only partly seen",
                 "         times first    what wasn't seen, then the statement",
-                f"             7 {told[11].split()[1]} an aggregate",
+                f"             7 {told[-2].split()[1]} an aggregate",
                 "                          SELECT count(*) FROM orders WHERE customer = $1",
             ],
         )
@@ -108,20 +131,22 @@ class Runs(InAFolder):
         with self.assertLogs("zanteyard", "INFO") as logged:
             told, status = self.run_of(SERIAL, promise=SNAPSHOT)
         self.assertEqual(status, 0)
-        wanted = "kept: 8 of 11 transactions were checked for snapshot isolation, in 2 rounds"
-        self.assertEqual(told[0], wanted)
+        wanted = "6 of 9 written rows were checked for snapshot isolation, in 2 rounds"
+        self.assertTrue(told[0].startswith("kept: 6 of 11 transactions, "), told[0])
+        self.assertTrue(told[0].endswith(wanted), told[0])
         self.assertTrue(any("round 1: kept; " in line for line in logged.output))
-        self.assertFalse(any("serial" in line for line in [*logged.output, *told]))
+        self.assertFalse(any(re.search("serial(:| order)", it) for it in [*logged.output, *told]))
 
     def test_a_violated_one_is_kept(self):
         folder = os.path.join(self.folder, "found")
         parts = [feed.started(), feed.OPEN, *feed.LOST_UPDATE, *feed.ROUND, feed.coverage()]
         told, status = self.run_of(
-            parts, is_done=lambda its: its.violations and its.audit == 2, save=folder
+            parts, is_done=lambda its: its.violations and its.seen.reads, save=folder
         )
         self.assertEqual(status, 1)
         self.assertIn("  1 violation found: lost update", told)
-        self.assertIn("violated: 16 of 22 transactions were checked, in 2 rounds and 2 audits", told)
+        checked = "6 of 11 transactions, 9 of 20 SELECTs and 6 of 9 written rows were checked"
+        self.assertIn(f"violated: {checked}, in 3 rounds", told)
         self.assertEqual(
             sorted(os.listdir(folder)), ["violation-1.html", "violation-1.jsonl", "violation-1.txt"]
         )
@@ -130,6 +155,37 @@ class Runs(InAFolder):
         replies = subprocess.run([PROGRAM], input=script, capture_output=True, text=True).stdout
         self.assertIn('"violated"', replies)
         self.assertEqual(len(script.splitlines()), 5)  # without what did nothing
+
+    def test_too_little(self):
+        """Less than was asked for is another status, unless something worse was found."""
+        for at_least, wanted in ((45.0, 0), (45.1, 5)):
+            self.assertEqual(self.run_of(SERIAL, at_least=at_least)[1], wanted)
+        its = [feed.started(), feed.OPEN, *feed.LOST_UPDATE, *feed.ROUND, feed.coverage()]
+        _, status = self.run_of(its, at_least=99.0, is_done=lambda its: its.violations)
+        self.assertEqual(status, 1)
+
+    def test_json(self):
+        """Each line can be parsed; the last one is the outcome."""
+        told, status = self.run_of(SERIAL, is_json=True)
+        (outcome,) = map(json.loads, told)
+        self.assertEqual((status, outcome["event"], outcome["verdict"]), (0, "outcome", "serial"))
+        self.assertEqual(
+            {name: outcome["seen"][name] for name in feed.TOTALS}, feed.TOTALS
+        )
+        told, status = self.run_of(
+            [feed.started(), feed.OPEN, *feed.LOST_UPDATE, *feed.ROUND, feed.coverage()],
+            is_json=True,
+            is_done=lambda status: status.violations,
+        )
+        violation, outcome = map(json.loads, told)
+        self.assertEqual((status, outcome["verdict"], outcome["violations"]), (1, "violated", 1))
+        self.assertNotIn("explained", outcome)
+        self.assertEqual(violation["event"], "violation")
+        self.assertEqual(violation["anomaly"]["name"], "lost update")
+        self.assertIn("serializable", violation["breaks"])
+        texts = [each["text"] for one in violation["ran"] for each in one["statements"]]
+        self.assertIn("UPDATE stock SET qty = 4 WHERE id = 7", texts)
+        self.assertIn("can come first", violation["because"][-1])
 
     def test_a_proxy_that_cant_begin(self):
         with self.assertRaisesRegex(CantBeginError, "the proxy ended with status 3"):
@@ -166,7 +222,7 @@ class Runs(InAFolder):
             is_done=lambda its: its.audit == 2 and its.kind == "serial" and its.seen.reads,
         )
         self.assertEqual(status, 4)
-        self.assertTrue(told[0].startswith("incomplete: 16 of 22 transactions were checked"), told)
+        self.assertTrue(told[0].startswith("incomplete: 12 of 22 transactions, "), told)
         self.assertIn("the proxy ended with status 7", told[1])
 
     def test_the_page_and_the_metrics(self):
@@ -177,6 +233,10 @@ class Runs(InAFolder):
                 return False
             for name, server in zip(("page", "metrics"), self.servers):
                 path = "metrics" if name == "metrics" else ""
+                if name == "page":
+                    with urllib.request.urlopen(f"{server.url}status.json", timeout=300) as answer:
+                        self.assertEqual(answer.headers["Content-Type"], "application/json")
+                        seen["json"] = json.load(answer)
                 with urllib.request.urlopen(server.url + path, timeout=300) as answer:
                     seen[name] = answer.read().decode()
             return True
@@ -193,13 +253,25 @@ class Runs(InAFolder):
         self.addCleanup(setattr, _run, "WebServer", before)
         self.run_of(SERIAL, page="127.0.0.1:0", metrics="127.0.0.1:0", is_done=is_done)
         self.assertIn("No violation so far", seen["page"])
+        self.assertEqual((seen["json"]["verdict"], seen["json"]["status"]), ("serial", 0))
+        self.assertEqual(seen["json"]["seen"]["transactions"]["all"], 11)
+        self.assertEqual(seen["json"]["explained"], [])
         self.assertIn("SELECT count(*) FROM orders WHERE customer = $1", seen["page"])
         for line in (
             "zanteyard_transactions_taken_total 8",
             'zanteyard_rounds_total{kind="serial"} 1',
-            "zanteyard_reads_from_before_total 4",
-            "zanteyard_reads_of_unchecked_total 2",
-            'zanteyard_reads_left_out_total{reason="its version is unknown"} 4',
+            "zanteyard_commits_without_rows_total 1",
+            "zanteyard_transactions_all_total 11",
+            "zanteyard_transactions_checked_total 6",
+            "zanteyard_transactions_rolled_back_total 1",
+            "zanteyard_transactions_waiting 0",
+            'zanteyard_transactions_in_part_total{reason="some statements weren\'t seen"} 2',
+            'zanteyard_rows_read_not_checked_total{reason="its version is unknown"} 4',
+            "zanteyard_rows_read_from_before_total 4",
+            "zanteyard_rows_read_own_total 1",
+            "zanteyard_rows_read_of_unchecked_total 2",
+            "zanteyard_selects_by_condition_total 8",
+            "zanteyard_rows_written_without_the_proxy_total 5",
             "zanteyard_violated 0",
             "zanteyard_auditing 1",
         ):
@@ -251,6 +323,7 @@ class Command(InAFolder):
     def begin(self, *words, parts=SERIAL):
         path = feed.program(self.folder, parts)
         its = {**os.environ, "ZANTEYARD_PROXY": path, "COBRA_AUDIT": os.path.abspath(PROGRAM)}
+        its["RUNTIME_DIRECTORY"] = self.folder
         pipe = subprocess.PIPE
         return subprocess.Popen(
             [sys.executable, "-m", "zanteyard", "watch", *words],
@@ -284,12 +357,13 @@ class Command(InAFolder):
                 run.send_signal(number)
                 out, errors = run.communicate(timeout=600)
                 self.assertEqual(run.returncode, 0, errors)
-                self.assertIn("serial: 8 of 11 transactions were checked", out)
+                self.assertRegex(out, r"serial: 6 of 11 transactions\b.* were checked")
                 self.assertNotIn("secret", out + errors)
         with open(os.path.join(self.folder, "zanteyard-proxy.starts"), encoding="utf-8") as file:
             (words, _) = map(json.loads, file.read().splitlines())
-        wanted = ["--listen", "127.0.0.1:7777", "--parameters=true", "--sample=0.5"]
-        self.assertEqual(words[2:], [*wanted, "--tables=public.*"])
+        wanted = ["--listen", "127.0.0.1:7777", "--parameters=true", "--drain=30s", "--sample=0.5"]
+        control = os.path.join(self.folder, "127.0.0.1_7777.sock")
+        self.assertEqual(words[2:], [*wanted, "--tables=public.*", "--control", control])
         self.assertEqual(words[0], "--server")
         self.assertNotIn("secret", words[1])
 
@@ -322,10 +396,12 @@ class Command(InAFolder):
                     ended = self.begin(self.url, option, address)
                     out, errors = ended.communicate(timeout=600)
                     self.assertEqual((ended.returncode, out), (2, ""))
-                    self.assertEqual(errors, f"mistake: {address}: Address already in use\n")
+                    hint, last = errors.splitlines()
+                    self.assertEqual(last, f"mistake: {address}: Address already in use")
+                    self.assertIn("a superuser, which an audit doesn't need", hint)
 
     def test_5_prepare(self):
-        with Database(self.url) as database:
+        with Database(self.url, options="-c search_path=public") as database:
             database.run("CREATE TABLE no_key (a int)")
         words = [sys.executable, "-m", "zanteyard", "prepare", self.url]
         ended = subprocess.run(words, cwd=TOP, capture_output=True, text=True, timeout=600)

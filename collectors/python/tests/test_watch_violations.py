@@ -11,14 +11,14 @@ from zanteyard.program._binaries import PROGRAM
 from zanteyard.watch._described import Described, Statement, by_time, clock, lines_of
 from zanteyard.watch._feed import answered_of
 from zanteyard.watch._intake import Intake
+from zanteyard.watch._kept import Kept
 from zanteyard.watch._pending import waiting_reads
 from zanteyard.watch._redacting import without_constants, without_values
-from zanteyard.watch._retained import Retained
 from zanteyard.watch._sql_anomalies import LostUpdate, both_replaced
 from zanteyard.watch._statement_reads import as_shown, by_statement
 from zanteyard.watch._violation_page import violation_page
 from zanteyard.watch._violations import (
-    NOTHING, Held, compact, explained, keys_of, last_writers, key_text,
+    NOTHING, Held, compact, explained, keys_of, key_text,
 )
 from zanteyard.core._records import Logged
 
@@ -30,38 +30,36 @@ def text(line):
 
 
 def kept(*lines):
-    retained = Retained()
-    for line in lines:
-        retained.note(text(line))
-    return retained
+    return Kept([*map(text, lines)])
 
 
-class Kept(unittest.TestCase):
-    def test_lines_up_to_a_cut(self):
-        retained = kept(["open", 2, 16, 2], feed.offer(0, 0, [[], [5]], [[], [6]]))
-        retained.note(text(feed.offer(0, 2, [[], [7]])))
-        retained.note(text(feed.offer(1, 0, [[[5, 0, 0]], []])))
-        self.assertEqual([*retained.transactions()], [(0, 0), (0, 1), (0, 2), (1, 0)])
-        retained.forget([[0, 0]])
-        self.assertEqual(retained.marks, [1, 0])
-        self.assertEqual([*retained.transactions()], [(0, 1), (0, 2), (1, 0)])
-        size = retained.size
-        retained.forget([[0, 1], [1, 0]])
-        self.assertEqual(retained.marks, [2, 1])
-        self.assertEqual([*retained.transactions()], [(0, 2)])
-        self.assertLess(retained.size, size)  # the first line isn't kept any more
+class WhatIsHeld(unittest.TestCase):
+    LINES = (
+        ["resume", 2, 16, 2],
+        ["marks", [1, 0], [False, False]],
+        ["last", [[0, 1, 7], [5, 0, 3], [55, 0, 4], [515, 5, 1]]],
+        feed.offer(0, 1, [[], [6]], [[], [7]]),
+        feed.offer(1, 0, [[[5, 0, 3], [6, 0, 1]], []]),
+        ["resumed"],
+    )
 
-    def test_sessions_that_join(self):
-        retained = kept(["open", 1, 16], ["join", 1, [FENCE]], ["close", 1])
-        self.assertEqual(retained.transactions(), {(1, 0): FENCE})
-        retained.forget([[1, 0]])
-        retained.note(text(["join", 1, 1, [FENCE, [[], [5]]]]))
-        self.assertEqual([*retained.transactions()], [(1, 1), (1, 2)])
-        self.assertEqual(retained.marks, [0, 1])
+    def test_transactions(self):
+        held = kept(*self.LINES)
+        self.assertEqual([*held.transactions], [(0, 1), (0, 2), (1, 0)])
+        self.assertEqual(held.transactions[(1, 0)], [[[5, 0, 3], [6, 0, 1]], []])
+        self.assertEqual(held.marks, [1, 0])
 
-    def test_another_audit(self):
-        retained = kept(["open", 1, 16], feed.offer(0, 0, [[], [5]]), ["open", 2, 16])
-        self.assertEqual((retained.transactions(), retained.marks), ({}, [0, 0]))
+    def test_last_writers(self):
+        held = kept(*self.LINES)
+        self.assertEqual(held.last({5, 0}), {5: (0, 3), 0: (1, 7)})
+        self.assertEqual(held.last({7}), {})
+        self.assertEqual(held.last(set()), {})
+
+    def test_without_some_reads(self):
+        found = kept(*self.LINES).without({((1, 0), (5, 0, 3)), ((0, 1), (9, "init"))})
+        wanted = [*self.LINES]
+        wanted[4] = feed.offer(1, 0, [[[6, 0, 1]], []])
+        self.assertEqual(found, [*map(text, wanted)])
 
 
 class Refutations(unittest.TestCase):
@@ -75,14 +73,6 @@ class Refutations(unittest.TestCase):
             ([["cycle", [["session", 0, 0, 0, 1]]]], set()),
         ):
             self.assertEqual(keys_of(items), wanted)
-
-    def test_last_writers_of_a_long_reply(self):
-        last = [[0, 1, 7], [5, 0, 3], [55, 0, 4], [515, 5, 1]]
-        shown = text(["show", [5, 0, 3], [5, 0, 9], [False, True, False], last, 6])
-        self.assertEqual(last_writers(shown, {5, 0}), {5: (0, 3), 0: (1, 7)})
-        self.assertEqual(last_writers(shown, {7}), {})
-        self.assertEqual(last_writers(shown, set()), {})
-        self.assertEqual(last_writers(text(["show", [5, 0, 3], [], [True], [], 0]), {5}), {})
 
     def test_what_is_left_is_numbered_without_holes(self):
         idle, writes = Logged((), ()), Logged((), ("x",))
@@ -101,19 +91,15 @@ class Refutations(unittest.TestCase):
 class Explained(unittest.TestCase):
     def of(self, *lines, answered=NOTHING):
         """The violation that a round after these lines finds."""
-        script = [["open", 3, 64, 2], *lines, ["round", 4096, 0, 1], ["show"]]
+        saved = [["save", "marks"], ["save", "last", 0]]
+        saved += [["save", "remain", session, 0] for session in range(3)]
+        script = [["open", 3, 64, 2], *lines, ["round", 4096, 0, 1], *saved]
         told = subprocess.run(
             [PROGRAM], input=b"".join(text(line) + b"\n" for line in script), capture_output=True
         ).stdout.splitlines()
-        retained = Retained()
-        for line, reply in zip(script, told):
-            if reply == b'["ok"]':
-                retained.note(text(line))
-            elif reply.startswith(b'["cut"'):
-                retained.forget(json.loads(reply)[2])
-        report = json.loads(told[-2])
+        report = json.loads(told[-6])
         self.assertEqual(report[2], "violated", told)
-        held = Held(retained, report, told[-1])
+        held = Held(Kept(told[-5:]), report)
         self.involved = held.involved()
         found = explained(1, report, held, answered, PROGRAM, feed.AT)
         self.assertLessEqual({one.id for one in found.told}, {*self.involved})
@@ -289,6 +275,14 @@ class Explained(unittest.TestCase):
         self.assertIn("T1 (0.0): no details are known", "\n".join(found.lines()))
 
 
+class Parameters(unittest.TestCase):
+    def test_those_that_werent_kept_are_counted(self):
+        its = {**feed.statement("SELECT $1", feed.AT, parameters=["7", None]), "more_parameters": 2998}
+        answered = answered_of(feed.event("transactions", transactions=[feed.described(0, 3, statements=[its])]))
+        (statement,) = answered.transactions[(0, 3)].statements
+        self.assertEqual(statement.values, "$1 = '7', $2 = NULL and 2,998 more")
+
+
 class ReadsByStatement(unittest.TestCase):
     def test_reads_and_their_statements(self):
         for reads, by, wanted in (
@@ -352,7 +346,7 @@ class Described_(unittest.TestCase):
         self.assertEqual([*lines_of("T1", its, [("read a\x1b",)])][2], "        read a\\x1b")
         self.assertEqual([*lines_of("T2", None)], ["T2: no details are known"])
         fence = Described((0, 1), is_fence=True)
-        self.assertEqual([*lines_of("T3", fence)], ["T3: a fence of the proxy's own"])
+        self.assertEqual([*lines_of("T3", fence)], ["T3: a fence, which no client ran"])
 
 
 class Redacted(unittest.TestCase):
@@ -376,7 +370,7 @@ class Redacted(unittest.TestCase):
         self.assertEqual(its.keys[5].named(), "stock(#5)")
         first, second = its.transactions[(1, 2)].statements
         self.assertEqual((first.text, first.parameters), ("SELECT qty FROM stock WHERE id = $1", None))
-        self.assertEqual(first.origin, "shop/orders.py:41")
+        self.assertEqual((first.origin, first.place), ("", ""))  # a comment's
         self.assertEqual(second.text, "UPDATE stock SET qty = ? WHERE id = ?")
 
 

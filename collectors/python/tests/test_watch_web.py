@@ -1,5 +1,6 @@
 """The server of pages: who may ask, and the answers to anything else."""
 import http.client
+import resource
 import socket
 import sys
 import threading
@@ -96,6 +97,39 @@ class Served(unittest.TestCase):
             with self.subTest(path=path[:40], method=method, host=host):
                 self.assertEqual(self.ask(path, method, host)[0], wanted)
 
+    def test_clients_that_take_their_time(self):
+        """Clients that send a byte now and then give their places back, however many come."""
+        ended = threading.Event()
+        self.addCleanup(ended.set)
+
+        def drip(one):
+            with one:
+                while not ended.wait(0.02):
+                    try:
+                        one.sendall(b"G")
+                    except OSError:
+                        return
+
+        with mock.patch.object(web, "SLOWEST", 1.0):
+            server = web.WebServer("127.0.0.1:0", told)
+            self.addCleanup(server.close)
+            for _ in range(web.MOST_AT_ONCE + 4):
+                one = socket.create_connection(("127.0.0.1", server.port))
+                threading.Thread(target=drip, args=(one,), daemon=True).start()
+            for _ in range(300):
+                asked = http.client.HTTPConnection("127.0.0.1", server.port, timeout=600)
+                try:
+                    asked.request("GET", "/", headers={"Host": "localhost"})
+                    if asked.getresponse().status == 200:
+                        break
+                except OSError:
+                    pass
+                finally:
+                    asked.close()
+                ended.wait(0.1)
+            else:
+                self.fail("slow clients keep the page from everybody")
+
     def test_more_than_there_are_places_for(self):
         """All places are taken by clients that haven't asked for anything yet: the next one is sent
         away."""
@@ -111,6 +145,51 @@ class Served(unittest.TestCase):
             each.close()
         self.wait_for(lambda: places._value == web.MOST_AT_ONCE)
         self.assertEqual(self.ask()[0], 200)
+
+    def test_clients_that_dont_read(self):
+        """Clients that take no byte of a long answer give their places back."""
+        long = web.Answer("x" * (32 << 20))  # more than a socket keeps
+        with mock.patch.object(web, "SLOWEST", 1.0):
+            server = web.WebServer("127.0.0.1:0", lambda path: long if path == "/long" else told(path))
+            self.addCleanup(server.close)
+            for _ in range(web.MOST_AT_ONCE):
+                one = socket.create_connection(("127.0.0.1", server.port))
+                self.addCleanup(one.close)
+                one.sendall(b"GET /long HTTP/1.0\r\nHost: localhost\r\n\r\n")
+            self.wait_for(lambda: self.is_answered(server))
+
+    def test_a_thousand_connections(self):
+        """They get no more than their places, and are closed; then the page is there again."""
+        soft, hard = resource.getrlimit(resource.RLIMIT_NOFILE)
+        wanted = 4096 if hard == resource.RLIM_INFINITY else min(4096, hard)
+        resource.setrlimit(resource.RLIMIT_NOFILE, (max(soft, wanted), hard))
+        self.addCleanup(resource.setrlimit, resource.RLIMIT_NOFILE, (soft, hard))
+        count = min(1000, max(soft, wanted) // 2 - 100)
+        threads, most = threading.active_count(), 0
+        taken = []
+        self.addCleanup(lambda: [each.close() for each in taken])
+        for _ in range(count):
+            taken.append(socket.create_connection(("127.0.0.1", self.server.port), timeout=300))
+            most = max(most, threading.active_count())
+        refused = 0
+        for each in taken[web.MOST_AT_ONCE :]:
+            refused += each.recv(1000).startswith(b"HTTP/1.0 503")
+        self.assertEqual(refused, count - web.MOST_AT_ONCE)
+        self.assertLessEqual(most, threads + 2 * web.MOST_AT_ONCE)  # each has a timer
+        self.assertEqual(self.server._server.places._value, 0)
+        for each in taken:
+            each.close()
+        self.wait_for(lambda: self.is_answered(self.server))
+
+    def is_answered(self, server):
+        asked = http.client.HTTPConnection("127.0.0.1", server.port, timeout=300)
+        try:
+            asked.request("GET", "/", headers={"Host": "localhost"})
+            return asked.getresponse().status == 200
+        except OSError:
+            return False
+        finally:
+            asked.close()
 
     def wait_for(self, is_so):
         """As long as it takes; the test's own time limit ends a wait in vain."""

@@ -3,8 +3,10 @@ import contextlib
 import io
 import os
 import shutil
+import socket
 import subprocess
 import tempfile
+import time
 import unittest
 from unittest import mock
 
@@ -18,6 +20,8 @@ from zanteyard.explain._graphviz import draw
 from zanteyard.journal._file import Journal
 from zanteyard.remote._connecting import SocketDoor
 from zanteyard.remote._server import AuditServer
+
+NOBODY = 65534
 
 
 class PrivateFiles(unittest.TestCase):
@@ -118,7 +122,7 @@ class Folders(unittest.TestCase):
         told = io.StringIO()
         with contextlib.redirect_stderr(told), mock.patch("signal.signal"):
             with mock.patch("logging.basicConfig"):
-                self.assertEqual(main(["serve", "--journal", self.folder]), 2)
+                self.assertEqual(main(["serve", "--folder", self.folder]), 2)
         self.assertRegex(told.getvalue(), "^mistake: .*other users may read .*chmod go-rw")
         self.assertEqual(os.listdir(self.folder), [])
 
@@ -142,7 +146,8 @@ class Folders(unittest.TestCase):
 
     def door(self, notes):
         """The client's end; its server says that its notes are there."""
-        with mock.patch.multiple("zanteyard.remote._connecting", Client=mock.Mock(), Messages=mock.Mock()):
+        none = {name: mock.Mock() for name in ("Client", "Messages", "refuse_others")}
+        with mock.patch.multiple("zanteyard.remote._connecting", **none):
             door = SocketDoor("a socket")
         with mock.patch(
             "zanteyard.remote._connecting.welcomed", return_value=["its words", notes]
@@ -158,11 +163,42 @@ class Folders(unittest.TestCase):
         self.assertEqual(self.door(f"{self.folder}/none/3"), ["its words"])
 
 
+    def test_a_socket_that_is_anothers(self):
+        """Whoever made it first in a folder that all may write gets nothing."""
+        os.chmod(self.folder, 0o777)
+        path = f"{self.folder}/before.socket"
+        listener = socket.socket(socket.AF_UNIX)
+        self.addCleanup(listener.close)
+        listener.bind(path)
+        child = os.fork()
+        if child == 0:  # it alone listens, as another user if it may
+            try:
+                if os.geteuid() == 0:
+                    os.setuid(NOBODY)
+                listener.listen()
+                os._exit(listener.accept()[0].recv(100) != b"")
+            finally:
+                os._exit(2)
+        user = os.geteuid() + (os.geteuid() != 0)
+        with mock.patch("os.geteuid", return_value=user):
+            with self.assertRaisesRegex(FolderUnfitError, "listens at"):
+                self.door_to(path)
+        self.assertEqual(os.waitstatus_to_exitcode(os.waitpid(child, 0)[1]), 0)
+
+    def door_to(self, path):
+        """A client's end, as soon as somebody listens there."""
+        while True:
+            try:
+                return SocketDoor(path)
+            except ConnectionRefusedError:
+                time.sleep(0.01)
+
+
 class Figures(unittest.TestCase):
     def test_each_digit_of_a_counter_is_told(self):
-        samples = [((("of", 'a "name"\n'),), 123456789), ((), 0.25), ((), True), ((), 2**53 + 2)]
+        samples = [((("of", 'a "name"\n\x1b\u202e'),), 123456789), ((), 0.25), ((), True), ((), 2**53 + 2)]
         text = text_of(iter([("taken_total", "counter", "Taken.", samples)]))
         self.assertEqual(
             text.splitlines()[2:],
-            ['taken_total{of="a \\"name\\"\\n"} 123456789', "taken_total 0.25", "taken_total 1", "taken_total 9007199254740994"],
+            ['taken_total{of="a \\"name\\"\\\\x0a\\\\x1b\\\\u202e"} 123456789', "taken_total 0.25", "taken_total 1", "taken_total 9007199254740994"],
         )

@@ -2,6 +2,7 @@
 file of Python values; tests import its lists."""
 import json
 import os
+import socket
 import sys
 import threading
 import time
@@ -32,18 +33,36 @@ def meeting(at=AT, milliseconds=8.4):
     return event("meeting", at=at, fences=2, milliseconds=milliseconds)
 
 
+def total(all, checked, in_part=None, not_checked=None, waiting=0, rolled_back=0):
+    return {"all": all, "checked": checked, "in_part": in_part or {},
+            "not_checked": not_checked or {}, "waiting": waiting, "rolled_back": rolled_back}
+
+
+TOTALS = {
+    "transactions": {**total(11, 6, {"some statements weren't seen": 2},
+                             {"its writes couldn't be told apart": 3}, rolled_back=1),
+                     "only_read": 1},
+    "selects": {**total(20, 9, {"a subquery": 1}, {"an aggregate": 7, "it found no row": 3},
+                        rolled_back=1), "by_condition": 8, "found_no_row": 3},
+    "writes": total(9, 6, {}, {"its writes couldn't be told apart": 3}),
+    "rows_read": {**total(19, 15, {}, {"its version is unknown": 4}, rolled_back=5),
+                  "own": 1, "from_before": 4, "of_unchecked": 2},
+    "rows_written": total(9, 6, {}, {"its writes couldn't be told apart": 3}),
+    "other_statements": 1,
+    "without_the_proxy": {"transactions": 2, "rows_written": 5},
+}
+
+
 def coverage(**more):
     its = {
         "at": AT,
         "committed": 12,
         "offered": 10,
         "fences": 2,
-        "aborted": 1,
-        "empty": 1,
-        "folded": {"committed without the proxy": 3},
-        "reads": {"seen": 20, "offered": 15, "own": 1, "before": 4, "folded": 2,
-                  "left_out": {"its version is unknown": 4}},
-        "writes": {"seen": 9, "offered": 6, "left_out": {"committed without the proxy": 3}},
+        "bare": 1,
+        "reads": {"offered": 15},
+        "writes": {"offered": 6},
+        "totals": TOTALS,
         "unseen": [
             {
                 "shape": "SELECT count(*) FROM orders WHERE customer = $1" + MORE,
@@ -54,7 +73,6 @@ def coverage(**more):
             }
         ],
         "connections": {"now": 3, "audited": 3, "waiting": 0, "ever": 5},
-        "sessions": {"open": 3, "closed": 61},
         "lag": {"bytes": 128, "seconds": 0.05},
         "pending": 2,
         "remaining": 8,
@@ -200,5 +218,30 @@ def parts_of(path):
     return [tuple(it) if isinstance(it, list) and it[0] in its_own else it for it in parts]
 
 
+def attached(path):
+    """Waits for the program that audits to attach itself to this control socket. Returns what it
+    says, and where it reads."""
+    with socket.socket(socket.AF_UNIX) as listener:
+        listener.bind(path)
+        listener.listen()
+        while True:
+            connection = listener.accept()[0]
+            lines = connection.makefile("r", encoding="utf-8")
+            asked = json.loads(lines.readline())["command"]
+            its = {"process": os.getpid(), "build": "fake", "fingerprint": "", "parent": 0}
+            answers = connection.makefile("w", encoding="utf-8")
+            answers.write(json.dumps(event("attached" if asked == "attach" else "proxy", **its)) + "\n")
+            answers.flush()
+            if asked == "attach":
+                os.unlink(path)
+                return lines, answers
+
+
 if __name__ == "__main__":
-    Fake(parts_of(sys.argv[1])).run()
+    if "--control" in sys.argv:
+        its_parts = parts_of(sys.argv[1])
+        said, heard = attached(sys.argv[sys.argv.index("--control") + 1])
+        print("2026/11/29 00:00:00 zanteyard-proxy: listening on nothing", file=sys.stderr, flush=True)
+        Fake(its_parts, heard).run(said)
+    else:
+        Fake(parts_of(sys.argv[1])).run()

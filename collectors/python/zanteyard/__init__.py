@@ -29,7 +29,7 @@ _begin()
 
 import logging as _logging  # noqa: E402
 from importlib import import_module as _import_module  # noqa: E402
-from typing import TYPE_CHECKING, Any, List  # noqa: E402
+from typing import TYPE_CHECKING, Any  # noqa: E402
 
 from .core._log_guard import guard as _guard  # noqa: E402
 from .core._version import VERSION as __version__  # noqa: E402
@@ -120,7 +120,7 @@ def __getattr__(name: str) -> Any:
     return found
 
 
-def __dir__() -> List[str]:
+def __dir__() -> list[str]:
     return sorted({*globals(), *_PLACE_OF})
 
 

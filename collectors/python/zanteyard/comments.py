@@ -18,7 +18,8 @@ from __future__ import annotations
 
 import os
 import sys
-from typing import Any, Callable, Dict, Mapping, Tuple, Type
+from collections.abc import Callable, Mapping
+from typing import Any
 from urllib.parse import quote
 
 DEPTH = 80  # stack frames to look through, at most
@@ -39,18 +40,18 @@ def _quoted(text: str) -> str:
     return quote(text, safe="/").replace("'", "\\'")
 
 
-def where() -> Dict[str, object]:
+def where() -> dict[str, object]:
     """The file and line of the caller, as values of a comment; empty if there is no such file. A
     file below the working directory is named by its relative path."""
     frame: Any = sys._getframe(1)
-    installed: Dict[str, object] = {}
+    installed: dict[str, object] = {}
     passed_over = _folders()
     for _ in range(DEPTH):
         if frame is None:
             break
         name = frame.f_code.co_filename
         if not (name.startswith(passed_over) or _calls_nothing(name)):
-            found: Dict[str, object] = {"file": _from_here(name), "line": frame.f_lineno}
+            found: dict[str, object] = {"file": _from_here(name), "line": frame.f_lineno}
             if not any(folder in name for folder in INSTALLED):
                 return found
             installed = installed or found
@@ -58,7 +59,7 @@ def where() -> Dict[str, object]:
     return installed
 
 
-def _folders() -> Tuple[str, ...]:
+def _folders() -> tuple[str, ...]:
     """The folders of these packages, if they were imported."""
     files = (getattr(sys.modules.get(name), "__file__", None) for name in PASSED_OVER)
     return tuple(os.path.dirname(file) + os.sep for file in files if file)
@@ -97,7 +98,7 @@ def commented(statement: Any, has_parameters: bool = False, **more: object) -> A
     return found.encode("utf-8", "surrogateescape") if is_bytes else found
 
 
-def psycopg2_cursor(base: Any = None) -> Type[Any]:
+def psycopg2_cursor(base: Any = None) -> type[Any]:
     """A cursor class for psycopg2 that adds comments to statements. `base` is the class to extend,
     by default psycopg2's own."""
     from psycopg2 import extensions
@@ -106,7 +107,7 @@ def psycopg2_cursor(base: Any = None) -> Type[Any]:
     return _cursor(base or extensions.cursor, Composable, SQL)
 
 
-def psycopg_cursor(base: Any = None) -> Type[Any]:
+def psycopg_cursor(base: Any = None) -> type[Any]:
     """The same for psycopg 3; `base` may be an AsyncCursor."""
     import psycopg
     from psycopg.sql import SQL, Composable
@@ -114,7 +115,7 @@ def psycopg_cursor(base: Any = None) -> Type[Any]:
     return _cursor(base or psycopg.Cursor, Composable, SQL)
 
 
-def _cursor(base: Any, composable: Any, sql: Callable[[str], Any]) -> Type[Any]:
+def _cursor(base: Any, composable: Any, sql: Callable[[str], Any]) -> type[Any]:
     def added(query: Any, parameters: Any) -> Any:
         if not isinstance(query, composable):
             return commented(query, parameters is not None)

@@ -11,7 +11,7 @@ ghost use Rattle.clock_choices.specs.Over.{IsOver};
 
 use crate::cycles::push_right_arcs;
 use order_check::Parts;
-use session_clocks::{Graph, PathFinder};
+use session_clocks::Graph;
 use std::alloc::Global;
 use txn::{Arc, NoMemory, Sequence, TxnId};
 
@@ -102,7 +102,6 @@ fn lowest(path: &[Arc]) -> Option<TxnId> {
 fn from_lowest(
     alloc: Global,
     graph: &Graph,
-    finder: &mut PathFinder,
     front: usize,
     path: Sequence<Arc>,
 ) -> Result<Sequence<Arc>, NoMemory>
@@ -116,18 +115,14 @@ fn from_lowest(
     if !graph.contains(low) {
         return Ok(path);
     }
-    match graph.path_within(alloc, finder, front, low, low)? {
+    match graph.path_within(alloc, front, low, low)? {
         Some(better) => Ok(better),
         None => Ok(path),
     }
 }
 
 /// A way round along the arcs up to the first that closed one, if it is remembered. What came behind these isn't needed to refute anything.
-fn first_round(
-    alloc: Global,
-    graph: &Graph,
-    finder: &mut PathFinder,
-) -> Result<Option<Sequence<Arc>>, NoMemory>
+fn first_round(alloc: Global, graph: &Graph) -> Result<Option<Sequence<Arc>>, NoMemory>
     ensures { IfOk result (λ found. IfSome found (IsRound graph.now.gone graph.now.received graph.now.arcs)) }
 {
     let Some(place) = graph.closing() else {
@@ -137,9 +132,9 @@ fn first_round(
     if !graph.contains(start) {
         return Ok(None);
     }
-    match graph.path_within(alloc, finder, place + 1, start, start)? {
+    match graph.path_within(alloc, place + 1, start, start)? {
         Some(path) => {
-            let path = from_lowest(alloc, graph, finder, place + 1, path)?;
+            let path = from_lowest(alloc, graph, place + 1, path)?;
             Ok(Some(path))
         }
         None => Ok(None),
@@ -151,12 +146,11 @@ fn way_round(alloc: Global, graph: &Graph, id: TxnId) -> Result<Sequence<Arc>, N
     requires { IsOnCycle graph.now.gone graph.now.received graph.now.arcs id }
     ensures { IfOk result (IsRound graph.now.gone graph.now.received graph.now.arcs) }
 {
-    let mut finder = PathFinder::new();
-    if let Some(path) = first_round(alloc, graph, &mut finder)? {
+    if let Some(path) = first_round(alloc, graph)? {
         return Ok(path);
     }
     let len = graph.arcs().len();
-    let Some(path) = graph.path_within(alloc, &mut finder, len, id, id)? else {
+    let Some(path) = graph.path_within(alloc, len, id, id)? else {
         unreachable!()
     };
     Ok(path)

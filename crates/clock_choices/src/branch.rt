@@ -28,7 +28,7 @@ use crate::saturating::saturate;
 use crate::sharing::SharedIndex;
 use crate::steps::{Forced, conclusion_of};
 use order_check::Parts;
-use session_clocks::{Graph, PathFinder};
+use session_clocks::Graph;
 use std::alloc::Global;
 use std::marker::Model;
 use txn::{Arc, Choice, NoMemory, Sequence, Side, TxnId};
@@ -301,17 +301,12 @@ impl Branch {
     }
 
     /// The cycle that the other side of one of these steps would close, where the sides taken before it are taken.
-    pub fn cycle_of(
-        &self,
-        alloc: Global,
-        finder: &mut PathFinder,
-        place: usize,
-    ) -> Result<Sequence<Arc>, NoMemory>
+    pub fn cycle_of(&self, alloc: Global, place: usize) -> Result<Sequence<Arc>, NoMemory>
         requires { place < length (last_steps self.now.log self.now.levels) }
         ensures { IfOk result (λ cycle. (step : ForceStep) → slice_get (last_steps self.now.log self.now.levels) place ≡ Some step
             → IsForced self.now.parts (sides_after (taken_before self.now.log self.now.levels) (take place (last_steps self.now.log self.now.levels))) (record step { cycle = cycle })) }
     {
         let step = last_steps(&self.log, &self.tops)[place];
-        cycle_of_step(alloc, &self.parts, &self.graph, finder, step)
+        cycle_of_step(alloc, &self.parts, &self.graph, step)
     }
 }

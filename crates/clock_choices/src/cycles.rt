@@ -12,7 +12,7 @@ ghost use Rattle.clock_choices.specs.Over.{IsOver};
 use crate::indexing::is_base_source;
 use crate::steps::Forced;
 use order_check::Parts;
-use session_clocks::{Graph, PathFinder};
+use session_clocks::Graph;
 use std::alloc::Global;
 use txn::{Arc, NoMemory, Sequence, Source, TxnId};
 
@@ -112,7 +112,6 @@ pub(crate) fn cycle_of_step(
     alloc: Global,
     parts: &Parts,
     graph: &Graph,
-    finder: &mut PathFinder,
     step: Forced,
 ) -> Result<Sequence<Arc>, NoMemory>
     requires { (taken : Sides) × IsOver parts.now graph.now.gone graph.now.received × IsStepFrom parts.now graph.now.gone graph.now.received graph.now.arcs taken step }
@@ -120,7 +119,7 @@ pub(crate) fn cycle_of_step(
         → IsForced parts.now taken (record { choice = step.choice; side = step.side; cycle = cycle })) }
 {
     let (from, to) = step.premise();
-    let Some(path) = graph.path_within(alloc, finder, step.arcs, from, to)? else {
+    let Some(path) = graph.path_within(alloc, step.arcs, from, to)? else {
         unreachable!()
     };
     let mut cycle = Vec::new(alloc);

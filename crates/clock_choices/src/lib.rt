@@ -34,5 +34,4 @@ pub use branch::Branch;
 pub use open_choices::OpenChoices;
 pub use ranks::Rank;
 pub use saturated::Saturated;
-pub use session_clocks::PathFinder;
 pub use steps::Forced;

@@ -28,7 +28,7 @@ use crate::whole::relation_of;
 use order_check::{
     Parts, cut_keeps_known, cut_keeps_received, cut_leaves_the_rest, cut_moves_base,
 };
-use session_clocks::{Graph, PathFinder};
+use session_clocks::Graph;
 use std::alloc::Global;
 use std::marker::Model;
 use txn::{Arc, Choice, Fragment, NoMemory, Sequence, Txn, TxnId};
@@ -211,17 +211,12 @@ impl Saturated {
     }
 
     /// The cycle that the other side of a step would close, where the sides of the steps before it are taken.
-    pub fn cycle_of(
-        &self,
-        alloc: Global,
-        finder: &mut PathFinder,
-        place: usize,
-    ) -> Result<Sequence<Arc>, NoMemory>
+    pub fn cycle_of(&self, alloc: Global, place: usize) -> Result<Sequence<Arc>, NoMemory>
         requires { place < length self.now.log }
         ensures { IfOk result (λ cycle. (step : ForceStep) → slice_get self.now.log place ≡ Some step → IsForced self.now.parts (sides_after [] (take place self.now.log)) (record step { cycle = cycle })) }
     {
         let step = self.steps[place];
-        cycle_of_step(alloc, &self.parts, &self.graph, finder, step)
+        cycle_of_step(alloc, &self.parts, &self.graph, step)
     }
 
     /// Adds the next transaction of a session.

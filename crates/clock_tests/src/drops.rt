@@ -2,7 +2,7 @@ ghost use Rattle.std.specs.Prelude.{◌≡◌, ◌≤◌, ℕ, IfOk, length, sli
 ghost use Rattle.session_clocks.specs.Graphs.{HasNode};
 
 use crate::closures::{assert_same, closure_of};
-use crate::drawn::{Drawn, draw_graph, next, nothing, pick};
+use crate::drawn::{Drawn, SESSIONS, add_node, draw_arcs, draw_graph, next, nothing, pick};
 use crate::paths::assert_paths;
 use session_clocks::Graph;
 use std::alloc::Global;
@@ -93,6 +93,24 @@ fn assert_left(
     assert_paths(rt, alloc, graph, graph.arcs().len(), &left)
 }
 
+// The same of what is added then.
+fn assert_added(
+    rt: &impl Abort,
+    alloc: Global,
+    mut graph: Graph,
+    drawn: &Drawn,
+    fronts: &[u64],
+    state: &mut u64,
+) -> Result<(), Fail> {
+    let mut left = left_of(alloc, drawn, fronts)?;
+    for session in 0..SESSIONS {
+        add_node(rt, &mut graph, &mut left.ids, session)?;
+    }
+    draw_arcs(rt, alloc, &mut graph, &mut left, state)?;
+    assert_same(rt, alloc, &graph, &left)?;
+    assert_paths(rt, alloc, &graph, graph.arcs().len(), &left)
+}
+
 // Whether fronts of a drawn graph could go, and went.
 fn drops_fronts(rt: &impl Abort, alloc: Global, seed: u64) -> Result<bool, Fail> {
     let mut state = seed;
@@ -105,6 +123,7 @@ fn drops_fronts(rt: &impl Abort, alloc: Global, seed: u64) -> Result<bool, Fail>
     if can_drop {
         graph.drop_fronts(&fronts);
         assert_left(rt, alloc, &graph, &drawn, &fronts)?;
+        assert_added(rt, alloc, graph, &drawn, &fronts, &mut state)?;
     }
     Ok(can_drop)
 }

@@ -1,6 +1,6 @@
 use crate::closures::closure_of;
 use crate::drawn::{Drawn, draw_graph};
-use session_clocks::{Graph, PathFinder};
+use session_clocks::Graph;
 use std::alloc::Global;
 use std::process::Abort;
 use std::test::Fail;
@@ -47,14 +47,13 @@ fn assert_path(
     rt: &impl Abort,
     alloc: Global,
     graph: &Graph,
-    finder: &mut PathFinder,
     len: usize,
     reached: &Relation,
     (from, to): (TxnId, TxnId),
 ) -> Result<(), Fail> {
     let arcs = graph.arcs();
     assert!(rt; graph.contains(from) && graph.contains(to) && len <= arcs.len());
-    let found = graph.path_within(alloc, finder, len, from, to)?;
+    let found = graph.path_within(alloc, len, from, to)?;
     assert_eq!(rt; found.is_some(), reached.contains((from, to)));
     if let Some(path) = found {
         assert_leads(rt, graph, &arcs[..len], path.as_slice(), from, to);
@@ -72,10 +71,9 @@ pub(crate) fn assert_paths(
 ) -> Result<(), Fail> {
     assert!(rt; len <= drawn.pairs.len());
     let reached = closure_of(alloc, &drawn.ids, &drawn.pairs[..len])?;
-    let mut finder = PathFinder::new();
     for from in &drawn.ids {
         for to in &drawn.ids {
-            assert_path(rt, alloc, graph, &mut finder, len, &reached, (*from, *to))?;
+            assert_path(rt, alloc, graph, len, &reached, (*from, *to))?;
         }
     }
     Ok(())

@@ -1,8 +1,10 @@
 -- Replies whose reports are true of what a script's lines had offered and what was answered ok.
-use Rattle.std.proofs.Common.{◌≡◌, ℕ, ◌+◌, ◌*◌, ◌/◌, arith, Bool, true, false, cond, nat_lt, List, [], ◌∷◌, ◌++◌, length, map, Option, Some, None, refl, sym, ap, ◌∙◌, subst, inl, inr, ⊎_elim}
+use Rattle.std.proofs.Common.{◌≡◌, ℕ, zero, suc, ◌+◌, ◌*◌, ◌/◌, arith, Bool, true, false, cond, nat_lt, List, [], ◌∷◌, ◌++◌, length, map, Option, Some, None, refl, sym, ap, ◌∙◌, subst, inl, inr, ⊎_elim}
 use Rattle.std.specs.Prelude.{⊤, IsSomeAnd, MatchOption, ◌⊎◌}
 use Rattle.std.specs.List.{concat}
+use Rattle.std.proofs.lemmas.List.{map-append}
 use Rattle.std.proofs.lemmas.Option.{none-some}
+use Rattle.txn.specs.declared.transactions.TxnId.{TxnId}
 use Rattle.txn.specs.declared.refusals.Refusal.{Refusal}
 use Rattle.txn.specs.declared.refusals.Refusal.TheVariants.{BadLine, BadParts, BadSession, RoundOpen, NoRound, NoMemory}
 use Rattle.txn.specs.declared.transactions.Fragment.{Fragment}
@@ -30,6 +32,7 @@ use Rattle.polygraph.specs.declared.solving.Answer as solved
 use Rattle.polygraph.specs.declared.solving.Answer.TheVariants as answers
 use Rattle.round_state.specs.EngineState.{EngineState}
 use Rattle.round_state.specs.Legal.{State, IsTrueOf, whole_after, asked_after}
+use Rattle.round_state.specs.Opening.{fresh, no_history}
 use Rattle.round_state.specs.Runs.{Holds}
 use Rattle.round_state.specs.Solving.{IsRight, IsReportOn}
 use Rattle.round_state.specs.Steps.{Shows, IsRightReport, IsHeldAfter, answer_told, arrival_of}
@@ -42,21 +45,27 @@ use Rattle.round_state.specs.declared.steps.StepReply.{StepReply}
 use Rattle.round_state.specs.declared.steps.StepReply.TheVariants as reply
 use Rattle.settle.specs.declared.cuts.Cut.{Cut}
 use Rattle.log_text.specs.declared.commands.Effort.{Effort}
-use Rattle.snapshot_histories.specs.Laws.{SplitDoublesCounts, SplitKeepsVerdict}
-use Rattle.snapshot_histories.specs.Split.{split_history, HistoryCanBeSplit}
-use Rattle.snapshot_scripts.specs.Legal.{IsIsolationOf, HoldsSplit, SplitStepsAreLegal, FreshEnginesAreSplit}
+use Rattle.snapshot_histories.specs.Halves.{event_at}
+use Rattle.snapshot_histories.specs.Laws.{OrdersIsolate, SplitDoublesCounts, SplitKeepsVerdict}
+use Rattle.snapshot_histories.specs.Snapshot.{IsSnapshotOrder}
+use Rattle.snapshot_histories.specs.Split.{split_history, split_sessions, HistoryCanBeSplit}
+use Rattle.snapshot_scripts.specs.Legal.{IsIsolationOf, HoldsSplit, split_state, SplitStepsAreLegal, SplitStepsFollow, FreshEnginesAreSplit}
 use Rattle.snapshot_histories.specs.Logged.{split_logged}
 use Rattle.snapshot_histories.specs.Offered.{CanBeOffered}
 use Rattle.snapshot_scripts.specs.Steps.{split_step, CanBeMade}
 use Rattle.snapshot_scripts.specs.Isolated.{halved, isolated_of}
 use Rattle.snapshot_scripts.specs.Handed.{CanBeHanded, half_command, half_marks}
 use Rattle.snapshot_scripts.specs.Splitting.{CanBeAsked, split_command, split_wanted}
+use Rattle.whole_orders.specs.Isolated.{EndsSnapshotOrder}
+use Rattle.whole_orders.specs.Laws.{FreshEnginesGoOn, LeftPartsGoOn, ReportedOrdersEndOrders, StepsGoOn}
+use Rattle.whole_orders.specs.Left.{EndsOrder, EndsOrderIfAny, HoldsLeft, IsLeftOf}
 use Rattle.cobra.specs.Audits.{AuditState}
+use Rattle.cobra.specs.HandOver.{handed_parts}
 use Rattle.cobra.specs.Outputs.{RepliesAll}
 use Rattle.cobra.specs.Saving.{saved_told, fragment_told}
 use Rattle.cobra.specs.Scripts.{IsBadLine, IsTakenIn, Goes, IsStep, EndsRound, IsRound, AnswersOpen, AnswersBeside, AnswersIsolated, GoesOn, IsCollected, AnswersFirst, BeginsAnew, AnswersResuming, AnswersHanding, HandsMarks, HandsOffer, EndsHandOver, Answers, TakesHalves, TakesMarks, TakesOver, stage_after}
 use Rattle.cobra.specs.StepReplies.{certificate_of, certified, reply_of}
-use Rattle.cobra.specs.TrueReports.{Accepted, accepted_more, accepted_after, reported_on, TellsTrueOf, IsTrueTold, BeginsWith, AreTrueReplies, EachReportIsTrue}
+use Rattle.cobra.specs.TrueReports.{Accepted, Origin, accepted_more, accepted_after, reported_on, TellsTrueOf, IsTrueTold, BeginsWith, AreTrueReplies, EachReportIsTrue}
 use Rattle.cobra.specs.declared.handing.Handing.{Handing}
 use Rattle.cobra.specs.declared.stages.Stage.{Stage}
 use Rattle.cobra.specs.declared.stages.Stage.TheVariants as stage
@@ -65,11 +74,26 @@ use Rattle.cobra.specs.declared.stages.Stage.TheVariants as stage
 abbrev state_of : EngineState → Accepted → State
 state_of engine accepted = record { engine = engine; whole = accepted.whole; asked = accepted.asked }
 
+-- An engine stands for what was accepted; and what it holds is what is left of it, where that is known.
+record Stands (engine : EngineState) (accepted : Accepted) : Type 0 where
+  holds : Holds engine (state_of engine accepted)
+  left : accepted.left ≡ true → HoldsLeft engine accepted.whole accepted.asked
+
+-- The same where it holds halves of what was accepted.
+record StandsSplit (engine : EngineState) (accepted : Accepted) : Type 0 where
+  holds : HoldsSplit engine (state_of engine accepted)
+  left : accepted.left ≡ true → HoldsLeft engine (split_history accepted.whole) (split_history accepted.asked)
+
+-- what steps keep of whole histories, and what reports tell of them
+pub record Wholes : Type 0 where
+  pub on : StepsGoOn
+  pub ends : ReportedOrdersEndOrders
+
 -- Where an engine is open it stands for what was accepted; else nothing was.
 abbrev Fits : Stage → Option Accepted → Type 0
-Fits (stage.Open audit version) (Some accepted) = Holds audit.engine (state_of audit.engine accepted)
+Fits (stage.Open audit version) (Some accepted) = Stands audit.engine accepted
 Fits (stage.Open audit version) None = ⊥
-Fits (stage.Isolated audit version) (Some accepted) = HoldsSplit audit.engine (state_of audit.engine accepted)
+Fits (stage.Isolated audit version) (Some accepted) = StandsSplit audit.engine accepted
 Fits (stage.Isolated audit version) None = ⊥
 Fits stage.Nothing None = ⊤
 Fits (stage.Resuming sessions limit opening) None = ⊤
@@ -77,15 +101,15 @@ Fits (stage.Handing handed opening) None = ⊤
 Fits other (Some accepted) = ⊥
 
 -- A reply to a script whose transactions aren't split is true: none tells of begins and commits.
-abbrev TellsByOrder : History → Reply → Type 0
-TellsByOrder history (told.Events round kind counts order) = ⊥
-TellsByOrder history (told.Broken round counts tree) = ⊥
-TellsByOrder history answer = TellsTrueOf history answer
+abbrev TellsByOrder : Bool → History → Reply → Type 0
+TellsByOrder left history (told.Events round kind counts order) = ⊥
+TellsByOrder left history (told.Broken round counts tree) = ⊥
+TellsByOrder left history answer = TellsTrueOf left history answer
 
-truly : (history : History) (answer : Reply) → TellsByOrder history answer → TellsTrueOf history answer
-truly history (told.Events round kind counts order) tells = absurd tells
-truly history (told.Broken round counts tree) tells = absurd tells
-truly history answer tells = tells
+truly : (left : Bool) (history : History) (answer : Reply) → TellsByOrder left history answer → TellsTrueOf left history answer
+truly left history (told.Events round kind counts order) tells = absurd tells
+truly left history (told.Broken round counts tree) tells = absurd tells
+truly left history answer tells = tells
 
 -- ---- reports
 
@@ -118,40 +142,45 @@ judged_tree : (rounds : ℕ) (before held : Option Cut) (asked : Option Parts) (
 judged_tree rounds before held None answer report right = absurd right
 judged_tree rounds before held (Some parts) answer report right = right_tree parts answer report.kind report.certificate right.0.right
 
-certified_true : (history : History) (round : ℕ) (counts : List ℕ) (kind : Kind) (certificate : Certificate) → counts ≡ map length history → IsTrueOf history kind → KindOfTree kind certificate → TellsByOrder history (certified (record { round = round; kind = kind; counts = counts; certificate = certificate }) certificate)
-certified_true history round counts kind (Order order) counted is tree = (counted, is)
-certified_true history round counts kind (Refuted shown) counted is tree = (counted, subst (IsTrueOf history) tree is)
-certified_true history round counts kind Nothing counted is tree = counted
+certified_true : (left : Bool) (history : History) (round : ℕ) (counts : List ℕ) (kind : Kind) (certificate : Certificate) → counts ≡ map length history → IsTrueOf history kind → (left ≡ true → EndsOrderIfAny history certificate) → KindOfTree kind certificate → TellsByOrder left history (certified (record { round = round; kind = kind; counts = counts; certificate = certificate }) certificate)
+certified_true left history round counts kind (Order order) counted is ends tree = (counted, is, ends)
+certified_true left history round counts kind (Refuted shown) counted is ends tree = (counted, subst (IsTrueOf history) tree is)
+certified_true left history round counts kind Nothing counted is ends tree = counted
 
 -- ---- steps of an open engine
 
 -- what it has received is what was accepted
-step_on : (old new : EngineState) (accepted next : Accepted) (asked : Step) (said : StepReply) → Goes old asked said new → Holds old (state_of old accepted) → whole_after (state_of old accepted) asked said ≡ next.whole → asked_after (state_of old accepted) asked said ≡ next.asked → Holds new (state_of new next)
-step_on old new accepted next asked said goes holds whole_is asked_is =
-    let after = goes.legal (state_of old accepted) holds in
+step_on : Wholes → (old new : EngineState) (accepted next : Accepted) (asked : Step) (said : StepReply) → Goes old asked said new → Stands old accepted → whole_after (state_of old accepted) asked said ≡ next.whole → asked_after (state_of old accepted) asked said ≡ next.asked → next.left ≡ accepted.left → Stands new next
+step_on w old new accepted next asked said goes stands whole_is asked_is left_is =
+    let after = goes.legal (state_of old accepted) stands.holds in
     record {
-      same = refl;
-      parts = subst (λ (history : History). StandsFor new.parts history) (after.1.whole ∙ whole_is) after.2.parts;
-      asked = λ parts e. subst (λ (history : History). StandsFor parts history) (after.1.asked ∙ asked_is) (after.2.asked parts e);
+      holds = record {
+        same = refl;
+        parts = subst (λ (history : History). StandsFor new.parts history) (after.1.whole ∙ whole_is) after.2.parts;
+        asked = λ parts e. subst (λ (history : History). StandsFor parts history) (after.1.asked ∙ asked_is) (after.2.asked parts e);
+      };
+      left = λ yes.
+          subst (λ (history : History). HoldsLeft new next.whole history) asked_is
+          (subst (λ (history : History). HoldsLeft new history (asked_after (state_of old accepted) asked said)) whole_is (w.on old new accepted.whole accepted.asked asked said goes.right (stands.left (sym left_is ∙ yes))));
     }
 
 -- a reply to a step that is a report is true
-step_true : (old new : EngineState) (accepted : Accepted) (asked : Step) (said : StepReply) → Goes old asked said new → Holds old (state_of old accepted) → TellsByOrder accepted.asked (reply_of said)
-step_true old new accepted asked reply.Done goes holds = tt
-step_true old new accepted asked (reply.Refused refusal) goes holds = tt
-step_true old new accepted asked (reply.Cut cut) goes holds = tt
-step_true old new accepted (step.Finish budget depth workers) (reply.Report report) goes holds =
-    let tells = (goes.legal (state_of old accepted) holds).1.true_reply in
-    certified_true accepted.asked report.round report.counts report.kind report.certificate tells.counts tells.kind (finished_tree old new.held old.asked budget depth report goes.right.0)
-step_true old new accepted (step.Judge certificate) (reply.Report report) goes holds =
-    let tells = (goes.legal (state_of old accepted) holds).1.true_reply in
-    certified_true accepted.asked report.round report.counts report.kind report.certificate tells.counts tells.kind (judged_tree (old.rounds + 1) old.held new.held old.asked (answer_told certificate) report goes.right.0)
-step_true old new accepted asked (reply.Report report) goes holds = absurd goes.right
+step_true : Wholes → (old new : EngineState) (accepted : Accepted) (asked : Step) (said : StepReply) → Goes old asked said new → Stands old accepted → TellsByOrder accepted.left accepted.asked (reply_of said)
+step_true w old new accepted asked reply.Done goes holds = tt
+step_true w old new accepted asked (reply.Refused refusal) goes holds = tt
+step_true w old new accepted asked (reply.Cut cut) goes holds = tt
+step_true w old new accepted (step.Finish budget depth workers) (reply.Report report) goes holds =
+    let tells = (goes.legal (state_of old accepted) holds.holds).1.true_reply in
+    certified_true accepted.left accepted.asked report.round report.counts report.kind report.certificate tells.counts tells.kind (λ yes. w.ends old new accepted.whole accepted.asked (step.Finish budget depth workers) report goes.right (holds.left yes)) (finished_tree old new.held old.asked budget depth report goes.right.0)
+step_true w old new accepted (step.Judge certificate) (reply.Report report) goes holds =
+    let tells = (goes.legal (state_of old accepted) holds.holds).1.true_reply in
+    certified_true accepted.left accepted.asked report.round report.counts report.kind report.certificate tells.counts tells.kind (λ yes. w.ends old new accepted.whole accepted.asked (step.Judge certificate) report goes.right (holds.left yes)) (judged_tree (old.rounds + 1) old.held new.held old.asked (answer_told certificate) report goes.right.0)
+step_true w old new accepted asked (reply.Report report) goes holds = absurd goes.right
 
 -- The reply to a command is true, and what the engine stands for after it is what was accepted by then.
 record IsOn (accepted : Accepted) (command : Command) (answer : Reply) (new : EngineState) : Type 0 where
-  is_true : TellsByOrder (reported_on accepted command) answer
-  holds : Holds new (state_of new (accepted_more accepted command answer))
+  is_true : TellsByOrder accepted.left (reported_on accepted command) answer
+  holds : Stands new (accepted_more accepted command answer)
 
 told_on : (accepted : Accepted) (command : Command) (answer : Reply) (said : StepReply) (new : EngineState) → answer ≡ reply_of said → IsOn accepted command (reply_of said) new → IsOn accepted command answer new
 told_on accepted command answer said new is on = subst (λ (a : Reply). IsOn accepted command a new) (sym is) on
@@ -163,173 +192,184 @@ no_more accepted (Join logged) = refl
 no_more accepted Begin = refl
 no_more accepted command = refl
 
-bad_on : (old new : EngineState) (accepted : Accepted) (command : Command) (answer : Reply) → IsBadLine old answer new → Holds old (state_of old accepted) → IsOn accepted command answer new
+bad_on : (old new : EngineState) (accepted : Accepted) (command : Command) (answer : Reply) → IsBadLine old answer new → Stands old accepted → IsOn accepted command answer new
 bad_on old new accepted command answer bad holds =
-    let more : Holds old (state_of old (accepted_more accepted command (told.No BadLine))) = subst (λ (a : Accepted). Holds old (state_of old a)) (sym (no_more accepted command)) holds in
+    let more : Stands old (accepted_more accepted command (told.No BadLine)) = subst (λ (a : Accepted). Stands old a) (sym (no_more accepted command)) holds in
     subst (λ (a : Reply). IsOn accepted command a new) (sym bad.0)
     (subst (λ (engine : EngineState). IsOn accepted command (told.No BadLine) engine) (sym bad.1) (record { is_true = tt; holds = more }))
 
-taken_on : (version : Version) (logged : LoggedFragment) (old new : EngineState) (accepted : Accepted) (command : Command) (answer : Reply) (Taken : Type 0) → (Taken → IsOn accepted command answer new) → IsTakenIn version logged old answer new Taken → Holds old (state_of old accepted) → IsOn accepted command answer new
+taken_on : (version : Version) (logged : LoggedFragment) (old new : EngineState) (accepted : Accepted) (command : Command) (answer : Reply) (Taken : Type 0) → (Taken → IsOn accepted command answer new) → IsTakenIn version logged old answer new Taken → Stands old accepted → IsOn accepted command answer new
 taken_on version logged old new accepted command answer Taken on taken holds = ⊎_elim (λ good. on good.1) (λ bad. bad_on old new accepted command answer bad.1 holds) taken
 
-offer_on : (old new : EngineState) (accepted : Accepted) (logged : LoggedFragment) (said : StepReply) → Goes old (step.Offer logged) said new → Holds old (state_of old accepted) → IsOn accepted (Offer logged) (reply_of said) new
-offer_on old new accepted logged reply.Done goes holds = record {
+offer_on : Wholes → (old new : EngineState) (accepted : Accepted) (logged : LoggedFragment) (said : StepReply) → Goes old (step.Offer logged) said new → Stands old accepted → IsOn accepted (Offer logged) (reply_of said) new
+offer_on w old new accepted logged reply.Done goes holds = record {
   is_true = tt;
-  holds = step_on old new accepted (record accepted { whole = with_fragment accepted.whole (effects logged) }) (step.Offer logged) reply.Done goes holds refl refl;
+  holds = step_on w old new accepted (record accepted { whole = with_fragment accepted.whole (effects logged) }) (step.Offer logged) reply.Done goes holds refl refl refl;
 }
-offer_on old new accepted logged (reply.Refused refusal) goes holds = record { is_true = tt; holds = step_on old new accepted accepted (step.Offer logged) (reply.Refused refusal) goes holds refl refl }
-offer_on old new accepted logged (reply.Report report) goes holds = absurd goes.right
-offer_on old new accepted logged (reply.Cut cut) goes holds = absurd goes.right
+offer_on w old new accepted logged (reply.Refused refusal) goes holds = record { is_true = tt; holds = step_on w old new accepted accepted (step.Offer logged) (reply.Refused refusal) goes holds refl refl refl }
+offer_on w old new accepted logged (reply.Report report) goes holds = absurd goes.right
+offer_on w old new accepted logged (reply.Cut cut) goes holds = absurd goes.right
 
-join_on : (old new : EngineState) (accepted : Accepted) (logged : LoggedFragment) (said : StepReply) → Goes old (step.Join logged) said new → Holds old (state_of old accepted) → IsOn accepted (Join logged) (reply_of said) new
-join_on old new accepted logged reply.Done goes holds = record {
+join_on : Wholes → (old new : EngineState) (accepted : Accepted) (logged : LoggedFragment) (said : StepReply) → Goes old (step.Join logged) said new → Stands old accepted → IsOn accepted (Join logged) (reply_of said) new
+join_on w old new accepted logged reply.Done goes holds = record {
   is_true = tt;
-  holds = step_on old new accepted (record accepted { whole = history_after accepted.whole (arrival_of (length accepted.whole) (effects logged)) }) (step.Join logged) reply.Done goes holds refl refl;
+  holds = step_on w old new accepted (record accepted { whole = history_after accepted.whole (arrival_of (length accepted.whole) (effects logged)) }) (step.Join logged) reply.Done goes holds refl refl refl;
 }
-join_on old new accepted logged (reply.Refused refusal) goes holds = record { is_true = tt; holds = step_on old new accepted accepted (step.Join logged) (reply.Refused refusal) goes holds refl refl }
-join_on old new accepted logged (reply.Report report) goes holds = absurd goes.right
-join_on old new accepted logged (reply.Cut cut) goes holds = absurd goes.right
+join_on w old new accepted logged (reply.Refused refusal) goes holds = record { is_true = tt; holds = step_on w old new accepted accepted (step.Join logged) (reply.Refused refusal) goes holds refl refl refl }
+join_on w old new accepted logged (reply.Report report) goes holds = absurd goes.right
+join_on w old new accepted logged (reply.Cut cut) goes holds = absurd goes.right
 
-begin_on : (old new : EngineState) (accepted : Accepted) (said : StepReply) → Goes old step.Begin said new → Holds old (state_of old accepted) → IsOn accepted Begin (reply_of said) new
-begin_on old new accepted reply.Done goes holds = record {
+begin_on : Wholes → (old new : EngineState) (accepted : Accepted) (said : StepReply) → Goes old step.Begin said new → Stands old accepted → IsOn accepted Begin (reply_of said) new
+begin_on w old new accepted reply.Done goes holds = record {
   is_true = tt;
-  holds = step_on old new accepted (record accepted { asked = accepted.whole }) step.Begin reply.Done goes holds refl refl;
+  holds = step_on w old new accepted (record accepted { asked = accepted.whole }) step.Begin reply.Done goes holds refl refl refl;
 }
-begin_on old new accepted (reply.Refused refusal) goes holds = record { is_true = tt; holds = step_on old new accepted accepted step.Begin (reply.Refused refusal) goes holds refl refl }
-begin_on old new accepted (reply.Report report) goes holds = absurd goes.right
-begin_on old new accepted (reply.Cut cut) goes holds = absurd goes.right
+begin_on w old new accepted (reply.Refused refusal) goes holds = record { is_true = tt; holds = step_on w old new accepted accepted step.Begin (reply.Refused refusal) goes holds refl refl refl }
+begin_on w old new accepted (reply.Report report) goes holds = absurd goes.right
+begin_on w old new accepted (reply.Cut cut) goes holds = absurd goes.right
 
 -- ---- a round of one line
 
 -- where no round is open it doesn't matter what was accepted when one began
-whatever_asked : (engine : EngineState) (accepted other : Accepted) → engine.asked ≡ None → accepted.whole ≡ other.whole → Holds engine (state_of engine accepted) → Holds engine (state_of engine other)
-whatever_asked engine accepted other none same holds = record {
-  same = refl;
-  parts = subst (λ (history : History). StandsFor engine.parts history) same holds.parts;
-  asked = λ parts e. absurd (none-some parts (sym none ∙ e));
+whatever_asked : (engine : EngineState) (accepted other : Accepted) → engine.asked ≡ None → accepted.whole ≡ other.whole → other.left ≡ accepted.left → Stands engine accepted → Stands engine other
+whatever_asked engine accepted other none same left_is stands = record {
+  holds = record {
+    same = refl;
+    parts = subst (λ (history : History). StandsFor engine.parts history) same stands.holds.parts;
+    asked = λ parts e. absurd (none-some parts (sym none ∙ e));
+  };
+  left = λ yes.
+      let was = stands.left (sym left_is ∙ yes) in
+      record {
+        parts = subst (λ (history : History). IsLeftOf engine.parts history) same was.parts;
+        asked = λ parts e. absurd (none-some parts (sym none ∙ e));
+        base = was.base;
+        kept = was.kept;
+        held = was.held;
+      };
 }
 
-ended_on : (begun new : EngineState) (accepted : Accepted) (search : Search) (budget depth workers : ℕ) (said : StepReply) → EndsRound begun search budget depth workers said new → Holds begun (state_of begun (record accepted { asked = accepted.whole })) → IsOn accepted (Round budget depth workers search) (reply_of said) new
-ended_on begun new accepted search budget depth workers (reply.Report report) ends holds =
+ended_on : Wholes → (begun new : EngineState) (accepted : Accepted) (search : Search) (budget depth workers : ℕ) (said : StepReply) → EndsRound begun search budget depth workers said new → Stands begun (record accepted { asked = accepted.whole }) → IsOn accepted (Round budget depth workers search) (reply_of said) new
+ended_on w begun new accepted search budget depth workers (reply.Report report) ends holds =
     let all : Accepted = record accepted { asked = accepted.whole } in
     record {
-      is_true = step_true begun new all (step.Finish budget depth workers) (reply.Report report) ends.goes holds;
-      holds = whatever_asked new all accepted ends.goes.right.1.none_open refl (step_on begun new all all (step.Finish budget depth workers) (reply.Report report) ends.goes holds refl refl);
+      is_true = step_true w begun new all (step.Finish budget depth workers) (reply.Report report) ends.goes holds;
+      holds = whatever_asked new all accepted ends.goes.right.1.none_open refl refl (step_on w begun new all all (step.Finish budget depth workers) (reply.Report report) ends.goes holds refl refl refl);
     }
-ended_on begun new accepted search budget depth workers (reply.Refused NoMemory) ends holds =
+ended_on w begun new accepted search budget depth workers (reply.Refused NoMemory) ends holds =
     let all : Accepted = record accepted { asked = accepted.whole } in
-    let kept = step_on begun ends.0 all all (step.Finish budget depth workers) (reply.Refused NoMemory) ends.1 holds refl refl in
+    let kept = step_on w begun ends.0 all all (step.Finish budget depth workers) (reply.Refused NoMemory) ends.1 holds refl refl refl in
     record {
       is_true = tt;
-      holds = whatever_asked new all accepted (ap (λ (engine : EngineState). engine.asked) ends.2.right.1) refl (step_on ends.0 new all all step.Abandon reply.Done ends.2 kept refl refl);
+      holds = whatever_asked new all accepted (ap (λ (engine : EngineState). engine.asked) ends.2.right.1) refl refl (step_on w ends.0 new all all step.Abandon reply.Done ends.2 kept refl refl refl);
     }
-ended_on begun new accepted search budget depth workers (reply.Refused refusal) ends holds = absurd ends
-ended_on begun new accepted search budget depth workers reply.Done ends holds = absurd ends
-ended_on begun new accepted search budget depth workers (reply.Cut cut) ends holds = absurd ends
+ended_on w begun new accepted search budget depth workers (reply.Refused refusal) ends holds = absurd ends
+ended_on w begun new accepted search budget depth workers reply.Done ends holds = absurd ends
+ended_on w begun new accepted search budget depth workers (reply.Cut cut) ends holds = absurd ends
 
-refused_on : (old new : EngineState) (accepted : Accepted) (search : Search) (budget depth workers : ℕ) (refusal : Refusal) (said : StepReply) → said ≡ reply.Refused refusal → Goes old step.Begin said new → Holds old (state_of old accepted) → IsOn accepted (Round budget depth workers search) (reply_of said) new
-refused_on old new accepted search budget depth workers refusal said is goes holds =
+refused_on : Wholes → (old new : EngineState) (accepted : Accepted) (search : Search) (budget depth workers : ℕ) (refusal : Refusal) (said : StepReply) → said ≡ reply.Refused refusal → Goes old step.Begin said new → Stands old accepted → IsOn accepted (Round budget depth workers search) (reply_of said) new
+refused_on w old new accepted search budget depth workers refusal said is goes holds =
     subst (λ (s : StepReply). IsOn accepted (Round budget depth workers search) (reply_of s) new) (sym is) (record {
       is_true = tt;
-      holds = step_on old new accepted accepted step.Begin (reply.Refused refusal) (subst (λ (s : StepReply). Goes old step.Begin s new) is goes) holds refl refl;
+      holds = step_on w old new accepted accepted step.Begin (reply.Refused refusal) (subst (λ (s : StepReply). Goes old step.Begin s new) is goes) holds refl refl refl;
     })
 
-round_on : (old new : EngineState) (accepted : Accepted) (search : Search) (budget depth workers : ℕ) (said : StepReply) → IsRound old search budget depth workers said new → Holds old (state_of old accepted) → IsOn accepted (Round budget depth workers search) (reply_of said) new
-round_on old new accepted search budget depth workers said round holds =
+round_on : Wholes → (old new : EngineState) (accepted : Accepted) (search : Search) (budget depth workers : ℕ) (said : StepReply) → IsRound old search budget depth workers said new → Stands old accepted → IsOn accepted (Round budget depth workers search) (reply_of said) new
+round_on w old new accepted search budget depth workers said round holds =
     ⊎_elim
-    (λ refused. refused_on old new accepted search budget depth workers refused.0 said refused.1 refused.2 holds)
-    (λ begun. ended_on begun.0 new accepted search budget depth workers said begun.2 (step_on old begun.0 accepted (record accepted { asked = accepted.whole }) step.Begin reply.Done begun.1 holds refl refl))
+    (λ refused. refused_on w old new accepted search budget depth workers refused.0 said refused.1 refused.2 holds)
+    (λ begun. ended_on w begun.0 new accepted search budget depth workers said begun.2 (step_on w old begun.0 accepted (record accepted { asked = accepted.whole }) step.Begin reply.Done begun.1 holds refl refl refl))
     round
 
 -- ---- commands of an open engine
 
-saved_or_not : (history : History) (test : Bool) (fragment : Fragment) → TellsByOrder history (cond test (told.Saved (saved.Offer fragment)) (told.No BadSession))
-saved_or_not history true fragment = tt
-saved_or_not history false fragment = tt
+saved_or_not : (left : Bool) (history : History) (test : Bool) (fragment : Fragment) → TellsByOrder left history (cond test (told.Saved (saved.Offer fragment)) (told.No BadSession))
+saved_or_not left history true fragment = tt
+saved_or_not left history false fragment = tt
 
-saved_true : (history : History) (parts : Parts) (wanted : Wanted) → TellsByOrder history (saved_told parts wanted)
-saved_true history parts wanted.Marks = tt
-saved_true history parts (wanted.Last key) = tt
-saved_true history parts (wanted.Remain s n) = saved_or_not history (nat_lt s (length parts.remain)) (fragment_told parts s n)
+saved_true : (left : Bool) (history : History) (parts : Parts) (wanted : Wanted) → TellsByOrder left history (saved_told parts wanted)
+saved_true left history parts wanted.Marks = tt
+saved_true left history parts (wanted.Last key) = tt
+saved_true left history parts (wanted.Remain s n) = saved_or_not left history (nat_lt s (length parts.remain)) (fragment_told parts s n)
 
 -- nothing has changed
-same_on : (old new : EngineState) (accepted : Accepted) → new ≡ old → Holds old (state_of old accepted) → Holds new (state_of new accepted)
-same_on old new accepted same holds = subst (λ (engine : EngineState). Holds engine (state_of engine accepted)) (sym same) holds
+same_on : (old new : EngineState) (accepted : Accepted) → new ≡ old → Stands old accepted → Stands new accepted
+same_on old new accepted same holds = subst (λ (engine : EngineState). Stands engine accepted) (sym same) holds
 
-open_on : (version : Version) (old new : EngineState) (accepted : Accepted) (command : Command) (answer : Reply) → AnswersOpen version old command answer new → Holds old (state_of old accepted) → IsOn accepted command answer new
-open_on version old new accepted (Offer logged) answer is holds =
-    taken_on version logged old new accepted (Offer logged) answer (IsStep old (step.Offer logged) answer new) (λ taken. told_on accepted (Offer logged) answer taken.0 new taken.2 (offer_on old new accepted logged taken.0 taken.1 holds)) is holds
-open_on version old new accepted (Join logged) answer is holds =
-    taken_on version logged old new accepted (Join logged) answer (IsStep old (step.Join logged) answer new) (λ taken. told_on accepted (Join logged) answer taken.0 new taken.2 (join_on old new accepted logged taken.0 taken.1 holds)) is holds
-open_on version old new accepted Begin answer is holds = told_on accepted Begin answer is.0 new is.2 (begin_on old new accepted is.0 is.1 holds)
-open_on version old new accepted (Round budget depth workers search) answer is holds = told_on accepted (Round budget depth workers search) answer is.0 new is.2 (round_on old new accepted search budget depth workers is.0 is.1 holds)
-open_on version old new accepted (Close session) answer is holds =
-    told_on accepted (Close session) answer is.0 new is.2 (record { is_true = step_true old new accepted (step.Close session) is.0 is.1 holds; holds = step_on old new accepted accepted (step.Close session) is.0 is.1 holds refl refl })
-open_on version old new accepted (Finish budget depth workers search) answer is holds =
-    told_on accepted (Finish budget depth workers search) answer is.0 new is.2 (record { is_true = step_true old new accepted (step.Finish budget depth workers) is.0 is.1.goes holds; holds = step_on old new accepted accepted (step.Finish budget depth workers) is.0 is.1.goes holds refl refl })
-open_on version old new accepted (Answer shown) answer is holds =
-    told_on accepted (Answer shown) answer is.0 new is.2 (record { is_true = step_true old new accepted (step.Judge (certificate_of shown)) is.0 is.1 holds; holds = step_on old new accepted accepted (step.Judge (certificate_of shown)) is.0 is.1 holds refl refl })
-open_on version old new accepted Truncate answer is holds =
-    told_on accepted Truncate answer is.0 new is.2 (record { is_true = step_true old new accepted step.Truncate is.0 is.1 holds; holds = step_on old new accepted accepted step.Truncate is.0 is.1 holds refl refl })
-open_on version old new accepted Rebuild answer is holds =
-    told_on accepted Rebuild answer is.0 new is.2 (record { is_true = step_true old new accepted step.Rebuild is.0 is.1 holds; holds = step_on old new accepted accepted step.Rebuild is.0 is.1 holds refl refl })
-open_on version old new accepted Show answer is holds = record { is_true = subst (λ (a : Reply). TellsByOrder accepted.asked a) (sym is.0) tt; holds = same_on old new accepted is.1 holds }
-open_on version old new accepted (Save wanted) answer is holds = record { is_true = subst (λ (a : Reply). TellsByOrder accepted.asked a) (sym is.0) (saved_true accepted.asked old.parts wanted); holds = same_on old new accepted is.1 holds }
-open_on version old new accepted (Start sessions limit other) answer is holds = bad_on old new accepted (Start sessions limit other) answer is holds
-open_on version old new accepted (StartIsolated sessions limit other) answer is holds = bad_on old new accepted (StartIsolated sessions limit other) answer is holds
-open_on version old new accepted (Resume sessions limit other) answer is holds = bad_on old new accepted (Resume sessions limit other) answer is holds
-open_on version old new accepted (Marks marks closed) answer is holds = bad_on old new accepted (Marks marks closed) answer is holds
-open_on version old new accepted (MarksBegun marks closed begun) answer is holds = bad_on old new accepted (MarksBegun marks closed begun) answer is holds
-open_on version old new accepted (Last last) answer is holds = bad_on old new accepted (Last last) answer is holds
-open_on version old new accepted Resumed answer is holds = bad_on old new accepted Resumed answer is holds
-open_on version old new accepted (BeginSearch budget depth workers search) answer is holds = bad_on old new accepted (BeginSearch budget depth workers search) answer is holds
-open_on version old new accepted (Collect waits) answer is holds = bad_on old new accepted (Collect waits) answer is holds
-open_on version old new accepted Skip answer is holds = bad_on old new accepted Skip answer is holds
+open_on : Wholes → (version : Version) (old new : EngineState) (accepted : Accepted) (command : Command) (answer : Reply) → AnswersOpen version old command answer new → Stands old accepted → IsOn accepted command answer new
+open_on w version old new accepted (Offer logged) answer is holds =
+    taken_on version logged old new accepted (Offer logged) answer (IsStep old (step.Offer logged) answer new) (λ taken. told_on accepted (Offer logged) answer taken.0 new taken.2 (offer_on w old new accepted logged taken.0 taken.1 holds)) is holds
+open_on w version old new accepted (Join logged) answer is holds =
+    taken_on version logged old new accepted (Join logged) answer (IsStep old (step.Join logged) answer new) (λ taken. told_on accepted (Join logged) answer taken.0 new taken.2 (join_on w old new accepted logged taken.0 taken.1 holds)) is holds
+open_on w version old new accepted Begin answer is holds = told_on accepted Begin answer is.0 new is.2 (begin_on w old new accepted is.0 is.1 holds)
+open_on w version old new accepted (Round budget depth workers search) answer is holds = told_on accepted (Round budget depth workers search) answer is.0 new is.2 (round_on w old new accepted search budget depth workers is.0 is.1 holds)
+open_on w version old new accepted (Close session) answer is holds =
+    told_on accepted (Close session) answer is.0 new is.2 (record { is_true = step_true w old new accepted (step.Close session) is.0 is.1 holds; holds = step_on w old new accepted accepted (step.Close session) is.0 is.1 holds refl refl refl })
+open_on w version old new accepted (Finish budget depth workers search) answer is holds =
+    told_on accepted (Finish budget depth workers search) answer is.0 new is.2 (record { is_true = step_true w old new accepted (step.Finish budget depth workers) is.0 is.1.goes holds; holds = step_on w old new accepted accepted (step.Finish budget depth workers) is.0 is.1.goes holds refl refl refl })
+open_on w version old new accepted (Answer shown) answer is holds =
+    told_on accepted (Answer shown) answer is.0 new is.2 (record { is_true = step_true w old new accepted (step.Judge (certificate_of shown)) is.0 is.1 holds; holds = step_on w old new accepted accepted (step.Judge (certificate_of shown)) is.0 is.1 holds refl refl refl })
+open_on w version old new accepted Truncate answer is holds =
+    told_on accepted Truncate answer is.0 new is.2 (record { is_true = step_true w old new accepted step.Truncate is.0 is.1 holds; holds = step_on w old new accepted accepted step.Truncate is.0 is.1 holds refl refl refl })
+open_on w version old new accepted Rebuild answer is holds =
+    told_on accepted Rebuild answer is.0 new is.2 (record { is_true = step_true w old new accepted step.Rebuild is.0 is.1 holds; holds = step_on w old new accepted accepted step.Rebuild is.0 is.1 holds refl refl refl })
+open_on w version old new accepted Show answer is holds = record { is_true = subst (λ (a : Reply). TellsByOrder accepted.left accepted.asked a) (sym is.0) tt; holds = same_on old new accepted is.1 holds }
+open_on w version old new accepted (Save wanted) answer is holds = record { is_true = subst (λ (a : Reply). TellsByOrder accepted.left accepted.asked a) (sym is.0) (saved_true accepted.left accepted.asked old.parts wanted); holds = same_on old new accepted is.1 holds }
+open_on w version old new accepted (Start sessions limit other) answer is holds = bad_on old new accepted (Start sessions limit other) answer is holds
+open_on w version old new accepted (StartIsolated sessions limit other) answer is holds = bad_on old new accepted (StartIsolated sessions limit other) answer is holds
+open_on w version old new accepted (Resume sessions limit other) answer is holds = bad_on old new accepted (Resume sessions limit other) answer is holds
+open_on w version old new accepted (Marks marks closed) answer is holds = bad_on old new accepted (Marks marks closed) answer is holds
+open_on w version old new accepted (MarksBegun marks closed begun) answer is holds = bad_on old new accepted (MarksBegun marks closed begun) answer is holds
+open_on w version old new accepted (Last last) answer is holds = bad_on old new accepted (Last last) answer is holds
+open_on w version old new accepted Resumed answer is holds = bad_on old new accepted Resumed answer is holds
+open_on w version old new accepted (BeginSearch budget depth workers search) answer is holds = bad_on old new accepted (BeginSearch budget depth workers search) answer is holds
+open_on w version old new accepted (Collect waits) answer is holds = bad_on old new accepted (Collect waits) answer is holds
+open_on w version old new accepted Skip answer is holds = bad_on old new accepted Skip answer is holds
 
 -- ---- commands beside a search
 
 -- a reply that tells nothing, after which the engine is what it was
-quiet_on : (old new : AuditState) (accepted : Accepted) (command : Command) (answer said : Reply) → TellsByOrder (reported_on accepted command) said → accepted_more accepted command said ≡ accepted → answer ≡ said → new.engine ≡ old.engine → Holds old.engine (state_of old.engine accepted) → IsOn accepted command answer new.engine
+quiet_on : (old new : AuditState) (accepted : Accepted) (command : Command) (answer said : Reply) → TellsByOrder accepted.left (reported_on accepted command) said → accepted_more accepted command said ≡ accepted → answer ≡ said → new.engine ≡ old.engine → Stands old.engine accepted → IsOn accepted command answer new.engine
 quiet_on old new accepted command answer said is_true more is same holds =
     let kept = same_on old.engine new.engine accepted same holds in
     subst (λ (a : Reply). IsOn accepted command a new.engine) (sym is)
-    (record { is_true = is_true; holds = subst (λ (a : Accepted). Holds new.engine (state_of new.engine a)) (sym more) kept })
+    (record { is_true = is_true; holds = subst (λ (a : Accepted). Stands new.engine a) (sym more) kept })
 
 begin_search_on : (asked : Option Parts) (search : Option Effort) (old new : AuditState) (accepted : Accepted) (given : Effort) (answer : Reply)
     → MatchOption asked ((answer ≡ told.No NoRound) × (new ≡ old)) (λ parts. MatchOption search ((answer ≡ told.Done) × (new ≡ record old { search = Some given })) (λ one. (answer ≡ told.No RoundOpen) × (new ≡ old)))
-    → Holds old.engine (state_of old.engine accepted) → IsOn accepted (BeginSearch given.budget given.depth given.workers given.search) answer new.engine
+    → Stands old.engine accepted → IsOn accepted (BeginSearch given.budget given.depth given.workers given.search) answer new.engine
 begin_search_on None search old new accepted given answer is holds = quiet_on old new accepted _ answer (told.No NoRound) tt refl is.0 (ap (λ (audit : AuditState). audit.engine) is.1) holds
 begin_search_on (Some parts) None old new accepted given answer is holds = quiet_on old new accepted _ answer told.Done tt refl is.0 (ap (λ (audit : AuditState). audit.engine) is.1) holds
 begin_search_on (Some parts) (Some one) old new accepted given answer is holds = quiet_on old new accepted _ answer (told.No RoundOpen) tt refl is.0 (ap (λ (audit : AuditState). audit.engine) is.1) holds
 
-collected_on : (old new : AuditState) (accepted : Accepted) (waits : Bool) (effort : Effort) (answer : Reply) → IsCollected old effort answer new → Holds old.engine (state_of old.engine accepted) → IsOn accepted (Collect waits) answer new.engine
-collected_on old new accepted waits effort answer is holds =
+collected_on : Wholes → (old new : AuditState) (accepted : Accepted) (waits : Bool) (effort : Effort) (answer : Reply) → IsCollected old effort answer new → Stands old.engine accepted → IsOn accepted (Collect waits) answer new.engine
+collected_on w old new accepted waits effort answer is holds =
     let asked : Step = step.Finish effort.budget effort.depth effort.workers in
     told_on accepted (Collect waits) answer is.0 new.engine is.2
-    (record { is_true = step_true old.engine new.engine accepted asked is.0 is.1.goes holds; holds = step_on old.engine new.engine accepted accepted asked is.0 is.1.goes holds refl refl })
+    (record { is_true = step_true w old.engine new.engine accepted asked is.0 is.1.goes holds; holds = step_on w old.engine new.engine accepted accepted asked is.0 is.1.goes holds refl refl refl })
 
-collect_on : (search : Option Effort) (old new : AuditState) (accepted : Accepted) (waits : Bool) (answer : Reply)
+collect_on : Wholes → (search : Option Effort) (old new : AuditState) (accepted : Accepted) (waits : Bool) (answer : Reply)
     → MatchOption search ((answer ≡ told.No NoRound) × (new ≡ old)) (λ effort. GoesOn waits old answer new ⊎ IsCollected old effort answer new)
-    → Holds old.engine (state_of old.engine accepted) → IsOn accepted (Collect waits) answer new.engine
-collect_on None old new accepted waits answer is holds = quiet_on old new accepted (Collect waits) answer (told.No NoRound) tt refl is.0 (ap (λ (audit : AuditState). audit.engine) is.1) holds
-collect_on (Some effort) old new accepted waits answer is holds =
-    ⊎_elim (λ goes. quiet_on old new accepted (Collect waits) answer told.Searching tt refl goes.1 (ap (λ (audit : AuditState). audit.engine) goes.2) holds) (λ got. collected_on old new accepted waits effort answer got holds) is
+    → Stands old.engine accepted → IsOn accepted (Collect waits) answer new.engine
+collect_on w None old new accepted waits answer is holds = quiet_on old new accepted (Collect waits) answer (told.No NoRound) tt refl is.0 (ap (λ (audit : AuditState). audit.engine) is.1) holds
+collect_on w (Some effort) old new accepted waits answer is holds =
+    ⊎_elim (λ goes. quiet_on old new accepted (Collect waits) answer told.Searching tt refl goes.1 (ap (λ (audit : AuditState). audit.engine) goes.2) holds) (λ got. collected_on w old new accepted waits effort answer got holds) is
 
-finish_on : (version : Version) (search : Option Effort) (old new : AuditState) (accepted : Accepted) (budget depth workers : ℕ) (kind : Search) (answer : Reply)
+finish_on : Wholes → (version : Version) (search : Option Effort) (old new : AuditState) (accepted : Accepted) (budget depth workers : ℕ) (kind : Search) (answer : Reply)
     → MatchOption search (AnswersOpen version old.engine (Finish budget depth workers kind) answer new.engine × (new.search ≡ None)) (λ effort. (answer ≡ told.No RoundOpen) × (new ≡ old))
-    → Holds old.engine (state_of old.engine accepted) → IsOn accepted (Finish budget depth workers kind) answer new.engine
-finish_on version None old new accepted budget depth workers kind answer is holds = open_on version old.engine new.engine accepted (Finish budget depth workers kind) answer is.0 holds
-finish_on version (Some effort) old new accepted budget depth workers kind answer is holds = quiet_on old new accepted (Finish budget depth workers kind) answer (told.No RoundOpen) tt refl is.0 (ap (λ (audit : AuditState). audit.engine) is.1) holds
+    → Stands old.engine accepted → IsOn accepted (Finish budget depth workers kind) answer new.engine
+finish_on w version None old new accepted budget depth workers kind answer is holds = open_on w version old.engine new.engine accepted (Finish budget depth workers kind) answer is.0 holds
+finish_on w version (Some effort) old new accepted budget depth workers kind answer is holds = quiet_on old new accepted (Finish budget depth workers kind) answer (told.No RoundOpen) tt refl is.0 (ap (λ (audit : AuditState). audit.engine) is.1) holds
 
-beside_on : (version : Version) (old new : AuditState) (accepted : Accepted) (command : Command) (answer : Reply) → AnswersBeside version old command answer new → Holds old.engine (state_of old.engine accepted) → IsOn accepted command answer new.engine
-beside_on version old new accepted (BeginSearch budget depth workers search) answer is holds =
+beside_on : Wholes → (version : Version) (old new : AuditState) (accepted : Accepted) (command : Command) (answer : Reply) → AnswersBeside version old command answer new → Stands old.engine accepted → IsOn accepted command answer new.engine
+beside_on w version old new accepted (BeginSearch budget depth workers search) answer is holds =
     begin_search_on old.engine.asked old.search old new accepted (record { budget = budget; depth = depth; workers = workers; search = search }) answer is holds
-beside_on version old new accepted (Collect waits) answer is holds = collect_on old.search old new accepted waits answer is holds
-beside_on version old new accepted Skip answer is holds =
+beside_on w version old new accepted (Collect waits) answer is holds = collect_on w old.search old new accepted waits answer is holds
+beside_on w version old new accepted Skip answer is holds =
     told_on accepted Skip answer is.0.0 new.engine is.0.2
-    (record { is_true = step_true old.engine new.engine accepted step.Abandon is.0.0 is.0.1 holds; holds = step_on old.engine new.engine accepted accepted step.Abandon is.0.0 is.0.1 holds refl refl })
-beside_on version old new accepted (Finish budget depth workers search) answer is holds = finish_on version old.search old new accepted budget depth workers search answer is holds
-beside_on version old new accepted command answer is holds = open_on version old.engine new.engine accepted command answer is.0 holds
+    (record { is_true = step_true w old.engine new.engine accepted step.Abandon is.0.0 is.0.1 holds; holds = step_on w old.engine new.engine accepted accepted step.Abandon is.0.0 is.0.1 holds refl refl refl })
+beside_on w version old new accepted (Finish budget depth workers search) answer is holds = finish_on w version old.search old new accepted budget depth workers search answer is holds
+beside_on w version old new accepted command answer is holds = open_on w version old.engine new.engine accepted command answer is.0 holds
 
 -- ---- scripts whose transactions are split
 
@@ -338,15 +378,20 @@ pub record Laws : Type 0 where
   pub fresh : FreshEnginesAreSplit
   pub verdict : SplitKeepsVerdict
   pub doubles : SplitDoublesCounts
+  pub isolate : OrdersIsolate
+  pub follow : SplitStepsFollow
+  pub wholes : Wholes
+  pub fresh_on : FreshEnginesGoOn
+  pub parts_on : LeftPartsGoOn
 
 -- what was accepted, split
 abbrev split_accepted : Accepted → Accepted
-split_accepted accepted = record { whole = split_history accepted.whole; asked = split_history accepted.asked }
+split_accepted accepted = record { whole = split_history accepted.whole; asked = split_history accepted.asked; left = accepted.left }
 
 -- The reply to a command is true, and what the engine stands for after it is what was accepted by then, split.
 record IsIsolatedOn (accepted : Accepted) (command : Command) (answer : Reply) (new : EngineState) : Type 0 where
-  is_true : TellsTrueOf (reported_on accepted command) answer
-  holds : HoldsSplit new (state_of new (accepted_more accepted command answer))
+  is_true : TellsTrueOf accepted.left (reported_on accepted command) answer
+  holds : StandsSplit new (accepted_more accepted command answer)
 
 halving : (history : History) → halved (map (λ txns. 2 * length txns) history) ≡ map length history
 halving [] = refl
@@ -361,78 +406,89 @@ isolation_of verdict history kinds.Pending can is = (verdict history kinds.Pendi
 isolation_of verdict history kinds.Violated can is = (verdict history kinds.Violated can).1 is
 isolation_of verdict history kinds.Spent can is = tt
 
+-- the end of an order that explains a split history is the end of one of begins and commits
+ends_isolated : OrdersIsolate → (history : History) (order : List TxnId) → EndsOrder (split_history history) order → EndsSnapshotOrder history (map event_at order)
+ends_isolated isolate history order (past, h) = (map event_at past, subst (IsSnapshotOrder history) (map-append event_at past order) (isolate history (past ++ order) h))
+
 -- what is true of the split history is told of the history
-isolated_true : Laws → (history : History) (inner : Reply) → HistoryCanBeSplit history → TellsByOrder (split_history history) inner → TellsTrueOf history (isolated_of inner)
-isolated_true laws history (told.Order round kind counts order) can tells = (halved_counts laws.doubles history counts tells.0, isolation_of laws.verdict history kind can tells.1)
-isolated_true laws history (told.Violated round counts tree) can tells = (halved_counts laws.doubles history counts tells.0, isolation_of laws.verdict history kinds.Violated can tells.1)
-isolated_true laws history (told.Spent round counts) can tells = halved_counts laws.doubles history counts tells
-isolated_true laws history (told.Cut fence gone last) can tells = tt
-isolated_true laws history (told.Show marks received closed last remaining) can tells = tt
-isolated_true laws history (told.Events round kind counts order) can tells = absurd tells
-isolated_true laws history (told.Broken round counts tree) can tells = absurd tells
-isolated_true laws history inner can tells = tells
+isolated_true : Laws → (left : Bool) (history : History) (inner : Reply) → HistoryCanBeSplit history → TellsByOrder left (split_history history) inner → TellsTrueOf left history (isolated_of inner)
+isolated_true laws left history (told.Order round kind counts order) can tells = (halved_counts laws.doubles history counts tells.0, isolation_of laws.verdict history kind can tells.1, λ yes. ends_isolated laws.isolate history order (tells.2 yes))
+isolated_true laws left history (told.Violated round counts tree) can tells = (halved_counts laws.doubles history counts tells.0, isolation_of laws.verdict history kinds.Violated can tells.1)
+isolated_true laws left history (told.Spent round counts) can tells = halved_counts laws.doubles history counts tells
+isolated_true laws left history (told.Cut fence gone last) can tells = tt
+isolated_true laws left history (told.Show marks received closed last remaining) can tells = tt
+isolated_true laws left history (told.Events round kind counts order) can tells = absurd tells
+isolated_true laws left history (told.Broken round counts tree) can tells = absurd tells
+isolated_true laws left history inner can tells = tells
 
 -- a reply that is told so
 isolated_told : (accepted : Accepted) (command : Command) (answer inner : Reply) (new : EngineState) → answer ≡ isolated_of inner → IsIsolatedOn accepted command (isolated_of inner) new → IsIsolatedOn accepted command answer new
 isolated_told accepted command answer inner new is on = subst (λ (a : Reply). IsIsolatedOn accepted command a new) (sym is) on
 
 -- a step takes what it offers in
-isolated_step : Laws → (sessions : ℕ) (old new : EngineState) (accepted next : Accepted) (asked : Step) (said : StepReply) → CanBeMade sessions asked → Goes old (split_step asked) said new → HoldsSplit old (state_of old accepted) → whole_after (state_of old accepted) asked said ≡ next.whole → asked_after (state_of old accepted) asked said ≡ next.asked → HoldsSplit new (state_of new next)
-isolated_step laws sessions old new accepted next asked said can goes holds whole_is asked_is =
-    let after = laws.steps sessions old new asked said can goes.right goes.legal (state_of old accepted) holds in
+isolated_step : Laws → (sessions : ℕ) (old new : EngineState) (accepted next : Accepted) (asked : Step) (said : StepReply) → CanBeMade sessions asked → Goes old (split_step asked) said new → StandsSplit old accepted → whole_after (state_of old accepted) asked said ≡ next.whole → asked_after (state_of old accepted) asked said ≡ next.asked → next.left ≡ accepted.left → StandsSplit new next
+isolated_step laws sessions old new accepted next asked said can goes stands whole_is asked_is left_is =
+    let after = laws.steps sessions old new asked said can goes.right goes.legal (state_of old accepted) stands.holds in
     let whole : after.0.whole ≡ next.whole = after.1.whole ∙ whole_is in
     let asked_then : after.0.asked ≡ next.asked = after.1.asked ∙ asked_is in
+    let both = laws.follow sessions old new (state_of old accepted) asked said can goes.right stands.holds in
     record {
       holds = record {
-        same = refl;
-        parts = subst (λ (history : History). StandsFor new.parts (split_history history)) whole after.2.holds.parts;
-        asked = λ parts e. subst (λ (history : History). StandsFor parts (split_history history)) asked_then (after.2.holds.asked parts e);
+        holds = record {
+          same = refl;
+          parts = subst (λ (history : History). StandsFor new.parts (split_history history)) whole after.2.holds.parts;
+          asked = λ parts e. subst (λ (history : History). StandsFor parts (split_history history)) asked_then (after.2.holds.asked parts e);
+        };
+        whole = subst HistoryCanBeSplit whole after.2.whole;
+        asked = subst HistoryCanBeSplit asked_then after.2.asked;
       };
-      whole = subst HistoryCanBeSplit whole after.2.whole;
-      asked = subst HistoryCanBeSplit asked_then after.2.asked;
+      left = λ yes.
+          subst (λ (history : History). HoldsLeft new (split_history next.whole) history) (both.1 ∙ ap split_history asked_is)
+          (subst (λ (history : History). HoldsLeft new history (asked_after (split_state (state_of old accepted)) (split_step asked) said)) (both.0 ∙ ap split_history whole_is)
+          (laws.wholes.on old new (split_history accepted.whole) (split_history accepted.asked) (split_step asked) said goes.right (stands.left (sym left_is ∙ yes))));
     }
 
-isolated_offer : Laws → (sessions : ℕ) (old new : EngineState) (accepted : Accepted) (logged : LoggedFragment) (said : StepReply) → CanBeOffered sessions logged.fragment → Goes old (step.Offer (split_logged logged)) said new → HoldsSplit old (state_of old accepted) → IsIsolatedOn accepted (Offer logged) (isolated_of (reply_of said)) new
+isolated_offer : Laws → (sessions : ℕ) (old new : EngineState) (accepted : Accepted) (logged : LoggedFragment) (said : StepReply) → CanBeOffered sessions logged.fragment → Goes old (step.Offer (split_logged logged)) said new → StandsSplit old accepted → IsIsolatedOn accepted (Offer logged) (isolated_of (reply_of said)) new
 isolated_offer laws sessions old new accepted logged reply.Done can goes holds = record {
   is_true = tt;
-  holds = isolated_step laws sessions old new accepted (record accepted { whole = with_fragment accepted.whole (effects logged) }) (step.Offer logged) reply.Done can goes holds refl refl;
+  holds = isolated_step laws sessions old new accepted (record accepted { whole = with_fragment accepted.whole (effects logged) }) (step.Offer logged) reply.Done can goes holds refl refl refl;
 }
-isolated_offer laws sessions old new accepted logged (reply.Refused refusal) can goes holds = record { is_true = tt; holds = isolated_step laws sessions old new accepted accepted (step.Offer logged) (reply.Refused refusal) can goes holds refl refl }
+isolated_offer laws sessions old new accepted logged (reply.Refused refusal) can goes holds = record { is_true = tt; holds = isolated_step laws sessions old new accepted accepted (step.Offer logged) (reply.Refused refusal) can goes holds refl refl refl }
 isolated_offer laws sessions old new accepted logged (reply.Report report) can goes holds = absurd goes.right
 isolated_offer laws sessions old new accepted logged (reply.Cut cut) can goes holds = absurd goes.right
 
-isolated_join : Laws → (sessions : ℕ) (old new : EngineState) (accepted : Accepted) (logged : LoggedFragment) (said : StepReply) → CanBeOffered sessions logged.fragment → Goes old (step.Join (split_logged logged)) said new → HoldsSplit old (state_of old accepted) → IsIsolatedOn accepted (Join logged) (isolated_of (reply_of said)) new
+isolated_join : Laws → (sessions : ℕ) (old new : EngineState) (accepted : Accepted) (logged : LoggedFragment) (said : StepReply) → CanBeOffered sessions logged.fragment → Goes old (step.Join (split_logged logged)) said new → StandsSplit old accepted → IsIsolatedOn accepted (Join logged) (isolated_of (reply_of said)) new
 isolated_join laws sessions old new accepted logged reply.Done can goes holds = record {
   is_true = tt;
-  holds = isolated_step laws sessions old new accepted (record accepted { whole = history_after accepted.whole (arrival_of (length accepted.whole) (effects logged)) }) (step.Join logged) reply.Done can goes holds refl refl;
+  holds = isolated_step laws sessions old new accepted (record accepted { whole = history_after accepted.whole (arrival_of (length accepted.whole) (effects logged)) }) (step.Join logged) reply.Done can goes holds refl refl refl;
 }
-isolated_join laws sessions old new accepted logged (reply.Refused refusal) can goes holds = record { is_true = tt; holds = isolated_step laws sessions old new accepted accepted (step.Join logged) (reply.Refused refusal) can goes holds refl refl }
+isolated_join laws sessions old new accepted logged (reply.Refused refusal) can goes holds = record { is_true = tt; holds = isolated_step laws sessions old new accepted accepted (step.Join logged) (reply.Refused refusal) can goes holds refl refl refl }
 isolated_join laws sessions old new accepted logged (reply.Report report) can goes holds = absurd goes.right
 isolated_join laws sessions old new accepted logged (reply.Cut cut) can goes holds = absurd goes.right
 
 -- any other command, where nothing was taken in
-isolated_rest : Laws → (version : Version) (old new : AuditState) (accepted next : Accepted) (command : Command) (inner : Reply) (history : History) → AnswersBeside version old command inner new → HoldsSplit old.engine (state_of old.engine accepted)
+isolated_rest : Laws → (version : Version) (old new : AuditState) (accepted next : Accepted) (command : Command) (inner : Reply) (history : History) → AnswersBeside version old command inner new → StandsSplit old.engine accepted
     → reported_on accepted command ≡ history → reported_on (split_accepted accepted) command ≡ split_history history → HistoryCanBeSplit history
     → accepted_more accepted command (isolated_of inner) ≡ next → accepted_more (split_accepted accepted) command inner ≡ split_accepted next → HistoryCanBeSplit next.whole → HistoryCanBeSplit next.asked
     → IsIsolatedOn accepted command (isolated_of inner) new.engine
 isolated_rest laws version old new accepted next command inner history is holds about about_split can more more_split whole asked =
-    let on : IsOn (split_accepted accepted) command inner new.engine = beside_on version old new (split_accepted accepted) command inner is holds.holds in
-    let tells : TellsByOrder (split_history history) inner = subst (λ (h : History). TellsByOrder h inner) about_split on.is_true in
-    let stands : Holds new.engine (state_of new.engine (split_accepted next)) = subst (λ (a : Accepted). Holds new.engine (state_of new.engine a)) more_split on.holds in
+    let on : IsOn (split_accepted accepted) command inner new.engine = beside_on laws.wholes version old new (split_accepted accepted) command inner is (record { holds = holds.holds.holds; left = holds.left }) in
+    let tells : TellsByOrder accepted.left (split_history history) inner = subst (λ (h : History). TellsByOrder accepted.left h inner) about_split on.is_true in
+    let stands : Stands new.engine (split_accepted next) = subst (λ (a : Accepted). Stands new.engine a) more_split on.holds in
     record {
-      is_true = subst (λ (h : History). TellsTrueOf h (isolated_of inner)) (sym about) (isolated_true laws history inner can tells);
-      holds = subst (λ (a : Accepted). HoldsSplit new.engine (state_of new.engine a)) (sym more) (record { holds = stands; whole = whole; asked = asked });
+      is_true = subst (λ (h : History). TellsTrueOf accepted.left h (isolated_of inner)) (sym about) (isolated_true laws accepted.left history inner can tells);
+      holds = subst (λ (a : Accepted). StandsSplit new.engine a) (sym more) (record { holds = record { holds = stands.holds; whole = whole; asked = asked }; left = stands.left });
     }
 
 -- a round may begin
-begun_on : Laws → (version : Version) (old new : AuditState) (accepted : Accepted) (inner : Reply) → AnswersBeside version old Begin inner new → HoldsSplit old.engine (state_of old.engine accepted) → IsIsolatedOn accepted Begin (isolated_of inner) new.engine
-begun_on laws version old new accepted told.Done is holds = isolated_rest laws version old new accepted (record accepted { asked = accepted.whole }) Begin told.Done accepted.asked is holds refl refl holds.asked refl refl holds.whole holds.whole
-begun_on laws version old new accepted (told.Order round kind counts order) is holds = isolated_rest laws version old new accepted accepted Begin (told.Order round kind counts order) accepted.asked is holds refl refl holds.asked refl refl holds.whole holds.asked
-begun_on laws version old new accepted (told.Violated round counts tree) is holds = isolated_rest laws version old new accepted accepted Begin (told.Violated round counts tree) accepted.asked is holds refl refl holds.asked refl refl holds.whole holds.asked
-begun_on laws version old new accepted (told.Spent round counts) is holds = isolated_rest laws version old new accepted accepted Begin (told.Spent round counts) accepted.asked is holds refl refl holds.asked refl refl holds.whole holds.asked
-begun_on laws version old new accepted (told.Cut fence gone last) is holds = isolated_rest laws version old new accepted accepted Begin (told.Cut fence gone last) accepted.asked is holds refl refl holds.asked refl refl holds.whole holds.asked
-begun_on laws version old new accepted (told.Show marks received closed last remaining) is holds = isolated_rest laws version old new accepted accepted Begin (told.Show marks received closed last remaining) accepted.asked is holds refl refl holds.asked refl refl holds.whole holds.asked
-begun_on laws version old new accepted inner is holds = isolated_rest laws version old new accepted accepted Begin inner accepted.asked is holds refl refl holds.asked refl refl holds.whole holds.asked
+begun_on : Laws → (version : Version) (old new : AuditState) (accepted : Accepted) (inner : Reply) → AnswersBeside version old Begin inner new → StandsSplit old.engine accepted → IsIsolatedOn accepted Begin (isolated_of inner) new.engine
+begun_on laws version old new accepted told.Done is holds = isolated_rest laws version old new accepted (record accepted { asked = accepted.whole }) Begin told.Done accepted.asked is holds refl refl holds.holds.asked refl refl holds.holds.whole holds.holds.whole
+begun_on laws version old new accepted (told.Order round kind counts order) is holds = isolated_rest laws version old new accepted accepted Begin (told.Order round kind counts order) accepted.asked is holds refl refl holds.holds.asked refl refl holds.holds.whole holds.holds.asked
+begun_on laws version old new accepted (told.Violated round counts tree) is holds = isolated_rest laws version old new accepted accepted Begin (told.Violated round counts tree) accepted.asked is holds refl refl holds.holds.asked refl refl holds.holds.whole holds.holds.asked
+begun_on laws version old new accepted (told.Spent round counts) is holds = isolated_rest laws version old new accepted accepted Begin (told.Spent round counts) accepted.asked is holds refl refl holds.holds.asked refl refl holds.holds.whole holds.holds.asked
+begun_on laws version old new accepted (told.Cut fence gone last) is holds = isolated_rest laws version old new accepted accepted Begin (told.Cut fence gone last) accepted.asked is holds refl refl holds.holds.asked refl refl holds.holds.whole holds.holds.asked
+begun_on laws version old new accepted (told.Show marks received closed last remaining) is holds = isolated_rest laws version old new accepted accepted Begin (told.Show marks received closed last remaining) accepted.asked is holds refl refl holds.holds.asked refl refl holds.holds.whole holds.holds.asked
+begun_on laws version old new accepted inner is holds = isolated_rest laws version old new accepted accepted Begin inner accepted.asked is holds refl refl holds.holds.asked refl refl holds.holds.whole holds.holds.asked
 
 -- a command that is refused for what it offers, or that has no form
 no_more_by : (accepted : Accepted) (command : Command) (refusal : Refusal) → accepted_more accepted command (told.No refusal) ≡ accepted
@@ -441,89 +497,97 @@ no_more_by accepted (Join logged) refusal = refl
 no_more_by accepted Begin refusal = refl
 no_more_by accepted command refusal = refl
 
-faulty_on : (old new : AuditState) (accepted : Accepted) (command : Command) (answer : Reply) (refusal : Refusal) → answer ≡ told.No refusal → new.engine ≡ old.engine → HoldsSplit old.engine (state_of old.engine accepted) → IsIsolatedOn accepted command answer new.engine
+faulty_on : (old new : AuditState) (accepted : Accepted) (command : Command) (answer : Reply) (refusal : Refusal) → answer ≡ told.No refusal → new.engine ≡ old.engine → StandsSplit old.engine accepted → IsIsolatedOn accepted command answer new.engine
 faulty_on old new accepted command answer refusal is same holds =
-    let more : HoldsSplit old.engine (state_of old.engine (accepted_more accepted command (told.No refusal))) = subst (λ (a : Accepted). HoldsSplit old.engine (state_of old.engine a)) (sym (no_more_by accepted command refusal)) holds in
+    let more : StandsSplit old.engine (accepted_more accepted command (told.No refusal)) = subst (λ (a : Accepted). StandsSplit old.engine a) (sym (no_more_by accepted command refusal)) holds in
     subst (λ (a : Reply). IsIsolatedOn accepted command a new.engine) (sym is)
     (subst (λ (engine : EngineState). IsIsolatedOn accepted command (told.No refusal) engine) (sym same) (record { is_true = tt; holds = more }))
 
 -- what is offered, where it has a form
 isolated_taken : Laws → (version : Version) (old new : AuditState) (accepted : Accepted) (command : Command) (logged : LoggedFragment) (inner : Reply) (asked : Step)
     → ((said : StepReply) → Goes old.engine asked said new.engine → IsIsolatedOn accepted command (isolated_of (reply_of said)) new.engine)
-    → IsTakenIn version logged old.engine inner new.engine (IsStep old.engine asked inner new.engine) → HoldsSplit old.engine (state_of old.engine accepted) → IsIsolatedOn accepted command (isolated_of inner) new.engine
+    → IsTakenIn version logged old.engine inner new.engine (IsStep old.engine asked inner new.engine) → StandsSplit old.engine accepted → IsIsolatedOn accepted command (isolated_of inner) new.engine
 isolated_taken laws version old new accepted command logged inner asked on is holds =
     ⊎_elim (λ one. subst (λ (a : Reply). IsIsolatedOn accepted command (isolated_of a) new.engine) (sym one.1.2) (on one.1.0 one.1.1))
     (λ bad. faulty_on old new accepted command (isolated_of inner) BadLine (ap isolated_of bad.1.0) bad.1.1 holds) is
 
-asked_on : Laws → (version : Version) (old new : AuditState) (accepted : Accepted) (command : Command) (inner : Reply) → CanBeAsked (most_sessions version) command → AnswersBeside version old (split_command command) inner new → HoldsSplit old.engine (state_of old.engine accepted) → IsIsolatedOn accepted command (isolated_of inner) new.engine
+asked_on : Laws → (version : Version) (old new : AuditState) (accepted : Accepted) (command : Command) (inner : Reply) → CanBeAsked (most_sessions version) command → AnswersBeside version old (split_command command) inner new → StandsSplit old.engine accepted → IsIsolatedOn accepted command (isolated_of inner) new.engine
 asked_on laws version old new accepted (Offer logged) inner can is holds =
     isolated_taken laws version old new accepted (Offer logged) (split_logged logged) inner (step.Offer (split_logged logged)) (λ said goes. isolated_offer laws (most_sessions version) old.engine new.engine accepted logged said can goes holds) is.0 holds
 asked_on laws version old new accepted (Join logged) inner can is holds =
     isolated_taken laws version old new accepted (Join logged) (split_logged logged) inner (step.Join (split_logged logged)) (λ said goes. isolated_join laws (most_sessions version) old.engine new.engine accepted logged said can goes holds) is.0 holds
 asked_on laws version old new accepted Begin inner can is holds = begun_on laws version old new accepted inner is holds
 asked_on laws version old new accepted (Round budget depth workers search) inner can is holds =
-    isolated_rest laws version old new accepted accepted (Round budget depth workers search) inner accepted.whole is holds refl refl holds.whole refl refl holds.whole holds.asked
+    isolated_rest laws version old new accepted accepted (Round budget depth workers search) inner accepted.whole is holds refl refl holds.holds.whole refl refl holds.holds.whole holds.holds.asked
 asked_on laws version old new accepted (Save wanted) inner can is holds =
-    let on = isolated_rest laws version old new accepted accepted (Save (split_wanted wanted)) inner accepted.asked is holds refl refl holds.asked refl refl holds.whole holds.asked in
+    let on = isolated_rest laws version old new accepted accepted (Save (split_wanted wanted)) inner accepted.asked is holds refl refl holds.holds.asked refl refl holds.holds.whole holds.holds.asked in
     record { is_true = on.is_true; holds = on.holds }
 asked_on laws version old new accepted (Answer shown) inner can is holds = absurd can
-asked_on laws version old new accepted command inner can is holds = isolated_rest laws version old new accepted accepted command inner accepted.asked is holds refl refl holds.asked refl refl holds.whole holds.asked
+asked_on laws version old new accepted command inner can is holds = isolated_rest laws version old new accepted accepted command inner accepted.asked is holds refl refl holds.holds.asked refl refl holds.holds.whole holds.holds.asked
 
-isolated_on : Laws → (version : Version) (old new : AuditState) (accepted : Accepted) (command : Command) (answer : Reply) → AnswersIsolated version old command answer new → HoldsSplit old.engine (state_of old.engine accepted) → IsIsolatedOn accepted command answer new.engine
+isolated_on : Laws → (version : Version) (old new : AuditState) (accepted : Accepted) (command : Command) (answer : Reply) → AnswersIsolated version old command answer new → StandsSplit old.engine accepted → IsIsolatedOn accepted command answer new.engine
 isolated_on laws version old new accepted command answer is holds =
     ⊎_elim (λ fault. faulty_on old new accepted command answer fault.0 fault.2 (ap (λ (audit : AuditState). audit.engine) fault.3) holds) (λ split. isolated_told accepted command answer split.1 new.engine split.3 (asked_on laws version old new accepted command split.1 split.0 split.2 holds)) is
 
 -- ---- scripts
 
 -- a stage that begins
-abbrev Begun : History → Stage → Command → Reply → Option Stage → Type 0
-Begun whole old command answer begun = Fits (stage_after old begun) (accepted_after whole None command answer)
+abbrev Begun : Origin → Stage → Command → Reply → Option Stage → Type 0
+Begun origin old command answer begun = Fits (stage_after old begun) (accepted_after origin None command answer)
 
-along_begun : (whole : History) (old : Stage) (command : Command) (answer : Reply) (begun is : Option Stage) → begun ≡ is → Begun whole old command answer is → Begun whole old command answer begun
-along_begun whole old command answer begun is same fits = subst (λ (o : Option Stage). Begun whole old command answer o) (sym same) fits
+along_begun : (origin : Origin) (old : Stage) (command : Command) (answer : Reply) (begun is : Option Stage) → begun ≡ is → Begun origin old command answer is → Begun origin old command answer begun
+along_begun origin old command answer begun is same fits = subst (λ (o : Option Stage). Begun origin old command answer o) (sym same) fits
 
-first_fits : Laws → (whole : History) (old : Stage) (command : Command) (answer : Reply) (begun : Option Stage) → Fits old None → AnswersFirst command answer begun → Begun whole old command answer begun
-first_fits laws whole old (Start sessions limit version) told.Done begun none first = along_begun whole old (Start sessions limit version) told.Done begun _ first.2 first.3
-first_fits laws whole old (Start sessions limit version) (told.No refusal) begun none first = along_begun whole old (Start sessions limit version) (told.No refusal) begun None first.1 none
-first_fits laws whole old (Start sessions limit version) answer begun none first = absurd first
-first_fits laws whole old (StartIsolated sessions limit version) told.Done begun none first =
-    along_begun whole old (StartIsolated sessions limit version) told.Done begun _ first.2 (laws.fresh (most_sessions version) sessions (2 * limit) first.3)
-first_fits laws whole old (StartIsolated sessions limit version) (told.No refusal) begun none first = along_begun whole old (StartIsolated sessions limit version) (told.No refusal) begun None first.1 none
-first_fits laws whole old (StartIsolated sessions limit version) answer begun none first = absurd first
-first_fits laws whole old (Resume sessions limit (Ordered version)) told.Done begun none first = along_begun whole old (Resume sessions limit (Ordered version)) told.Done begun _ first.2 tt
-first_fits laws whole old (Resume sessions limit (Ordered version)) (told.No refusal) begun none first = along_begun whole old (Resume sessions limit (Ordered version)) (told.No refusal) begun None first.1 none
-first_fits laws whole old (Resume sessions limit (Ordered version)) answer begun none first = absurd first
-first_fits laws whole old (Resume sessions limit (Isolated version)) told.Done begun none first = along_begun whole old (Resume sessions limit (Isolated version)) told.Done begun _ first.2 tt
-first_fits laws whole old (Resume sessions limit (Isolated version)) (told.No refusal) begun none first = along_begun whole old (Resume sessions limit (Isolated version)) (told.No refusal) begun None first.1 none
-first_fits laws whole old (Resume sessions limit (Isolated version)) answer begun none first = absurd first
-first_fits laws whole old Resumed answer begun none first = subst (λ (a : Reply). Begun whole old Resumed a begun) (sym first.0) (along_begun whole old Resumed (told.No BadLine) begun None first.1 none)
-first_fits laws whole old command answer begun none first = along_begun whole old command answer begun None first.1 none
+nothing_split : (m sessions : ℕ) → split_sessions m (no_history sessions) ≡ no_history sessions
+nothing_split m zero = refl
+nothing_split m (suc sessions) = ap (λ rest. [] ∷ rest) (nothing_split (m + 1) sessions)
 
-anew_fits : Laws → (whole : History) (old new : Stage) (command : Command) (answer : Reply) → Fits old None → BeginsAnew old command answer new → Fits new (accepted_after whole None command answer)
-anew_fits laws whole old new command answer none anew =
-    subst (λ (s : Stage). Fits s (accepted_after whole None command answer)) (sym anew.2) (first_fits laws whole old command answer anew.0 none anew.1)
+first_fits : Laws → (origin : Origin) (old : Stage) (command : Command) (answer : Reply) (begun : Option Stage) → Fits old None → AnswersFirst command answer begun → Begun origin old command answer begun
+first_fits laws origin old (Start sessions limit version) told.Done begun none first = along_begun origin old (Start sessions limit version) told.Done begun _ first.2 (record { holds = first.3; left = λ yes. laws.fresh_on (most_sessions version) sessions limit })
+first_fits laws origin old (Start sessions limit version) (told.No refusal) begun none first = along_begun origin old (Start sessions limit version) (told.No refusal) begun None first.1 none
+first_fits laws origin old (Start sessions limit version) answer begun none first = absurd first
+first_fits laws origin old (StartIsolated sessions limit version) told.Done begun none first =
+    along_begun origin old (StartIsolated sessions limit version) told.Done begun _ first.2 (record {
+      holds = laws.fresh (most_sessions version) sessions (2 * limit) first.3;
+      left = λ yes.
+          subst (λ (history : History). HoldsLeft (fresh (most_sessions version) sessions (2 * limit)) history history) (sym (nothing_split 0 sessions)) (laws.fresh_on (most_sessions version) sessions (2 * limit));
+    })
+first_fits laws origin old (StartIsolated sessions limit version) (told.No refusal) begun none first = along_begun origin old (StartIsolated sessions limit version) (told.No refusal) begun None first.1 none
+first_fits laws origin old (StartIsolated sessions limit version) answer begun none first = absurd first
+first_fits laws origin old (Resume sessions limit (Ordered version)) told.Done begun none first = along_begun origin old (Resume sessions limit (Ordered version)) told.Done begun _ first.2 tt
+first_fits laws origin old (Resume sessions limit (Ordered version)) (told.No refusal) begun none first = along_begun origin old (Resume sessions limit (Ordered version)) (told.No refusal) begun None first.1 none
+first_fits laws origin old (Resume sessions limit (Ordered version)) answer begun none first = absurd first
+first_fits laws origin old (Resume sessions limit (Isolated version)) told.Done begun none first = along_begun origin old (Resume sessions limit (Isolated version)) told.Done begun _ first.2 tt
+first_fits laws origin old (Resume sessions limit (Isolated version)) (told.No refusal) begun none first = along_begun origin old (Resume sessions limit (Isolated version)) (told.No refusal) begun None first.1 none
+first_fits laws origin old (Resume sessions limit (Isolated version)) answer begun none first = absurd first
+first_fits laws origin old Resumed answer begun none first = subst (λ (a : Reply). Begun origin old Resumed a begun) (sym first.0) (along_begun origin old Resumed (told.No BadLine) begun None first.1 none)
+first_fits laws origin old command answer begun none first = along_begun origin old command answer begun None first.1 none
+
+anew_fits : Laws → (origin : Origin) (old new : Stage) (command : Command) (answer : Reply) → Fits old None → BeginsAnew old command answer new → Fits new (accepted_after origin None command answer)
+anew_fits laws origin old new command answer none anew =
+    subst (λ (s : Stage). Fits s (accepted_after origin None command answer)) (sym anew.2) (first_fits laws origin old command answer anew.0 none anew.1)
 
 -- where it goes on handing over
 along_new : (new is : Stage) → new ≡ is → Fits is None → Fits new None
 along_new new is same fits = subst (λ (s : Stage). Fits s None) (sym same) fits
 
-marks_fit : (whole : History) (sessions limit : ℕ) (opening : Opening) (marks : List ℕ) (closed : List Bool) (new : Stage) (answer : Reply) → HandsMarks sessions limit opening marks closed answer new → Fits new None
-marks_fit whole sessions limit opening marks closed new told.Done is = along_new new _ is.1 tt
-marks_fit whole sessions limit opening marks closed new (told.No refusal) is = along_new new _ is.1 tt
-marks_fit whole sessions limit opening marks closed new answer is = absurd is
+marks_fit : (origin : Origin) (sessions limit : ℕ) (opening : Opening) (marks : List ℕ) (closed : List Bool) (new : Stage) (answer : Reply) → HandsMarks sessions limit opening marks closed answer new → Fits new None
+marks_fit origin sessions limit opening marks closed new told.Done is = along_new new _ is.1 tt
+marks_fit origin sessions limit opening marks closed new (told.No refusal) is = along_new new _ is.1 tt
+marks_fit origin sessions limit opening marks closed new answer is = absurd is
 
-takes_marks_fit : Laws → (whole : History) (sessions limit : ℕ) (opening : Opening) (new : Stage) (command : Command) (answer : Reply) → TakesMarks sessions limit opening command answer new → Fits new (accepted_after whole None command answer)
-takes_marks_fit laws whole sessions limit opening new (Marks marks closed) answer is = marks_fit whole sessions limit opening marks closed new answer is
-takes_marks_fit laws whole sessions limit opening new command answer is = anew_fits laws whole (stage.Resuming sessions limit opening) new command answer tt is
+takes_marks_fit : Laws → (origin : Origin) (sessions limit : ℕ) (opening : Opening) (new : Stage) (command : Command) (answer : Reply) → TakesMarks sessions limit opening command answer new → Fits new (accepted_after origin None command answer)
+takes_marks_fit laws origin sessions limit opening new (Marks marks closed) answer is = marks_fit origin sessions limit opening marks closed new answer is
+takes_marks_fit laws origin sessions limit opening new command answer is = anew_fits laws origin (stage.Resuming sessions limit opening) new command answer tt is
 
-takes_halves_fit : Laws → (whole : History) (sessions limit : ℕ) (version : Version) (new : Stage) (command : Command) (answer : Reply) → TakesHalves sessions limit version command answer new → Fits new (accepted_after whole None command answer)
-takes_halves_fit laws whole sessions limit version new (MarksBegun marks closed begun) answer is =
-    ⊎_elim (λ bad. along_new new (stage.Resuming sessions limit (Isolated version)) bad.2 tt) (λ good. marks_fit whole sessions limit (Isolated version) (half_marks marks begun) closed new answer good.1) is
-takes_halves_fit laws whole sessions limit version new command answer is = anew_fits laws whole (stage.Resuming sessions limit (Isolated version)) new command answer tt is
+takes_halves_fit : Laws → (origin : Origin) (sessions limit : ℕ) (version : Version) (new : Stage) (command : Command) (answer : Reply) → TakesHalves sessions limit version command answer new → Fits new (accepted_after origin None command answer)
+takes_halves_fit laws origin sessions limit version new (MarksBegun marks closed begun) answer is =
+    ⊎_elim (λ bad. along_new new (stage.Resuming sessions limit (Isolated version)) bad.2 tt) (λ good. marks_fit origin sessions limit (Isolated version) (half_marks marks begun) closed new answer good.1) is
+takes_halves_fit laws origin sessions limit version new command answer is = anew_fits laws origin (stage.Resuming sessions limit (Isolated version)) new command answer tt is
 
-resuming_fits : Laws → (whole : History) (sessions limit : ℕ) (opening : Opening) (new : Stage) (command : Command) (answer : Reply) → AnswersResuming sessions limit opening command answer new → Fits new (accepted_after whole None command answer)
-resuming_fits laws whole sessions limit (Ordered version) new command answer is = takes_marks_fit laws whole sessions limit (Ordered version) new command answer is
-resuming_fits laws whole sessions limit (Isolated version) new command answer is = takes_halves_fit laws whole sessions limit version new command answer is
+resuming_fits : Laws → (origin : Origin) (sessions limit : ℕ) (opening : Opening) (new : Stage) (command : Command) (answer : Reply) → AnswersResuming sessions limit opening command answer new → Fits new (accepted_after origin None command answer)
+resuming_fits laws origin sessions limit (Ordered version) new command answer is = takes_marks_fit laws origin sessions limit (Ordered version) new command answer is
+resuming_fits laws origin sessions limit (Isolated version) new command answer is = takes_halves_fit laws origin sessions limit version new command answer is
 
 hands_fits : (handed : Handing) (opening : Opening) (fragment : Fragment) (answer : Reply) (new : Stage) → HandsOffer handed opening fragment answer new → Fits new None
 hands_fits handed opening fragment told.Done new is = along_new new _ is.1 tt
@@ -531,82 +595,89 @@ hands_fits handed opening fragment (told.No refusal) new is = along_new new _ is
 hands_fits handed opening fragment answer new is = absurd is
 
 -- a hand-over that ends leads to an engine that stands for the history with which the script begins
-ended_fits : (whole : History) (handed : Handing) (opening : Opening) (new : Stage) → EndsHandOver handed opening told.Done new → BeginsWith whole (stage.Handing handed opening) Resumed told.Done → Fits new (accepted_after whole None Resumed told.Done)
-ended_fits whole handed (Ordered version) new is begins = subst (λ (s : Stage). Fits s (accepted_after whole None Resumed told.Done)) (sym is.1) (is.2 whole begins)
-ended_fits whole handed (Isolated version) new is begins =
-    subst (λ (s : Stage). Fits s (accepted_after whole None Resumed told.Done)) (sym is.1) (record { holds = is.2 (split_history whole) begins.0; whole = begins.1; asked = begins.1 })
+ended_fits : Laws → (origin : Origin) (handed : Handing) (opening : Opening) (new : Stage) → EndsHandOver handed opening told.Done new → BeginsWith origin (stage.Handing handed opening) Resumed told.Done → Fits new (accepted_after origin None Resumed told.Done)
+ended_fits laws origin handed (Ordered version) new is begins =
+    subst (λ (s : Stage). Fits s (accepted_after origin None Resumed told.Done)) (sym is.1) (record {
+      holds = is.2 origin.whole begins.0;
+      left = λ yes. laws.parts_on (handed_parts handed) origin.whole is.0.good.base (begins.1 yes);
+    })
+ended_fits laws origin handed (Isolated version) new is begins =
+    subst (λ (s : Stage). Fits s (accepted_after origin None Resumed told.Done)) (sym is.1) (record {
+      holds = record { holds = is.2 (split_history origin.whole) begins.0; whole = begins.1; asked = begins.1 };
+      left = λ yes. laws.parts_on (handed_parts handed) (split_history origin.whole) is.0.good.base (begins.2 yes);
+    })
 
-takes_over_fit : Laws → (whole : History) (handed : Handing) (opening : Opening) (new : Stage) (command : Command) (answer : Reply) → TakesOver handed opening command answer new → BeginsWith whole (stage.Handing handed opening) command answer → Fits new (accepted_after whole None command answer)
-takes_over_fit laws whole handed opening new (Last more) told.Done is begins = along_new new _ is tt
-takes_over_fit laws whole handed opening new (Last more) (told.No NoMemory) is begins = along_new new _ is tt
-takes_over_fit laws whole handed opening new (Last more) answer is begins = absurd is
-takes_over_fit laws whole handed opening new (Offer logged) answer is begins =
+takes_over_fit : Laws → (origin : Origin) (handed : Handing) (opening : Opening) (new : Stage) (command : Command) (answer : Reply) → TakesOver handed opening command answer new → BeginsWith origin (stage.Handing handed opening) command answer → Fits new (accepted_after origin None command answer)
+takes_over_fit laws origin handed opening new (Last more) told.Done is begins = along_new new _ is tt
+takes_over_fit laws origin handed opening new (Last more) (told.No NoMemory) is begins = along_new new _ is tt
+takes_over_fit laws origin handed opening new (Last more) answer is begins = absurd is
+takes_over_fit laws origin handed opening new (Offer logged) answer is begins =
     ⊎_elim (λ taken. hands_fits handed opening logged.fragment answer new taken.1) (λ bad. along_new new (stage.Handing handed opening) bad.1.1 tt) is
-takes_over_fit laws whole handed opening new Resumed told.Done is begins = ended_fits whole handed opening new is begins
-takes_over_fit laws whole handed opening new Resumed (told.No refusal) is begins = along_new new _ is.1 tt
-takes_over_fit laws whole handed opening new Resumed answer is begins = absurd is
-takes_over_fit laws whole handed opening new command answer is begins = anew_fits laws whole (stage.Handing handed opening) new command answer tt is
+takes_over_fit laws origin handed opening new Resumed told.Done is begins = ended_fits laws origin handed opening new is begins
+takes_over_fit laws origin handed opening new Resumed (told.No refusal) is begins = along_new new _ is.1 tt
+takes_over_fit laws origin handed opening new Resumed answer is begins = absurd is
+takes_over_fit laws origin handed opening new command answer is begins = anew_fits laws origin (stage.Handing handed opening) new command answer tt is
 
 -- the halves of a command begin nothing that it doesn't begin
-halves_fit : (whole : History) (handed : Handing) (version : Version) (command : Command) (answer : Reply) → BeginsWith whole (stage.Handing handed (Isolated version)) command answer → BeginsWith whole (stage.Handing handed (Isolated version)) (half_command handed.parts command) answer
-halves_fit whole handed version (Last more) answer begins = tt
-halves_fit whole handed version (Offer logged) answer begins = tt
-halves_fit whole handed version command answer begins = begins
+halves_fit : (origin : Origin) (handed : Handing) (version : Version) (command : Command) (answer : Reply) → BeginsWith origin (stage.Handing handed (Isolated version)) command answer → BeginsWith origin (stage.Handing handed (Isolated version)) (half_command handed.parts command) answer
+halves_fit origin handed version (Last more) answer begins = tt
+halves_fit origin handed version (Offer logged) answer begins = tt
+halves_fit origin handed version command answer begins = begins
 
-halves_after : (whole : History) (handed : Handing) (command : Command) (answer : Reply) → accepted_after whole None (half_command handed.parts command) answer ≡ accepted_after whole None command answer
-halves_after whole handed (Last more) answer = refl
-halves_after whole handed (Offer logged) answer = refl
-halves_after whole handed command answer = refl
+halves_after : (origin : Origin) (handed : Handing) (command : Command) (answer : Reply) → accepted_after origin None (half_command handed.parts command) answer ≡ accepted_after origin None command answer
+halves_after origin handed (Last more) answer = refl
+halves_after origin handed (Offer logged) answer = refl
+halves_after origin handed command answer = refl
 
-handing_fits : Laws → (whole : History) (handed : Handing) (opening : Opening) (new : Stage) (command : Command) (answer : Reply) → AnswersHanding handed opening command answer new → BeginsWith whole (stage.Handing handed opening) command answer → Fits new (accepted_after whole None command answer)
-handing_fits laws whole handed (Ordered version) new command answer is begins = takes_over_fit laws whole handed (Ordered version) new command answer is begins
-handing_fits laws whole handed (Isolated version) new command answer is begins = ⊎_elim (bad new answer) good is
+handing_fits : Laws → (origin : Origin) (handed : Handing) (opening : Opening) (new : Stage) (command : Command) (answer : Reply) → AnswersHanding handed opening command answer new → BeginsWith origin (stage.Handing handed opening) command answer → Fits new (accepted_after origin None command answer)
+handing_fits laws origin handed (Ordered version) new command answer is begins = takes_over_fit laws origin handed (Ordered version) new command answer is begins
+handing_fits laws origin handed (Isolated version) new command answer is begins = ⊎_elim (bad new answer) good is
   where
-    none : (c : Command) → accepted_after whole None c (told.No BadParts) ≡ None
+    none : (c : Command) → accepted_after origin None c (told.No BadParts) ≡ None
     none (Start sessions limit other) = refl
     none (StartIsolated sessions limit other) = refl
     none Resumed = refl
     none c = refl
 
-    bad : (s : Stage) (a : Reply) → (¬ CanBeHanded command) × (a ≡ told.No BadParts) × (s ≡ stage.Handing handed (Isolated version)) → Fits s (accepted_after whole None command a)
+    bad : (s : Stage) (a : Reply) → (¬ CanBeHanded command) × (a ≡ told.No BadParts) × (s ≡ stage.Handing handed (Isolated version)) → Fits s (accepted_after origin None command a)
     bad s a refused =
-        subst (λ (r : Reply). Fits s (accepted_after whole None command r)) (sym refused.1)
+        subst (λ (r : Reply). Fits s (accepted_after origin None command r)) (sym refused.1)
         (subst (λ (o : Option Accepted). Fits s o) (sym (none command)) (along_new s (stage.Handing handed (Isolated version)) refused.2 tt))
 
-    good : CanBeHanded command × TakesOver handed (Isolated version) (half_command handed.parts command) answer new → Fits new (accepted_after whole None command answer)
+    good : CanBeHanded command × TakesOver handed (Isolated version) (half_command handed.parts command) answer new → Fits new (accepted_after origin None command answer)
     good taken =
-        subst (λ (o : Option Accepted). Fits new o) (halves_after whole handed command answer)
-        (takes_over_fit laws whole handed (Isolated version) new (half_command handed.parts command) answer taken.1 (halves_fit whole handed version command answer begins))
+        subst (λ (o : Option Accepted). Fits new o) (halves_after origin handed command answer)
+        (takes_over_fit laws origin handed (Isolated version) new (half_command handed.parts command) answer taken.1 (halves_fit origin handed version command answer begins))
 
-open_fits : (old : AuditState) (version : Version) (new : Stage) (accepted : Accepted) (command : Command) (answer : Reply) → Answers (stage.Open old version) command answer new → Holds old.engine (state_of old.engine accepted) → TellsTrueOf (reported_on accepted command) answer × Fits new (Some (accepted_more accepted command answer))
-open_fits old version new accepted command answer is holds =
-    let on = beside_on version old is.0 accepted command answer is.1 holds in
-    (truly (reported_on accepted command) answer on.is_true, subst (λ (s : Stage). Fits s (Some (accepted_more accepted command answer))) (sym is.2) on.holds)
+open_fits : Wholes → (old : AuditState) (version : Version) (new : Stage) (accepted : Accepted) (command : Command) (answer : Reply) → Answers (stage.Open old version) command answer new → Stands old.engine accepted → TellsTrueOf accepted.left (reported_on accepted command) answer × Fits new (Some (accepted_more accepted command answer))
+open_fits w old version new accepted command answer is holds =
+    let on = beside_on w version old is.0 accepted command answer is.1 holds in
+    (truly accepted.left (reported_on accepted command) answer on.is_true, subst (λ (s : Stage). Fits s (Some (accepted_more accepted command answer))) (sym is.2) on.holds)
 
-isolated_fits : Laws → (old : AuditState) (version : Version) (new : Stage) (accepted : Accepted) (command : Command) (answer : Reply) → Answers (stage.Isolated old version) command answer new → HoldsSplit old.engine (state_of old.engine accepted) → TellsTrueOf (reported_on accepted command) answer × Fits new (Some (accepted_more accepted command answer))
+isolated_fits : Laws → (old : AuditState) (version : Version) (new : Stage) (accepted : Accepted) (command : Command) (answer : Reply) → Answers (stage.Isolated old version) command answer new → StandsSplit old.engine accepted → TellsTrueOf accepted.left (reported_on accepted command) answer × Fits new (Some (accepted_more accepted command answer))
 isolated_fits laws old version new accepted command answer is holds =
     let on = isolated_on laws version old is.0 accepted command answer is.1 holds in
     (on.is_true, subst (λ (s : Stage). Fits s (Some (accepted_more accepted command answer))) (sym is.2) on.holds)
 
 answers_true : Laws → (old new : Stage) (accepted : Option Accepted) (command : Command) (answer : Reply) → Answers old command answer new → Fits old accepted → IsTrueTold accepted command answer
 answers_true laws old new None command answer is fits = tt
-answers_true laws (stage.Open engine version) new (Some accepted) command answer is fits = (open_fits engine version new accepted command answer is fits).0
+answers_true laws (stage.Open engine version) new (Some accepted) command answer is fits = (open_fits laws.wholes engine version new accepted command answer is fits).0
 answers_true laws (stage.Isolated audit version) new (Some accepted) command answer is fits = (isolated_fits laws audit version new accepted command answer is fits).0
 answers_true laws stage.Nothing new (Some accepted) command answer is fits = absurd fits
 answers_true laws (stage.Resuming sessions limit opening) new (Some accepted) command answer is fits = absurd fits
 answers_true laws (stage.Handing handed opening) new (Some accepted) command answer is fits = absurd fits
 
-answers_fit : Laws → (whole : History) (old new : Stage) (accepted : Option Accepted) (command : Command) (answer : Reply) → Answers old command answer new → Fits old accepted → BeginsWith whole old command answer → Fits new (accepted_after whole accepted command answer)
-answers_fit laws whole (stage.Open engine version) new (Some accepted) command answer is fits begins = (open_fits engine version new accepted command answer is fits).1
-answers_fit laws whole (stage.Isolated audit version) new (Some accepted) command answer is fits begins = (isolated_fits laws audit version new accepted command answer is fits).1
-answers_fit laws whole (stage.Isolated audit version) new None command answer is fits begins = absurd fits
-answers_fit laws whole (stage.Open engine version) new None command answer is fits begins = absurd fits
-answers_fit laws whole stage.Nothing new None command answer is fits begins = anew_fits laws whole stage.Nothing new command answer tt is
-answers_fit laws whole (stage.Resuming sessions limit opening) new None command answer is fits begins = resuming_fits laws whole sessions limit opening new command answer is
-answers_fit laws whole (stage.Handing handed opening) new None command answer is fits begins = handing_fits laws whole handed opening new command answer is begins
-answers_fit laws whole stage.Nothing new (Some accepted) command answer is fits begins = absurd fits
-answers_fit laws whole (stage.Resuming sessions limit opening) new (Some accepted) command answer is fits begins = absurd fits
-answers_fit laws whole (stage.Handing handed opening) new (Some accepted) command answer is fits begins = absurd fits
+answers_fit : Laws → (origin : Origin) (old new : Stage) (accepted : Option Accepted) (command : Command) (answer : Reply) → Answers old command answer new → Fits old accepted → BeginsWith origin old command answer → Fits new (accepted_after origin accepted command answer)
+answers_fit laws origin (stage.Open engine version) new (Some accepted) command answer is fits begins = (open_fits laws.wholes engine version new accepted command answer is fits).1
+answers_fit laws origin (stage.Isolated audit version) new (Some accepted) command answer is fits begins = (isolated_fits laws audit version new accepted command answer is fits).1
+answers_fit laws origin (stage.Isolated audit version) new None command answer is fits begins = absurd fits
+answers_fit laws origin (stage.Open engine version) new None command answer is fits begins = absurd fits
+answers_fit laws origin stage.Nothing new None command answer is fits begins = anew_fits laws origin stage.Nothing new command answer tt is
+answers_fit laws origin (stage.Resuming sessions limit opening) new None command answer is fits begins = resuming_fits laws origin sessions limit opening new command answer is
+answers_fit laws origin (stage.Handing handed opening) new None command answer is fits begins = handing_fits laws origin handed opening new command answer is begins
+answers_fit laws origin stage.Nothing new (Some accepted) command answer is fits begins = absurd fits
+answers_fit laws origin (stage.Resuming sessions limit opening) new (Some accepted) command answer is fits begins = absurd fits
+answers_fit laws origin (stage.Handing handed opening) new (Some accepted) command answer is fits begins = absurd fits
 
 -- the replies to lines
 abbrev replies_in : (old new : Stage) (lines texts : List (List ℕ)) → RepliesAll old lines texts new → List Reply
@@ -622,9 +693,9 @@ texts_of old new (line ∷ lines) (text ∷ texts) all =
 texts_of old new [] (text ∷ texts) all = absurd all
 texts_of old new (line ∷ lines) [] all = absurd all
 
-all_true : Laws → (whole : History) (old new : Stage) (accepted : Option Accepted) (lines texts : List (List ℕ)) (all : RepliesAll old lines texts new) → Fits old accepted → AreTrueReplies whole old accepted lines (replies_in old new lines texts all) new
-all_true laws whole old new accepted [] [] all fits = all
-all_true laws whole old new accepted (line ∷ lines) (text ∷ texts) all fits =
+all_true : Laws → (origin : Origin) (old new : Stage) (accepted : Option Accepted) (lines texts : List (List ℕ)) (all : RepliesAll old lines texts new) → Fits old accepted → AreTrueReplies origin old accepted lines (replies_in old new lines texts all) new
+all_true laws origin old new accepted [] [] all fits = all
+all_true laws origin old new accepted (line ∷ lines) (text ∷ texts) all fits =
     ⊎_elim
     (λ is. inl (
       is.0,
@@ -632,21 +703,21 @@ all_true laws whole old new accepted (line ∷ lines) (text ∷ texts) all fits 
       is.1,
       is.2,
       answers_true laws old all.0 accepted is.0 all.1.answer is.2 fits,
-      λ begins. all_true laws whole all.0 new (accepted_after whole accepted is.0 all.1.answer) lines texts all.2 (answers_fit laws whole old all.0 accepted is.0 all.1.answer is.2 fits begins),
+      λ begins. all_true laws origin all.0 new (accepted_after origin accepted is.0 all.1.answer) lines texts all.2 (answers_fit laws origin old all.0 accepted is.0 all.1.answer is.2 fits begins),
     ))
     (λ none. inr (
       none.0,
       (none.1.0, refl),
-      subst (λ (s : Stage). AreTrueReplies whole s accepted lines (replies_in all.0 new lines texts all.2) new) none.1.1
-          (all_true laws whole all.0 new accepted lines texts all.2 (subst (λ (s : Stage). Fits s accepted) (sym none.1.1) fits)),
+      subst (λ (s : Stage). AreTrueReplies origin s accepted lines (replies_in all.0 new lines texts all.2) new) none.1.1
+          (all_true laws origin all.0 new accepted lines texts all.2 (subst (λ (s : Stage). Fits s accepted) (sym none.1.1) fits)),
     ))
     all.1.answered
-all_true laws whole old new accepted [] (text ∷ texts) all fits = absurd all
-all_true laws whole old new accepted (line ∷ lines) [] all fits = absurd all
+all_true laws origin old new accepted [] (text ∷ texts) all fits = absurd all
+all_true laws origin old new accepted (line ∷ lines) [] all fits = absurd all
 
 pub each_report : Laws → EachReportIsTrue
-each_report laws whole asked output end is = (
+each_report laws origin asked output end is = (
   replies_in stage.Nothing end asked is.0 is.1,
   is.2 ∙ texts_of stage.Nothing end asked is.0 is.1,
-  all_true laws whole stage.Nothing end None asked is.0 is.1 tt,
+  all_true laws origin stage.Nothing end None asked is.0 is.1 tt,
 )

@@ -3,8 +3,13 @@ ghost use Rattle.cobra.specs.Limits.{BoundsStay};
 ghost use Rattle.cobra.specs.SplitStages.{IsolatedStays};
 ghost use Rattle.cobra.specs.TrueReports.{EachReportIsTrue};
 
-use snapshot_histories::{split_doubles_counts, split_keeps_verdict};
-use snapshot_scripts::{fresh_engines_are_split, split_engines_stay, split_steps_are_legal};
+use snapshot_histories::{orders_isolate, split_doubles_counts, split_keeps_verdict};
+use snapshot_scripts::{
+    fresh_engines_are_split, split_engines_stay, split_steps_are_legal, split_steps_follow,
+};
+use whole_orders::{
+    fresh_engines_go_on, left_parts_go_on, reported_orders_end_orders, steps_go_on,
+};
 
 /// Whatever `serve` may leave, each report in it is true of everything that the script's lines had offered and that was answered ok before
 /// the report's round began.
@@ -16,6 +21,12 @@ pub fn each_report_is_true()
     fresh_engines_are_split();
     split_keeps_verdict();
     split_doubles_counts();
+    split_steps_follow();
+    orders_isolate();
+    steps_go_on();
+    reported_orders_end_orders();
+    fresh_engines_go_on();
+    left_parts_go_on();
 }
 
 /// A script keeps the bounds of its version: how many sessions there may be, and how many transactions may remain.

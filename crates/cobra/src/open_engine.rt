@@ -1,8 +1,8 @@
-ghost use Rattle.std.specs.Prelude.{◌≡◌, IfOk, IfErr, IfSome, OnOk};
+ghost use Rattle.std.specs.Prelude.{◌≡◌, None, Some, IfOk, IfErr, IfSome, MatchOption, OnOk};
 ghost use Rattle.order_check.specs.Effort.{IsEffort};
 ghost use Rattle.order_check.specs.Good.{IsGood};
 ghost use Rattle.polygraph.specs.declared.solving.Answer.TheVariants as answers;
-ghost use Rattle.round_state.specs.EngineState.{engine_over, parts_asked};
+ghost use Rattle.round_state.specs.EngineState.{engine_over};
 ghost use Rattle.round_state.specs.Opening.{IsSessions, IsLimit, IsOpenRefusal, IsPartsRefusal, fresh, fresh_state};
 ghost use Rattle.round_state.specs.Runs.{HasLimits, Holds};
 ghost use Rattle.cobra.specs.Scripts.{Finishes, Goes};
@@ -19,41 +19,28 @@ use std::marker::Model;
 use txn::{Refusal, Sequence, TxnId};
 
 /// Finishes the open round by what such a search may answer.
-fn finish_by(
-    engine: &mut Engine,
-    kept: &mut Option<Problem>,
-    alloc: Global,
-    effort: Effort,
-    answer: Answer,
-) -> StepReply
-    requires kept { parts_asked kept.old ≡ engine.old.asked }
-    requires answer { MayAnswerOf effort.search engine.old.asked effort.budget effort.depth answer }
-    ensures finishes { Finishes engine.old effort.search effort.budget effort.depth effort.workers result engine.new }
-    ensures kept { parts_asked kept.new ≡ engine.new.asked }
+fn finish_by(engine: &mut Engine, alloc: Global, effort: Effort, answer: Answer) -> StepReply
+    requires { MayAnswerOf effort.search engine.old.asked effort.budget effort.depth answer }
+    ensures { Finishes engine.old effort.search effort.budget effort.depth effort.workers result engine.new }
 {
     engine.right_is_legal();
     match engine.finish_lawfully(alloc, answer) {
-        Ok(report) => {
-            *kept = None;
-            StepReply::Report(report)
-        }
+        Ok(report) => StepReply::Report(report),
         Err(refusal) => StepReply::Refused(refusal),
     }
 }
 
-/// An engine, with the problem of the round that is open, and the order that was told last. Contracts see the engine.
+/// An engine, and the order that was told last. Contracts see the engine.
 #[derive(Drop)]
 pub(crate) struct OpenEngine {
     engine: Engine,
-    kept: Option<Problem>,
     last: LastTold,
 }
 
 impl Model for OpenEngine {
     ghost use Rattle.std.specs.Coded.{codes};
-    ghost use Rattle.std.specs.Prelude.{◌≡◌};
     ghost use Rattle.order_check.specs.Codes.{coded_last};
-    ghost use Rattle.round_state.specs.EngineState.{EngineState, parts_asked};
+    ghost use Rattle.round_state.specs.EngineState.{EngineState};
     ghost use Rattle.cobra.specs.LastTold.{Fits};
 
     ghost Value = { EngineState };
@@ -62,7 +49,7 @@ impl Model for OpenEngine {
 
     ghost view = { λ e. e.engine };
 
-    ghost invariant = { λ e. (parts_asked e.kept ≡ e.engine.asked) × Fits e.engine e.last };
+    ghost invariant = { λ e. Fits e.engine e.last };
 }
 
 impl OpenEngine {
@@ -79,7 +66,6 @@ impl OpenEngine {
     {
         Ok(OpenEngine {
             engine: Engine::open(alloc, most_sessions, sessions, limit)?,
-            kept: None,
             last: LastTold::nothing(),
         })
     }
@@ -92,7 +78,6 @@ impl OpenEngine {
         let engine = Engine::from_parts(alloc, parts)?;
         Ok(OpenEngine {
             engine,
-            kept: None,
             last: LastTold::nothing(),
         })
     }
@@ -107,10 +92,7 @@ impl OpenEngine {
     fn begin(&mut self, alloc: Global) -> StepReply
         ensures { Goes self.old Step.Begin result self.new }
     {
-        match self
-            .engine
-            .step(alloc, Step::Begin, &mut self.kept, &Single)
-        {
+        match self.engine.step(alloc, Step::Begin, &Single) {
             StepReply::Done => {
                 self.last.begin();
                 StepReply::Done
@@ -127,20 +109,14 @@ impl OpenEngine {
         requires { MayAnswerOf effort.search self.old.asked effort.budget effort.depth (answers.Yes order) }
         ensures { Finishes self.old effort.search effort.budget effort.depth effort.workers result self.new }
     {
-        finish_by(
-            &mut self.engine,
-            &mut self.kept,
-            alloc,
-            effort,
-            Answer::Yes(order),
-        )
+        finish_by(&mut self.engine, alloc, effort, Answer::Yes(order))
     }
 
     /// The problem of the round that is open, if one is.
-    pub(crate) fn problem(&self) -> &Option<Problem>
-        ensures { parts_asked result.now ≡ self.now.asked }
+    pub(crate) fn problem(&self) -> Option<&Problem>
+        ensures { MatchOption result (self.now.asked ≡ None) (λ problem. self.now.asked ≡ Some problem.now.known.parts) }
     {
-        &self.kept
+        self.engine.problem()
     }
 
     /// The order that such a search told of what the open round is about, where it may be told again.
@@ -155,7 +131,7 @@ impl OpenEngine {
         requires { MayAnswerOf effort.search self.old.asked effort.budget effort.depth answer }
         ensures { Finishes self.old effort.search effort.budget effort.depth effort.workers result self.new }
     {
-        let said = finish_by(&mut self.engine, &mut self.kept, alloc, effort, answer);
+        let said = finish_by(&mut self.engine, alloc, effort, answer);
         self.last = self.last.after(&said, effort);
         said
     }
@@ -172,7 +148,7 @@ impl OpenEngine {
         requires effort { IsEffort effort.budget effort.depth effort.workers }
         ensures { Finishes self.old effort.search effort.budget effort.depth effort.workers result self.new }
     {
-        let answer = solve(alloc, &self.kept, effort, solvers);
+        let answer = solve(alloc, &self.engine, effort, solvers);
         self.finish_by(alloc, effort, answer)
     }
 
@@ -199,7 +175,7 @@ impl OpenEngine {
         requires { HasLimits step }
         ensures { Goes self.old step result self.new }
     {
-        let said = self.engine.step(alloc, step, &mut self.kept, &Single);
+        let said = self.engine.step(alloc, step, &Single);
         self.last = LastTold::nothing();
         said
     }

@@ -289,15 +289,13 @@ fn assert_report(
 }
 
 /// The answer to the open round's problem, where one is open.
-fn answer_to(alloc: Global, engine: &Engine) -> Result<Option<Answer>, NoMemory> {
-    match engine.open_problem(alloc)? {
-        Some(problem) => Ok(Some(Single.solve(alloc, &problem, 4096, 0, 1))),
-        None => Ok(None),
-    }
+fn answer_to(alloc: Global, engine: &Engine) -> Option<Answer> {
+    let problem = engine.problem()?;
+    Some(Single.solve(alloc, problem, 4096, 0, 1))
 }
 
 fn report_of(alloc: Global, engine: &mut Engine) -> Result<Option<Report>, Refusal> {
-    match answer_to(alloc, engine)? {
+    match answer_to(alloc, engine) {
         Some(answer) => Ok(Some(engine.finish(alloc, answer)?)),
         None => Ok(None),
     }

@@ -3,7 +3,7 @@ ghost use Rattle.std.specs.Prelude.{◌≡◌, ◌<◌, length};
 ghost use Rattle.clock_choices.specs.BranchState.{last_steps};
 
 use crate::choosing::Recent;
-use clock_choices::{Branch, PathFinder};
+use clock_choices::Branch;
 use refutation::{Leaf, Tree};
 use std::alloc::Global;
 use std::collections::BTreeSet;
@@ -58,7 +58,6 @@ fn count_steps(branch: &Branch) -> usize
 fn used_step(
     alloc: Global,
     branch: &Branch,
-    finder: &mut PathFinder,
     place: usize,
     used: &mut BTreeSet<(TxnId, TxnId)>,
 ) -> Result<Option<ForceStep>, NoMemory>
@@ -71,7 +70,7 @@ fn used_step(
         return Ok(None);
     }
     let against = arc_of(step.choice, other_side(step.side));
-    let cycle = branch.cycle_of(alloc, finder, place)?;
+    let cycle = branch.cycle_of(alloc, place)?;
     note_used(used, cycle.as_slice(), Some(against))?;
     Ok(Some(ForceStep {
         choice: step.choice,
@@ -88,9 +87,8 @@ fn used_steps(
     used: &mut BTreeSet<(TxnId, TxnId)>,
 ) -> Result<Vec<ForceStep>, NoMemory> {
     let mut kept = Vec::new(alloc);
-    let mut finder = PathFinder::new();
     for place in (0..count_steps(branch)).rev() {
-        if let Some(step) = used_step(alloc, branch, &mut finder, place, used)? {
+        if let Some(step) = used_step(alloc, branch, place, used)? {
             recent.note(step.choice)?;
             kept.push(step)?;
         }

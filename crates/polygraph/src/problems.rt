@@ -1,4 +1,4 @@
-ghost use Rattle.std.specs.Prelude.{◌≡◌, ◌≤◌, length, All, IfOk};
+ghost use Rattle.std.specs.Prelude.{◌≡◌, ◌≤◌, length, All, IfOk, IfSome};
 ghost use Rattle.order_check.specs.CountedFronts.{AreFrontCounts, front_at};
 ghost use Rattle.order_check.specs.Good.{IsGood};
 ghost use Rattle.order_check.specs.Known.{IsChoice};
@@ -10,17 +10,24 @@ use clock_choices::{OpenChoices, Saturated};
 use order_check::{Parts, front_parts};
 use std::alloc::{AllocError, Global};
 use std::marker::Model;
+use std::sync::Arc;
 use txn::{Choice, NoMemory};
 
 /// How many choices a search splits first at most.
 const MOST_SPLIT: usize = 6;
 
-/// What a solver is asked: the known relation of a snapshot's parts, the first of the choices that it leaves open, and how many it does. Contracts
-/// don't see what may give the search up.
+/// What is asked: the known relation of a snapshot's parts, and the choices that it leaves open.
 #[derive(Drop, Debug)]
-pub struct Problem {
+pub(crate) struct Asked {
     known: Saturated,
     choices: OpenChoices,
+}
+
+/// What a solver is asked: the known relation of a snapshot's parts, the first of the choices that it leaves open, and how many it does. Whoever
+/// searches has it in common with whoever asks: a clone copies none of it. Contracts don't see that, nor what may give the search up.
+#[derive(Drop, Debug)]
+pub struct Problem {
+    asked: Arc<Asked>,
     stop: Option<Stop>,
 }
 
@@ -28,14 +35,25 @@ impl Model for Problem {
     ghost use Rattle.std.specs.Coded.{codes};
     ghost use Rattle.order_check.specs.Codes.{coded_last};
     ghost use Rattle.polygraph.specs.ProblemState.{ProblemState, IsProblem};
+    ghost use Rattle.std.specs.Arc.{arc_value};
+    ghost use Rattle.polygraph.specs.SharedProblems.{problem_in};
 
     ghost Value = { ProblemState };
 
     ghost coded = { Prim.hlevel (codes, coded_last) };
 
-    ghost view = { λ p. record { known = p.known; first = p.choices.first; open_count = p.choices.count } };
+    ghost view = { λ p. problem_in (arc_value p.asked) };
 
-    ghost invariant = { λ p. IsProblem (record { known = p.known; first = p.choices.first; open_count = p.choices.count }) };
+    ghost invariant = { λ p. IsProblem (problem_in (arc_value p.asked)) };
+}
+
+/// A problem whose search nothing gives up yet.
+fn shared(alloc: Global, known: Saturated, choices: OpenChoices) -> Result<Problem, NoMemory>
+    requires { IsProblem (record { known = known; first = choices.first; open_count = choices.count }) }
+    ensures { IfOk result (λ problem. problem ≡ record { known = known; first = choices.first; open_count = choices.count }) }
+{
+    let asked = Arc::new(alloc, Asked { known, choices })?;
+    Ok(Problem { asked, stop: None })
 }
 
 impl Problem {
@@ -55,11 +73,7 @@ impl Problem {
         let mut listed = known;
         listed.keep_open(alloc, MOST_SPLIT)?;
         let choices = listed.first_open(alloc, MOST_SPLIT)?;
-        Ok(Problem {
-            known: listed,
-            choices,
-            stop: None,
-        })
+        shared(alloc, listed, choices)
     }
 
     /// The problem of the front of the parts up to these counts, where these sessions are open. The front is copied, and its relation is
@@ -85,20 +99,12 @@ impl Problem {
     pub fn stopped_by(self, word: &StopWord, number: u64) -> Problem
         ensures { result ≡ self }
     {
-        let Problem {
-            known,
-            choices,
-            stop: _,
-        } = self;
+        let Problem { asked, stop: _ } = self;
         let stop = match word.another() {
             Ok(word) => Some(Stop { word, number }),
             Err(_) => None,
         };
-        Problem {
-            known,
-            choices,
-            stop,
-        }
+        Problem { asked, stop }
     }
 
     /// Whether a search of it may go on. Where it was given up it ends as if memory were refused, which a search may answer at any time.
@@ -113,21 +119,24 @@ impl Problem {
         ensures value { result.now ≡ self.now.known.parts }
         ensures good { IsGood result.now }
     {
-        self.known.parts()
+        self.asked.known.parts()
     }
 
     pub fn known(&self) -> &Saturated
         ensures { result.now ≡ self.now.known }
     {
-        &self.known
+        &self.asked.known
     }
 
-    /// The relation, without its open choices.
-    pub fn into_known(self) -> Saturated
-        ensures { result ≡ self.known }
+    /// The relation, without its open choices; none while a clone of the problem is left.
+    pub fn into_known(self) -> Option<Saturated>
+        ensures { IfSome result (λ known. known ≡ self.known) }
     {
-        let Problem { known, .. } = self;
-        known
+        let Problem { asked, stop: _ } = self;
+        match Arc::try_unwrap(asked) {
+            Ok(Asked { known, choices: _ }) => Some(known),
+            Err(_others) => None,
+        }
     }
 
     /// The open choices that a search of this depth splits first, in order of reader, key, writer, other writer.
@@ -138,7 +147,7 @@ impl Problem {
         ensures problem { IsProblem self.now }
     {
         let depth = depth as usize;
-        let first = self.choices.first.as_slice();
+        let first = self.asked.choices.first.as_slice();
         if depth < first.len() {
             &first[..depth]
         } else {
@@ -151,7 +160,7 @@ impl Problem {
         ensures value { result ≡ self.now.open_count }
         ensures problem { IsProblem self.now }
     {
-        self.choices.count
+        self.asked.choices.count
     }
 }
 
@@ -162,11 +171,7 @@ impl Clone for Problem {
 
     fn clone(&self) -> Result<Self, NoMemory> {
         Ok(Problem {
-            known: self.known.clone()?,
-            choices: OpenChoices {
-                first: self.choices.first.clone()?,
-                count: self.choices.count,
-            },
+            asked: Arc::try_clone(&self.asked)?,
             stop: match &self.stop {
                 Some(stop) => Some(stop.another()?),
                 None => None,

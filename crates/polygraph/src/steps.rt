@@ -9,7 +9,7 @@ ghost use Rattle.refutation.specs.Refutes.{depth_of};
 ghost use Rattle.clock_choices.specs.BranchState.{assumed, all_taken, last_steps, taken_before};
 ghost use Rattle.clock_choices.specs.Steps.{bare};
 
-use clock_choices::{Branch, Forced, PathFinder};
+use clock_choices::{Branch, Forced};
 use refutation::{Above, Pruned, after_both, forced_with_more};
 use std::alloc::Global;
 use txn::{ForceStep, NoMemory};
@@ -24,13 +24,7 @@ fn last_step(branch: &Branch, place: usize) -> Forced
 
 /// Puts one of the branch's last steps above the tree, if it is needed there. More sides may be taken
 /// than those of the branch.
-fn put_step(
-    alloc: Global,
-    branch: &Branch,
-    finder: &mut PathFinder,
-    place: usize,
-    above: &mut Above,
-) -> Result<(), NoMemory>
+fn put_step(alloc: Global, branch: &Branch, place: usize, above: &mut Above) -> Result<(), NoMemory>
     requires { place < length (last_steps branch.now.log branch.now.levels) }
     ensures stands { OnOk result ((more : List (TxnId × TxnId)) → StandsBelow branch.now.parts (more ++ sides_after (taken_before branch.now.log branch.now.levels) (take (place + 1) (last_steps branch.now.log branch.now.levels))) above.old
         → StandsBelow branch.now.parts (more ++ sides_after (taken_before branch.now.log branch.now.levels) (take place (last_steps branch.now.log branch.now.levels))) above.new) }
@@ -44,7 +38,7 @@ fn put_step(
         above.put(ForceStep {
             choice: step.choice,
             side: step.side,
-            cycle: branch.cycle_of(alloc, finder, place)?,
+            cycle: branch.cycle_of(alloc, place)?,
         })?;
     }
     Ok(())
@@ -52,18 +46,13 @@ fn put_step(
 
 /// Puts those of the branch's last steps above the tree that are needed there. More sides may be
 /// taken than those of the branch.
-fn put_last(
-    alloc: Global,
-    branch: &Branch,
-    finder: &mut PathFinder,
-    above: &mut Above,
-) -> Result<(), NoMemory>
+fn put_last(alloc: Global, branch: &Branch, above: &mut Above) -> Result<(), NoMemory>
     ensures stands { OnOk result ((more : List (TxnId × TxnId)) → StandsBelow branch.now.parts (more ++ all_taken branch.now.log branch.now.levels) above.old
         → StandsBelow branch.now.parts (more ++ taken_before branch.now.log branch.now.levels) above.new) }
     ensures tree { OnOk result (above.new.tree ≡ above.old.tree) }
 {
     for place in (0..branch.steps().len()).rev() {
-        put_step(alloc, branch, finder, place, above)?;
+        put_step(alloc, branch, place, above)?;
     }
     Ok(())
 }
@@ -74,12 +63,10 @@ fn put_all(alloc: Global, branch: &mut Branch, above: &mut Above) -> Result<(), 
     ensures stands { OnOk result (StandsBelow branch.old.parts (all_taken branch.old.log branch.old.levels) above.old → StandsBelow branch.old.parts (assumed branch.old.levels) above.new) }
     ensures tree { OnOk result (above.new.tree ≡ above.old.tree) }
 {
-    // Coming back takes arcs away at the end and adds none, so that what finds paths is made once.
-    let mut finder = PathFinder::new();
-    put_last(alloc, branch, &mut finder, above)?;
+    put_last(alloc, branch, above)?;
     while branch.depth() > 0 {
         branch.back();
-        put_last(alloc, branch, &mut finder, above)?;
+        put_last(alloc, branch, above)?;
     }
     Ok(())
 }
@@ -90,7 +77,7 @@ pub fn below_last(alloc: Global, branch: &Branch, rest: Pruned) -> Result<Pruned
     ensures depth { IfOk result (λ whole. depth_of whole.tree ≤ depth_of rest.tree + 1) }
 {
     let mut above = Above::of(alloc, rest);
-    put_last(alloc, branch, &mut PathFinder::new(), &mut above)?;
+    put_last(alloc, branch, &mut above)?;
     let whole = above.end(alloc)?;
     Ok(whole)
 }

@@ -2,7 +2,7 @@
 ghost use Rattle.std.specs.Prelude.{◌≡◌, ◌<◌, length};
 ghost use Rattle.clock_choices.specs.BranchState.{last_steps};
 
-use clock_choices::{Branch, Forced, PathFinder, Saturated};
+use clock_choices::{Branch, Forced, Saturated};
 use std::alloc::Global;
 use std::process::Abort;
 use test_histories::{Facts, Pair, Relation, side_of};
@@ -38,9 +38,8 @@ pub fn logged_steps(
     known: &Saturated,
 ) -> Result<Vec<ForceStep>, NoMemory> {
     let mut steps = Vec::new(alloc);
-    let mut finder = PathFinder::new();
     for place in 0..count_logged(known) {
-        let cycle = known.cycle_of(alloc, &mut finder, place)?;
+        let cycle = known.cycle_of(alloc, place)?;
         steps.push(step_with(rt, known.log(), place, cycle))?;
     }
     Ok(steps)
@@ -53,9 +52,8 @@ pub fn forced_steps(
     branch: &Branch,
 ) -> Result<Vec<ForceStep>, NoMemory> {
     let mut steps = Vec::new(alloc);
-    let mut finder = PathFinder::new();
     for place in 0..count_forced(branch) {
-        let cycle = branch.cycle_of(alloc, &mut finder, place)?;
+        let cycle = branch.cycle_of(alloc, place)?;
         steps.push(step_with(rt, branch.steps(), place, cycle))?;
     }
     Ok(steps)

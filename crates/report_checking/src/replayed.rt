@@ -40,26 +40,22 @@ impl Solver for NoSearch {
     }
 }
 
-/// An engine that goes through a script once more, with the problem of the round that is open. Contracts see the engine.
+/// An engine that goes through a script once more. Contracts see the engine.
 #[derive(Drop)]
 pub(crate) struct Replayed {
     engine: Engine,
-    kept: Option<Problem>,
 }
 
 impl Model for Replayed {
     ghost use Rattle.std.specs.Coded.{codes};
-    ghost use Rattle.std.specs.Prelude.{◌≡◌};
     ghost use Rattle.order_check.specs.Codes.{coded_last};
-    ghost use Rattle.round_state.specs.EngineState.{EngineState, parts_asked};
+    ghost use Rattle.round_state.specs.EngineState.{EngineState};
 
     ghost Value = { EngineState };
 
     ghost coded = { Prim.hlevel (codes, coded_last) };
 
     ghost view = { λ e. e.engine };
-
-    ghost invariant = { λ e. parts_asked e.kept ≡ e.engine.asked };
 }
 
 impl Replayed {
@@ -75,7 +71,6 @@ impl Replayed {
     {
         Ok(Replayed {
             engine: Engine::open(alloc, most_sessions, sessions, limit)?,
-            kept: None,
         })
     }
 
@@ -131,7 +126,7 @@ impl Replayed {
     pub(crate) fn has_round(&self) -> bool
         ensures { MatchBool result (IsSome self.now.asked) (self.now.asked ≡ None) }
     {
-        self.kept.is_some()
+        self.engine.problem().is_some()
     }
 
     /// Makes a step that isn't a finish.
@@ -140,14 +135,14 @@ impl Replayed {
         ensures right { StepsTo self.old step result self.new }
         ensures legal { StepsLegally self.old step result self.new }
     {
-        self.engine.step(alloc, step, &mut self.kept, &NoSearch)
+        self.engine.step(alloc, step, &NoSearch)
     }
 
     /// The snapshot of the round that is open keeps the rules.
     fn has_good_snapshot(&self)
         ensures { (parts : Parts) → self.now.asked ≡ Some parts → IsGood parts }
     {
-        if let Some(problem) = &self.kept {
+        if let Some(problem) = self.engine.problem() {
             let _ = problem.parts();
         }
     }
@@ -164,7 +159,6 @@ impl Replayed {
         refuted_has_no_order();
         self.has_good_snapshot();
         let report = self.engine.finish(alloc, answer)?;
-        self.kept = None;
         Ok(report)
     }
 }

@@ -25,6 +25,8 @@ use Rattle.settle.specs.declared.cuts.Cut.{Cut}
 use Rattle.round_state.specs.Behind.{IsBehind, AreKnownBehind, IsCaughtBelow, IsClosedBelow, fragment_behind}
 use Rattle.round_state.specs.Kept.{IsFitting}
 use Rattle.round_state.specs.OpenRounds.{IsOpenOn}
+use Rattle.round_state.specs.Phases.{begun_in, known_in}
+use Rattle.round_state.specs.declared.phases.Phase.{Phase}
 use Rattle.round_state.specs.declared.snapshots.OpenRound.{OpenRound}
 
 -- what stays behind
@@ -74,8 +76,11 @@ known_begun law parts one relation e on = record {
     same_round a b h = cc
 
 -- a round that ends leaves its relation
-pub known_ended : (parts : Parts) (asked : Option OpenRound) (known : Option SaturatedState) → AreKnownBehind parts asked known → AreKnownBehind parts None known
-known_ended parts asked known are = record { last = are.last; round = no_round None known refl }
+pub known_after_end : (parts : Parts) (old new : Phase) → begun_in new ≡ None → known_in new ≡ known_in old → AreKnownBehind parts (begun_in old) (known_in old) → AreKnownBehind parts (begun_in new) (known_in new)
+known_after_end parts old new none same are = record {
+  last = subst (λ (k : Option SaturatedState). IfSome k (λ one. IsBehind one.parts parts)) (sym same) are.last;
+  round = no_round (begun_in new) (known_in new) none;
+}
 
 -- what is the parts' own relation is behind them
 pub known_whole : FrontOfItself → (parts : Parts) (asked : Option OpenRound) (known : Option SaturatedState) → asked ≡ None → IfSome known (λ one. one.parts ≡ parts) → AreKnownBehind parts asked known
@@ -84,9 +89,9 @@ known_whole law parts asked known none is = record {
   round = no_round asked known none;
 }
 
--- what is kept is behind, wherever it is taken from
-pub last_behind : (parts : Parts) (asked : Option OpenRound) (known taken : Option SaturatedState) → taken ≡ known → AreKnownBehind parts asked known → IfSome taken (λ one. IsBehind one.parts parts)
-last_behind parts asked known taken e are = subst (λ (k : Option SaturatedState). IfSome k (λ one. IsBehind one.parts parts)) (sym e) are.last
+-- what is kept is behind, and so is what is taken from it
+pub last_behind : (parts : Parts) (asked : Option OpenRound) (known taken : Option SaturatedState) → IfSome taken (λ one. known ≡ Some one) → AreKnownBehind parts asked known → IfSome taken (λ one. IsBehind one.parts parts)
+last_behind parts asked known taken from are = IfSome_then taken from (λ one e. subst (λ (k : Option SaturatedState). IfSome k (λ one. IsBehind one.parts parts)) e are.last)
 
 -- a cut that fits the parts cuts what is known of them
 pub known_cut : (old new : Parts) (cut : Cut) (gone : List TxnId) (whole : Option SaturatedState) → gone ≡ cut.gone → IsFitting old cut → IsCutOf old new cut.gone cut.last → IfSome whole (λ known. known.parts ≡ old) → IfSome whole (λ known. IsContentCutOff known.parts gone new)

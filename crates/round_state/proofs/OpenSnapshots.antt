@@ -1,8 +1,7 @@
 -- The snapshot of the round that is open.
 use Rattle.std.proofs.Common.{◌≡◌, ◌↔◌, ℕ, Bool, List, Option, Some, None, Result, Ok, Err, refl, sym, ap, subst, ◌∙◌, IsTrue}
-use Rattle.std.specs.Prelude.{IfErr, IfSome, IsErrAnd, IsSome, IsSomeAnd, MatchBool}
-use Rattle.std.specs.Option.{is_some}
-use Rattle.std.proofs.lemmas.Bool.{false≢true}
+use Rattle.std.specs.Prelude.{IfErr, IfSome, IsErrAnd, IsSome, IsSomeAnd, MatchBool, MatchOption}
+use Rattle.std.specs.Option.{is_some, option_map}
 use Rattle.txn.specs.declared.transactions.TxnId.{TxnId}
 use Rattle.txn.specs.declared.refusals.Refusal.{Refusal}
 use Rattle.txn.specs.declared.refusals.Refusal.TheVariants as refusals
@@ -15,12 +14,16 @@ use Rattle.order_check.specs.Good.{IsGood}
 use Rattle.clock_choices.specs.SaturatedState.{SaturatedState}
 use Rattle.refutation.specs.Refutes.{IsRefutation}
 use Rattle.refutation.specs.declared.trees.Tree.{Tree}
+use Rattle.polygraph.specs.ProblemState.{ProblemState}
 use Rattle.polygraph.specs.declared.solving.Answer.{Answer}
 use Rattle.round_state.specs.Behind.{AreKnownBehind, IsBehind}
 use Rattle.round_state.specs.EngineState.{EngineState}
 use Rattle.round_state.specs.OpenRounds.{IsOpenOn, IsSnapshotOf, snapshot_in}
+use Rattle.round_state.specs.Phases.{begun_in, known_in, problem_in}
 use Rattle.round_state.specs.Solving.{IsReportRefusal, IsWrong}
 use Rattle.round_state.specs.Steps.{IsFinishRefusal}
+use Rattle.round_state.specs.declared.phases.Phase.{Phase}
+use Rattle.round_state.specs.declared.phases.Phase.TheVariants.{Between, Ended, Open}
 use Rattle.round_state.specs.declared.snapshots.OpenRound.{OpenRound}
 
 counted_by : KeptFrontsAreCounted → (front parts : Parts) (one : OpenRound) → IsBehind front parts → IsOpenOn front one → IsGood parts → IsSnapshotOf parts one front
@@ -104,22 +107,23 @@ pub open_seen : (parts : Parts) (asked : Option OpenRound) (view : Option Parts)
 open_seen parts None view found e is = subst (λ (o : Option Parts). MatchBool found (IsSome o) (o ≡ None)) e (subst (λ (b : Bool). MatchBool b (IsSome (snapshot_in parts None)) (snapshot_in parts None ≡ None)) (sym is) refl)
 open_seen parts (Some one) view found e is = subst (λ (o : Option Parts). MatchBool found (IsSome o) (o ≡ None)) e (subst (λ (b : Bool). MatchBool b (IsSome (snapshot_in parts (Some one))) (snapshot_in parts (Some one) ≡ None)) (sym is) refl)
 
--- the relation of a round that is seen to be open
+-- the problem of a round that is open is that of its snapshot
 
-and_some : (P : SaturatedState → Type 0) (known : Option SaturatedState) → IsSomeAnd known P → IsSome known
-and_some P None h = absurd h
-and_some P (Some relation) h = refl
+problem_parts : KeptFrontsAreCounted → (parts : Parts) (phase : Phase) (problem : ProblemState) → IsGood parts → AreKnownBehind parts (begun_in phase) (known_in phase) → problem_in phase ≡ Some problem → snapshot_in parts (begun_in phase) ≡ Some problem.known.parts
+problem_parts law parts (Between known) problem good are e = absurd (no_problem e)
+  where
+    no_problem : None ≡ Some problem → ⊥
+    no_problem h = cc
+problem_parts law parts (Ended last) problem good are e = absurd (no_problem e)
+  where
+    no_problem : None ≡ Some problem → ⊥
+    no_problem h = cc
+problem_parts law parts (Open one last) problem good are e =
+    snapshot_is law parts (Some one) (Some last.known) one last.known good are refl refl ∙ ap (λ (o : Option ProblemState). option_map (λ (p : ProblemState). p.known.parts) o) e
 
-pub relation_some : (parts : Parts) (asked : Option OpenRound) (known : Option SaturatedState) (one : OpenRound) → AreKnownBehind parts asked known → asked ≡ Some one → IsSome known
-relation_some parts asked known one are e = and_some (λ relation. IsOpenOn relation.parts one) known (are.round one e)
-
-pub relation_seen : (parts : Parts) (asked : Option OpenRound) (known : Option SaturatedState) (view : Option Parts) → AreKnownBehind parts asked known → snapshot_in parts asked ≡ view → IsSome view → IsSome known
-relation_seen parts None known view are e some = absurd (false≢true (subst (λ (o : Option Parts). IsSome o) (sym e) some))
-relation_seen parts (Some one) known view are e some = relation_some parts (Some one) known one are refl
-
-pub relation_is : KeptFrontsAreCounted → (parts : Parts) (asked : Option OpenRound) (known : Option SaturatedState) (view : Option Parts) (relation : SaturatedState) → IsGood parts → AreKnownBehind parts asked known → snapshot_in parts asked ≡ view → IsSome view → known ≡ Some relation → Some relation.parts ≡ view
-relation_is law parts None known view relation good are e some k = absurd (false≢true (subst (λ (o : Option Parts). IsSome o) (sym e) some))
-relation_is law parts (Some one) known view relation good are e some k = sym (snapshot_is law parts (Some one) known one relation good are refl k) ∙ e
+pub problem_seen : {X : Type 0} → KeptFrontsAreCounted → (now : X → ProblemState) (parts : Parts) (phase : Phase) (view : Option Parts) (found : Option X) → IsGood parts → AreKnownBehind parts (begun_in phase) (known_in phase) → snapshot_in parts (begun_in phase) ≡ view → MatchOption found (begun_in phase ≡ None) (λ one. problem_in phase ≡ Some (now one)) → MatchOption found (view ≡ None) (λ one. view ≡ Some (now one).known.parts)
+problem_seen law now parts phase view None good are e none = sym e ∙ no_snapshot parts (begun_in phase) none
+problem_seen law now parts phase view (Some one) good are e is = sym e ∙ problem_parts law parts phase (now one) good are is
 
 -- without a snapshot no round is open
 pub not_open : (parts : Parts) (asked : Option OpenRound) (view : Option Parts) → snapshot_in parts asked ≡ view → view ≡ None → asked ≡ None

@@ -1,7 +1,6 @@
 -- What contracts see of an engine.
-use Rattle.std.specs.Prelude.{ℕ, Option, Some, None}
+use Rattle.std.specs.Prelude.{ℕ, Option, None}
 use Rattle.order_check.specs.declared.remainder.Parts.{Parts}
-use Rattle.polygraph.specs.ProblemState.{ProblemState}
 use Rattle.settle.specs.declared.cuts.Cut.{Cut}
 
 pub record EngineState : Type 0 where
@@ -17,8 +16,3 @@ pub record EngineState : Type 0 where
 -- an engine that has these parts and nothing else: no round is open, no cut is held, and no round was finished
 abbrev pub engine_over : Parts → EngineState
 engine_over parts = record { parts = parts; asked = None; held = None; rounds = 0 }
-
--- the parts that a problem is about, where one is kept
-abbrev pub parts_asked : Option ProblemState → Option Parts
-parts_asked None = None
-parts_asked (Some problem) = Some problem.known.parts

@@ -6,6 +6,7 @@ pub mod Kept
 pub mod Legal
 pub mod OpenRounds
 pub mod Opening
+pub mod Phases
 pub mod Runs
 pub mod Solving
 pub mod Steps

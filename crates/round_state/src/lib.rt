@@ -7,6 +7,7 @@ mod fronts;
 mod intake;
 mod joining;
 mod opening;
+mod phases;
 mod reports;
 mod snapshots;
 mod state;

@@ -1,4 +1,4 @@
-ghost use Rattle.std.specs.Prelude.{◌≡◌, ◌↔◌, map, not, IfOk, IsSome, IsTrue, Some};
+ghost use Rattle.std.specs.Prelude.{◌≡◌, ◌↔◌, map, not, IfOk, IsTrue};
 ghost use Rattle.order_check.specs.declared.remainder.Parts.{Parts};
 ghost use Rattle.order_check.specs.Based.{received_counts, HasPending};
 ghost use Rattle.order_check.specs.Explains.{Explains};
@@ -67,30 +67,19 @@ fn open_on(alloc: Global, known: &Saturated) -> Result<OpenRound, NoMemory>
     Ok(OpenRound { counts, live })
 }
 
-/// A round on the parts that the relation is about, the relation, and the problem of these parts.
+/// A round on the parts that the relation is about, and the problem of these parts twice: it is shared.
 pub(crate) fn asked_of(
     alloc: Global,
     known: Saturated,
-) -> Result<(OpenRound, Saturated, Problem), NoMemory>
+) -> Result<(OpenRound, Problem, Problem), NoMemory>
     ensures begun { IfOk result (λ asked. IsOpenOn known.parts asked.0) }
-    ensures known { IfOk result (λ asked. asked.1.parts ≡ known.parts) }
+    ensures kept { IfOk result (λ asked. asked.1.known.parts ≡ known.parts) }
     ensures problem { IfOk result (λ asked. asked.2.known.parts ≡ known.parts) }
 {
     let begun = open_on(alloc, &known)?;
-    let first = Problem::about(alloc, known)?;
-    let problem = first.clone()?;
-    Ok((begun, first.into_known(), problem))
-}
-
-/// The relation that is kept while a round is open.
-pub(crate) fn relation_in(known: &Option<Saturated>) -> &Saturated
-    requires { IsSome known.now }
-    ensures { known.now ≡ Some result.now }
-{
-    match known {
-        Some(relation) => relation,
-        None => unreachable!(),
-    }
+    let kept = Problem::about(alloc, known)?;
+    let problem = kept.clone()?;
+    Ok((begun, kept, problem))
 }
 
 impl<'a> Snapshot<'a> {

@@ -1,4 +1,4 @@
-ghost use Rattle.std.specs.Prelude.{◌≡◌, ◌+◌, length, sum_by, Some, None, IfOk, IfErr, OnOk, IsSome, IsSomeAnd, MatchBool};
+ghost use Rattle.std.specs.Prelude.{◌≡◌, ◌+◌, length, sum_by, Some, None, IfOk, IfErr, OnOk, IsSome, IsSomeAnd, MatchBool, MatchOption};
 ghost use Rattle.txn.specs.History.{History};
 ghost use Rattle.txn.specs.Transactions.{IsWellFormedFragment};
 ghost use Rattle.logged_fragments.specs.Effects.{effects};
@@ -7,7 +7,7 @@ ghost use Rattle.order_check.specs.Good.{IsGood};
 ghost use Rattle.order_check.specs.StandsFor.{IsOpenSession, StandsFor};
 ghost use Rattle.round_state.specs.Opening.{IsSessions, IsLimit, IsOpenRefusal, IsPartsRefusal, fresh, fresh_state};
 ghost use Rattle.round_state.specs.Steps.{IsAdmitted, IsJoinRefusal, IsLetIn, IsOfferRefusal, IsCloseRefusal, MayBegin, IsBeginRefusal, IsFinishRefusal, IsAbandonRefusal, IsRebuildRefusal, IsTruncateRefusal, IsTruncated, IsFinished, IsHeldAfter, engine_joined, engine_offered, engine_closed, engine_begun, engine_abandoned, engine_rebuilt};
-ghost use Rattle.round_state.specs.EngineState.{engine_over, parts_asked};
+ghost use Rattle.round_state.specs.EngineState.{engine_over};
 ghost use Rattle.round_state.specs.Runs.{Holds};
 ghost use Rattle.round_state.specs.Kept.{IsFitting};
 ghost use Rattle.round_state.specs.Solving.{IsReportOn};
@@ -17,8 +17,9 @@ use crate::fronts::kept_cuts_fit;
 use crate::intake::{admit, effects_of, take_in};
 use crate::joining::{join_with, let_in};
 use crate::opening::{empty_parts, is_limit, is_sessions};
+use crate::phases::Phase;
 use crate::reports::{Report, report_on};
-use crate::snapshots::{OpenRound, Snapshot, asked_of, relation_in};
+use crate::snapshots::{OpenRound, Snapshot, asked_of};
 use crate::tracking::{raise_all, tracks_of};
 use clock_choices::Saturated;
 use logged_fragments::LoggedFragment;
@@ -47,14 +48,12 @@ pub struct Engine {
     marks: Marks,
     /// The pending reads.
     waits: PendingReads,
-    /// The open round.
-    asked: Option<OpenRound>,
+    /// The open round with its problem, or the known relation of a front of the parts.
+    phase: Phase,
     /// The cut that the last yes found.
     held: Option<Cut>,
     /// The number of the last finished round.
     round: u64,
-    /// The known relation of a front of the parts: while a round is open that of its snapshot, and between rounds that of the last one's.
-    known: Option<Saturated>,
 }
 
 impl Model for Engine {
@@ -64,14 +63,15 @@ impl Model for Engine {
     ghost use Rattle.round_state.specs.Behind.{AreKnownBehind};
     ghost use Rattle.round_state.specs.Kept.{IsKept};
     ghost use Rattle.round_state.specs.OpenRounds.{snapshot_in};
+    ghost use Rattle.round_state.specs.Phases.{begun_in, known_in};
 
     ghost Value = { EngineState };
 
     ghost coded = { Prim.hlevel (codes, coded_last) };
 
-    ghost view = { λ e. record { parts = e.parts; asked = snapshot_in e.parts e.asked; held = e.held; rounds = e.round } };
+    ghost view = { λ e. record { parts = e.parts; asked = snapshot_in e.parts (begun_in e.phase); held = e.held; rounds = e.round } };
 
-    ghost invariant = { λ e. IsKept e.parts e.marks e.waits (snapshot_in e.parts e.asked) e.held e.round × AreKnownBehind e.parts e.asked e.known };
+    ghost invariant = { λ e. IsKept e.parts e.marks e.waits (snapshot_in e.parts (begun_in e.phase)) e.held e.round × AreKnownBehind e.parts (begun_in e.phase) (known_in e.phase) };
 }
 
 impl Engine {
@@ -100,10 +100,9 @@ impl Engine {
             parts: empty_parts(alloc, most_sessions, sessions, limit)?,
             marks: Marks::new(alloc, sessions as usize)?,
             waits: PendingReads::new(alloc),
-            asked: None,
+            phase: Phase::Between(None),
             held: None,
             round: 0,
-            known: None,
         })
     }
 
@@ -120,10 +119,9 @@ impl Engine {
                 parts,
                 marks,
                 waits,
-                asked: None,
+                phase: Phase::Between(None),
                 held: None,
                 round: 0,
-                known: None,
             }),
             Err(refused) => Err((parts, Refusal::from(refused))),
         }
@@ -147,7 +145,7 @@ impl Engine {
     fn is_open(&self) -> bool
         ensures { MatchBool result (IsSome self.now.asked) (self.now.asked ≡ None) }
     {
-        self.asked.is_some()
+        self.phase.is_open()
     }
 
     /// Takes a fragment in, whether or not a round is open. Beside memory it takes time of the sessions, and of the fragment's
@@ -193,7 +191,7 @@ impl Engine {
             fragment,
         )?;
         self.held = None; // It was settled without this session.
-        self.known = None;
+        self.phase = Phase::Between(None);
         Ok(())
     }
 
@@ -209,7 +207,7 @@ impl Engine {
         Ok(())
     }
 
-    /// Opens a round on what has been received, and gives the problem that an answer finishes it by.
+    /// Opens a round on what has been received, and gives the problem that an answer finishes it by. The engine keeps the same one.
     pub fn begin(&mut self, alloc: Global) -> Result<Problem, Refusal>
         ensures ok { IfOk result (λ problem. MayBegin self.old × (problem.known.parts ≡ self.old.parts) × (self.new ≡ engine_begun self.old)) }
         ensures err { IfErr result (λ refusal. IsBeginRefusal self.old refusal × (self.new ≡ self.old)) }
@@ -223,10 +221,9 @@ impl Engine {
         // Laws that the proof cites. They do nothing when they run.
         front_of_itself();
         kept_fronts_are_counted();
-        let last = known_of(alloc, self.known.take(), &self.parts)?;
-        let (begun, known, problem) = asked_of(alloc, last)?;
-        self.asked = Some(begun);
-        self.known = Some(known);
+        let last = known_of(alloc, self.phase.take(), &self.parts)?;
+        let (begun, kept, problem) = asked_of(alloc, last)?;
+        self.phase = Phase::Open(begun, kept);
         Ok(problem)
     }
 
@@ -238,29 +235,23 @@ impl Engine {
     {
         // A law that the proof cites. It does nothing when it runs.
         kept_fronts_are_counted();
-        let Some(begun) = &self.asked else {
+        let Phase::Open(begun, problem) = &self.phase else {
             return Err(Refusal::NoRound);
         };
-        let known = relation_in(&self.known);
-        let snapshot = Snapshot::new(&self.parts, begun, known);
+        let snapshot = Snapshot::new(&self.parts, begun, problem.known());
         let report = report_on(alloc, &snapshot, self.round + 1, answer, &mut self.held)?;
-        self.asked = None;
+        self.phase.end();
         self.round += 1;
         Ok(report)
     }
 
     /// The problem of the round that is open, if one is.
-    pub fn open_problem(&self, alloc: Global) -> Result<Option<Problem>, NoMemory>
-        ensures { IfOk result (λ problem. parts_asked problem ≡ self.now.asked) }
+    pub fn problem(&self) -> Option<&Problem>
+        ensures { MatchOption result (self.now.asked ≡ None) (λ problem. self.now.asked ≡ Some problem.now.known.parts) }
     {
         // A law that the proof cites. It does nothing when it runs.
         kept_fronts_are_counted();
-        if !self.is_open() {
-            return Ok(None);
-        }
-        let known = relation_in(&self.known);
-        let problem = Problem::of(alloc, known)?;
-        Ok(Some(problem))
+        self.phase.problem()
     }
 
     /// The snapshot of the round that is open keeps the rules.
@@ -269,7 +260,7 @@ impl Engine {
     {
         // A law that the proof cites. It does nothing when it runs.
         kept_fronts_are_counted();
-        let _ = self.asked.is_some();
+        let _ = self.phase.is_open();
     }
 
     /// Ends the open round without a report; its number isn't used up.
@@ -280,7 +271,7 @@ impl Engine {
         if !self.is_open() {
             return Err(Refusal::NoRound);
         }
-        self.asked = None;
+        self.phase.end();
         Ok(())
     }
 
@@ -307,13 +298,14 @@ impl Engine {
         let Some(cut) = self.held.take() else {
             return Err(Refusal::NoCut);
         };
-        let whole = known_to_cut(alloc, self.known.take(), &self.parts, cut.gone.len());
+        let whole = known_to_cut(alloc, self.phase.take(), &self.parts, cut.gone.len());
         if let Err(refused) = apply(alloc, &mut self.parts, cut.gone.as_slice(), &cut.last) {
             self.held = Some(cut);
             return Err(Refusal::from(refused));
         }
         raise_all(&mut self.marks, &self.parts);
-        self.known = known_after_cut(alloc, whole, cut.gone.as_slice(), &self.parts);
+        let left = known_after_cut(alloc, whole, cut.gone.as_slice(), &self.parts);
+        self.phase = Phase::Between(left);
         Ok(cut)
     }
 
@@ -331,7 +323,7 @@ impl Engine {
         self.waits = waits;
         self.held = None;
         self.round = 0;
-        self.known = None;
+        self.phase = Phase::Between(None);
         Ok(())
     }
 
@@ -358,17 +350,15 @@ fn engine_fields(engine: Engine) -> Parts
         parts,
         marks,
         waits,
-        asked,
+        phase,
         held,
         round,
-        known,
     } = engine;
     drop(marks);
     drop(waits);
     drop(held);
     drop(round);
-    drop(known);
-    if let Some(begun) = asked {
+    if let Phase::Open(begun, _) = phase {
         drop(round_fields(begun));
     }
     parts

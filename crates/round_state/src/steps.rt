@@ -1,7 +1,7 @@
 ghost use Rattle.std.specs.Prelude.{◌≡◌, ℕ, ◌<◌, ◌≤◌, [], ◌∷◌, ◌++◌, All, IfOk, IfSome, OnErr, MatchResult, vec_len, vec_capacity};
 ghost use Rattle.order_check.specs.Effort.{IsEffort};
 ghost use Rattle.polygraph.specs.Solving.{IsLawful};
-ghost use Rattle.round_state.specs.EngineState.{EngineState, parts_asked};
+ghost use Rattle.round_state.specs.EngineState.{EngineState};
 ghost use Rattle.round_state.specs.Runs.{HasLimits, StepsLegally, RunsLegally};
 ghost use Rattle.round_state.specs.Steps.{StepsTo, RunsTo, answer_told};
 
@@ -12,7 +12,7 @@ use order_check::{
     close_keeps_stands_for, join_keeps_stands_for, offer_keeps_stands_for, return_keeps_stands_for,
     verdict_as_stood_for,
 };
-use polygraph::{Answer, Effort, Problem, Solver};
+use polygraph::{Answer, Effort, Solver};
 use refutation::refuted_has_no_order;
 use settle::Cut;
 use std::alloc::Global;
@@ -76,7 +76,6 @@ fn note(replies: &mut Vec<StepReply>, reply: StepReply)
 impl Engine {
     fn reply_to_offer(&mut self, alloc: Global, logged: LoggedFragment) -> StepReply
         ensures right { StepsTo self.old (Step.Offer logged) result self.new }
-        ensures asked { self.new.asked ≡ self.old.asked }
     {
         match self.offer(alloc, logged) {
             Ok(()) => StepReply::Done,
@@ -86,7 +85,6 @@ impl Engine {
 
     fn reply_to_join(&mut self, alloc: Global, logged: LoggedFragment) -> StepReply
         ensures right { StepsTo self.old (Step.Join logged) result self.new }
-        ensures asked { self.new.asked ≡ self.old.asked }
     {
         match self.join(alloc, logged) {
             Ok(()) => StepReply::Done,
@@ -96,7 +94,6 @@ impl Engine {
 
     fn reply_to_close(&mut self, session: u8) -> StepReply
         ensures right { StepsTo self.old (Step.Close session) result self.new }
-        ensures asked { self.new.asked ≡ self.old.asked }
     {
         match self.close(session) {
             Ok(()) => StepReply::Done,
@@ -104,42 +101,26 @@ impl Engine {
         }
     }
 
-    fn reply_to_begin(&mut self, alloc: Global, kept: &mut Option<Problem>) -> StepReply
-        requires { parts_asked kept.old ≡ self.old.asked }
+    fn reply_to_begin(&mut self, alloc: Global) -> StepReply
         ensures right { StepsTo self.old Step.Begin result self.new }
-        ensures kept { parts_asked kept.new ≡ self.new.asked }
     {
         match self.begin(alloc) {
-            Ok(problem) => {
-                *kept = Some(problem);
-                StepReply::Done
-            }
+            Ok(_problem) => StepReply::Done,
             Err(refusal) => StepReply::Refused(refusal),
         }
     }
 
-    fn reply_to_finish<S: Solver>(
-        &mut self,
-        alloc: Global,
-        effort: Effort,
-        kept: &mut Option<Problem>,
-        solver: &S,
-    ) -> StepReply
+    fn reply_to_finish<S: Solver>(&mut self, alloc: Global, effort: Effort, solver: &S) -> StepReply
         requires ready { S.ready }
         requires effort { IsEffort effort.budget effort.depth effort.workers }
-        requires kept { parts_asked kept.old ≡ self.old.asked }
         ensures right { StepsTo self.old (Step.Finish effort.budget effort.depth effort.workers) result self.new }
-        ensures kept { parts_asked kept.new ≡ self.new.asked }
     {
-        let Some(problem) = kept.as_ref() else {
+        let Some(problem) = self.problem() else {
             return StepReply::Refused(Refusal::NoRound);
         };
         let answer = solver.solve(alloc, problem, effort.budget, effort.depth, effort.workers);
         match self.finish_lawfully(alloc, answer) {
-            Ok(report) => {
-                *kept = None;
-                StepReply::Report(report)
-            }
+            Ok(report) => StepReply::Report(report),
             Err(refusal) => StepReply::Refused(refusal),
         }
     }
@@ -157,42 +138,26 @@ impl Engine {
     }
 
     /// The certificate is judged as a search's answer is, and nothing is believed of it.
-    fn reply_to_judge(
-        &mut self,
-        alloc: Global,
-        certificate: Certificate,
-        kept: &mut Option<Problem>,
-    ) -> StepReply
-        requires { parts_asked kept.old ≡ self.old.asked }
+    fn reply_to_judge(&mut self, alloc: Global, certificate: Certificate) -> StepReply
         ensures right { StepsTo self.old (Step.Judge certificate) result self.new }
-        ensures kept { parts_asked kept.new ≡ self.new.asked }
     {
         match self.finish(alloc, answer_told(certificate)) {
-            Ok(report) => {
-                *kept = None;
-                StepReply::Report(report)
-            }
+            Ok(report) => StepReply::Report(report),
             Err(refusal) => StepReply::Refused(refusal),
         }
     }
 
-    fn reply_to_abandon(&mut self, kept: &mut Option<Problem>) -> StepReply
-        requires { parts_asked kept.old ≡ self.old.asked }
+    fn reply_to_abandon(&mut self) -> StepReply
         ensures right { StepsTo self.old Step.Abandon result self.new }
-        ensures kept { parts_asked kept.new ≡ self.new.asked }
     {
         match self.abandon() {
-            Ok(()) => {
-                *kept = None;
-                StepReply::Done
-            }
+            Ok(()) => StepReply::Done,
             Err(refusal) => StepReply::Refused(refusal),
         }
     }
 
     fn reply_to_truncate(&mut self, alloc: Global) -> StepReply
         ensures right { StepsTo self.old Step.Truncate result self.new }
-        ensures asked { self.new.asked ≡ self.old.asked }
     {
         match self.truncate(alloc) {
             Ok(cut) => StepReply::Cut(cut),
@@ -202,7 +167,6 @@ impl Engine {
 
     fn reply_to_rebuild(&mut self, alloc: Global) -> StepReply
         ensures right { StepsTo self.old Step.Rebuild result self.new }
-        ensures asked { self.new.asked ≡ self.old.asked }
     {
         match self.rebuild(alloc) {
             Ok(()) => StepReply::Done,
@@ -226,28 +190,19 @@ impl Engine {
         self.has_fitting_cut();
     }
 
-    /// Makes a step by the call for it, and replies to it. Where the reply is a refusal, nothing has changed. What is kept is the problem
-    /// of the round that is open, and none where none is: a begin puts it there.
-    pub fn step<S: Solver>(
-        &mut self,
-        alloc: Global,
-        step: Step,
-        kept: &mut Option<Problem>,
-        solver: &S,
-    ) -> StepReply
+    /// Makes a step by the call for it, and replies to it. Where the reply is a refusal, nothing has changed.
+    pub fn step<S: Solver>(&mut self, alloc: Global, step: Step, solver: &S) -> StepReply
         requires ready { S.ready }
         requires limits { HasLimits step }
-        requires kept { parts_asked kept.old ≡ self.old.asked }
         ensures right { StepsTo self.old step result self.new }
         ensures legal { StepsLegally self.old step result self.new }
-        ensures kept { parts_asked kept.new ≡ self.new.asked }
     {
         self.right_is_legal();
         match step {
             Step::Offer(logged) => self.reply_to_offer(alloc, logged),
             Step::Join(logged) => self.reply_to_join(alloc, logged),
             Step::Close(session) => self.reply_to_close(session),
-            Step::Begin => self.reply_to_begin(alloc, kept),
+            Step::Begin => self.reply_to_begin(alloc),
             Step::Finish {
                 budget,
                 depth,
@@ -258,17 +213,17 @@ impl Engine {
                     depth,
                     workers,
                 };
-                self.reply_to_finish(alloc, effort, kept, solver)
+                self.reply_to_finish(alloc, effort, solver)
             }
-            Step::Judge(certificate) => self.reply_to_judge(alloc, certificate, kept),
-            Step::Abandon => self.reply_to_abandon(kept),
+            Step::Judge(certificate) => self.reply_to_judge(alloc, certificate),
+            Step::Abandon => self.reply_to_abandon(),
             Step::Truncate => self.reply_to_truncate(alloc),
             Step::Rebuild => self.reply_to_rebuild(alloc),
         }
     }
 
-    /// Makes a list of steps, and replies to each. Room for the replies is made first, and where a round is open its problem: where
-    /// memory is refused for these, nothing has changed.
+    /// Makes a list of steps, and replies to each. Room for the replies is made first: where memory is refused for it, nothing has
+    /// changed.
     pub fn run<S: Solver>(
         &mut self,
         alloc: Global,
@@ -282,9 +237,8 @@ impl Engine {
         ensures err { OnErr result (self.new ≡ self.old) }
     {
         let mut replies = Vec::with_capacity(alloc, steps.len())?;
-        let mut kept = self.open_problem(alloc)?;
         for step in steps {
-            let reply = self.step(alloc, step, &mut kept, solver);
+            let reply = self.step(alloc, step, solver);
             note(&mut replies, reply);
         }
         Ok(replies)

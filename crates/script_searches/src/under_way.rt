@@ -141,35 +141,8 @@ fn start<'s, E, P: PlainSolver + Sync, S: Solver + Sync>(
     }
 }
 
-/// The search of a problem of its own, in a thread of its own if one can be made.
+/// The search in a thread of its own, if one can be made. The thread has the problem in common with whoever asks.
 fn begin_on<'s, E, P: PlainSolver + Sync, S: Solver + Sync>(
-    scope: &Scope<'s, E>,
-    alloc: Global,
-    problem: Problem,
-    effort: Effort,
-    solvers: &'s Solvers<P, S>,
-) -> Result<Way, NoMemory>
-    requires plain { P.ready }
-    requires guided { S.ready }
-    requires effort { IsEffort effort.budget effort.depth effort.workers }
-    ensures { IfOk result (IsWayOf (record { effort = effort; parts = problem.known.parts })) }
-{
-    let ended = Arc::new(alloc, AtomicBool::new(false))?;
-    let flag = Arc::try_clone(&ended)?;
-    let stop = StopWord::new(alloc)?;
-    let problem = problem.stopped_by(&stop, 0);
-    match start(scope, alloc, problem, effort, solvers, flag) {
-        Ok(thread) => Ok(Way::Going(Searcher {
-            thread,
-            ended,
-            stop,
-        })),
-        Err(answer) => Ok(Way::Ended(answer)),
-    }
-}
-
-/// The same of a copy of the problem.
-fn begin_with_copy<'s, E, P: PlainSolver + Sync, S: Solver + Sync>(
     scope: &Scope<'s, E>,
     alloc: Global,
     problem: &Problem,
@@ -181,8 +154,19 @@ fn begin_with_copy<'s, E, P: PlainSolver + Sync, S: Solver + Sync>(
     requires effort { IsEffort effort.budget effort.depth effort.workers }
     ensures { IfOk result (IsWayOf (record { effort = effort; parts = problem.now.known.parts })) }
 {
-    let copy = problem.clone()?;
-    begin_on(scope, alloc, copy, effort, solvers)
+    let ended = Arc::new(alloc, AtomicBool::new(false))?;
+    let flag = Arc::try_clone(&ended)?;
+    let stop = StopWord::new(alloc)?;
+    let shared = problem.clone()?;
+    let stoppable = shared.stopped_by(&stop, 0);
+    match start(scope, alloc, stoppable, effort, solvers, flag) {
+        Ok(thread) => Ok(Way::Going(Searcher {
+            thread,
+            ended,
+            stop,
+        })),
+        Err(answer) => Ok(Way::Ended(answer)),
+    }
 }
 
 /// The same; where memory is wanting, a search that has ended as one for which it was.
@@ -200,7 +184,7 @@ fn way_of<'s, E, P: PlainSolver + Sync, S: Solver + Sync>(
 {
     // It tells that the problem's choices are those of its parts.
     let _ = problem.open_choices();
-    match begin_with_copy(scope, alloc, problem, effort, solvers) {
+    match begin_on(scope, alloc, problem, effort, solvers) {
         Ok(way) => way,
         Err(_) => Way::Ended(Answer::NoMemory),
     }

@@ -532,6 +532,28 @@ fn worked_histories_are_answered(rt: HostRuntime) -> Result<(), Fail> {
     Ok(())
 }
 
+/// Stops unless the relation is given back by the last of a problem and its clone, and by no other.
+fn is_given_back(rt: &impl Abort, problem: Problem) -> Result<(), NoMemory> {
+    let clone = problem.clone()?;
+    assert!(rt; problem.into_known().is_none());
+    assert!(rt; clone.into_known().is_some());
+    Ok(())
+}
+
+fn gives_back(rt: &impl Abort, alloc: Global, row: &Row) -> Result<(), NoMemory> {
+    let parts = row.table.parts(alloc)?;
+    let problem = problem_of(rt, alloc, &parts)?;
+    is_given_back(rt, problem)
+}
+
+#[test]
+fn a_problem_and_its_clone_have_the_relation_in_common(rt: HostRuntime) -> Result<(), Fail> {
+    for row in rows() {
+        gives_back(&rt, rt.alloc(), row)?;
+    }
+    Ok(())
+}
+
 /// A search that is refused memory answers nothing, and the next one answers.
 fn answers_at_last(rt: &impl Abort, alloc: Global, row: &Row) {
     let Ok(parts) = row.table.parts(alloc) else {

@@ -15,13 +15,13 @@ use Rattle.session_clocks.proofs.Orders.{there_within}
 use Rattle.session_clocks.proofs.Closures.{Reaches-there}
 use Rattle.session_clocks.proofs.Places.{row_before}
 
-stays_from : (gone : List ℕ) (id : TxnId) → id_stays gone id ≡ true → get_or gone id.session 0 ≤ id.number
+pub stays_from : (gone : List ℕ) (id : TxnId) → id_stays gone id ≡ true → get_or gone id.session 0 ≤ id.number
 stays_from gone id is = elim (cases_lt id.number (get_or gone id.session 0)) [
   | inl below ↦ absurd (false≢true (sym (ap not (lt-ltb id.number (get_or gone id.session 0) below)) ∙ is))
   | inr above ↦ above
 ]
 
-stays_is : (gone : List ℕ) (id : TxnId) → get_or gone id.session 0 ≤ id.number → id_stays gone id ≡ true
+pub stays_is : (gone : List ℕ) (id : TxnId) → get_or gone id.session 0 ≤ id.number → id_stays gone id ≡ true
 stays_is gone id above = ap not (le-ltb id.number (get_or gone id.session 0) above)
 
 module _ (gone received : List ℕ) (arcs : List Arc) (first count : List (Vec ℕ Global)) (kept : IsKept gone received arcs first count) (left : List ℕ)

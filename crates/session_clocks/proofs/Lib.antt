@@ -9,6 +9,8 @@ pub mod Kept
 pub mod LineLists
 pub mod Marked
 pub mod Next
+pub mod NodeLists
+pub mod NodesKept
 pub mod Noted
 pub mod Orders
 pub mod Places

@@ -4,6 +4,7 @@ pub mod Drops
 pub mod Graphs
 pub mod Lines
 pub mod Marks
+pub mod Nodes
 pub mod Notes
 pub mod Paths
 pub mod Reach

@@ -7,7 +7,7 @@ use crate::rows::{line, row_of};
 use txn::{Arc, TxnId};
 
 /// Whether a transaction isn't among the first ones of its session, of which so many go.
-fn id_stays(gone: &[u64], id: TxnId) -> bool
+pub(crate) fn id_stays(gone: &[u64], id: TxnId) -> bool
     ensures { result ≡ id_stays gone.now id }
 {
     match gone.get(usize::from(id.session)) {
@@ -44,7 +44,7 @@ fn rows_len(numbers: &[u64], rows: u64, width: usize) -> usize
 }
 
 /// Drops so many rows of one session.
-fn drop_line(lines: &mut [Vec<u64>], session: usize, rows: u64, width: usize)
+pub(crate) fn drop_line(lines: &mut [Vec<u64>], session: usize, rows: u64, width: usize)
     requires session { session < length lines.old }
     requires within { rows * width ≤ length (line_at lines.old session) }
     ensures dropped { IsDropped (line_at lines.old session) (line_at lines.new session) (rows * width) }

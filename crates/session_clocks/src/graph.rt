@@ -4,13 +4,16 @@ ghost use Rattle.txn.specs.Arcs.{start_of, end_of};
 ghost use Rattle.session_clocks.specs.Additions.{IsAddition, AreTold, IsFrontOf};
 ghost use Rattle.session_clocks.specs.Drops.{arc_stays, NoneReachesBack};
 ghost use Rattle.session_clocks.specs.Graphs.{HasNode, IsOneMore, back_to, last_mark};
+ghost use Rattle.session_clocks.specs.Lines.{AreSameNumbers, HasCountRow, HasFirstRow};
+ghost use Rattle.session_clocks.specs.Nodes.{AreSameNodes, HasNodeMore};
 ghost use Rattle.session_clocks.specs.Paths.{IsPathOf};
 ghost use Rattle.session_clocks.specs.Reach.{IsThere, Reaches, IsOrReaches};
 ghost use Rattle.session_clocks.specs.Removals.{IsLast, IsUntouched};
+ghost use Rattle.session_clocks.specs.Rows.{line_at};
 
 use crate::drops::{are_behind, drop_arcs, drop_rows};
-use crate::incoming::PathFinder;
 use crate::lines::{copied, no_lines, push_rows};
+use crate::nodes::{Incoming, Nodes};
 use crate::notes::{note_spans, note_tails};
 use crate::paths::find_path;
 use crate::removals::pop_row;
@@ -43,6 +46,7 @@ pub struct Graph {
     /// For each session a row for each transaction that is there: how many of each session reach it.
     count: Vec<Vec<u64>>,
     arcs: Vec<Arc>,
+    nodes: Nodes,
     /// The place of the first arc that closed a cycle when it was added, as far as is remembered: a help to find short cycles.
     closing: Option<usize>,
     trail: Trail,
@@ -51,12 +55,13 @@ pub struct Graph {
 impl Model for Graph {
     ghost use Rattle.session_clocks.specs.Graphs.{GraphState};
     ghost use Rattle.session_clocks.specs.Marks.{IsMarkedGraph, marks_of};
+    ghost use Rattle.session_clocks.specs.Nodes.{AreNodes};
 
     ghost Value = { GraphState };
 
     ghost view = { λ graph. record { gone = graph.gone.items; received = graph.received.items; arcs = graph.arcs.items; marks = marks_of graph.trail.marks.items } };
 
-    ghost invariant = { λ graph. IsMarkedGraph graph.gone.items graph.received.items graph.arcs.items graph.first.items graph.count.items graph.trail };
+    ghost invariant = { λ graph. IsMarkedGraph graph.gone.items graph.received.items graph.arcs.items graph.first.items graph.count.items graph.trail × AreNodes graph.gone.items graph.received.items graph.nodes.nodes.slots graph.nodes.keys.items };
 }
 
 /// Whether a transaction is there.
@@ -76,6 +81,53 @@ fn are_there(gone: &[u64], received: &[u64], a: TxnId, b: TxnId) -> bool
     is_there(gone, received, a) && is_there(gone, received, b)
 }
 
+/// Puts a node, and its rows behind the others of its session.
+fn push_node(
+    first: &mut [Vec<u64>],
+    count: &mut [Vec<u64>],
+    nodes: &mut Nodes,
+    width: usize,
+    id: TxnId,
+) -> Result<(), NoMemory>
+    requires first { id.session < length first.old }
+    requires count { id.session < length count.old }
+    requires width { id.session < width }
+    requires rows { (length (line_at count.old id.session) ≡ 0) ⊎ (width ≤ length (line_at count.old id.session)) }
+    requires number { id.number < 2 ^ 64 - 1 }
+    requires keys { id.session < length nodes.old.keys.items }
+    ensures first { OnOk result (HasFirstRow first.old first.new width id.session id.number) }
+    ensures count { OnOk result (HasCountRow count.old count.new width id.session id.number) }
+    ensures first_err { OnErr result (AreSameNumbers first.old first.new) }
+    ensures count_err { OnErr result (AreSameNumbers count.old count.new) }
+    ensures node { OnOk result (HasNodeMore nodes.old.nodes.slots nodes.new.nodes.slots nodes.old.keys.items nodes.new.keys.items id) }
+    ensures nodes_err { OnErr result (AreSameNodes nodes.old.nodes.slots nodes.new.nodes.slots) }
+    ensures keys_err { OnErr result (AreSameNumbers nodes.old.keys.items nodes.new.keys.items) }
+{
+    nodes.push(id)?;
+    let line = usize::from(id.session);
+    let pushed = push_rows(first, count, width, line, id.number);
+    if pushed.is_err() {
+        nodes.pop(line);
+    }
+    pushed
+}
+
+/// Puts an arc behind the others, and among those of the node where it ends.
+fn push_arc(arcs: &mut Vec<Arc>, nodes: &mut Nodes, gone: &[u64], arc: Arc) -> Result<(), NoMemory>
+    ensures ok { OnOk result (arcs.new.items ≡ arcs.old.items ++ arc ∷ []) }
+    ensures err { OnErr result (arcs.new.items ≡ arcs.old.items) }
+    ensures nodes { AreSameNodes nodes.old.nodes.slots nodes.new.nodes.slots }
+    ensures keys { nodes.new.keys ≡ nodes.old.keys }
+{
+    let len = arcs.len();
+    arcs.push(arc)?;
+    let pushed = nodes.push_arc(gone, arc.end());
+    if pushed.is_err() {
+        arcs.truncate(len);
+    }
+    pushed
+}
+
 impl Graph {
     /// A graph with no transaction, of whose sessions so many are gone.
     pub fn new(alloc: Global, gone: &[u64]) -> Result<Self, NoMemory>
@@ -91,6 +143,7 @@ impl Graph {
         let first = no_lines(alloc, sessions)?;
         let count = no_lines(alloc, sessions)?;
         let arcs = Vec::new(alloc);
+        let nodes = Nodes::new(alloc, sessions)?;
         let trail = Trail::new(alloc);
         Ok(Graph {
             gone,
@@ -98,6 +151,7 @@ impl Graph {
             first,
             count,
             arcs,
+            nodes,
             closing: None,
             trail,
         })
@@ -174,7 +228,6 @@ impl Graph {
     pub fn path_within(
         &self,
         alloc: Global,
-        finder: &mut PathFinder,
         len: usize,
         from: TxnId,
         to: TxnId,
@@ -188,13 +241,15 @@ impl Graph {
             × IsPathOf self.now.gone self.now.received (take len self.now.arcs) from path to)) }
     {
         let lows = self.lows(alloc, from)?;
-        let incoming = finder.incoming(alloc, &self.gone, &self.received, &self.arcs)?;
         find_path(
             alloc,
             &self.gone,
             &self.received,
             &self.arcs[..len],
-            incoming,
+            &Incoming {
+                gone: &self.gone,
+                nodes: &self.nodes,
+            },
             &lows,
             from,
             to,
@@ -242,16 +297,17 @@ impl Graph {
     {
         let line = usize::from(session);
         let number = self.received[line];
-        push_rows(
+        let id = TxnId { session, number };
+        push_node(
             &mut self.first,
             &mut self.count,
+            &mut self.nodes,
             self.gone.len(),
-            line,
-            number,
+            id,
         )?;
         self.received[line] = number + 1;
         self.trail.clear();
-        Ok(TxnId { session, number })
+        Ok(id)
     }
 
     /// Takes the last transaction of a session away, which no arc touches, and all marks. It takes no memory.
@@ -271,6 +327,7 @@ impl Graph {
         let width = self.gone.len();
         pop_row(&mut self.first, line, width);
         pop_row(&mut self.count, line, width);
+        self.nodes.pop(line);
         self.received[line] = id.number;
         self.trail.clear();
     }
@@ -289,6 +346,7 @@ impl Graph {
         let counts = widened_lines(alloc, &self.count, &self.gone, &self.received, 0)?;
         let gone = with_one(alloc, &self.gone, count)?;
         let received = with_one(alloc, &self.received, count)?;
+        self.nodes.add_session(alloc)?;
         self.first = first;
         self.count = counts;
         self.gone = gone;
@@ -329,7 +387,7 @@ impl Graph {
     {
         let addition = self.outcome(arc);
         if self.reaches(arc.start(), arc.end()) {
-            self.arcs.push(arc)?;
+            push_arc(&mut self.arcs, &mut self.nodes, &self.gone, arc)?;
             return Ok(addition);
         }
         let tops = count_row(alloc, &self.count, &self.gone, arc.start())?;
@@ -353,7 +411,7 @@ impl Graph {
             &starts,
             arc.start(),
         )?;
-        self.arcs.push(arc)?;
+        push_arc(&mut self.arcs, &mut self.nodes, &self.gone, arc)?;
         lower_all(&mut self.first, &self.gone, &tops, arc.end(), &starts);
         raise_all(
             &mut self.count,
@@ -448,6 +506,7 @@ impl Graph {
         };
         put_back(&mut self.first, &mut self.trail.first, mark.first);
         put_back(&mut self.count, &mut self.trail.count, mark.count);
+        self.nodes.take_back(&self.gone, &self.arcs, mark.arcs);
         self.arcs.truncate(mark.arcs);
         self.closing = match self.closing {
             Some(place) if place < mark.arcs => Some(place),
@@ -484,6 +543,7 @@ impl Graph {
         drop_rows(&mut self.first, &self.gone, gone);
         drop_rows(&mut self.count, &self.gone, gone);
         drop_arcs(&mut self.arcs, gone);
+        self.nodes.drop_fronts(&self.gone, gone, &self.arcs);
         self.gone.copy_from_slice(gone);
         self.trail.clear();
     }
@@ -502,6 +562,7 @@ impl Clone for Graph {
         let first = copied(alloc, &self.first)?;
         let count = copied(alloc, &self.count)?;
         let arcs = Vec::from_slice(alloc, &self.arcs)?;
+        let nodes = self.nodes.copied(alloc)?;
         let trail = self.trail.copied(alloc)?;
         Ok(Graph {
             gone,
@@ -509,6 +570,7 @@ impl Clone for Graph {
             first,
             count,
             arcs,
+            nodes,
             closing,
             trail,
         })

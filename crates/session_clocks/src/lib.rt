@@ -4,9 +4,9 @@
 
 mod drops;
 mod graph;
-mod incoming;
 mod lines;
 mod near;
+mod nodes;
 mod notes;
 mod paths;
 mod removals;
@@ -17,4 +17,3 @@ mod trail;
 mod widths;
 
 pub use graph::{Addition, Graph};
-pub use incoming::PathFinder;

@@ -6,7 +6,7 @@ ghost use Rattle.session_clocks.specs.Paths.{IsPathOf};
 ghost use Rattle.session_clocks.specs.Reach.{IsThere};
 ghost use Rattle.session_clocks.specs.Trees.{IsBetween, IsTreeOf};
 
-use crate::incoming::Incoming;
+use crate::nodes::Incoming;
 use crate::paths::{is_led, take_arc, tops_of, walk};
 use std::alloc::Global;
 use txn::{Arc, NoMemory, Sequence, TxnId};

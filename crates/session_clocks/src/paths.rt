@@ -6,8 +6,8 @@ ghost use Rattle.session_clocks.specs.Paths.{IsPathOf, Leads};
 ghost use Rattle.session_clocks.specs.Reach.{IsThere, Reaches};
 ghost use Rattle.session_clocks.specs.Trees.{IsAlong, IsBefore, IsBetween, IsLed, IsTakenOr, IsTreeOf, IsWhole, AreNearer, HasLooked, LeadsOn, along};
 
-use crate::incoming::Incoming;
 use crate::near::find_near;
+use crate::nodes::Incoming;
 use std::alloc::Global;
 use txn::{Arc, NoMemory, Sequence, TxnId};
 

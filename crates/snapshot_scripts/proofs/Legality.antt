@@ -18,7 +18,7 @@ use Rattle.round_state.specs.declared.steps.StepReply.TheVariants as reply
 use Rattle.snapshot_histories.specs.Laws.{ArrivalsCanBeSplit, EffectsCanBeSplit, SplitDoublesCounts, SplitGoesWithArrivals, SplitKeepsEffects, SplitKeepsVerdict}
 use Rattle.snapshot_histories.specs.Split.{split_history, split_arrival, HistoryCanBeSplit, IsNextArrival}
 use Rattle.snapshot_histories.specs.Splittable.{IsSplittable, fragment_of}
-use Rattle.snapshot_scripts.specs.Legal.{IsIsolationOf, IsTrueIsolation, split_state, HoldsSplit, SplitStepsAreLegal}
+use Rattle.snapshot_scripts.specs.Legal.{IsIsolationOf, IsTrueIsolation, split_state, HoldsSplit, SplitStepsAreLegal, SplitStepsFollow}
 use Rattle.snapshot_histories.specs.Logged.{split_logged}
 use Rattle.snapshot_histories.specs.Offered.{CanBeOffered}
 use Rattle.snapshot_scripts.specs.Steps.{split_step, CanBeMade}
@@ -90,6 +90,9 @@ record FollowsAsked (before : State) (step : Step) (said : StepReply) : Type 0 w
 follows_asked : (before : State) (step : Step) (said : StepReply) → HistoryCanBeSplit before.whole → HistoryCanBeSplit before.asked → FollowsAsked before step said
 follows_asked before Begin reply.Done whole asked = record { is = refl; can = whole }
 follows_asked before step said whole asked = record { is = refl; can = asked }
+
+pub both_follow : Laws → SplitStepsFollow
+both_follow laws sessions old new before step said can to holds = ((follows laws sessions old new before step said can to holds).is, (follows_asked before step said holds.whole holds.asked).is)
 
 -- ---- reports
 

@@ -63,3 +63,9 @@ SplitStepsAreLegal = (sessions : ℕ) (old new : EngineState) (step : Step) (sai
 -- A fresh engine stands for the history in which nothing was received, which is split as it is.
 abbrev pub FreshEnginesAreSplit : Type 0
 FreshEnginesAreSplit = (most sessions limit : ℕ) → Holds (fresh most sessions limit) (fresh_state most sessions limit) → HoldsSplit (fresh most sessions limit) (fresh_state most sessions limit)
+
+-- What a split step makes of the split histories is what the step makes of the histories, split.
+abbrev pub SplitStepsFollow : Type 0
+SplitStepsFollow =
+    (sessions : ℕ) (old new : EngineState) (before : State) (step : Step) (said : StepReply) → CanBeMade sessions step → StepsTo old (split_step step) said new → HoldsSplit old before
+    → (whole_after (split_state before) (split_step step) said ≡ split_history (whole_after before step said)) × (asked_after (split_state before) (split_step step) said ≡ split_history (asked_after before step said))

@@ -1,5 +1,5 @@
 ghost use Rattle.snapshot_scripts.specs.Given.{GivenIsTaken};
-ghost use Rattle.snapshot_scripts.specs.Legal.{FreshEnginesAreSplit, SplitStepsAreLegal};
+ghost use Rattle.snapshot_scripts.specs.Legal.{FreshEnginesAreSplit, SplitStepsAreLegal, SplitStepsFollow};
 ghost use Rattle.snapshot_scripts.specs.SplitParts.{SplitEnginesStay};
 
 use snapshot_histories::{
@@ -17,6 +17,18 @@ pub fn split_steps_are_legal()
     ensures { SplitStepsAreLegal }
 {
     // Laws that the proof cites. They do nothing when they run.
+    arrivals_can_be_split();
+    split_doubles_counts();
+    split_goes_with_arrivals();
+    split_keeps_verdict();
+    split_keeps_effects();
+    effects_can_be_split();
+}
+
+/// What a split step makes of split histories is what the step makes of the histories, split.
+pub fn split_steps_follow()
+    ensures { SplitStepsFollow }
+{
     arrivals_can_be_split();
     split_doubles_counts();
     split_goes_with_arrivals();

@@ -12,5 +12,6 @@ pub use commands::split_command;
 pub use handed::{half_command, half_marks, have_halves};
 pub use laws::{
     fresh_engines_are_split, given_is_taken, split_engines_stay, split_steps_are_legal,
+    split_steps_follow,
 };
 pub use replies::isolated_of;

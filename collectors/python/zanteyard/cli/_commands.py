@@ -1,17 +1,18 @@
 """The commands of `zanteyard`, and its parser. A command's modules are imported only if that
 command was requested."""
 
-from __future__ import annotations
-
 import argparse
 import os
 import textwrap
-from typing import Any, Callable, Mapping, NamedTuple, NoReturn, Optional, Sequence
+from collections.abc import Callable, Mapping, Sequence
+from typing import Any, NamedTuple
 
 from ..core._visible import say
-from ..core._visible import shown as safe
+from ._parsing import Parser
+from ._settings import settle
 from ._statuses import STATUS_WORDS
 
+UNSETTLED = ("help",)  # commands without options that could be set elsewhere
 WIDTH = 79  # columns of the text below a command's options
 
 
@@ -140,6 +141,8 @@ def _audit(command: argparse.ArgumentParser) -> None:
     for kind in KINDS:
         about = f"runs clients against {kind.name} and audits them live"
         store = _add(stores, kind.command, about)
+        if isinstance(command, Parser):
+            command.commands[kind.command] = store
         store.set_defaults(run=run_audit)
         add_arguments(store, kind)
         _end(store, f"zanteyard audit {kind.command} --seconds 5")
@@ -207,7 +210,7 @@ COMMANDS: Mapping[str, Command] = {
     ),
     "serve": Command(
         "runs the auditor as a daemon",
-        "zanteyard serve --journal /var/lib/zanteyard --metrics 127.0.0.1:9187",
+        "zanteyard serve --folder /var/lib/zanteyard --metrics 127.0.0.1:9464",
         _serve,
     ),
     "key": Command(
@@ -241,22 +244,16 @@ class _Version(argparse.Action):
         parser.exit()
 
 
-class _Parser(argparse.ArgumentParser):
-    """Quotes words of the call safely."""
-
-    def error(self, message: str) -> NoReturn:
-        super().error(safe(message))
-
-
 def command_of(words: Sequence[str]) -> str:
     """The command in these words; "" if there is none. Options before it take no words."""
     return next((word for word in words if not word.startswith("-")), "")
 
 
-def parser(named: Optional[str] = None) -> argparse.ArgumentParser:
+def parser(named: str | None = None, words: Sequence[str] = ()) -> Parser:
     """The command line's parser. Only the command with this name has its arguments; all have them
-    if it is None."""
-    whole = _Parser(
+    if it is None. What `words` leave open is taken from the environment and the file that they
+    name. Raises SettingError."""
+    whole = Parser(
         prog="zanteyard",
         description="Checks whether a store's transactions were serializable and kept each "
         "session's order.",
@@ -269,8 +266,11 @@ def parser(named: Optional[str] = None) -> argparse.ArgumentParser:
     for name, its in COMMANDS.items():
         command = _add(commands, name, its.about)
         command.set_defaults(has_verdict=its.has_verdict)
+        whole.commands[name] = command
         if named is None or name == named:
             its.fill(command)
+            if name not in UNSETTLED:
+                settle(command, name, words)
         _end(command, its.example)
     texts = [
         "Start with `zanteyard demo`. `zanteyard help COMMAND` shows a command's options.",
@@ -289,8 +289,8 @@ def documents() -> str:
     return next(found, "")
 
 
-def _add(commands: Any, name: str, about: str) -> argparse.ArgumentParser:
-    added: argparse.ArgumentParser = commands.add_parser(
+def _add(commands: Any, name: str, about: str) -> Parser:
+    added: Parser = commands.add_parser(
         name,
         help=about,
         description=f"{about[:1].upper()}{about[1:]}.",

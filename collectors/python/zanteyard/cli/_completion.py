@@ -1,7 +1,5 @@
 """Completes a command line for a shell, if argcomplete is installed."""
 
-from __future__ import annotations
-
 import argparse
 
 from ._statuses import MISTAKE

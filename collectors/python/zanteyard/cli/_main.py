@@ -1,19 +1,18 @@
 """The command `zanteyard`. Its exit status is that of the last verdict: 0 serial, 1 violated, 2 a
 mistake in the script or the call, 3 pending, 4 undecided."""
 
-from __future__ import annotations
-
 import contextlib
 import os
 import sys
-from typing import Any, Optional, Sequence
+from collections.abc import Sequence
+from typing import Any
 
 from ..core._command_start import is_over
 from ..core.errors import ImportRefusedError, ProgramEndedError, ZanteyardError
 from ._statuses import MISTAKE, UNDECIDED, complain
 
 
-def main(words: Optional[Sequence[str]] = None) -> int:
+def main(words: Sequence[str] | None = None) -> int:
     """Runs the command, and returns its exit status. Errors are printed on standard error."""
     words = sys.argv[1:] if words is None else words
     asked: Any = None
@@ -28,7 +27,7 @@ def main(words: Optional[Sequence[str]] = None) -> int:
         if not words:
             parser("").print_help(sys.stderr)
             return MISTAKE
-        asked = parser(command_of(words)).parse_args(words)
+        asked = parser(command_of(words), words).parse_args(words)
         status: int = asked.run(asked)
         asked.status = status
         sys.stdout.flush()
@@ -44,6 +43,8 @@ def main(words: Optional[Sequence[str]] = None) -> int:
         known = getattr(asked, "status", None)  # of a verdict that is final
         if known is not None:
             return int(known)
+        if not getattr(asked, "has_verdict", True):
+            return UNDECIDED  # as `zanteyard prepare URL | head` wants it
         return complain(UNDECIDED, "undecided: standard output was closed")
     except OSError as error:
         why = f"{error.filename}: {error.strerror}" if error.filename else str(error)

@@ -1,9 +1,8 @@
 """Serves metrics of a live audit in Prometheus's text format."""
 
-from __future__ import annotations
-
 import time
-from typing import Any, Callable, Iterator
+from collections.abc import Callable, Iterator
+from typing import Any
 
 from ..core._prometheus import TEXT, Family, text_of
 from ..core._version import VERSION

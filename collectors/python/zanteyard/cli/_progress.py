@@ -1,20 +1,18 @@
 """Shows a command's progress on the last line of a terminal, by standard error, and nothing if that
 is no terminal."""
 
-from __future__ import annotations
-
 import contextlib
 import os
 import sys
 import threading
 import time
-from typing import Callable, Iterator, Optional, Union
+from collections.abc import Callable, Iterator
 
 from ..core import _visible
 
 FIRST, NEXT = 2.0, 0.5  # seconds before it is shown, and between two updates
 ERASED = "\r\x1b[K"
-Doing = Union[str, Callable[[], str]]
+Doing = str | Callable[[], str]
 
 
 class Progress:
@@ -26,7 +24,7 @@ class Progress:
         self._began = time.monotonic()
         self._turn, self._is_shown = threading.Lock(), False
         self._ends = threading.Event()
-        self._thread: Optional[threading.Thread] = None
+        self._thread: threading.Thread | None = None
 
     @contextlib.contextmanager
     def during(self, doing: Doing) -> Iterator[None]:

@@ -1,7 +1,5 @@
 """`zanteyard demo`, `audit` and `journal`: a run of clients, while it happens or afterwards."""
 
-from __future__ import annotations
-
 import argparse
 from typing import Any
 

@@ -7,8 +7,6 @@ and was pending; 4 something wasn't audited or decided, it ended by a fault of i
 collector's own transactions have no order.
 """
 
-from __future__ import annotations
-
 import argparse
 import contextlib
 import itertools
@@ -18,7 +16,7 @@ import signal
 import sys
 import threading
 import traceback
-from typing import Any, List, Optional
+from typing import Any
 
 from ..core._outcome import (
     COLLECTOR,
@@ -33,7 +31,7 @@ from ..core._outcome import (
 )
 from ..core._private_files import private
 from ..core._shared_key import ENVIRONMENT as KEY
-from ..core.errors import AuditTakenError, StrangeRedisError, ZanteyardError
+from ..core.errors import AuditTakenError, FolderUnfitError, StrangeRedisError, ZanteyardError
 from ..explain._audited import from_start, refuted
 from ..explain._violation_text import tell_violation
 from ..journal._file import Journal
@@ -44,6 +42,7 @@ from ..promises._kinds import LIVE as PROMISES
 from ..promises._kinds import SERIALIZABLE
 from ..remote._server import AuditServer
 from ._metrics import MetricsServer, families, text_of
+from ._parsing import add_old_name
 
 JOURNAL, SOCKET, VIOLATION = "audit.journal", "audit.socket", "violation"
 STATUSES = {SERIAL: 0, VIOLATED: 1, COLLECTOR: 4, PENDING: 3, UNDECIDED: 4, INCOMPLETE: 4}
@@ -60,12 +59,12 @@ logger = logging.getLogger("zanteyard")
 
 def add_arguments(command: argparse.ArgumentParser) -> None:
     command.add_argument(
-        "--journal", metavar="DIR", required=True, help="the audit's folder, created if missing"
+        "--folder", metavar="DIR", help="the audit's folder, created if missing"
     )
+    add_old_name(command, "--journal", "--folder", metavar="DIR")
     command.add_argument(
         "--redis",
         metavar="URL",
-        default=os.environ.get("ZANTEYARD_REDIS"),
         help="a redis:// or rediss:// URL (or the environment's ZANTEYARD_REDIS): clients on any "
         "machine connect by streams in this Redis; without it, clients on this machine connect by "
         f"the socket DIR/{SOCKET}",
@@ -155,11 +154,13 @@ def _level(text: str) -> int:
 
 def run(asked: Any) -> int:
     """Runs until a signal or the end of the audit; returns the exit status."""
+    if not asked.folder:
+        raise FolderUnfitError("no folder was given: give --folder DIR or set ZANTEYARD_FOLDER")
     logging.basicConfig(level=asked.log, format=FORM, stream=sys.stderr)
     stopped = threading.Event()
     for number in (signal.SIGTERM, signal.SIGINT, signal.SIGHUP):
         signal.signal(number, lambda *_: stopped.set())
-    os.makedirs(asked.journal, mode=0o700, exist_ok=True)
+    os.makedirs(asked.folder, mode=0o700, exist_ok=True)
     stack = contextlib.ExitStack()
     try:
         return _audit(asked, stack, stopped)
@@ -180,8 +181,8 @@ def _audit(asked: Any, stack: contextlib.ExitStack, stopped: threading.Event) ->
         logger.info("serving metrics on port %d", metrics.port)
     how = "continues" if auditor.is_resumed else "begins"
     about = auditor.promise.title
-    logger.info("audit %s for %s %s; its folder is %s", live.name, about, how, asked.journal)
-    faults: List[str] = []
+    logger.info("audit %s for %s %s; its folder is %s", live.name, about, how, asked.folder)
+    faults: list[str] = []
     _end_at_faults(faults)
     while not (live.is_over or _failure(server) or faults or stopped.wait(LOOKS)):
         pass
@@ -198,13 +199,13 @@ def _audit(asked: Any, stack: contextlib.ExitStack, stopped: threading.Event) ->
     return STATUSES.get(outcome.whole.kind, 4)
 
 
-def _failure(server: Any) -> Optional[Exception]:
+def _failure(server: Any) -> Exception | None:
     """Why the server has ended, if it has."""
-    failure: Optional[Exception] = getattr(server, "failure", None)
+    failure: Exception | None = getattr(server, "failure", None)
     return failure
 
 
-def _end_at_faults(faults: List[str]) -> None:
+def _end_at_faults(faults: list[str]) -> None:
     """Ends the daemon after an exception in any thread: otherwise it would only look healthy."""
 
     def note(raised: Any) -> None:
@@ -219,7 +220,7 @@ def _end_at_faults(faults: List[str]) -> None:
 def _auditor(asked: Any) -> Auditor:
     """An auditor that continues the existing journal, if clients' streams have the rest; else a new
     one."""
-    path = os.path.join(asked.journal, JOURNAL)
+    path = os.path.join(asked.folder, JOURNAL)
     settings: Any = {"program": find_program(), "script": _unused(asked.script)}
     settings["round_seconds"] = asked.round_seconds
     if os.path.lexists(path):
@@ -234,7 +235,7 @@ def _auditor(asked: Any) -> Auditor:
     return Auditor(asked.sessions, journal=path, promise=asked.promise, **settings)
 
 
-def _unused(script: Optional[str]) -> Optional[str]:
+def _unused(script: str | None) -> str | None:
     """An unused file name, so that an earlier daemon's script is kept."""
     names = itertools.chain([""], (f".resumed{at or ''}" for at in itertools.count()))
     return script and next(script + name for name in names if not os.path.isfile(script + name))
@@ -243,7 +244,7 @@ def _unused(script: Optional[str]) -> Optional[str]:
 def _server(asked: Any, live: LiveAuditor) -> Any:
     try:
         if asked.redis is None:
-            return AuditServer(live, os.path.join(asked.journal, SOCKET))
+            return AuditServer(live, os.path.join(asked.folder, SOCKET))
         # only here, since redis-py is optional
         from ..remote._listed_stores import ListedStores
         from ..remote.streams import StreamServer
@@ -275,8 +276,8 @@ def _end(server: Any, live: LiveAuditor) -> Outcome:
 def _tell(asked: Any, auditor: Auditor, outcome: Outcome) -> None:
     """Writes an explanation of the violation to the log and to files. If that fails, for example
     because the disk is full, the verdict stays."""
-    path = os.path.join(asked.journal, VIOLATION)
-    lines: List[str] = []
+    path = os.path.join(asked.folder, VIOLATION)
+    lines: list[str] = []
 
     def tell(line: str) -> None:
         lines.append(line)

@@ -1,10 +1,8 @@
 """The exit statuses of the commands that print a verdict."""
 
-from __future__ import annotations
-
 import contextlib
 import sys
-from typing import Mapping
+from collections.abc import Mapping
 
 from ..core._visible import say
 

@@ -1,8 +1,5 @@
 """Prints a story, and writes it as a page, for all commands."""
 
-from __future__ import annotations
-
-from typing import Optional
 
 from ..core._private_files import private
 from ..core._visible import say
@@ -24,14 +21,14 @@ def tell(story: Story, tells_all: bool = False, lead: str = "") -> None:
 def tell_with_page(
     story: Story,
     about: str = "",
-    path: Optional[str] = None,
+    path: str | None = None,
     tells_all: bool = False,
     lead: str = "",
 ) -> None:
     """Writes the page, if there is to be one, and then prints the story: a reader may stop before
     the end of the text. `lead` precedes the first line. If the page can't be written, raises
     OSError after printing."""
-    why_not: Optional[OSError] = None
+    why_not: OSError | None = None
     if path is not None:
         try:
             write(page_of(story, about, origin()), path)

@@ -1,9 +1,7 @@
 """The output of `zanteyard --version`: the versions of the programs that it would run."""
 
-from __future__ import annotations
-
 import os
-from typing import Iterator
+from collections.abc import Iterator
 
 from ..core._version import VERSION
 from ..program._binaries import checker_path, origin_of, program_path

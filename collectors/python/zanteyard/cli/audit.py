@@ -2,8 +2,6 @@
 each round, and the explanation of a violation. Both `zanteyard audit` and
 `examples/postgres_live.py` run this."""
 
-from __future__ import annotations
-
 import argparse
 import contextlib
 import glob
@@ -12,8 +10,9 @@ import os
 import signal
 import threading
 import time
+from collections.abc import Iterator
 from dataclasses import dataclass, replace
-from typing import Any, Iterator, List, Optional, Tuple
+from typing import Any
 
 from ..core._outcome import RATHER_LOSE_THE_AUDIT, RATHER_WAIT, Outcome, words_of_before
 from ..core._visible import say
@@ -46,11 +45,11 @@ class LiveRun:
     live: LiveAuditor
     outcome: Outcome
     clients: Clients
-    alone: Optional[Clients]
-    story: Optional[Story]
-    seen: Tuple[RoundSeen, ...]
+    alone: Clients | None
+    story: Story | None
+    seen: tuple[RoundSeen, ...]
 
-    def lines(self) -> List[str]:
+    def lines(self) -> list[str]:
         """The last three lines of a run."""
         at = f"{self.asked.workload} at {self._level()}"
         came = getattr(self.clients, "came", None)
@@ -117,7 +116,7 @@ def stopped_by_signals() -> Iterator[threading.Event]:
 
 
 def unaudited_run(
-    asked: Any, make_store: MakesStore, stop: Optional[threading.Event] = None
+    asked: Any, make_store: MakesStore, stop: threading.Event | None = None
 ) -> Clients:
     """The clients without the auditor, for comparison."""
     is_over = (stop or threading.Event()).is_set
@@ -155,7 +154,7 @@ class _Rounds:
 
     def __init__(self) -> None:
         self.began = time.monotonic()
-        self.seen: List[RoundSeen] = []
+        self.seen: list[RoundSeen] = []
 
     def see(self, told: RoundTold) -> None:
         at = time.monotonic() - self.began
@@ -164,8 +163,8 @@ class _Rounds:
 
 
 def audited_run(
-    asked: Any, make_store: MakesStore, stop: Optional[threading.Event] = None
-) -> Tuple[LiveAuditor, Outcome, Clients, Optional[Story], Tuple[RoundSeen, ...]]:
+    asked: Any, make_store: MakesStore, stop: threading.Event | None = None
+) -> tuple[LiveAuditor, Outcome, Clients, Story | None, tuple[RoundSeen, ...]]:
     """Runs the clients with the auditor until the time is up or `stop` is set. Returns the audit
     and its outcome."""
     policy = RATHER_WAIT if asked.rather_wait else RATHER_LOSE_THE_AUDIT

@@ -1,14 +1,13 @@
 """When and where a transaction began, and what it read and wrote: shown with a violation, and never
 used for a verdict."""
 
-from __future__ import annotations
-
 import contextlib
 import os
 import sys
 import threading
 import time
-from typing import Any, Dict, Iterator, List, Tuple
+from collections.abc import Iterator
+from typing import Any
 
 from ._records import History, Logged, Naming, ShownId
 
@@ -57,11 +56,11 @@ def caller_of(logged: Logged) -> str:
     return logged.caller[len(here) :] if logged.caller.startswith(here) else logged.caller
 
 
-def values_of(logged: Logged) -> Dict[Tuple[str, str], str]:
+def values_of(logged: Logged) -> dict[tuple[str, str], str]:
     """What was read from and written to each key, for the reads and writes that `logged` still
     has."""
     did_read, did_write = logged.did
-    texts_of: Dict[Tuple[str, str], List[str]] = {("read", key): [] for key, _ in did_read}
+    texts_of: dict[tuple[str, str], list[str]] = {("read", key): [] for key, _ in did_read}
     texts_of.update({("wrote", key): [] for key in did_write})
     for kind, key, text in logged.values:
         noted = texts_of.get((kind, key))

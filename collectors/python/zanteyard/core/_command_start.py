@@ -1,11 +1,9 @@
 """The first moments of the command `zanteyard`, while Python imports it."""
 
-from __future__ import annotations
-
 import os
 import signal
 import sys
-from typing import Sequence
+from collections.abc import Sequence
 
 _begun = []  # the previous handler of Ctrl-C
 

@@ -7,17 +7,16 @@ it has written or is about to write. `writes_at_once` says that its writes don't
 commit.
 """
 
-from __future__ import annotations
-
 import importlib
 import logging
-from typing import Any, Dict, Optional, Sequence, Tuple
+from collections.abc import Sequence
+from typing import Any
 
 from ._records import Name
 
 # The outcome, and the name that a single-statement `exchange` overwrote: a tuple of one name, or an
 # empty one if there was none, or None if that is unknown.
-CommitStatus = Tuple[str, Optional[Sequence[Name]]]
+CommitStatus = tuple[str, Sequence[Name] | None]
 UNKNOWN: CommitStatus = ("unknown", None)
 logger = logging.getLogger("zanteyard")
 
@@ -32,7 +31,7 @@ MODULES = {  # where each kind of store looks up an outcome
 def find_out(asks: Any, ticket: Any, seconds: float, is_dead: bool = True) -> CommitStatus:
     """Returns UNKNOWN instead of raising. If the client may still be alive (`is_dead` is false), it
     ends nothing that the client may be using."""
-    more: Dict[str, Any] = {}
+    more: dict[str, Any] = {}
     if not is_dead:
         ticket, more = harmlessly(asks, ticket)
     if asks is None or ticket is None:
@@ -53,7 +52,7 @@ def find_out(asks: Any, ticket: Any, seconds: float, is_dead: bool = True) -> Co
         return UNKNOWN
 
 
-def harmlessly(asks: Any, ticket: Any) -> Tuple[Any, Dict[str, Any]]:
+def harmlessly(asks: Any, ticket: Any) -> tuple[Any, dict[str, Any]]:
     """The ticket, or None, and the further arguments for a client that may still be alive.
     PostgreSQL can be asked without ending a statement that is still on its way and without
     mistaking another server for the client's. The other stores can't: looking there aborts what
@@ -63,13 +62,13 @@ def harmlessly(asks: Any, ticket: Any) -> Tuple[Any, Dict[str, Any]]:
     return None, {}
 
 
-def kept(overwritten: Optional[Name]) -> str:
+def kept(overwritten: Name | None) -> str:
     """The name that an `exchange` of the collector overwrites, as the value that it writes. If the
     answer is lost, the name isn't."""
     return f"{overwritten[1]} {overwritten[2]} {overwritten[0]}" if overwritten else ""
 
 
-def overwritten(value: Optional[str]) -> Sequence[Name]:
+def overwritten(value: str | None) -> Sequence[Name]:
     if not value:
         return ()
     session, number, run = value.split(" ", 2)

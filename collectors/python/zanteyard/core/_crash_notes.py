@@ -9,14 +9,13 @@ the last record is older or torn. Nothing is flushed to the disk: these notes ar
 is killed, not for a machine that stops.
 """
 
-from __future__ import annotations
-
 import logging
 import marshal
 import os
 import struct
 import zlib
-from typing import Any, Callable, Dict, Iterator, List, NamedTuple, Optional
+from collections.abc import Callable, Iterator
+from typing import Any, NamedTuple
 
 VERSION = 3
 HEAD = struct.Struct("<II")
@@ -37,18 +36,18 @@ class CrashNote(NamedTuple):
 
     session: int
     number: int
-    outcome: Optional[str] = None
-    packed: Optional[bytes] = None
+    outcome: str | None = None
+    packed: bytes | None = None
     ticket: Any = None
     has_reads: bool = True
     is_last: bool = False
-    unclear: Optional[str] = None
+    unclear: str | None = None
 
 
 class Half:
     def __init__(self, path: str) -> None:
         self.path, self.at = path, 0
-        self.last: Dict[int, int] = {}  # of each session in this file, the last number
+        self.last: dict[int, int] = {}  # of each session in this file, the last number
         flags = os.O_RDWR | os.O_CREAT | os.O_EXCL | os.O_CLOEXEC
         self.file = os.open(path, flags, 0o600)
         os.posix_fallocate(self.file, 0, ROOM)
@@ -60,14 +59,14 @@ class CrashNotes:
     is called."""
 
     def __init__(
-        self, path: str, sent: Dict[int, int], tell_failure: Callable[[], object]
+        self, path: str, sent: dict[int, int], tell_failure: Callable[[], object]
     ) -> None:
         """`sent` maps each session to the number after the last one handed over. Raises OSError."""
         self.paths = [f"{path}.{which}" for which in range(2)]
         self.sent, self.tell_failure = sent, tell_failure
         self.count, self.has_failed = 0, False
         self.is_over = False  # nobody reads the files any more
-        self.halves: List[Half] = []
+        self.halves: list[Half] = []
         try:
             for each in self.paths:
                 self.halves.append(Half(each))
@@ -153,7 +152,7 @@ class CrashNotes:
             os.close(half.file)
 
 
-def notes_of(path: str) -> Optional[List[CrashNote]]:
+def notes_of(path: str) -> list[CrashNote] | None:
     """The notes at this path, in the order in which they were written. None if a file is missing or
     has another version."""
     notes = {}

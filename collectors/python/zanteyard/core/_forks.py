@@ -8,8 +8,6 @@ something unaudited, and the audit reports that it is incomplete. The same holds
 the child opens with its parent's auditor, whose numbers the parent may give to others.
 """
 
-from __future__ import annotations
-
 import os
 import threading
 import weakref

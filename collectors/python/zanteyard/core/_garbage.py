@@ -1,10 +1,8 @@
 """Keeps Python from looking for cycles among millions of objects."""
 
-from __future__ import annotations
-
 import contextlib
 import gc
-from typing import Iterator
+from collections.abc import Iterator
 
 
 @contextlib.contextmanager

@@ -1,11 +1,9 @@
 """Locks that record whether they were taken, even if an interrupt arrives."""
 
-from __future__ import annotations
-
-from typing import Any, List
+from typing import Any
 
 
-def take(lock: Any, seconds: float, taken: List[bool]) -> bool:
+def take(lock: Any, seconds: float, taken: list[bool]) -> bool:
     """Whether the lock was taken within this many seconds. The answer is also appended to `taken`.
     Both happen in one call of C code, so an interrupt comes before both or after both, and a
     `finally` clause that looks at `taken` knows whether to release the lock."""
@@ -13,7 +11,7 @@ def take(lock: Any, seconds: float, taken: List[bool]) -> bool:
     return taken[-1]
 
 
-def give_back(lock: Any, taken: List[bool]) -> None:
+def give_back(lock: Any, taken: list[bool]) -> None:
     """Releases the lock once, if it was taken."""
     if taken and taken.pop():
         lock.release()

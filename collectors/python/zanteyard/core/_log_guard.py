@@ -7,15 +7,14 @@ to the application as if the commit had failed. What can't be logged is therefor
 standard error, as Python does if a logger has no handler.
 """
 
-from __future__ import annotations
-
 import contextlib
 import functools
 import logging
 import signal
 import sys
+from collections.abc import Callable, Iterator
 from traceback import walk_tb
-from typing import Any, Callable, Iterator
+from typing import Any
 
 from ._visible import shown
 

@@ -1,8 +1,7 @@
 """The outcome of an audit, and the policy for an audit that can't keep up with its clients."""
-from __future__ import annotations
-
+from collections.abc import Sequence
 from dataclasses import dataclass, replace
-from typing import Any, Optional, Sequence, Tuple
+from typing import Any
 
 from ._records import Pending, Report
 from ._visible import shown
@@ -51,12 +50,12 @@ class Outcome:
     kind: str
     audited: int = 0
     handed_in: int = 0
-    failure: Optional[Exception] = None
-    pending: Tuple[Pending, ...] = ()
-    report: Optional[Report] = None
+    failure: Exception | None = None
+    pending: tuple[Pending, ...] = ()
+    report: Report | None = None
     name: str = ""
     left_out: int = 0
-    earlier: Tuple["Outcome", ...] = ()
+    earlier: tuple["Outcome", ...] = ()
     from_before: int = 0
 
     @property
@@ -64,7 +63,7 @@ class Outcome:
         return self.kind in (VIOLATED, COLLECTOR)
 
     @property
-    def counts(self) -> Optional[Sequence[int]]:
+    def counts(self) -> Sequence[int] | None:
         """How many transactions of each session the last round covered; None before the first
         round."""
         return self.report.counts if self.report else None
@@ -126,7 +125,7 @@ def words_of_before(reads: int) -> str:
     return f"{what} from before the audit"
 
 
-def kind_of(report: Optional[Report], failure: Optional[Exception], is_whole: bool) -> str:
+def kind_of(report: Report | None, failure: Exception | None, is_whole: bool) -> str:
     """The kind of an audit that has ended. A violation stays a violation, whatever is missing."""
     kind = KINDS.get(report.kind, report.kind) if report else INCOMPLETE
     if kind == VIOLATED:

@@ -1,7 +1,5 @@
 """The keys that the collector writes for itself, and the limits of a script's lines."""
 
-from __future__ import annotations
-
 FENCE = "zanteyard fence"  # the key of sessions' fences; its number is 0
 MARK = "zanteyard mark"  # written at a meeting after its fence, and read by all sessions
 FLAG = "zanteyard flag "  # followed by a session's number: a key that only this session writes

@@ -1,8 +1,6 @@
 """Files that only their owner may read, since they contain keys, values and statements of an
 application."""
 
-from __future__ import annotations
-
 import os
 import stat
 

@@ -1,17 +1,17 @@
 """Writes metrics in Prometheus's text format."""
 
-from __future__ import annotations
+from collections.abc import Iterator, Sequence
 
-from typing import Iterator, List, Sequence, Tuple
+from ._visible import shown
 
 TEXT = "text/plain; version=0.0.4; charset=utf-8"
-Labels = Tuple[Tuple[str, object], ...]
-Sample = Tuple[Labels, float]
-Family = Tuple[str, str, str, Sequence[Sample]]  # name, kind, help text, samples
+Labels = tuple[tuple[str, object], ...]
+Sample = tuple[Labels, float]
+Family = tuple[str, str, str, Sequence[Sample]]  # name, kind, help text, samples
 
 
 def text_of(every: Iterator[Family]) -> str:
-    lines: List[str] = []
+    lines: list[str] = []
     for name, kind, about, samples in every:
         lines += [f"# HELP {name} {about}", f"# TYPE {name} {kind}"]
         lines += [f"{name}{labels(labelled)} {number(value)}" for labelled, value in samples]
@@ -30,4 +30,5 @@ def labels(pairs: Labels) -> str:
 
 
 def escaped(text: str) -> str:
-    return text.replace("\\", "\\\\").replace('"', '\\"').replace("\n", "\\n")
+    """A label's value, with escapes for what can't be seen: people read metrics in a terminal."""
+    return shown(text).replace("\\", "\\\\").replace('"', '\\"')

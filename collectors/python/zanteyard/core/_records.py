@@ -1,25 +1,23 @@
 """What is logged and what is reported, as plain values."""
 
-from __future__ import annotations
-
 import marshal
 from typing import Any, Callable, Iterable, List, Mapping, NamedTuple, NewType, Sequence
-from typing import Tuple, Union
+from collections.abc import Callable, Iterable, Mapping, Sequence
 
 # A transaction: its session, and its number in that session. There are three numberings, not to be
 # confused:
-StoreId = NewType("StoreId", Tuple[int, int])  # as in the names in the store: counts all that began
+StoreId = NewType("StoreId", tuple[int, int])  # as in the names in the store: counts all that began
 AuditId = NewType(
-    "AuditId", Tuple[int, int]
+    "AuditId", tuple[int, int]
 )  # as in lines and reports: from the beginning of the audit
-ShownId = NewType("ShownId", Tuple[int, int])  # in an explained history: from its own beginning
+ShownId = NewType("ShownId", tuple[int, int])  # in an explained history: from its own beginning
 # The writer of the version that was read, in the numbering of its history; "init" for a version
 # from before the run.
 Source = Any
-Read = Tuple[str, Source]  # the name of a key, and the writer of the version that was read
-Deed = Union[Read, Tuple[str]]  # a read, or (key,) for a write
-Name = Tuple[str, int, int]  # stored next to a value: the run, the session, the number
-StoredValue = Tuple[Any, Name]  # a value, and the name stored next to it
+Read = tuple[str, Source]  # the name of a key, and the writer of the version that was read
+Deed = Read | tuple[str]  # a read, or (key,) for a write
+Name = tuple[str, int, int]  # stored next to a value: the run, the session, the number
+StoredValue = tuple[Any, Name]  # a value, and the name stored next to it
 Naming = Callable[[ShownId], str]  # how a transaction is shown
 AuditNaming = Callable[[AuditId], str]
 ABORTED = "aborted"  # an outcome; in a line it follows what the aborted attempt did
@@ -46,8 +44,8 @@ class Logged(NamedTuple):
     reads: Sequence[Read]
     writes: Sequence[str]
     outcome: str = "committed"
-    statements: Sequence[Tuple[Deed, str]] = ()
-    values: Sequence[Tuple[str, str, str]] = ()
+    statements: Sequence[tuple[Deed, str]] = ()
+    values: Sequence[tuple[str, str, str]] = ()
     began: float = 0.0
     caller: str = ""
     tried_reads: Sequence[Read] = ()
@@ -61,7 +59,7 @@ class Logged(NamedTuple):
         return self.outcome == ABORTED and bool(self.tried_reads or self.tried_writes)
 
     @property
-    def did(self) -> Tuple[Sequence[Read], Sequence[str]]:
+    def did(self) -> tuple[Sequence[Read], Sequence[str]]:
         """What it read and what it wrote, whether or not that had an effect."""
         if self.is_undone:
             return self.tried_reads, self.tried_writes
@@ -70,7 +68,7 @@ class Logged(NamedTuple):
 
 def undone(
     id: StoreId, reads: Iterable[Read], writes: Iterable[str], fence: str
-) -> Tuple[List[Read], List[str]]:
+) -> tuple[list[Read], list[str]]:
     """The reads and writes of an aborted attempt that a line may list. It had no effect, so the
     rest can be left out. Accesses to `fence`, the fences' key, are left out unless the attempt has
     the exact form of a fence."""
@@ -126,5 +124,5 @@ class Cut(NamedTuple):
     gone: int
 
 
-History = List[List[Logged]]  # for each session what it did, in order
+History = list[list[Logged]]  # for each session what it did, in order
 Transactions = Mapping[ShownId, Logged]

@@ -1,8 +1,6 @@
 """Removes an application's data from its statements and values. Keys and the form of each statement
 stay."""
 
-from __future__ import annotations
-
 import re
 
 from ._records import Logged, as_bytes, unpacked

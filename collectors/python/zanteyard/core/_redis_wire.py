@@ -1,19 +1,18 @@
 """Connections to a Redis, and commands over them, each with a time limit."""
 
-from __future__ import annotations
-
 import contextlib
 import math
 import socket
 import time
-from typing import Any, List, Sequence, Tuple
+from collections.abc import Sequence
+from typing import Any
 
 import redis
 
 from ._timeouts import LateError, within
 
 BROKEN = (redis.ConnectionError, redis.TimeoutError, OSError)
-Command = Tuple[Any, ...]
+Command = tuple[Any, ...]
 
 
 class _OverAPath(redis.UnixDomainSocketConnection):
@@ -66,10 +65,10 @@ def interrupt(connection: Any) -> None:
             sock.shutdown(socket.SHUT_RDWR)
 
 
-def answers(connection: Any, commands: Sequence[Command]) -> List[Any]:
+def answers(connection: Any, commands: Sequence[Command]) -> list[Any]:
     """The answers to all commands, in order. If a command is refused, its answer is the error."""
     connection.send_packed_command(connection.pack_commands(commands), check_health=False)
-    received: List[Any] = []
+    received: list[Any] = []
     for _ in commands:
         try:
             received.append(connection.read_response())
@@ -78,7 +77,7 @@ def answers(connection: Any, commands: Sequence[Command]) -> List[Any]:
     return received
 
 
-def replies(connection: Any, commands: Sequence[Command]) -> List[Any]:
+def replies(connection: Any, commands: Sequence[Command]) -> list[Any]:
     """The answers to all commands. Raises the first error, after all have been answered."""
     received = answers(connection, commands)
     for each in received:

@@ -3,14 +3,11 @@
 The key is the bytes of a file that only its owner may access. The proxy reads the same form.
 """
 
-from __future__ import annotations
-
 import hmac
 import json
 import os
 import secrets
 import stat
-from typing import Optional
 
 from .errors import KeyFileError
 
@@ -47,7 +44,7 @@ def read_key(path: str) -> bytes:
     return key
 
 
-def shared_key(path: Optional[str]) -> bytes:
+def shared_key(path: str | None) -> bytes:
     """The key in this file, or in the file that the environment variable names. Raises
     KeyFileError."""
     path = path or os.environ.get(ENVIRONMENT)

@@ -5,13 +5,11 @@ client wrote in one isn't found in the other. Therefore each store identifies it
 identity belongs to the audit, and no other is admitted.
 """
 
-from __future__ import annotations
-
 import hashlib
 import logging
 import os
 import socket
-from typing import Any, Dict, NamedTuple, Optional
+from typing import Any, NamedTuple
 
 from ._visible import shown as visible
 from .errors import StoreUnfitError
@@ -60,7 +58,7 @@ def checked(known: Any, shown: Any) -> StoreIdentity:
     return StoreIdentity(known, shown)
 
 
-def known_of(identity: Optional[StoreIdentity]) -> Optional[str]:
+def known_of(identity: StoreIdentity | None) -> str | None:
     return identity.known if identity is not None else None
 
 
@@ -68,10 +66,10 @@ class AuditedStore:
     """The store that an audit is about. Safe for use by several threads and in a forked child."""
 
     def __init__(self) -> None:
-        self._first: Dict[str, StoreIdentity] = {}
+        self._first: dict[str, StoreIdentity] = {}
 
     @property
-    def identity(self) -> Optional[StoreIdentity]:
+    def identity(self) -> StoreIdentity | None:
         """None until a store has identified itself."""
         return self._first.get("store")
 

@@ -4,9 +4,8 @@ Every store has the methods of `Store`. The five protocols after it are optional
 part: what a store lacks is built from its other methods or left out (`session/_store_calls.py`).
 """
 
-from __future__ import annotations
-
-from typing import Any, Dict, Optional, Protocol, Sequence, Tuple, Type
+from collections.abc import Sequence
+from typing import Any, Protocol
 
 from ._records import Name, StoredValue
 
@@ -18,7 +17,7 @@ class Store(Protocol):
     def begin(self) -> None:
         ...
 
-    def read(self, key: str) -> Optional[StoredValue]:
+    def read(self, key: str) -> StoredValue | None:
         """The value and the name that was stored with it; None if the key doesn't exist."""
 
     def write(self, key: str, value: Any, name: Name) -> None:
@@ -55,10 +54,10 @@ class BoundedStore(Protocol):
 class BulkStore(Protocol):
     """Several reads, or a read and a write, in one statement."""
 
-    def read_all(self, keys: Sequence[str]) -> Dict[str, StoredValue]:
+    def read_all(self, keys: Sequence[str]) -> dict[str, StoredValue]:
         """By key what `read` returns, for the keys that exist."""
 
-    def exchange(self, key: str, value: Any, name: Name) -> Optional[StoredValue]:
+    def exchange(self, key: str, value: Any, name: Name) -> StoredValue | None:
         """Writes as `write` does and returns what `read` would have returned for the version that
         it overwrites. Both must be one atomic step at every isolation level of the store."""
 
@@ -88,14 +87,14 @@ class ObservedStore(Protocol):
     """What the store knows about its client's own statements and about its answers."""
 
     @property
-    def errors(self) -> Tuple[Type[BaseException], ...]:
+    def errors(self) -> tuple[type[BaseException], ...]:
         """The exception classes of its driver. A client joins by a statement of the collector,
         which runs in the application's thread. If that raises one of these, or an error of this
         package, the application doesn't see it. It does see anything else, such as what a handler
         of SIGALRM raises."""
 
     @property
-    def statement(self) -> Optional[str]:
+    def statement(self) -> str | None:
         """The statement that was run last, as it is to be shown with a violation."""
 
     def has_answered(self, error: BaseException) -> bool:

@@ -4,11 +4,9 @@ Several clients use a session in turn. They are numbered in the order of their a
 reports can say which client ran a transaction.
 """
 
-from __future__ import annotations
-
 import threading
 from bisect import bisect_right
-from typing import Dict, List, Optional, Sequence, Set
+from collections.abc import Sequence
 
 from ._records import AuditId
 
@@ -21,10 +19,10 @@ class Tenancy:
         self._lock = threading.Lock()
         # For each session the first transaction numbers of its clients, ascending, and these
         # clients.
-        self._firsts: Dict[int, List[int]] = {}
-        self._clients: Dict[int, List[int]] = {}
-        self._untold: Dict[int, int] = {}  # for each session the latest client's first number
-        self._shared: Set[int] = set()  # sessions that several clients have had
+        self._firsts: dict[int, list[int]] = {}
+        self._clients: dict[int, list[int]] = {}
+        self._untold: dict[int, int] = {}  # for each session the latest client's first number
+        self._shared: set[int] = set()  # sessions that several clients have had
 
     def begin(self, session: int, number: int) -> int:
         """Gives the session to another client, from this transaction on. Returns the client's
@@ -43,13 +41,13 @@ class Tenancy:
             self._untold[session] = number
             return self.clients
 
-    def client(self, session: int, number: int) -> Optional[int]:
+    def client(self, session: int, number: int) -> int | None:
         """The client that ran the transaction; None if unknown."""
         with self._lock:
             at = bisect_right(self._firsts.get(session, ()), number) - 1
             return self._clients[session][at] if at >= 0 else None
 
-    def first_of(self, session: int, number: int) -> Optional[int]:
+    def first_of(self, session: int, number: int) -> int | None:
         """The client whose first transaction this is; None otherwise, and from the second call
         on."""
         if self._untold.get(session) != number:
@@ -79,14 +77,14 @@ class Tenancy:
             return called
         return f"{called} (client from {id[0]}.{first})"
 
-    def joined(self) -> List[List[int]]:
+    def joined(self) -> list[list[int]]:
         """Each session that had several clients, with the first transaction of each of them, as
         arguments of `begin_behind`."""
         with self._lock:
             firsts_of = {session: self._firsts[session] for session in sorted(self._shared)}
             return [[session, first] for session, firsts in firsts_of.items() for first in firsts]
 
-    def _first_before(self, session: int, number: int) -> Optional[int]:
+    def _first_before(self, session: int, number: int) -> int | None:
         with self._lock:
             firsts = self._firsts.get(session, ())
             at = bisect_right(firsts, number) - 1

@@ -1,11 +1,10 @@
 """Calls with a time limit."""
 
-from __future__ import annotations
-
 import threading
 from concurrent.futures import Future, InvalidStateError
+from collections.abc import Callable
 from concurrent.futures import TimeoutError as FutureTimeoutError
-from typing import Any, Callable
+from typing import Any
 
 
 class LateError(TimeoutError):

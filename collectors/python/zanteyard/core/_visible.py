@@ -7,14 +7,13 @@ direction of writing, invisible characters. All of these are shown as escapes, s
 function here that calls it.
 """
 
-from __future__ import annotations
-
 import html
 import os
 import re
 import sys
 import unicodedata
-from typing import Any, Callable, Optional, TextIO
+from collections.abc import Callable
+from typing import Any, TextIO
 
 LONGEST = 4000  # characters of one text
 
@@ -30,7 +29,7 @@ def shown_lines(text: str) -> str:
     return "\n".join(map(shown, text.split("\n")))
 
 
-before_saying: Optional[Callable[[], None]] = None  # removes the progress line
+before_saying: Callable[[], None] | None = None  # removes the progress line
 COLOURS = {
     **dict.fromkeys(("serial", "kept"), "32"),  # green
     **dict.fromkeys(("violated", "mistake"), "31"),  # red
@@ -39,7 +38,7 @@ COLOURS = {
 VERDICT = re.compile(f"({'|'.join(COLOURS)})(?=[:;,]|$)")
 
 
-def say(text: str, file: Optional[TextIO] = None, end: str = "\n", flush: bool = False) -> None:
+def say(text: str, file: TextIO | None = None, end: str = "\n", flush: bool = False) -> None:
     """Prints one line. On a terminal a verdict in it is coloured. Raises what `print` does."""
     if before_saying is not None:
         before_saying()
@@ -48,14 +47,14 @@ def say(text: str, file: Optional[TextIO] = None, end: str = "\n", flush: bool =
     print(_coloured(line) if has_colours(file) else line, file=file, end=end, flush=flush)
 
 
-def is_terminal(file: Optional[TextIO]) -> bool:
+def is_terminal(file: TextIO | None) -> bool:
     try:
         return file is not None and file.isatty()
     except ValueError:  # it is closed
         return False
 
 
-def has_colours(file: Optional[TextIO]) -> bool:
+def has_colours(file: TextIO | None) -> bool:
     """Whether to use colours, by the rules of no-color.org."""
     if os.environ.get("NO_COLOR") or os.environ.get("TERM", "dumb") == "dumb":
         return False

@@ -6,10 +6,8 @@ from it are left out. What was sent to the store later is audited, with numbers 
 there.
 """
 
-from __future__ import annotations
-
 from dataclasses import dataclass, field
-from typing import Any, Dict, List, Optional, Tuple
+from typing import Any
 
 from ._own_keys import is_own
 from ._records import Logged, Source
@@ -27,10 +25,10 @@ class Coverage:
     A read from one of these is neither from the first state nor from anything that is audited.
     Sessions that join later are audited completely."""
 
-    early: List[int]
-    first: List[Optional[int]]
-    last: List[Optional[int]] = field(default_factory=list)
-    unknown: List[Tuple[Tuple[int, int], ...]] = field(default_factory=list)
+    early: list[int]
+    first: list[int | None]
+    last: list[int | None] = field(default_factory=list)
+    unknown: list[tuple[tuple[int, int], ...]] = field(default_factory=list)
 
     def __post_init__(self) -> None:
         self.last = self.last or [None] * len(self.early)
@@ -40,7 +38,7 @@ class Coverage:
     def of_all(cls, sessions: int) -> "Coverage":
         return cls([0] * sessions, [0] * sessions)
 
-    def number(self, session: int, number: int) -> Optional[int]:
+    def number(self, session: int, number: int) -> int | None:
         """The transaction's number in the audit; None if it isn't audited."""
         if session >= len(self.early):
             return number  # it joined later
@@ -49,13 +47,13 @@ class Coverage:
             return None
         return number - first
 
-    def number_there(self, session: int, number: int) -> Optional[int]:
+    def number_there(self, session: int, number: int) -> int | None:
         """The number in the store of the transaction with this number in the audit; None if the
         session isn't audited."""
         first = self.first[session] if session < len(self.early) else 0
         return None if first is None else first + number
 
-    def source(self, session: int, number: int) -> Optional[Source]:
+    def source(self, session: int, number: int) -> Source | None:
         """The source of a read of this transaction's write, as the audit sees it: (session, number)
         or "init". None if that is unknown, so that the read has to be left out."""
         if session >= max(SESSIONS, len(self.early)):
@@ -77,7 +75,7 @@ class Coverage:
             tried_reads=sorted((read for read in moved if read[1] is not None), key=repr)
         )
 
-    def moved(self, logged: Logged) -> Tuple[Logged, int]:
+    def moved(self, logged: Logged) -> tuple[Logged, int]:
         """What was logged, in the audit's numbering, and how many of its reads were left out. Reads
         of an aborted attempt have no effect and aren't counted. A version that was answered before
         the audit began counts as read from before it."""
@@ -89,7 +87,7 @@ class Coverage:
         kept = [(key, source) for key, source in reads if source is not None]
         if kept == list(logged.reads):
             return logged, 0
-        new: Dict[Any, Any] = dict(zip(logged.reads, reads))
+        new: dict[Any, Any] = dict(zip(logged.reads, reads))
         earlier = sum(
             now == "init" != was and not is_own(key)
             for (key, was), (_, now) in zip(logged.reads, reads)

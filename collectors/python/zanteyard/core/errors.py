@@ -1,7 +1,5 @@
 """The errors that this package raises. All of them are subclasses of ZanteyardError."""
 
-from __future__ import annotations
-
 from ._visible import shown
 
 

@@ -6,11 +6,9 @@ history should first be reduced to a minimal violated part: then the pattern fou
 the violation. This is an aid; the verdict doesn't depend on it.
 """
 
-from __future__ import annotations
-
 from collections import deque
+from collections.abc import Iterable, Iterator, Mapping, Sequence
 from dataclasses import dataclass
-from typing import Dict, Iterable, Iterator, List, Mapping, Optional, Sequence, Set, Tuple
 
 from ..core._own_keys import FENCE, PLAIN_FENCE
 from ..core._records import Logged, Naming, ShownId, Source, Transactions
@@ -20,7 +18,7 @@ from ._cycles import kind_of, weakest
 from ._words import name as plain_name
 from ._words import told_undone, version
 
-Edge = Tuple[ShownId, ShownId]
+Edge = tuple[ShownId, ShownId]
 
 
 @dataclass(frozen=True)
@@ -29,7 +27,7 @@ class Anomaly:
 
     name: str
     sentence: str
-    transactions: Tuple[ShownId, ...]
+    transactions: tuple[ShownId, ...]
 
 
 MEANINGS: Mapping[str, str] = {
@@ -69,7 +67,7 @@ def find_anomaly(
     history: Sequence[Sequence[Logged]],
     name: Naming = plain_name,
     promise: Promise = SERIALIZABLE,
-) -> Optional[Anomaly]:
+) -> Anomaly | None:
     """The first pattern in the history that the promise excludes, or None. The history should be
     small."""
     table = _busy(history)
@@ -100,7 +98,7 @@ def _busy(history: Sequence[Sequence[Logged]]) -> Transactions:
     }
 
 
-def name_circle(arcs: Sequence[Arc], name: Naming = plain_name) -> Optional[Anomaly]:
+def name_circle(arcs: Sequence[Arc], name: Naming = plain_name) -> Anomaly | None:
     """The name of a cycle that matches none of the patterns, or of the weakest one that it follows
     from: which of them there is depends on the order of versions. None if real-time order is
     involved."""
@@ -119,7 +117,7 @@ def _told(key: str) -> str:
 
 def _plain_arcs(table: Transactions) -> Iterator[Edge]:
     """The order given by sessions, and by who read from whom."""
-    before: Optional[ShownId] = None
+    before: ShownId | None = None
     for id, logged in table.items():
         if before is not None and before[0] == id[0]:
             yield before, id
@@ -137,15 +135,15 @@ def _in_time(table: Transactions) -> Iterator[Edge]:
                 yield first, second
 
 
-def _behind(table: Transactions, is_timed: bool) -> Dict[ShownId, Set[ShownId]]:
+def _behind(table: Transactions, is_timed: bool) -> dict[ShownId, set[ShownId]]:
     """For each transaction, those that come after it by these arcs."""
-    after: Dict[ShownId, List[ShownId]] = {id: [] for id in table}
+    after: dict[ShownId, list[ShownId]] = {id: [] for id in table}
     in_time = _in_time(table) if is_timed and len(table) <= MANY else ()
     for start, end in [*_plain_arcs(table), *in_time]:
         after[start].append(end)
-    behind: Dict[ShownId, Set[ShownId]] = {}
+    behind: dict[ShownId, set[ShownId]] = {}
     for id in table:
-        reached: Set[ShownId] = set()
+        reached: set[ShownId] = set()
         waiting = list(after[id])
         while waiting:
             at = waiting.pop()
@@ -157,8 +155,8 @@ def _behind(table: Transactions, is_timed: bool) -> Dict[ShownId, Set[ShownId]]:
 
 
 def _overwritten(
-    table: Transactions, behind: Mapping[ShownId, Set[ShownId]]
-) -> List[Tuple[ShownId, str, Source, ShownId]]:
+    table: Transactions, behind: Mapping[ShownId, set[ShownId]]
+) -> list[tuple[ShownId, str, Source, ShownId]]:
     """Each (reader, key, source, other) such that `other` wrote a later version than the one
     read."""
     overwritten = []
@@ -185,7 +183,7 @@ def _dirty_reads(table: Transactions, _: object, name: Naming) -> Iterator[Anoma
                 yield Anomaly(kind, sentence, (source, reader))
 
 
-def _wrong_read(source: Logged) -> Tuple[str, str]:
+def _wrong_read(source: Logged) -> tuple[str, str]:
     """The name of a read from a transaction that didn't write the key, and why it is wrong."""
     if source.outcome == "unfinished":
         return "intermediate read", "which wrote more of it before it ended"
@@ -198,7 +196,7 @@ def _wrong_read(source: Logged) -> Tuple[str, str]:
 
 def _unrepeatable_reads(table: Transactions, _: object, name: Naming) -> Iterator[Anomaly]:
     for reader, logged in table.items():
-        first: Dict[str, Source] = {}
+        first: dict[str, Source] = {}
         for key, source in logged.reads:
             other = first.setdefault(key, source)
             if other != source:
@@ -210,13 +208,13 @@ def _unrepeatable_reads(table: Transactions, _: object, name: Naming) -> Iterato
 
 
 def _information_flows(
-    table: Transactions, behind: Mapping[ShownId, Set[ShownId]], name: Naming
+    table: Transactions, behind: Mapping[ShownId, set[ShownId]], name: Naming
 ) -> Iterator[Anomaly]:
     """Cycles of reads and session order."""
     for start in table:
         if start not in behind[start]:
             continue
-        found: Dict[ShownId, Tuple[ShownId, str]] = {}
+        found: dict[ShownId, tuple[ShownId, str]] = {}
         waiting = [start]
         while waiting:
             at = waiting.pop(0)
@@ -237,7 +235,7 @@ def _information_flows(
             yield Anomaly("circular information flow", sentence, ids)
 
 
-def _flows(table: Transactions, writer: ShownId) -> Iterator[Tuple[ShownId, ShownId, str]]:
+def _flows(table: Transactions, writer: ShownId) -> Iterator[tuple[ShownId, ShownId, str]]:
     """The transactions that read from this one, and its successor in the session."""
     for reader, logged in table.items():
         for key, source in logged.reads:
@@ -249,7 +247,7 @@ def _flows(table: Transactions, writer: ShownId) -> Iterator[Tuple[ShownId, Show
 
 
 def _dirty_writes(
-    table: Transactions, behind: Mapping[ShownId, Set[ShownId]], name: Naming
+    table: Transactions, behind: Mapping[ShownId, set[ShownId]], name: Naming
 ) -> Iterator[Anomaly]:
     """Two writers of the same two keys, in no known order, of which a reader found one's version of
     one key and the other's version of the other."""
@@ -271,7 +269,7 @@ def _dirty_writes(
 
 
 def _lost_updates(table: Transactions, _: object, name: Naming) -> Iterator[Anomaly]:
-    first: Dict[Tuple[str, Source], ShownId] = {}
+    first: dict[tuple[str, Source], ShownId] = {}
     for id, logged in table.items():
         for key, source in logged.reads:
             if key not in logged.writes:
@@ -288,7 +286,7 @@ def _lost_updates(table: Transactions, _: object, name: Naming) -> Iterator[Anom
 
 
 def _fractured_reads(
-    table: Transactions, behind: Mapping[ShownId, Set[ShownId]], name: Naming
+    table: Transactions, behind: Mapping[ShownId, set[ShownId]], name: Naming
 ) -> Iterator[Anomaly]:
     for reader, key, source, other in _overwritten(table, behind):
         for seen, where in table[reader].reads:
@@ -302,7 +300,7 @@ def _fractured_reads(
 
 
 def _stale_reads(
-    table: Transactions, behind: Mapping[ShownId, Set[ShownId]], name: Naming
+    table: Transactions, behind: Mapping[ShownId, set[ShownId]], name: Naming
 ) -> Iterator[Anomaly]:
     for reader, key, source, other in _overwritten(table, behind):
         if reader in behind[other]:
@@ -324,7 +322,7 @@ def _stale_reads(
 
 
 def _long_forks(
-    table: Transactions, behind: Mapping[ShownId, Set[ShownId]], name: Naming
+    table: Transactions, behind: Mapping[ShownId, set[ShownId]], name: Naming
 ) -> Iterator[Anomaly]:
     """Two readers, each of which saw a write that the other one didn't see."""
     missed = _overwritten(table, behind) if len(table) <= MANY else ()
@@ -343,11 +341,11 @@ def _long_forks(
 
 
 def _write_skews(
-    table: Transactions, behind: Mapping[ShownId, Set[ShownId]], name: Naming
+    table: Transactions, behind: Mapping[ShownId, set[ShownId]], name: Naming
 ) -> Iterator[Anomaly]:
     """Cycles in which each transaction read what the next one overwrote: for each transaction the
     shortest one of which it is the first."""
-    after: Dict[ShownId, Dict[ShownId, str]] = {}
+    after: dict[ShownId, dict[ShownId, str]] = {}
     for reader, key, _, other in _overwritten(table, behind):
         after.setdefault(reader, {}).setdefault(other, key)
     for start in after:
@@ -362,10 +360,10 @@ def _write_skews(
 
 def _shortest_circle(
     start: ShownId, after: Mapping[ShownId, Iterable[ShownId]]
-) -> Tuple[ShownId, ...]:
+) -> tuple[ShownId, ...]:
     """The shortest way from `start` back to it, over at most 7 later transactions; empty if there
     is none."""
-    ways: Dict[ShownId, Tuple[ShownId, ...]] = {start: (start,)}  # the shortest to each
+    ways: dict[ShownId, tuple[ShownId, ...]] = {start: (start,)}  # the shortest to each
     waiting = deque(ways)
     while waiting:
         way = ways[waiting.popleft()]

@@ -1,9 +1,7 @@
 """Says why one transaction comes before another: by sessions, by reads, by time, or because the
 opposite is impossible."""
 
-from __future__ import annotations
-
-from typing import Sequence
+from collections.abc import Sequence
 
 from ..core._records import Naming, ShownId, Transactions
 from ._arcs import (

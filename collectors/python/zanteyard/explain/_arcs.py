@@ -1,8 +1,7 @@
 """Arcs, which say what comes before what, and the arcs that each of them follows from."""
 
-from __future__ import annotations
-
-from typing import Any, Dict, Iterable, Iterator, List, NamedTuple, Optional, Tuple
+from collections.abc import Iterable, Iterator
+from typing import Any, NamedTuple
 
 from ..core._records import History, Logged, Naming, ShownId, Transactions
 from ..promises._times import told_gap
@@ -16,7 +15,7 @@ class Event(NamedTuple):
 
 
 Node = Any  # a ShownId, or an Event
-Ends = Tuple[Node, Node]
+Ends = tuple[Node, Node]
 # The kinds of arcs, by which cycles are named.
 IN_SESSION, READ, IN_TIME = "session", "read", "time"
 READ_BEFORE = "read before"  # from a reader of a version to who overwrote it: an anti-dependency
@@ -33,7 +32,7 @@ class Choice(NamedTuple):
     writer: Node
     other: Node
 
-    def sides(self) -> Tuple[Ends, Ends]:
+    def sides(self) -> tuple[Ends, Ends]:
         return (self.other, self.writer), (self.reader, self.other)
 
 
@@ -51,10 +50,10 @@ class Arc(NamedTuple):
     start: Node
     end: Node
     why: str
-    needs: Tuple[Any, ...]  # of Arc, which this Python's types can't name here
+    needs: tuple[Any, ...]  # of Arc, which this Python's types can't name here
     kind: str = IN_SESSION
     key: str = ""  # the key that was read, if that is the reason
-    choice: Optional[Choice] = None
+    choice: Choice | None = None
     told: str = ""  # a phrase for what comes before what
 
     @property
@@ -70,7 +69,7 @@ def table(history: History) -> Transactions:
     }
 
 
-def told_later(first: Logged, second: Logged, names: Tuple[str, str]) -> str:
+def told_later(first: Logged, second: Logged, names: tuple[str, str]) -> str:
     """Says that the second began after the first had ended; empty if that isn't known."""
     if not first.span or not second.span or first.span[1] is None:
         return ""
@@ -81,9 +80,9 @@ def told_later(first: Logged, second: Logged, names: Tuple[str, str]) -> str:
     return f"{names[1]} began {time_text + ' ' if time_text else ''}after {names[0]} had ended"
 
 
-def merged(way: Iterable[Arc], name: Naming) -> List[Arc]:
+def merged(way: Iterable[Arc], name: Naming) -> list[Arc]:
     """The same path, with each run of transactions of one session as one arc."""
-    kept: List[Arc] = []
+    kept: list[Arc] = []
     for arc in way:
         if kept and kept[-1].why == arc.why == SESSION:
             start = kept.pop().start
@@ -92,11 +91,11 @@ def merged(way: Iterable[Arc], name: Naming) -> List[Arc]:
     return kept
 
 
-def below(arcs: Iterable[Arc]) -> List[Arc]:
+def below(arcs: Iterable[Arc]) -> list[Arc]:
     """The arcs and all that they follow from, each after those that it follows from; only the first
     of several between the same two nodes."""
-    found: Dict[Ends, Arc] = {}
-    waiting: List[Tuple[Optional[Arc], Iterator[Arc]]] = [(None, iter([*arcs]))]
+    found: dict[Ends, Arc] = {}
+    waiting: list[tuple[Arc | None, Iterator[Arc]]] = [(None, iter([*arcs]))]
     while waiting:
         arc, needs = waiting[-1]
         need = next((need for need in needs if need.ends not in found), None)
@@ -109,24 +108,24 @@ def below(arcs: Iterable[Arc]) -> List[Arc]:
     return [*found.values()]
 
 
-def shortest_circle(arcs: Iterable[Arc]) -> List[Arc]:
+def shortest_circle(arcs: Iterable[Arc]) -> list[Arc]:
     """The shortest cycle of these arcs. There must be one."""
-    after: Dict[Node, List[Arc]] = {}
+    after: dict[Node, list[Arc]] = {}
     for arc in arcs:
         after.setdefault(arc.start, []).append(arc)
     return min((way for way in (_around(after, node) for node in after) if way), key=len)
 
 
-def _around(after: Dict[Node, List[Arc]], node: Node) -> List[Arc]:
+def _around(after: dict[Node, list[Arc]], node: Node) -> list[Arc]:
     """The shortest path from the node back to it; empty if there is none."""
-    reached: Dict[Node, Arc] = {}
+    reached: dict[Node, Arc] = {}
     waiting = [node]
     for at in waiting:
         for arc in after.get(at, ()):
             if arc.end not in reached:
                 reached[arc.end] = arc
                 waiting.append(arc.end)
-    way: List[Arc] = [reached[node]] if node in reached else []
+    way: list[Arc] = [reached[node]] if node in reached else []
     while way and way[0].start != node:
         way.insert(0, reached[way[0].start])
     return way

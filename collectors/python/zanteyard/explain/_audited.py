@@ -1,11 +1,10 @@
 """Checks a history anew: what a new auditor is asked about it, and what its report means in the
 history."""
 
-from __future__ import annotations
-
 import json
 from typing import Any, Callable, Dict, Iterable, List, Mapping, NamedTuple, Optional, Sequence, Set
-from typing import Tuple, cast
+from collections.abc import Callable, Iterable, Mapping, Sequence
+from typing import cast
 
 from ..core._own_keys import FENCE, FORM, PLAIN_FENCE
 from ..core._records import MOST, AuditId, AuditNaming, History, Logged, Naming, Read, Report
@@ -39,11 +38,11 @@ def timeline_of(history: History) -> Timeline:
     )
 
 
-def _keys_of(logged: Logged) -> Set[str]:
+def _keys_of(logged: Logged) -> set[str]:
     return {*logged.writes, *(key for key, _ in logged.reads)}
 
 
-def apart_ids(history: History) -> List[ShownId]:
+def apart_ids(history: History) -> list[ShownId]:
     """The transactions that did something, or that a read names as its source."""
     did = dict.fromkeys(
         ShownId((session, number))
@@ -63,7 +62,7 @@ def each_apart(history: History) -> History:
             f"without session order each transaction has a session of its own, and these {len(did)}"
             f" are more than {MOST_SESSIONS}"
         )
-    places: Dict[Source, Source] = {id: (at, 0) for at, id in enumerate(did)}
+    places: dict[Source, Source] = {id: (at, 0) for at, id in enumerate(did)}
     absent = SESSIONS - 1  # nobody has its numbers from 1 on; each version knows it
 
     def moved(source: Source) -> Source:
@@ -83,17 +82,17 @@ def each_apart(history: History) -> History:
 
 def renumbered(
     txns: Mapping[ShownId, Logged], sessions: int
-) -> Tuple[History, List[List[ShownId]]]:
+) -> tuple[History, list[list[ShownId]]]:
     """These transactions as a history without gaps, and the ids that they had, by their new ones.
     What they read from others still never arrives."""
-    old: List[List[ShownId]] = [[] for _ in range(sessions)]
+    old: list[list[ShownId]] = [[] for _ in range(sessions)]
     for id in sorted(txns):
         old[id[0]].append(id)
-    places: Dict[Source, Source] = {
+    places: dict[Source, Source] = {
         id: (session, number) for session, ids in enumerate(old) for number, id in enumerate(ids)
     }
 
-    def moved(reads: Iterable[Read]) -> List[Read]:
+    def moved(reads: Iterable[Read]) -> list[Read]:
         return [
             (key, source if source == "init" else places.setdefault(source, absent(len(places))))
             for key, source in reads
@@ -109,7 +108,7 @@ def renumbered(
     return [[one(txns[id]) for id in ids] for ids in old], old
 
 
-def without_idle(history: History) -> Tuple[History, List[List[ShownId]]]:
+def without_idle(history: History) -> tuple[History, list[list[ShownId]]]:
     """The history without transactions that did nothing, as `renumbered` has it. Those with times
     stay, since some order may follow from them."""
     named = {*apart_ids(history)}
@@ -144,13 +143,13 @@ def with_needed_writes(history: History) -> History:
     return [[first, *history[0][1:]], *history[1:]]
 
 
-def _tried_keys_of(logged: Logged) -> Set[str]:
+def _tried_keys_of(logged: Logged) -> set[str]:
     return {*logged.tried_writes, *(key for key, _ in logged.tried_reads)}
 
 
 def in_pieces(
-    history: History, places: Optional[List[List[ShownId]]]
-) -> Tuple[History, Optional[List[List[ShownId]]]]:
+    history: History, places: list[list[ShownId]] | None
+) -> tuple[History, list[list[ShownId]] | None]:
     """The history in which that transaction is several, if it still writes more than a line may
     list, and which transactions these are: `places`, if there are any, are those of the history."""
     first = history[0][0] if history and history[0] else None
@@ -160,7 +159,7 @@ def in_pieces(
     piece = {key: at // MOST for at, key in enumerate(keys)}
     more = (len(keys) - 1) // MOST
 
-    def moved(reads: Iterable[Read]) -> List[Read]:
+    def moved(reads: Iterable[Read]) -> list[Read]:
         return [
             (key, source)
             if source == "init" or source[0]
@@ -216,8 +215,8 @@ class Audited(NamedTuple):
     report: Report
     script: str
     keys: Sequence[str]
-    ids: Optional[Sequence[ShownId]] = None
-    places: Optional[Sequence[Sequence[ShownId]]] = None
+    ids: Sequence[ShownId] | None = None
+    places: Sequence[Sequence[ShownId]] | None = None
     is_halved: bool = False
 
     def moved(self, id: ShownId) -> Node:
@@ -233,7 +232,7 @@ class Audited(NamedTuple):
 
 def audited(
     history: History, program: str = PROGRAM, promise: Promise = SERIALIZABLE
-) -> Tuple[Report, str]:
+) -> tuple[Report, str]:
     """The report of a new auditor, and the script that it was given. Raises CantBeAskedError if the
     history can't be checked for the promise."""
     its = audited_apart(history, program, promise)
@@ -265,7 +264,7 @@ def audited_apart(
         form = form_of(told, len(history), limit)
         if form == [FORM] and not any(it.is_undone for txns in history for it in txns):
             form = []
-        script: List[Any] = [["open", len(history), limit, *form]]
+        script: list[Any] = [["open", len(history), limit, *form]]
         for session, txns in enumerate(history):
             for first in range(0, len(txns), longest(told)):
                 fragment = txns[first : first + longest(told)]
@@ -280,7 +279,7 @@ def audited_apart(
         return Audited(report, text, tuple(auditor.names), ids, places, is_halved)
 
 
-def from_start(auditor: Any) -> Tuple[History, Naming]:
+def from_start(auditor: Any) -> tuple[History, Naming]:
     """The remaining transactions as a history without a cut and without the fences' key, and their
     names. If something was forgotten, a first transaction stands for it: it writes the last version
     of each key, and every session begins with a transaction that reads from it."""
@@ -329,7 +328,7 @@ def from_start(auditor: Any) -> Tuple[History, Naming]:
     return [[after if session else first, *txns] for session, txns in enumerate(history)], renamed
 
 
-def refuted(auditor: Any, certificate: Iterable[Any]) -> Set[ShownId]:
+def refuted(auditor: Any, certificate: Iterable[Any]) -> set[ShownId]:
     """The transactions that a violated round's refutation names, as in the history of
     `from_start`."""
     marks = auditor.marks
@@ -355,9 +354,9 @@ def only_keys(history: History, is_kept: Callable[[str], bool]) -> History:
     return [[*map(part, txns)] for txns in history]
 
 
-def named(items: Iterable[Any]) -> Set[AuditId]:
+def named(items: Iterable[Any]) -> set[AuditId]:
     """The transactions that a refutation's items name."""
-    ids: Set[Tuple[int, int]] = set()
+    ids: set[tuple[int, int]] = set()
     for kind, first, *rest in items:
         if kind in ("nowrite", "gone"):
             ids.add((first, rest[0]))
@@ -369,7 +368,7 @@ def named(items: Iterable[Any]) -> Set[AuditId]:
     return {AuditId(id) for id in ids}
 
 
-def wrong_sources(history: History) -> Dict[ShownId, Logged]:
+def wrong_sources(history: History) -> dict[ShownId, Logged]:
     """Transactions that a read names as its source although they didn't write the key."""
     return {
         source: history[source[0]][source[1]]

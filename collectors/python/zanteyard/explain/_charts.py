@@ -1,10 +1,8 @@
 """Charts of a live run, round by round, as plain SVG: how many transactions remain, how far the
 auditor is behind, and each round's verdict."""
 
-from __future__ import annotations
-
+from collections.abc import Callable, Sequence
 from dataclasses import dataclass
-from typing import Callable, List, Sequence, Tuple
 
 from ..core._visible import html_text
 
@@ -20,7 +18,7 @@ class RoundSeen:
     remaining: int  # transactions after it
     behind: float  # seconds that the auditor was behind the clients
     taken: int = 0  # transactions taken in since the audit began
-    waiting: Tuple[str, ...] = ()  # reads that wait for a transaction, and for which
+    waiting: tuple[str, ...] = ()  # reads that wait for a transaction, and for which
 
 
 def draw_rounds(rounds: Sequence[RoundSeen]) -> str:
@@ -49,7 +47,7 @@ def _chart(
         )
         for seen in rounds
     ]
-    dots: List[str] = []
+    dots: list[str] = []
     for seen, (x, y) in zip(rounds, points):
         about = f"{seen.seconds:.1f} s: {seen.kind}, {shown.format(value(seen))} {title}"
         dots.append(

@@ -1,9 +1,7 @@
 """Which promises an anomaly's name excludes by its definition. No name is shown next to a promise
 that it excludes and that is kept."""
 
-from __future__ import annotations
-
-from typing import Mapping, Sequence, Tuple
+from collections.abc import Mapping, Sequence
 
 from ..promises._kinds import ALL, PREFIX, SERIALIZABLE, SNAPSHOT, STRICT, STRONG_SNAPSHOT, Promise
 
@@ -33,7 +31,7 @@ EXCLUDED: Mapping[str, Sequence[Promise]] = {
 BY_TIME = ("fractured read", "stale read", "long fork", "write skew")
 
 
-def excluded(name: str, promise: Promise = SERIALIZABLE) -> Tuple[Promise, ...]:
+def excluded(name: str, promise: Promise = SERIALIZABLE) -> tuple[Promise, ...]:
     """The promises that can't be kept if there is an anomaly with this name, found when `promise`
     was asked about. Any other may be kept or broken."""
     is_by_time = promise.is_timed and name in BY_TIME

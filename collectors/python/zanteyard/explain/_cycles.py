@@ -6,9 +6,7 @@ or through the two writers. So a refutation shows, for each order of versions, o
 and it shows no more than the weakest of them.
 """
 
-from __future__ import annotations
-
-from typing import Iterable, List, Mapping, Sequence, Tuple
+from collections.abc import Iterable, Mapping, Sequence
 
 from ._arcs import READ, READ_BEFORE, WRITTEN, Arc, below, is_of_writers
 
@@ -33,7 +31,7 @@ def kind_of(cycle: Sequence[Arc]) -> str:
     return G2 if are_next else NONADJACENT
 
 
-def ruled_out(arc: Arc) -> List[Arc]:
+def ruled_out(arc: Arc) -> list[Arc]:
     """The cycle that rules out the other side of a forced arc's choice."""
     assert arc.choice is not None
     first, second = arc.choice.sides()
@@ -68,13 +66,13 @@ def steps_to(arc: Arc, wanted: int) -> int:
     return -1
 
 
-def places_to(cycle: Sequence[Arc]) -> List[int]:
+def places_to(cycle: Sequence[Arc]) -> list[int]:
     """The places in the cycle of the forced arcs that its weakest cycle stands behind, the nearest
     first, without those that the rest of the cycle follows from."""
     wanted = weakness(weakest(cycle))
     if weakness(cycle) == wanted:
         return []
-    places: List[Tuple[int, int]] = []
+    places: list[tuple[int, int]] = []
     for at, arc in enumerate(cycle):
         steps = steps_to(arc, wanted) if arc.needs else -1
         if steps >= 0 and not _is_below(arc, [*cycle[:at], *cycle[at + 1 :]]):

@@ -3,8 +3,8 @@ and its pictures, and lines for a terminal."""
 
 from __future__ import annotations
 
+from collections.abc import Iterable, Iterator
 from dataclasses import dataclass
-from typing import Dict, Iterable, Iterator, List, Tuple
 
 from ..core._records import ShownId
 from ._arcs import Arc, Ends, Event, Node, below, transaction_of
@@ -26,12 +26,12 @@ class Explanation:
     ends."""
 
     end: str
-    arcs: Tuple[Arc, ...] = ()
-    circle: Tuple[str, ...] = ()  # ends with the first transaction again
-    cases: Tuple[Case, ...] = ()
+    arcs: tuple[Arc, ...] = ()
+    circle: tuple[str, ...] = ()  # ends with the first transaction again
+    cases: tuple[Case, ...] = ()
 
     @property
-    def lines(self) -> Tuple[str, ...]:
+    def lines(self) -> tuple[str, ...]:
         """The whole as text."""
         return tuple(lines_of(laid_out(self)))
 
@@ -42,7 +42,7 @@ class Explanation:
         for case in self.cases:
             yield from case.explanation.ends()
 
-    def all_arcs(self) -> List[Arc]:
+    def all_arcs(self) -> list[Arc]:
         """The arcs of its cycles and all that they follow from, each after those that it follows
         from."""
         return below(arc for leaf in self.ends() for arc in leaf.arcs)
@@ -60,12 +60,12 @@ class Link:
     is_of_circle: bool
     is_of_aborted: bool = False  # the first was aborted, and was read all the same
     told: str = ""  # what comes before what, in words
-    events: Tuple[str, str] = ("", "")  # "begin" or "commit", if these are separate events
+    events: tuple[str, str] = ("", "")  # "begin" or "commit", if these are separate events
     number: int = 0
-    follows: Tuple[int, ...] = ()
+    follows: tuple[int, ...] = ()
 
     @property
-    def ends(self) -> Tuple[Tuple[ShownId, str], Tuple[ShownId, str]]:
+    def ends(self) -> tuple[tuple[ShownId, str], tuple[ShownId, str]]:
         """Its two ends."""
         return (self.start, self.events[0]), (self.end, self.events[1])
 
@@ -83,11 +83,11 @@ class Reasons:
     """An explanation as it is shown: first the links, then the end. `drawn` are all links that a
     cycle follows from, including those shown above its case."""
 
-    links: Tuple[Link, ...] = ()  # each after those that it follows from
+    links: tuple[Link, ...] = ()  # each after those that it follows from
     end: str = ""
-    circle: Tuple[str, ...] = ()
-    cases: Tuple[ShownCase, ...] = ()
-    drawn: Tuple[Link, ...] = ()
+    circle: tuple[str, ...] = ()
+    cases: tuple[ShownCase, ...] = ()
+    drawn: tuple[Link, ...] = ()
 
 
 def laid_out(explanation: Explanation) -> Reasons:
@@ -100,7 +100,7 @@ class _Layout:
     def __init__(self) -> None:
         self.count = 0
 
-    def of(self, explanation: Explanation, above: Dict[Ends, Link]) -> Reasons:
+    def of(self, explanation: Explanation, above: dict[Ends, Link]) -> Reasons:
         around = {arc.ends for arc in explanation.arcs}
         links = {**above}
         if not explanation.cases:
@@ -119,8 +119,8 @@ class _Layout:
         return Reasons(tuple(own), explanation.end, (), tuple(cases))
 
     def _added(
-        self, arcs: Iterable[Arc], links: Dict[Ends, Link], around: Iterable[Ends]
-    ) -> List[Link]:
+        self, arcs: Iterable[Arc], links: dict[Ends, Link], around: Iterable[Ends]
+    ) -> list[Link]:
         """New links, for the arcs that have none yet."""
         added = []
         for arc in arcs:
@@ -131,7 +131,7 @@ class _Layout:
         return added
 
 
-def _link(arc: Arc, number: int, is_of_circle: bool, links: Dict[Ends, Link]) -> Link:
+def _link(arc: Arc, number: int, is_of_circle: bool, links: dict[Ends, Link]) -> Link:
     return Link(
         transaction_of(arc.start),
         transaction_of(arc.end),
@@ -148,7 +148,7 @@ def _event(node: Node) -> str:
     return node.what if isinstance(node, Event) else ""
 
 
-def _shared(explanation: Explanation) -> List[Arc]:
+def _shared(explanation: Explanation) -> list[Arc]:
     """What is forced before the cases and used in both; each after those that it follows from."""
     first, second = (case.explanation.all_arcs() for case in explanation.cases)
     in_second = {id(arc) for arc in second}

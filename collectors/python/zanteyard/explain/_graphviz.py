@@ -1,10 +1,8 @@
 """A picture of why no order explains a history: Graphviz text, and SVG if `dot` is installed."""
 
-from __future__ import annotations
-
 import shutil
 import subprocess
-from typing import Iterator, List, Optional, Tuple
+from collections.abc import Iterator
 
 from ..core._private_files import private
 from ..core._records import ABORTED, History, Naming, ShownId
@@ -26,7 +24,7 @@ def quoted(*lines: str) -> str:
 
 
 def dot_text(
-    history: History, name: Naming = name, explanation: Optional[Explanation] = None
+    history: History, name: Naming = name, explanation: Explanation | None = None
 ) -> str:
     """Each transaction with what it did, in a column for each session. If no explanation is given,
     an auditor is asked for one. An arc goes from what comes before to what comes after. The
@@ -80,7 +78,7 @@ def _arc_line(arc: Arc, name: Naming, case: str, style: str) -> str:
 
 def _reads_of_aborted(
     history: History,
-) -> Iterator[Tuple[ShownId, str, ShownId]]:
+) -> Iterator[tuple[ShownId, str, ShownId]]:
     """Reads from aborted attempts: reader, key, source."""
     txns = table(history)
     for reader, logged in txns.items():
@@ -90,8 +88,8 @@ def _reads_of_aborted(
 
 
 def draw(
-    history: History, path: str, name: Naming = name, explanation: Optional[Explanation] = None
-) -> List[str]:
+    history: History, path: str, name: Naming = name, explanation: Explanation | None = None
+) -> list[str]:
     """Writes path.dot, and path.svg if `dot` is installed and succeeds. Returns the names of the
     files. Raises OSError if they can't be written."""
     with open(f"{path}.dot", "w", encoding="utf-8", opener=private) as file:

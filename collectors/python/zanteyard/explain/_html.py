@@ -1,10 +1,8 @@
 """A page about a story: one HTML file that loads nothing from outside, and works without scripting
 and on paper."""
 
-from __future__ import annotations
-
+from collections.abc import Iterable, Sequence
 from dataclasses import replace
-from typing import Iterable, List, Sequence
 
 from ..core._records import ABORTED
 from ..core._version import VERSION
@@ -111,7 +109,7 @@ BEFORE_YOU_ACCUSE = (
 
 def page_of(story: Story, about: str, origin: str, rounds: Sequence[RoundSeen] = ()) -> str:
     """The whole page. `about` says in a few words what was audited, `origin` by which program."""
-    parts: List[str] = [_head(story, about)]
+    parts: list[str] = [_head(story, about)]
     if story.kind == "violated":
         parts += [*picture_part(story), *reasons_part(story), *_table(story.steps)]
         parts += [*_others(story), *_again(story)]

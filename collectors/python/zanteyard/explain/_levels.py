@@ -1,9 +1,7 @@
 """Which promises a finished history keeps, and which transactions break the others."""
 
-from __future__ import annotations
-
+from collections.abc import Iterator, Sequence
 from dataclasses import dataclass, field
-from typing import Dict, Iterator, List, Optional, Sequence, Tuple
 
 from ..core._records import History, Naming
 from ..core.errors import CantBeAskedError, ProgramTooOldError, ScriptMistakeError
@@ -54,14 +52,14 @@ class Levels:
 
     program: str
     lines: Sequence[bytes]
-    names: Optional[ScriptNames] = None
-    times: Optional[ScriptTimes] = None
+    names: ScriptNames | None = None
+    times: ScriptTimes | None = None
     most_nodes: int = MORE[1][0]
     seconds: float = EXPLAINED
-    _found: Dict[Promise, Level] = field(default_factory=dict)
+    _found: dict[Promise, Level] = field(default_factory=dict)
     _history: ScriptHistory = field(default_factory=ScriptHistory)
-    _small: Dict[Promise, History] = field(default_factory=dict)
-    _called: Dict[Promise, Naming] = field(default_factory=dict)  # the transactions in these
+    _small: dict[Promise, History] = field(default_factory=dict)
+    _called: dict[Promise, Naming] = field(default_factory=dict)  # the transactions in these
     _is_whole: bool = False  # nothing of it is forgotten, or was handed over
     _asked: Promise = SERIALIZABLE  # the one that is being checked
 
@@ -69,7 +67,7 @@ class Levels:
         """What it is doing, for a person who waits. Any thread may call this."""
         return f"checking {self._asked.title}"
 
-    def found(self) -> List[Level]:
+    def found(self) -> list[Level]:
         """One level for each promise. Raises ScriptMistakeError if the script is wrong, and
         ProgramEndedError."""
         self._ask(SERIALIZABLE)  # this also reads what is in the script
@@ -122,7 +120,7 @@ class Levels:
             return Level(promise, PENDING, "a read names a transaction that hasn't arrived")
         return Level(promise, UNKNOWN, "the search ran out of its budget")
 
-    def _by_few(self, promise: Promise) -> Optional[Level]:
+    def _by_few(self, promise: Promise) -> Level | None:
         """The level if a few transactions that break a stronger promise break this one, too: then
         the whole history does. None if they don't, or there are none."""
         for other in stronger(promise):
@@ -197,7 +195,7 @@ def levels_lines(levels: Sequence[Level]) -> Iterator[str]:
     for name, row in ROWS:
         cells = [answers[promise].answer if promise else "" for promise in row]
         yield (name.ljust(names) + "".join(cell.ljust(width) for cell in cells)).rstrip()
-    told: Dict[Tuple[str, str], List[Promise]] = {}
+    told: dict[tuple[str, str], list[Promise]] = {}
     for level in levels:
         if level.answer != YES:
             told.setdefault((level.answer, level.why), []).append(level.promise)

@@ -4,10 +4,9 @@ This only helps people with a line that the auditor has answered with BadLine. d
 all forms.
 """
 
-from __future__ import annotations
-
 import json
-from typing import Any, Callable, List, Mapping, NamedTuple, Optional, Sequence
+from collections.abc import Callable, Mapping, Sequence
+from typing import Any, NamedTuple
 
 from ..core._visible import visible
 
@@ -33,7 +32,7 @@ class Part(NamedTuple):
     at: int
     text: str
     value: Any
-    parts: Optional[List["Part"]]
+    parts: list["Part"] | None
 
     def unexpected(self, expected: str) -> Unexpected:
         return Unexpected(self.at + 1, expected, visible(self.text, SHOWN))
@@ -84,7 +83,7 @@ def _part(text: str, at: int, depth: int) -> Any:
 
 
 def _list(text: str, start: int, depth: int) -> Any:
-    parts: List[Part] = []
+    parts: list[Part] = []
     at = _past_space(text, start + 1)
     while not (at < len(text) and text[at] == "]" and not parts):
         part, at = _part(text, at, depth + 1)

@@ -1,8 +1,5 @@
 """Why no order explains a history: the refutation that the auditor has checked, in words."""
 
-from __future__ import annotations
-
-from typing import List
 
 from ..core._outcome import VIOLATED
 from ..core._records import History, Naming
@@ -36,6 +33,6 @@ def explain_history(
     return explanation_of(audited_apart(history, program, promise), history, name)
 
 
-def reasons(history: History, name: Naming = name, program: str = PROGRAM) -> List[str]:
+def reasons(history: History, name: Naming = name, program: str = PROGRAM) -> list[str]:
     """The lines of its explanation."""
     return [*explain_history(history, name, program).lines]

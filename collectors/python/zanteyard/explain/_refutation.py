@@ -7,9 +7,8 @@ rule out one side of a choice; the shorter of the two comes last. If there are n
 weaker one, since no more is shown than the weakest cycle.
 """
 
-from __future__ import annotations
-
-from typing import Any, Callable, Dict, List, Mapping, Sequence, Tuple
+from collections.abc import Callable, Mapping, Sequence
+from typing import Any
 
 from ..core._records import History, Naming, ShownId
 from ..promises._kinds import EVENTS
@@ -69,7 +68,7 @@ class _Reading:
 
     def part(self, above: Facts) -> Explanation:
         """Reads the items up to the end of this part of the argument."""
-        facts: Dict[Ends, Arc] = {**above}
+        facts: dict[Ends, Arc] = {**above}
         while True:
             kind, *rest = next(self.items)
             if kind == "force":
@@ -100,7 +99,7 @@ class _Reading:
         )
         return Explanation(self.words.wrong_read(reader, key, source))
 
-    def _path(self, cycle: Sequence[Any], ruled_out: Ends, facts: Facts) -> List[Arc]:
+    def _path(self, cycle: Sequence[Any], ruled_out: Ends, facts: Facts) -> list[Arc]:
         """The rest of a cycle, from the end of the arc that it rules out to its start."""
         at = next(at for at, arc in enumerate(cycle) if self._ends(arc) == ruled_out)
         rest = [*cycle[at + 1 :], *cycle[:at]]
@@ -126,7 +125,7 @@ class _Reading:
         end = self.words.none_first(around)
         return Explanation(end, tuple(around), tuple([*names, names[0]]))
 
-    def _turned(self, arcs: Sequence[Arc]) -> List[Arc]:
+    def _turned(self, arcs: Sequence[Arc]) -> list[Arc]:
         """The same cycle, starting at its first transaction and without cutting a run of one
         session."""
         first = next(at for at, arc in enumerate(arcs) if {arcs[at - 1].why, arc.why} != {SESSION})
@@ -134,7 +133,7 @@ class _Reading:
         at = min(range(len(around)), key=lambda at: _place(around[at].start))
         return [*around[at:], *around[:at]]
 
-    def _better(self, around: List[Arc], facts: Facts) -> List[Arc]:
+    def _better(self, around: list[Arc], facts: Facts) -> list[Arc]:
         """The shorter of this cycle and the one that ruled out the other side of the last forced
         arc in it."""
         order = [*facts]
@@ -144,7 +143,7 @@ class _Reading:
         at = max(forced, key=lambda at: order.index(around[at].ends))
         return min(around, self._swapped(around, at) or around, key=_length)
 
-    def _swapped(self, around: Sequence[Arc], at: int) -> List[Arc]:
+    def _swapped(self, around: Sequence[Arc], at: int) -> list[Arc]:
         """The cycle that forced the arc at this place, with the arc of the other side, which the
         rest of this cycle rules out the opposite of; empty if the two don't fit."""
         last, rest = around[at], [*around[at + 1 :], *around[:at]]
@@ -197,7 +196,7 @@ class _Reading:
             return self.words.read(self.keys[key[0]], start, end)
         return self.words.read_before_all(self.keys[key[0]], start, end)
 
-    def _read(self, parts: Sequence[Any], shape: str) -> List[Any]:
+    def _read(self, parts: Sequence[Any], shape: str) -> list[Any]:
         """The parts according to a shape: a node is two numbers, followed by a word if begins and
         commits are separate."""
         left, found = [*parts], []
@@ -216,12 +215,12 @@ class _Reading:
 KEY_OF = {"read": "key", "base": "key"}  # kinds of arcs that name a key
 
 
-def _length(around: Sequence[Arc]) -> Tuple[int, int, int]:
+def _length(around: Sequence[Arc]) -> tuple[int, int, int]:
     """How long a cycle is to explain: its own arcs, everything that it follows from, and how many
     of its arcs say which of two writers came first rather than who read what."""
     return len(around), len(below(around)), sum(arc.kind == WRITTEN for arc in around)
 
 
-def _place(node: Node) -> Tuple[ShownId, str]:
+def _place(node: Node) -> tuple[ShownId, str]:
     """The key by which a cycle's nodes are sorted."""
     return transaction_of(node), node.what if isinstance(node, Event) else ""

@@ -5,9 +5,9 @@ A story is plain data, which can be printed as lines and drawn on a page.
 
 from __future__ import annotations
 
+from collections.abc import Iterable, Iterator, Sequence
 from dataclasses import dataclass, replace
 from typing import Any, Dict, Iterable, Iterator, List, Optional
-from typing import Sequence, Tuple
 
 from ..core._circumstances import caller_of, clock_of, values_of
 from ..core._records import AuditId, History, Logged, Naming, Pending, ShownId
@@ -48,8 +48,8 @@ class Step:
     id: ShownId
     name: str
     outcome: str
-    deeds: Tuple[ShownAccess, ...]
-    sources: Tuple[ShownId, ...] = ()  # the transactions from which it read
+    deeds: tuple[ShownAccess, ...]
+    sources: tuple[ShownId, ...] = ()  # the transactions from which it read
     clock: str = ""
     caller: str = ""
 
@@ -59,18 +59,18 @@ class Story:
     """A verdict and its explanation."""
 
     kind: str
-    counts: Tuple[int, ...] = ()  # how many transactions of each session the verdict covers
-    anomaly: Optional[Anomaly] = None
-    steps: Tuple[Step, ...] = ()
+    counts: tuple[int, ...] = ()  # how many transactions of each session the verdict covers
+    anomaly: Anomaly | None = None
+    steps: tuple[Step, ...] = ()
     reasons: Reasons = Reasons()  # why no order is left
-    lines: Tuple[str, ...] = ()  # the transactions, as text
-    because: Tuple[str, ...] = ()  # the reasons, as text
+    lines: tuple[str, ...] = ()  # the transactions, as text
+    because: tuple[str, ...] = ()  # the reasons, as text
     script: str = ""  # with which the auditor alone reports the same
-    order: Tuple[str, ...] = ()  # of a serial or pending verdict
-    waiting: Tuple[str, ...] = ()  # the reads that wait for a transaction
+    order: tuple[str, ...] = ()  # of a serial or pending verdict
+    waiting: tuple[str, ...] = ()  # the reads that wait for a transaction
     promise: Promise = SERIALIZABLE  # that the verdict is about
     standing: Standing = Standing()  # what else a violation breaks, and what it doesn't
-    others: Tuple["Story", ...] = ()  # violations that are independent of this one
+    others: tuple["Story", ...] = ()  # violations that are independent of this one
     are_all_found: bool = True  # whether there are no more than these
     unnamed: int = 0  # transactions, if these were too many to look for an anomaly
 
@@ -92,7 +92,7 @@ def verdict_story(
     verdict: Verdict, history: ScriptHistory, promise: Promise = SERIALIZABLE
 ) -> Story:
     """The story of a verdict other than violated."""
-    order: Tuple[str, ...] = ()
+    order: tuple[str, ...] = ()
     if verdict.kind in ("serial", "pending"):
         order = tuple(
             " ".join([history.called(AuditId((session, number))), *event])
@@ -196,7 +196,7 @@ def _steps(history: History, names: Naming, named: Iterable[ShownId]) -> Iterato
 
 
 def _deeds(logged: Logged, names: Naming) -> Iterator[ShownAccess]:
-    statements: Dict[Any, str] = dict(logged.statements)
+    statements: dict[Any, str] = dict(logged.statements)
     values = values_of(logged)
     did_read, did_write = logged.did
     for key, source in did_read:

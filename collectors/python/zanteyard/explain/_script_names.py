@@ -2,13 +2,12 @@
 in a file next to the script, `SCRIPT.names`, which is used as long as the script is the one that it
 was made for."""
 
-from __future__ import annotations
-
 import hashlib
 import json
 import os
+from collections.abc import Mapping, Sequence
 from dataclasses import dataclass, field
-from typing import Any, Dict, List, Mapping, NamedTuple, Optional, Sequence, Tuple
+from typing import Any, NamedTuple
 
 from ..core._private_files import private
 from ..core._records import AuditId
@@ -25,7 +24,7 @@ class NamedTransaction(NamedTuple):
 
     name: str
     outcome: str
-    texts: Tuple[Tuple[Sequence[Any], str], ...] = ()
+    texts: tuple[tuple[Sequence[Any], str], ...] = ()
     where: str = ""  # what else the original file calls it
 
 
@@ -54,7 +53,7 @@ class ScriptNames:
         key = self.keys.get(number, str(number))
         return f"key {key}" if key.isdigit() else key
 
-    def transaction(self, session: int, number: int) -> Optional[NamedTransaction]:
+    def transaction(self, session: int, number: int) -> NamedTransaction | None:
         """The named transaction; None if there is none."""
         if session < len(self.transactions) and number < len(self.transactions[session]):
             return self.transactions[session][number]
@@ -63,7 +62,7 @@ class ScriptNames:
 
 def write_names(names: ScriptNames, script: str) -> str:
     """Writes the names next to the script, which has been written already; returns the path."""
-    whole: Dict[str, Any] = {
+    whole: dict[str, Any] = {
         "version": VERSION,
         "script": _sum_of(script),
         "form": names.form,
@@ -80,7 +79,7 @@ def write_names(names: ScriptNames, script: str) -> str:
     return script + NAMES
 
 
-def read_names(script: str) -> Tuple[Optional[ScriptNames], str]:
+def read_names(script: str) -> tuple[ScriptNames | None, str]:
     """The names next to the script, if there are any and they belong to it; and, if they can't be
     used, why."""
     path = script + NAMES
@@ -97,7 +96,7 @@ def read_names(script: str) -> Tuple[Optional[ScriptNames], str]:
 
 
 def _names_of(whole: Any) -> ScriptNames:
-    transactions: List[List[NamedTransaction]] = [
+    transactions: list[list[NamedTransaction]] = [
         [
             NamedTransaction(
                 str(name),

@@ -1,12 +1,11 @@
 """When a script's transactions began and ended, from a file next to the script, `SCRIPT.times`
 (docs/PROMISES.md)."""
 
-from __future__ import annotations
-
 import json
 import os
+from collections.abc import Iterable, Iterator, Mapping, Sequence
 from dataclasses import dataclass, field
-from typing import Any, Dict, Iterable, Iterator, List, Mapping, Optional, Sequence, Tuple
+from typing import Any
 
 from ..core._own_keys import LONGEST
 from ..core._private_files import private
@@ -26,7 +25,7 @@ class ScriptTimes:
     unit: str = "ns"
     spans: Mapping[AuditId, Span] = field(default_factory=dict)
 
-    def span(self, id: AuditId) -> Tuple[Any, ...]:
+    def span(self, id: AuditId) -> tuple[Any, ...]:
         """The transaction's span, as in `Logged`."""
         return (*self.spans[id], self.unit) if id in self.spans else ()
 
@@ -42,7 +41,7 @@ class ScriptTimes:
         return Timeline({id: span for id, span in self.spans.items() if kinds[id]})
 
 
-def _offered(line: Sequence[Any]) -> Iterator[Tuple[AuditId, Sequence[Any]]]:
+def _offered(line: Sequence[Any]) -> Iterator[tuple[AuditId, Sequence[Any]]]:
     if line and line[0] in ("offer", "join") and is_of_transactions(line):
         first = 0 if len(line) == 3 else line[2]
         for number, transaction in enumerate(line[-1], first):
@@ -62,10 +61,10 @@ def write_times(times: ScriptTimes, script: str) -> str:
     return script + TIMES
 
 
-def _lines_of(times: ScriptTimes) -> Iterator[List[Any]]:
+def _lines_of(times: ScriptTimes) -> Iterator[list[Any]]:
     """The lines of the file; each is for consecutive transactions of a session."""
     yield ["times", times.unit]
-    run: List[AuditId] = []
+    run: list[AuditId] = []
     for id in sorted(times.spans):
         if run and (len(run) == LONGEST or id != (run[-1][0], run[-1][1] + 1)):
             yield [*run[0], [[*times.spans[each]] for each in run]]
@@ -75,7 +74,7 @@ def _lines_of(times: ScriptTimes) -> Iterator[List[Any]]:
         yield [*run[0], [[*times.spans[each]] for each in run]]
 
 
-def read_times(script: str) -> Optional[ScriptTimes]:
+def read_times(script: str) -> ScriptTimes | None:
     """The times next to the script; None if there are none. Raises CantBeAskedError if they are
     malformed or impossible."""
     path = script + TIMES
@@ -101,9 +100,9 @@ def read_times(script: str) -> Optional[ScriptTimes]:
     return ScriptTimes(unit or "ns", spans)
 
 
-def _spans_of(session: Any, first: Any, spans: Any) -> Dict[AuditId, Span]:
+def _spans_of(session: Any, first: Any, spans: Any) -> dict[AuditId, Span]:
     """The spans in a line. Raises ValueError or TypeError if it is malformed."""
-    found: Dict[AuditId, Span] = {}
+    found: dict[AuditId, Span] = {}
     for number, (began, ended) in enumerate(spans, first):
         its = [session, number, began, *([] if ended is None else [ended])]
         if any(type(each) is not int or each < 0 for each in its):

@@ -1,15 +1,14 @@
 """Runs a saved script through the auditor, and keeps what the script offered."""
 
-from __future__ import annotations
-
 import json
 import os
 import re
 import subprocess
 import time
 from collections import Counter
+from collections.abc import Callable, Iterable, Iterator, Mapping, Sequence
 from dataclasses import dataclass, field, replace
-from typing import Any, Callable, Dict, Iterable, Iterator, List, Mapping, Optional, Sequence
+from typing import Any
 
 from ..core._own_keys import FENCE, FORM, LARGE_FORM
 from ..core._records import ABORTED, AuditId, Logged, Pending
@@ -102,9 +101,9 @@ class ScriptHistory:
     transactions `0.1`."""
 
     names: ScriptNames = field(default_factory=lambda: ScriptNames(""))
-    history: List[List[Logged]] = field(default_factory=list)
-    marks: List[int] = field(default_factory=list)  # how many of each session are forgotten
-    base: Dict[str, AuditId] = field(default_factory=dict)  # by key, the last forgotten writer
+    history: list[list[Logged]] = field(default_factory=list)
+    marks: list[int] = field(default_factory=list)  # how many of each session are forgotten
+    base: dict[str, AuditId] = field(default_factory=dict)  # by key, the last forgotten writer
     tenancy: Tenancy = field(default_factory=Tenancy)  # of sessions that several clients had
     times: ScriptTimes = field(default_factory=ScriptTimes)
 
@@ -173,7 +172,7 @@ def logged_of(
     reads: Iterable[Any],
     keys: Iterable[int],
     key_name: Callable[[int], str],
-    named: Optional[NamedTransaction] = None,
+    named: NamedTransaction | None = None,
     is_undone: bool = False,
 ) -> Logged:
     """A transaction of a script, or what an aborted attempt did, in version 2's form. A transaction
@@ -195,7 +194,7 @@ def logged_of(
     return Logged(sources, written_keys, outcome, texts, caller=where)
 
 
-def _parts_of(text: bytes) -> List[Any]:
+def _parts_of(text: bytes) -> list[Any]:
     """The parts of a line; none if the auditor has to say what is wrong with it."""
     try:
         line = json.loads(text)
@@ -211,9 +210,9 @@ class ScriptRun:
         self,
         program: str,
         most_nodes: int = MORE[1][0],
-        names: Optional[ScriptNames] = None,
-        promise: Optional[Promise] = None,
-        times: Optional[ScriptTimes] = None,
+        names: ScriptNames | None = None,
+        promise: Promise | None = None,
+        times: ScriptTimes | None = None,
     ) -> None:
         """`most_nodes` is the largest budget with which a spent round is repeated. `names` are
         those of the script's transactions and keys, and `times` say when the transactions began and
@@ -231,11 +230,11 @@ class ScriptRun:
         self._asking = Asking(promise)
         self._given = b""  # the last line that the auditor was given
         self.verdict: Verdict | None = None  # the latest one
-        self.no_cut_lines: List[int] = []  # lines of `truncate` that found nothing to forget
+        self.no_cut_lines: list[int] = []  # lines of `truncate` that found nothing to forget
         self.is_resumed = False  # it began with an earlier run's state
         self._is_open = False
         self._round_is_open = False
-        self._search: List[Any] = []  # the numbers of a search that isn't collected yet
+        self._search: list[Any] = []  # the numbers of a search that isn't collected yet
         self._has_more = False  # something was accepted since the last verdict
         self._offered, self._is_searching = 0, False  # for `doing`
         self.path = program
@@ -284,7 +283,7 @@ class ScriptRun:
         """Ends a round by a command that the script doesn't have."""
         yield from self._taken([*command], self._ask_for(*command), 0)
 
-    def _taken(self, command: List[Any], reply: List[Any], number: int) -> Iterator[Verdict]:
+    def _taken(self, command: list[Any], reply: list[Any], number: int) -> Iterator[Verdict]:
         """Takes in what the command has done."""
         if reply[0] == "no":  # a truncate that found nothing
             self.no_cut_lines.append(number)
@@ -327,12 +326,12 @@ class ScriptRun:
         """Whether it is a key of the script's transactions, not one that splitting them adds."""
         return key < KEYS or not self.promise.asks_itself
 
-    def _begun(self) -> List[List[int]]:
+    def _begun(self) -> list[list[int]]:
         """The transactions of which only the begin is forgotten."""
         marks = self._told(SAVE_MARKS) if self.promise.asks_itself else None
         return [*begun_in(marks)] if marks else []
 
-    def _decided(self, nodes: int, reply: List[Any], number: int) -> Verdict:
+    def _decided(self, nodes: int, reply: list[Any], number: int) -> Verdict:
         """The verdict. A round that was spent is repeated with larger budgets."""
         rounds = 1
         for more, depth, workers in MORE:
@@ -353,10 +352,10 @@ class ScriptRun:
             return replace(verdict, kind="serial")
         return verdict
 
-    def _ask_for(self, *words: Any) -> List[Any]:
+    def _ask_for(self, *words: Any) -> list[Any]:
         return self._ask(json.dumps(words).encode(), 0)
 
-    def _ask(self, text: bytes, number: int) -> List[Any]:
+    def _ask(self, text: bytes, number: int) -> list[Any]:
         """The reply. A refusal that isn't a mistake of the script is returned, too."""
         self._is_searching = SEARCHES.match(text) is not None
         for wait in (*WAITS, None):
@@ -402,7 +401,7 @@ class ScriptRun:
             return '"aborted" needs a script of version 2, which begins with ["open",..,..,2]'
         return ""
 
-    def _reply_to(self, text: bytes) -> List[Any]:
+    def _reply_to(self, text: bytes) -> list[Any]:
         """The reply to the line, or to the last one of those that are given in its place."""
         if self._is_open and self.promise == SERIALIZABLE:
             return self._told(text)
@@ -419,7 +418,7 @@ class ScriptRun:
                 break
         return reply
 
-    def _told_again(self, text: bytes) -> List[Any]:
+    def _told_again(self, text: bytes) -> list[Any]:
         """The reply to one of several lines. If memory runs out, only this line is repeated."""
         for wait in WAITS:
             reply = self._told(text)
@@ -428,7 +427,7 @@ class ScriptRun:
             time.sleep(wait)
         return self._told(text)
 
-    def _told(self, text: bytes) -> List[Any]:
+    def _told(self, text: bytes) -> list[Any]:
         self._given = text
         pipes = self._program.stdin, self._program.stdout
         assert pipes[0] is not None and pipes[1] is not None
@@ -440,7 +439,7 @@ class ScriptRun:
             raise ProgramEndedError(f"the auditor can't be reached: {error}") from error
         if not answer:
             raise ProgramEndedError(f"the auditor ended with status {self._program.wait()}")
-        reply: List[Any] = json.loads(answer)
+        reply: list[Any] = json.loads(answer)
         return reply
 
     def end(self) -> None:

@@ -5,9 +5,10 @@ from __future__ import annotations
 
 import os
 import time
+from collections.abc import Container, Iterable, Iterator, Mapping
 from concurrent.futures import ThreadPoolExecutor
 from itertools import islice
-from typing import Any, Container, Dict, Iterable, Iterator, List, Mapping, Optional, Set, Tuple
+from typing import Any
 
 from ..core._outcome import VIOLATED
 from ..core._own_keys import is_own
@@ -49,7 +50,7 @@ class Part:
     is true of the store, too: a read is left out only together with its source, and a write only if
     no remaining read needs it."""
 
-    def __init__(self, txns: Dict[ShownId, Logged], promise: Promise = SERIALIZABLE) -> None:
+    def __init__(self, txns: dict[ShownId, Logged], promise: Promise = SERIALIZABLE) -> None:
         self.txns, self.promise = txns, promise
 
     @classmethod
@@ -75,7 +76,7 @@ class Part:
         less = {id: self.less_reads(logged, kept) for id, logged in txns.items()}
         return Part(less, self.promise)
 
-    def wrong_reads(self, logged: Logged) -> Iterator[Tuple[str, ShownId]]:
+    def wrong_reads(self, logged: Logged) -> Iterator[tuple[str, ShownId]]:
         for key, source in logged.reads:
             if source in self.txns and key not in self.txns[source].writes:
                 yield key, source
@@ -85,17 +86,17 @@ class Part:
         reads = [read for read in logged.reads if read[1] == "init" or read[1] in kept]
         return logged if len(reads) == len(logged.reads) else logged._replace(reads=reads)
 
-    def report(self, program: str) -> Optional[Set[ShownId]]:
+    def report(self, program: str) -> set[ShownId] | None:
         """What the refutation of these transactions names, if they are violated by themselves; else
         None. They are renumbered without gaps."""
-        old: List[List[ShownId]] = []
-        sessions: Dict[int, int] = {}
+        old: list[list[ShownId]] = []
+        sessions: dict[int, int] = {}
         for session, number in sorted(self.txns):
             place = sessions.setdefault(session, len(sessions))
             if place == len(old):
                 old.append([])
             old[place].append(ShownId((session, number)))
-        new: Dict[Source, ShownId] = {
+        new: dict[Source, ShownId] = {
             id: ShownId((at, number)) for at, ids in enumerate(old) for number, id in enumerate(ids)
         }
         history = [[self.moved(self.txns[id], new) for id in ids] for ids in old]
@@ -117,7 +118,7 @@ class Part:
         ]
         return logged._replace(reads=reads, statements=(), tried_reads=(), tried_writes=())
 
-    def lesser(self) -> Iterator[Tuple[Any, Part]]:
+    def lesser(self) -> Iterator[tuple[Any, Part]]:
         """The same part without some transactions, the last ones first, in ever smaller groups;
         then without one read, or without one write that nobody has read. Each is preceded by what
         is left out."""
@@ -154,7 +155,7 @@ class Part:
         """The same without these gaps, in which transactions have other numbers."""
         return renumbered(self._plainly(), 1 + max(id[0] for id in self.txns))[0]
 
-    def _plainly(self) -> Dict[ShownId, Logged]:
+    def _plainly(self) -> dict[ShownId, Logged]:
         """The transactions. An aborted one has only those of its writes that somebody has read."""
         read = {(source, key) for logged in self.txns.values() for key, source in logged.reads}
         return {
@@ -189,7 +190,7 @@ def smaller(
     if ids is None:
         return history
     part = by_names(part, ids, program)
-    needed: Set[Any] = set()  # what one part needs, its smaller parts need, too
+    needed: set[Any] = set()  # what one part needs, its smaller parts need, too
     while time.monotonic() < ends:
         lesser = next_smaller(part, needed, program, ends)
         if lesser is None:
@@ -212,7 +213,7 @@ def lost_update_if_any(whole: Part, part: Part, program: str) -> Part:
 
 def _lost_updates(whole: Part) -> Iterator[Part]:
     """Pairs of transactions that read the same version of a key, and both overwrote it."""
-    first: Dict[Tuple[str, Source], ShownId] = {}
+    first: dict[tuple[str, Source], ShownId] = {}
     for id, logged in sorted(whole.txns.items()):
         for key, source in logged.reads:
             writer = whole.txns.get(source)
@@ -231,7 +232,7 @@ def _lost_updates(whole: Part) -> Iterator[Part]:
                 yield Part(txns, whole.promise)
 
 
-def by_names(part: Part, ids: Set[ShownId], program: str) -> Part:
+def by_names(part: Part, ids: set[ShownId], program: str) -> Part:
     """Keeps only what refutations name, until nothing changes."""
     while True:
         fewer = part.only(ids)
@@ -243,7 +244,7 @@ def by_names(part: Part, ids: Set[ShownId], program: str) -> Part:
         part, ids = fewer, left
 
 
-def _called(part: Part) -> Optional[str]:
+def _called(part: Part) -> str | None:
     """The name of the anomaly in the part, if it has one."""
     if len(part.txns) > NAMED:
         return None
@@ -252,8 +253,8 @@ def _called(part: Part) -> Optional[str]:
 
 
 def next_smaller(
-    part: Part, needed: Set[Any], program: str, ends: float
-) -> Optional[Tuple[Part, Set[ShownId]]]:
+    part: Part, needed: set[Any], program: str, ends: float
+) -> tuple[Part, set[ShownId]] | None:
     """A part with one thing less, and what its refutation names; None if everything is needed, or
     the time is up. A read or a write stays if leaving it out would lose the anomaly's name. Several
     auditors run in parallel, since one takes longer to start than to check few transactions. Of a
@@ -265,7 +266,7 @@ def next_smaller(
         is_of_transactions = isinstance(what, frozenset)
         return is_of_transactions or called is None or _called(candidate) == called
 
-    def report(candidate: Part) -> Optional[Set[ShownId]]:
+    def report(candidate: Part) -> set[ShownId] | None:
         return candidate.report(program)
 
     left = (

@@ -1,11 +1,9 @@
 """Which promises a violation breaks and which it leaves standing; and further violations of a
 history that are independent of the first."""
 
-from __future__ import annotations
-
 import time
+from collections.abc import Iterator, Sequence
 from dataclasses import dataclass
-from typing import Dict, Iterator, Optional, Sequence, Set
 
 from ..core._records import History, Logged, ShownId
 from ..core.errors import CantBeAskedError, ZanteyardError
@@ -65,7 +63,7 @@ def standing(
     ends = time.monotonic() + seconds
     has_times = any(logged.span for txns in small for logged in txns)
     asked = [each for each in ALL if has_times or not each.is_timed]
-    decided: Dict[Promise, bool] = {promise: False}
+    decided: dict[Promise, bool] = {promise: False}
     decided.update((each, False) for each in stronger(promise))
     late = []
     for each in asked:
@@ -87,7 +85,7 @@ def _following(promise: Promise, is_kept: bool) -> Sequence[Promise]:
     return weaker(promise) if is_kept else stronger(promise)
 
 
-def _keeps(small: History, program: str, promise: Promise) -> Optional[bool]:
+def _keeps(small: History, program: str, promise: Promise) -> bool | None:
     """Whether the promise is kept; None if that can't be checked, or isn't decided."""
     try:
         kind = audited(small, program, promise)[0].kind
@@ -126,13 +124,13 @@ class Apart:
             small = smaller(whole, self._program, rest, ids, promise)
             yield small
 
-    def _without(self, small: History) -> Optional[Part]:
+    def _without(self, small: History) -> Part | None:
         """The rest of the history without the reads of this violation's readers; None if it has no
         readers in it."""
-        readers: Set[ShownId] = {id for id, logged in table(small).items() if logged.reads}
+        readers: set[ShownId] = {id for id, logged in table(small).items() if logged.reads}
         if not readers & self._part.txns.keys():
             return None
-        txns: Dict[ShownId, Logged] = {
+        txns: dict[ShownId, Logged] = {
             id: logged._replace(reads=()) if id in readers else logged
             for id, logged in self._part.txns.items()
         }

@@ -3,11 +3,9 @@ and an arc from what comes before to what comes after. Aborted transactions, and
 are dashed. If begins and commits are separate, they are the left and right edges of a box. The
 picture loads nothing from outside."""
 
-from __future__ import annotations
-
+from collections.abc import Mapping, Sequence
 from dataclasses import dataclass
 from math import hypot
-from typing import Dict, List, Mapping, Sequence, Tuple
 
 from ..core._records import ABORTED, ShownId
 from ..core._visible import html_text
@@ -20,8 +18,8 @@ LINE, PADDING, LEFT = 18.0, 8.0, 100.0
 APART = 9.0  # half the distance between arcs that leave an edge and those that arrive there
 MOST_LETTERS = 40  # of a line in a box: they fit even in DejaVu Sans, which is wide
 ALONG = (0.5, 0.42, 0.58, 0.34, 0.66, 0.26, 0.74, 0.18, 0.82)  # fractions of a path
-Point = Tuple[float, float]
-Curve = Tuple[Point, ...]  # a Bezier curve: its ends, with one or two control points between them
+Point = tuple[float, float]
+Curve = tuple[Point, ...]  # a Bezier curve: its ends, with one or two control points between them
 
 
 @dataclass(frozen=True)
@@ -57,17 +55,17 @@ class Box:
         return x + across * share, y + down * share
 
 
-def columns_of(steps: Sequence[Step]) -> Dict[ShownId, int]:
+def columns_of(steps: Sequence[Step]) -> dict[ShownId, int]:
     """The column of each transaction: to the right of what precedes it in its session and of what
     it reads from, unless these form a cycle."""
     shown = [step.id for step in steps]
-    before: Dict[ShownId, List[ShownId]] = {id: [] for id in shown}
+    before: dict[ShownId, list[ShownId]] = {id: [] for id in shown}
     for id, following in zip(shown, shown[1:]):
         if id[0] == following[0]:
             before[following].append(id)
     for step in steps:
         before[step.id] += [source for source in step.sources if source in before]
-    columns: Dict[ShownId, int] = {}
+    columns: dict[ShownId, int] = {}
     left = list(shown)
     while left:
         ready = [id for id in left if all(other in columns for other in before[id])]
@@ -78,11 +76,11 @@ def columns_of(steps: Sequence[Step]) -> Dict[ShownId, int]:
     return columns
 
 
-def boxes_of(story: Story) -> Dict[ShownId, Box]:
+def boxes_of(story: Story) -> dict[ShownId, Box]:
     """The place of each transaction."""
     columns = columns_of(story.steps)
     lanes = sorted({step.id[0] for step in story.steps})
-    tops: Dict[int, float] = {}
+    tops: dict[int, float] = {}
     top = LANE_GAP / 2
     for lane in lanes:
         tops[lane] = top
@@ -97,7 +95,7 @@ def _height(step: Step) -> float:
     return 2 * PADDING + LINE * (1 + len(_told(step)))
 
 
-def _told(step: Step) -> List[str]:
+def _told(step: Step) -> list[str]:
     """The lines of its box."""
     lines = [deed.text for deed in step.deeds]
     if step.outcome == ABORTED:
@@ -146,7 +144,7 @@ def draw_story(story: Story, links: Sequence[Link] = (), place: int = 0) -> str:
     )
 
 
-def _reads(steps: Sequence[Step]) -> List[Link]:
+def _reads(steps: Sequence[Step]) -> list[Link]:
     """Who read from whom: drawn if there isn't a single cycle."""
     names = {step.id: step.name for step in steps}
     aborted = {step.id for step in steps if step.outcome == ABORTED}
@@ -176,7 +174,7 @@ def _ends_of_arcs(place: int) -> str:
     )
 
 
-def _lanes(story: Story, boxes: Mapping[ShownId, Box], right: float) -> List[str]:
+def _lanes(story: Story, boxes: Mapping[ShownId, Box], right: float) -> list[str]:
     lanes = []
     for lane in sorted({step.id[0] for step in story.steps}):
         in_lane = [boxes[step.id] for step in story.steps if step.id[0] == lane]
@@ -287,9 +285,9 @@ def _between_edges(link: Link, start: Box, end: Box) -> Curve:
     return first, (first[0] + out, first[1]), (last[0] + back, last[1]), last
 
 
-def _side_by_side(curves: Sequence[Curve]) -> List[Curve]:
+def _side_by_side(curves: Sequence[Curve]) -> list[Curve]:
     """The same curves, shifted so that those between the same columns don't lie on one another."""
-    gaps: Dict[int, List[int]] = {}
+    gaps: dict[int, list[int]] = {}
     for at, curve in enumerate(curves):
         if len(curve) == 4 and abs(curve[0][1] - curve[3][1]) > 2 * APART:
             gaps.setdefault(round((curve[0][0] + curve[3][0]) / 20), []).append(at)
@@ -304,10 +302,10 @@ def _side_by_side(curves: Sequence[Curve]) -> List[Curve]:
     return found
 
 
-def _places_of_numbers(curves: Sequence[Curve], boxes: Sequence[Box]) -> List[Point]:
+def _places_of_numbers(curves: Sequence[Curve], boxes: Sequence[Box]) -> list[Point]:
     """The place of each curve's number: its middle, or the nearest place to it that is away from
     the previous numbers and outside of boxes."""
-    taken: List[Point] = []
+    taken: list[Point] = []
     for curve in curves:
         places = [_on_curve(curve, at) for at in ALONG]
         clear = [

@@ -1,9 +1,7 @@
 """Describes a violation for people."""
 
-from __future__ import annotations
-
 import time
-from typing import Callable, Iterable, Tuple
+from collections.abc import Callable, Iterable
 
 from ..core._circumstances import circumstances
 from ..core._private_files import private
@@ -46,7 +44,7 @@ def tell_story(
     program: str = PROGRAM,
     known: Iterable[ShownId] = (),
     promise: Promise = SERIALIZABLE,
-) -> Tuple[History, Story]:
+) -> tuple[History, Story]:
     """The same, and also returns the story, for a page."""
 
     def told(*lines: str) -> None:

@@ -1,15 +1,14 @@
 """Describes the transactions of a history."""
 
-from __future__ import annotations
-
-from typing import Any, Dict, Iterator, List, Tuple
+from collections.abc import Iterator
+from typing import Any
 
 from ..core._records import History, Logged, Naming, ShownId, Source
 
 TOLD, FROM = 300, 150  # characters of a statement, at most, and of its end, which has its place
 
 
-def name(id: Tuple[int, int]) -> str:
+def name(id: tuple[int, int]) -> str:
     """The name of a transaction that has no other one, in any numbering."""
     return f"{id[0]}.{id[1]}"
 
@@ -26,7 +25,7 @@ def told_undone(reader: ShownId, key: str, source: ShownId, name: Naming) -> str
     return f"of {key}, {name(reader)} read what {name(source)} wrote, which had aborted"
 
 
-def deeds(logged: Logged, name: Naming) -> List[str]:
+def deeds(logged: Logged, name: Naming) -> list[str]:
     """What a transaction did."""
     did_read, did_write = logged.did
     parts = [f"read {key} {version(key, source, name)}" for key, source in did_read]
@@ -36,8 +35,8 @@ def deeds(logged: Logged, name: Naming) -> List[str]:
 
 def statements_of(logged: Logged) -> Iterator[str]:
     """Lines with the statements that the transaction ran, as far as they are known."""
-    left: Dict[Any, str] = dict(logged.statements)
-    deeds_by_statement: Dict[str, List[str]] = {}
+    left: dict[Any, str] = dict(logged.statements)
+    deeds_by_statement: dict[str, list[str]] = {}
     did_read, did_write = logged.did
     for deed in (*did_read, *((key,) for key in did_write)):
         if deed in left:

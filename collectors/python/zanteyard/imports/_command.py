@@ -1,14 +1,13 @@
 """The command `zanteyard import`: turns a history that another tool has saved into a script."""
 
-from __future__ import annotations
-
 import argparse
 import contextlib
 import gzip
 import os
 import zlib
+from collections.abc import Callable, Collection, Mapping
 from dataclasses import dataclass
-from typing import Any, Callable, Collection, Dict, Mapping, Optional
+from typing import Any
 
 from ..core._garbage import no_collections
 from ..core._private_files import private
@@ -126,7 +125,7 @@ def run(asked: Any) -> int:
             asked.progress.doing = doing
 
     with no_collections():
-        text = _text_of(asked.file)
+        text = text_of(asked.file)
         imported = import_text(
             asked.form,
             text,
@@ -138,7 +137,7 @@ def run(asked: Any) -> int:
             tell,
         )
         tell(f"writing {asked.script}")
-        _write(imported, asked.script)
+        write(imported, asked.script)
     say(f"{asked.script}: {imported.about[0]}")
     for line in imported.about[1:]:
         say(f"  {line}")
@@ -147,7 +146,7 @@ def run(asked: Any) -> int:
     return 0
 
 
-def _write(imported: Imported, script: str) -> None:
+def write(imported: Imported, script: str) -> None:
     """Writes the script, and the files beside it."""
     with open(script, "w", encoding="utf-8", opener=private) as file:
         file.writelines(f"{line}\n" for line in imported.lines)
@@ -162,8 +161,8 @@ def _write(imported: Imported, script: str) -> None:
 def import_text(
     form: str,
     text: str,
-    first: Optional[int] = None,
-    initial: Optional[str] = None,
+    first: int | None = None,
+    initial: str | None = None,
     asks_time: bool = False,
     is_independent: bool = False,
     left_out: Collection[str] = (),
@@ -174,7 +173,7 @@ def import_text(
     chosen = FORMS[form]
     if initial is not None and not chosen.has_initial:
         raise ImportRefusedError(0, f"in {form} the initial value is always nil")
-    more: Dict[str, Any] = {} if initial is None else {"initial": initial}
+    more: dict[str, Any] = {} if initial is None else {"initial": initial}
     if is_independent or left_out:
         if not chosen.is_jepsen:
             raise ImportRefusedError(0, "--independent and --leave-out are for Jepsen's histories")
@@ -184,7 +183,7 @@ def import_text(
     return script_of(recording, first, asks_time, EVERY)
 
 
-def _text_of(path: str) -> str:
+def text_of(path: str) -> str:
     """The text of a file, which may be compressed by gzip."""
     name = os.path.basename(path)
     with open(path, "rb") as file:

@@ -5,11 +5,10 @@ and floats. So all of EDN is read, and values whose equality their text doesn't 
 were written.
 """
 
-from __future__ import annotations
-
 import re
+from collections.abc import Iterator
 from dataclasses import dataclass
-from typing import Any, Dict, Iterator, List, Tuple
+from typing import Any
 
 from ..core.errors import ImportRefusedError
 
@@ -45,7 +44,7 @@ class EdnMap:
     """A map, and the line on which it begins, from 1. Its items are in the file's order."""
 
     line: int
-    items: Tuple[Tuple[Any, Any], ...]
+    items: tuple[tuple[Any, Any], ...]
 
     def get(self, name: str) -> Any:
         """The value of this keyword; None if there is none."""
@@ -62,14 +61,14 @@ class EdnReader:
         self._at = at
         self._line, self._counted = line, at  # the line of the place up to which lines were counted
 
-    def forms(self) -> Iterator[Tuple[int, Any]]:
+    def forms(self) -> Iterator[tuple[int, Any]]:
         """The top-level forms, each with the line on which it begins."""
         while not self.is_over():
             line = self.line()
             for form in self.form():
                 yield line, form
 
-    def form(self) -> List[Any]:
+    def form(self) -> list[Any]:
         """The next form, in a list; an empty list if it was discarded by `#_`."""
         return self._form(0)
 
@@ -88,7 +87,7 @@ class EdnReader:
             self._at = match.end()
         return match is not None
 
-    def place(self) -> Tuple[int, int]:
+    def place(self) -> tuple[int, int]:
         """How far it has read, and on which line that is."""
         return self._at, self.line()
 
@@ -110,7 +109,7 @@ class EdnReader:
     def _refused(self, why: str) -> ImportRefusedError:
         return ImportRefusedError(self.line(), why)
 
-    def _form(self, depth: int) -> List[Any]:
+    def _form(self, depth: int) -> list[Any]:
         """The next form, in a list; an empty list if `#_` discards it."""
         if depth > DEEPEST:
             raise self._refused(f"forms are nested more than {DEEPEST} deep")
@@ -148,7 +147,7 @@ class EdnReader:
             lambda escape: chr(int(escape[1], 16)) if escape[1] else ESCAPED[escape[2]], match[1]
         )
 
-    def _dispatched(self, depth: int) -> List[Any]:
+    def _dispatched(self, depth: int) -> list[Any]:
         """A form that begins with `#`: a set, something discarded, or a tag and its value. A tagged
         map counts as the map."""
         start = self._at
@@ -164,15 +163,15 @@ class EdnReader:
         tag = self._taken(TOKEN, "a tag")
         if not tag[0].isalpha():
             raise self._refused(f"#{tag} isn't a tag")
-        forms: List[Any] = []
+        forms: list[Any] = []
         while not forms:
             forms = self._form(depth + 1)
         return forms if isinstance(forms[0], EdnMap) else [Opaque(self._text[start : self._at])]
 
-    def _many(self, opening: str, depth: int) -> List[Any]:
+    def _many(self, opening: str, depth: int) -> list[Any]:
         line = self.line()
         self._at += 1
-        forms: List[Any] = []
+        forms: list[Any] = []
         while True:
             if self.is_over():
                 raise ImportRefusedError(line, f"the {opening} here isn't closed")
@@ -188,7 +187,7 @@ class EdnReader:
             return tuple(forms)
         if len(forms) % 2:
             raise ImportRefusedError(line, "a map has a key without a value")
-        items: Dict[Any, Any] = {}
+        items: dict[Any, Any] = {}
         for key, value in zip(forms[::2], forms[1::2]):
             if key in items:
                 raise ImportRefusedError(line, "a map has a key twice")

@@ -6,10 +6,8 @@ reads any EDN. A line that doesn't fit exactly is left to `EdnReader`, so that b
 result.
 """
 
-from __future__ import annotations
-
 import re
-from typing import Dict, Iterator, List, Match, Optional, Pattern, Sequence, Tuple, Union
+from collections.abc import Iterator, Sequence
 
 from ..core.errors import ImportRefusedError
 from ._edn import CLOSING, EdnMap, EdnReader, Keyword
@@ -34,7 +32,7 @@ NEEDED = {"type", "f", "process", "value"}
 MOST_SHAPES = 8
 
 
-def shape_of(operation_map: EdnMap, is_independent: bool) -> Optional[Pattern[str]]:
+def shape_of(operation_map: EdnMap, is_independent: bool) -> re.Pattern[str] | None:
     """A pattern for lines with the keys of this map, in their order; None if the map lacks a key
     that matters. Its groups are GROUPS. `index`, `time` and `part` are empty if the map doesn't
     have them, and `value` is `[[:..]]` with anything between its brackets."""
@@ -62,10 +60,10 @@ class EdnLines:
         self._text = text
         self._is_independent = is_independent
         self._at, self._line = 0, 1
-        self._shapes: List[Pattern[str]] = []  # the one that matched last comes first
-        self._opened: List[Tuple[int, str]] = []  # the vectors being read: line, and end
+        self._shapes: list[re.Pattern[str]] = []  # the one that matched last comes first
+        self._opened: list[tuple[int, str]] = []  # the vectors being read: line, and end
 
-    def maps(self) -> Iterator[Tuple[int, Union[Match[str], EdnMap]]]:
+    def maps(self) -> Iterator[tuple[int, re.Match[str] | EdnMap]]:
         """All maps, in order: a client's operation on transactions on a plain line as the match of
         its shape, any other map as EdnReader returns it."""
         while self._at < len(self._text):
@@ -82,7 +80,7 @@ class EdnLines:
         if self._opened:
             raise ImportRefusedError(self._opened[0][0], "the vector here isn't closed")
 
-    def _slowly(self) -> Iterator[Tuple[int, EdnMap]]:
+    def _slowly(self) -> Iterator[tuple[int, EdnMap]]:
         """Reads forms up to one that ends its line, or to the end."""
         reader = EdnReader(self._text, self._at, self._line)
         while not reader.is_over():
@@ -127,12 +125,12 @@ class PlainMicros:
         )
         asked = rf"\[:(?:r {SCALAR} nil|{write} {SCALAR} {SCALAR})\]"
         self._asked = re.compile(rf"\[{asked}(?: {asked})*\]")
-        self._longest: Dict[str, Tuple[str, Tuple[str, ...]]] = {}  # by key, the longest list
+        self._longest: dict[str, tuple[str, tuple[str, ...]]] = {}  # by key, the longest list
 
-    def of(self, value: str) -> Optional[List[Access]]:
+    def of(self, value: str) -> list[Access] | None:
         """The contents of a plain line's value; None unless they are certain."""
-        accesses: List[Access] = []
-        texts: List[str] = []
+        accesses: list[Access] = []
+        texts: list[str] = []
         for text, key, found, written_key, written in self._pattern.findall(value):
             if written:
                 accesses.append(Access(self._write, written_key, written, text))
@@ -152,7 +150,7 @@ class PlainMicros:
         """Whether it is certain that `of` can read the value, and that its reads found nothing."""
         return self._asked.fullmatch(value) is not None
 
-    def _elements(self, key: str, text: str) -> Optional[Tuple[str, ...]]:
+    def _elements(self, key: str, text: str) -> tuple[str, ...] | None:
         """The elements of a list of that key. Most lists are a prefix of the longest one, or extend
         it."""
         if not text:

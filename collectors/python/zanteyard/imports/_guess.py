@@ -1,10 +1,7 @@
 """Guesses the form of a history file that was given in place of a script."""
 
-from __future__ import annotations
-
 import re
 import zlib
-from typing import Optional
 
 from ._command import GZIP
 from ._sessions import HEADER, POLYSI_LINE
@@ -12,7 +9,7 @@ from ._sessions import HEADER, POLYSI_LINE
 FIRST = 1 << 16  # bytes that are examined
 
 
-def history_form(front: bytes) -> Optional[str]:
+def history_form(front: bytes) -> str | None:
     """The FORM of `zanteyard import` that a file with this beginning seems to have; "FORM" if it
     has one of them and it is unclear which; None if it may be a script."""
     if front.startswith(GZIP):

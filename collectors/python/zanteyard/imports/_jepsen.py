@@ -1,21 +1,10 @@
 """Histories of Jepsen, as EDN or JSON: operations that were invoked and completed, each a list of
 micro-operations on registers or on lists."""
 
-from __future__ import annotations
-
 import re
+from collections.abc import Collection, Iterator, Sequence
 from dataclasses import replace
-from typing import (
-    Any,
-    Collection,
-    Dict,
-    Iterator,
-    List,
-    NamedTuple,
-    Optional,
-    Sequence,
-    Tuple,
-)
+from typing import Any, NamedTuple
 
 from ..core.errors import ImportRefusedError
 from ._edn import EdnMap, EdnReader, Keyword
@@ -48,8 +37,8 @@ class Operation(NamedTuple):
     line: int
     type: str
     process: str
-    given_index: Optional[int]  # `index` is a method of tuples
-    time: Optional[int]
+    given_index: int | None  # `index` is a method of tuples
+    time: int | None
     part: str  # of the store, if the history is of independent ones
     micros: Sequence[Access]  # a read that found nothing has no value, also of a list
     unread: str = ""  # in place of `micros`: a plain line's value, whose reads found nothing
@@ -76,7 +65,7 @@ def _is_json(text: str) -> bool:
     return text.lstrip()[:1] in ("[", "{") and text.lstrip("[{ \t\r\n")[:1] == '"'
 
 
-def _word(value: Any) -> Optional[str]:
+def _word(value: Any) -> str | None:
     return value.name if isinstance(value, Keyword) else value if isinstance(value, str) else None
 
 
@@ -120,7 +109,7 @@ class _Operations:
             if operation is not None:
                 yield operation
 
-    def _maps(self) -> Iterator[Tuple[int, Any]]:
+    def _maps(self) -> Iterator[tuple[int, Any]]:
         """Each operation's line and map."""
         if not self._is_json:
             yield from EdnLines(self._text, self._is_independent).maps()
@@ -130,7 +119,7 @@ class _Operations:
                 raise ImportRefusedError(line, "an operation must be an object")
             yield line, value
 
-    def _operation(self, line: int, found: Any) -> Optional[Operation]:
+    def _operation(self, line: int, found: Any) -> Operation | None:
         """The operation in a map; None for one of the nemesis."""
         process = found.get("process")
         if _word(process) == "nemesis":
@@ -194,13 +183,13 @@ class _Operations:
         return f"[{between.join((first, key, shown))}]"
 
 
-def _whole(value: Any, name: str, line: int) -> Optional[int]:
+def _whole(value: Any, name: str, line: int) -> int | None:
     if value is None or (isinstance(value, int) and not isinstance(value, bool)):
         return value
     raise ImportRefusedError(line, f"the {name} must be a whole number")
 
 
-def _elements(value: Any, line: int) -> Optional[Tuple[str, ...]]:
+def _elements(value: Any, line: int) -> tuple[str, ...] | None:
     if value is None:
         return None
     if not isinstance(value, (tuple, list)):
@@ -214,14 +203,14 @@ class _Pairs:
 
     def __init__(self, plain: PlainMicros) -> None:
         self._plain = plain
-        self._attempts: List[Attempt] = []  # without names
-        self._open: Dict[str, Tuple[int, Operation, int]] = {}  # of each process
+        self._attempts: list[Attempt] = []  # without names
+        self._open: dict[str, tuple[int, Operation, int]] = {}  # of each process
         self._unused = 0
 
     def recording(self, operations: Iterator[Operation], form: str) -> Recording:
         """Raises ImportRefusedError."""
         last_line, goes_back = 0, 0
-        latest: Optional[int] = None
+        latest: int | None = None
         for place, operation in enumerate(operations, 1):
             last_line = max(last_line, operation.line)
             if operation.time is not None:

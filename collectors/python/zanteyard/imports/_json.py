@@ -1,17 +1,16 @@
 """A strict reader of JSON, which keeps the line of each element of an array."""
 
-from __future__ import annotations
-
 import json
 import re
-from typing import Any, Dict, Iterator, List, NoReturn, Tuple
+from collections.abc import Iterator
+from typing import Any, NoReturn
 
 from ..core.errors import ImportRefusedError
 
 SPACE = re.compile(r"[ \t\r\n]*")
 
 
-def _object(pairs: List[Tuple[str, Any]]) -> Dict[str, Any]:
+def _object(pairs: list[tuple[str, Any]]) -> dict[str, Any]:
     whole = dict(pairs)
     if len(whole) != len(pairs):
         raise ValueError("an object has the same name twice")
@@ -34,7 +33,7 @@ class JsonReader:
         self._at = 0
         self._line, self._counted = 1, 0
 
-    def elements(self) -> Iterator[Tuple[int, Any]]:
+    def elements(self) -> Iterator[tuple[int, Any]]:
         """The elements of the text's array; or, if it is none, its values, one after another."""
         self._skip()
         if not self._text.startswith("[", self._at):
@@ -57,7 +56,7 @@ class JsonReader:
         """Whether the end of the text is reached."""
         return self._at >= len(self._text)
 
-    def value(self) -> Tuple[int, Any]:
+    def value(self) -> tuple[int, Any]:
         """The next value."""
         self._skip()
         line = self._line_here()

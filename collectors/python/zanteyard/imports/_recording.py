@@ -1,11 +1,9 @@
 """What clients did according to another tool's file: by value, before it is known which transaction
 each read came from."""
 
-from __future__ import annotations
-
 import json
 from dataclasses import dataclass
-from typing import Any, NamedTuple, Optional, Tuple, Union
+from typing import Any, NamedTuple
 
 from ..core.errors import ImportRefusedError
 from ._edn import Keyword
@@ -15,7 +13,7 @@ READ, WRITE, APPEND, READ_LIST = "read", "write", "append", "read-list"
 READS = (READ, READ_LIST)
 NEVER = 1 << 62  # the place of an end that isn't in the file
 
-Value = Union[None, str, Tuple[str, ...]]
+Value = str | tuple[str, ...] | None
 
 
 class Access(NamedTuple):
@@ -36,13 +34,13 @@ class Attempt(NamedTuple):
     name: str
     client: str
     outcome: str  # COMMITTED, ABORTED or UNKNOWN
-    accesses: Tuple[Access, ...]
+    accesses: tuple[Access, ...]
     line: int
     where: str = ""  # the rest of its name in the file
     began: int = 0
     ended: int = 0
-    began_at: Optional[int] = None  # by the file's clock, in nanoseconds
-    ended_at: Optional[int] = None
+    began_at: int | None = None  # by the file's clock, in nanoseconds
+    ended_at: int | None = None
 
 
 @dataclass(frozen=True)
@@ -51,10 +49,10 @@ class Recording:
     `unused` counts the reads of attempts that didn't commit for certain."""
 
     form: str
-    attempts: Tuple[Attempt, ...]
+    attempts: tuple[Attempt, ...]
     has_times: bool = False
     unused: int = 0
-    left_out: Tuple[Tuple[str, int], ...] = ()  # functions that were skipped, each with a count
+    left_out: tuple[tuple[str, int], ...] = ()  # functions that were skipped, each with a count
     time_goes_back: int = 0  # the line at which it does; 0 if it never does
 
 
@@ -75,6 +73,6 @@ def token(value: Any, line: int, what: str) -> str:
     raise ImportRefusedError(line, f"{what} must be a whole number, a string or a keyword")
 
 
-def optional_token(value: Any, line: int, what: str) -> Optional[str]:
+def optional_token(value: Any, line: int, what: str) -> str | None:
     """The same; None for None."""
     return None if value is None else token(value, line, what)

@@ -1,10 +1,9 @@
 """Turns a recording whose sources are known into a script: which transactions are offered, in which
 sessions, with which numbers, and their names."""
 
-from __future__ import annotations
-
 import json
-from typing import Any, Dict, Iterator, List, Optional, Set, Tuple
+from collections.abc import Iterator
+from typing import Any
 
 from ..core._own_keys import FORM, LARGE_FORM
 from ..core._records import AuditId
@@ -33,7 +32,7 @@ ROUND = ["round", 4096, 0, 1, "guided"]
 
 
 def script_of(
-    recording: Recording, first: Optional[int] = None, asks_time: bool = False, every: int = EVERY
+    recording: Recording, first: int | None = None, asks_time: bool = False, every: int = EVERY
 ) -> Imported:
     """The script of the whole recording, or of its first `first` attempts, and its times. With
     `asks_time` it will be checked for real-time order: then clients may share a session by time,
@@ -47,7 +46,7 @@ def script_of(
 
 class _ScriptMaker:
     def __init__(
-        self, recording: Recording, first: Optional[int], asks_time: bool, every: int
+        self, recording: Recording, first: int | None, asks_time: bool, every: int
     ) -> None:
         self._recording = recording
         self._attempts = recording.attempts
@@ -56,19 +55,19 @@ class _ScriptMaker:
         self._kept = self._front(first) if first is not None else set(range(len(self._attempts)))
         self._times = Times(self._attempts, self._of) if asks_time else None  # of the whole file
         self._every = every
-        self._pauses: List[int] = []  # the ones that are used
-        self._keys: Dict[str, int] = {}
-        self._absent: Dict[object, AuditId] = {}
-        self._absent_names: Dict[AuditId, str] = {}
+        self._pauses: list[int] = []  # the ones that are used
+        self._keys: dict[str, int] = {}
+        self._absent: dict[object, AuditId] = {}
+        self._absent_names: dict[AuditId, str] = {}
         self._plan = Plan()
-        self._places: Dict[Item, AuditId] = {}
+        self._places: dict[Item, AuditId] = {}
 
-    def _front(self, first: int) -> Set[int]:
+    def _front(self, first: int) -> set[int]:
         """The first attempts, in the order of their begins, or of their places in the file."""
         order = sorted(range(len(self._attempts)), key=self._begin_of)
         return set(order[:first])
 
-    def _begin_of(self, at: int) -> Tuple[int, int]:
+    def _begin_of(self, at: int) -> tuple[int, int]:
         return self._attempts[at].began, at
 
     def imported(self) -> Imported:
@@ -99,13 +98,13 @@ class _ScriptMaker:
         texts = tuple(map(encode, lines))
         return Imported(texts, names, tuple(self._about()), self._script_times())
 
-    def _script_times(self) -> Optional[ScriptTimes]:
+    def _script_times(self) -> ScriptTimes | None:
         if not self._recording.has_times or self._recording.time_goes_back:
             return None
         ids = {item: id for item, id in self._places.items() if isinstance(item, int)}
         return times_of(self._recording, ids)
 
-    def _lines(self, offered: List[List[Any]]) -> Iterator[List[Any]]:
+    def _lines(self, offered: list[list[Any]]) -> Iterator[list[Any]]:
         """The lines of the script, of the lowest version that has room for them. If not everything
         fits, there is a round at each pause, after which what is settled is forgotten; otherwise
         one round at the end."""
@@ -188,9 +187,9 @@ class _ScriptMaker:
             for session, session_parts in enumerate(parts):
                 self._plan.sessions[session] += session_parts[pause]
 
-    def _parts_of(self, items: List[Item]) -> List[List[Item]]:
+    def _parts_of(self, items: list[Item]) -> list[list[Item]]:
         """A session's items between the pauses."""
-        parts: List[List[Item]] = [[] for _ in range(len(self._pauses) + 1)]
+        parts: list[list[Item]] = [[] for _ in range(len(self._pauses) + 1)]
         for item in items:
             at = item.owner if isinstance(item, Stub) else item
             assert isinstance(at, int)
@@ -219,7 +218,7 @@ class _ScriptMaker:
             )
         return plan
 
-    def _place(self, items: List[Item], plan: Plan, before: Set[Item]) -> None:
+    def _place(self, items: list[Item], plan: Plan, before: set[Item]) -> None:
         """Puts a client's items into the session of one that comes before it; `before` is what
         comes before the items in every order."""
         for number, session in enumerate(plan.sessions):
@@ -232,7 +231,7 @@ class _ScriptMaker:
                 return
         plan.sessions.append(items[:])
 
-    def _is_before_in_time(self, session: List[Item], items: List[Item]) -> bool:
+    def _is_before_in_time(self, session: list[Item], items: list[Item]) -> bool:
         """Whether everything in the session had ended when the first of these items began."""
         if self._times is None:
             return False
@@ -242,12 +241,12 @@ class _ScriptMaker:
             return True
         return max(last) < min(first)
 
-    def _items_of_clients(self) -> Dict[str, List[Item]]:
+    def _items_of_clients(self) -> dict[str, list[Item]]:
         """By client, what is offered, in order. Raises ImportRefusedError if a client goes on after
         an attempt whose outcome is unknown and which took effect."""
         stubs = self._stubs()
-        items_of: Dict[str, List[Item]] = {}
-        unknown: Dict[str, int] = {}
+        items_of: dict[str, list[Item]] = {}
+        unknown: dict[str, int] = {}
         for at, attempt in enumerate(self._attempts):
             if at not in self._kept:
                 continue
@@ -268,9 +267,9 @@ class _ScriptMaker:
             items.append(at)
         return items_of
 
-    def _stubs(self) -> Dict[int, List[Stub]]:
+    def _stubs(self) -> dict[int, list[Stub]]:
         """The sources of reads that can't be real, by owner."""
-        stubs_of: Dict[int, List[Stub]] = {}
+        stubs_of: dict[int, list[Stub]] = {}
         for at in self._of:
             if at in self._kept:
                 for _, origin in self._of[at].reads:
@@ -280,10 +279,10 @@ class _ScriptMaker:
                             stubs.append(origin)
         return stubs_of
 
-    def _known_before(self) -> Dict[Item, List[Item]]:
+    def _known_before(self) -> dict[Item, list[Item]]:
         """What comes before each transaction in every order: its predecessor in the client's order,
         and those from which it has read."""
-        before: Dict[Item, List[Item]] = {}
+        before: dict[Item, list[Item]] = {}
         for items in self._items_of_clients().values():
             for first, following in zip(items, items[1:]):
                 before.setdefault(following, []).append(first)
@@ -294,7 +293,7 @@ class _ScriptMaker:
                         before.setdefault(at, []).append(origin)
         return before
 
-    def _offered(self, item: Item) -> Tuple[List[Any], NamedTransaction]:
+    def _offered(self, item: Item) -> tuple[list[Any], NamedTransaction]:
         """A transaction as in a line, and its name."""
         if isinstance(item, Stub):
             return self._stub(item)
@@ -320,7 +319,7 @@ class _ScriptMaker:
             attempt.name, attempt.outcome, tuple(texts), attempt.where
         )
 
-    def _stub(self, stub: Stub) -> Tuple[List[Any], NamedTransaction]:
+    def _stub(self, stub: Stub) -> tuple[list[Any], NamedTransaction]:
         """A stub as in a line, with the keys that it wrote if it is an aborted attempt."""
         named = named_stub(stub, self._attempts)
         written = written_by(self._attempts[stub.owner]) if stub.kind == ABORTED else {}
@@ -330,7 +329,7 @@ class _ScriptMaker:
         named = named._replace(texts=tuple(([key], text) for key, text in texts))
         return [[], [key for key, _ in texts], ABORTED], named
 
-    def _fence(self, fence: Fence) -> List[Any]:
+    def _fence(self, fence: Fence) -> list[Any]:
         """A fence as in a line. It reads from the previous fence, whichever session that is in."""
         row = [fence for fences in self._plan.fences for fence in fences]
         at = row.index(fence)
@@ -340,7 +339,7 @@ class _ScriptMaker:
     def _key(self, key: str) -> int:
         return self._keys.setdefault(key, len(self._keys) + 1)
 
-    def _source(self, origin: Origin) -> Tuple[Any, ...]:
+    def _source(self, origin: Origin) -> tuple[Any, ...]:
         """A source as in a read."""
         if origin is None:
             return ("init",)
@@ -364,7 +363,7 @@ class _ScriptMaker:
         self._absent_names[id] = name
         return id
 
-    def _rest(self) -> Tuple[List[Any], NamedTransaction]:
+    def _rest(self) -> tuple[list[Any], NamedTransaction]:
         """A transaction that keeps the verdict pending because of what wasn't imported."""
         source = self._never_offered(REST, "the rest of the file")
         read = [self._key(REST), *source]

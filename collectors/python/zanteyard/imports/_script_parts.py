@@ -1,9 +1,8 @@
 """The parts of a recording's script: items in sessions, fences, lines, and names."""
 
-from __future__ import annotations
-
+from collections.abc import Iterator, Sequence
 from dataclasses import dataclass, field
-from typing import Any, Dict, Iterator, List, Optional, Sequence, Set, Tuple, Union
+from typing import Any
 
 from ..core._records import AuditId
 from ..explain._script_names import NamedTransaction, ScriptNames
@@ -27,29 +26,29 @@ class Fence:
         return f"{'before' if self.is_first else 'after'} pause {self.pause} in {self.session}"
 
 
-Item = Union[int, Stub, Fence]  # an attempt's place, a stub, or a fence
+Item = int | Stub | Fence  # an attempt's place, a stub, or a fence
 
 
 @dataclass(frozen=True)
 class Imported:
     """A script, its names, and sentences about what was done."""
 
-    lines: Tuple[str, ...]
+    lines: tuple[str, ...]
     names: ScriptNames
-    about: Tuple[str, ...]
-    times: Optional[ScriptTimes] = None  # if the file says when its transactions ran
+    about: tuple[str, ...]
+    times: ScriptTimes | None = None  # if the file says when its transactions ran
 
 
 @dataclass
 class Plan:
     """What is offered: the items of each session, in order."""
 
-    sessions: List[List[Item]] = field(default_factory=list)
+    sessions: list[list[Item]] = field(default_factory=list)
     shared: int = 0  # clients that go on in another one's session
-    by_time: Set[int] = field(default_factory=set)  # sessions that are shared by time
-    fences: List[List[Fence]] = field(default_factory=list)  # of each pause, in order
+    by_time: set[int] = field(default_factory=set)  # sessions that are shared by time
+    fences: list[list[Fence]] = field(default_factory=list)  # of each pause, in order
 
-    def places(self) -> Dict[Item, AuditId]:
+    def places(self) -> dict[Item, AuditId]:
         """The session and number of each item."""
         return {
             item: AuditId((session, number))
@@ -58,14 +57,14 @@ class Plan:
         }
 
 
-def ascending(named_read: Tuple[Sequence[Any], str]) -> Tuple[int, ...]:
+def ascending(named_read: tuple[Sequence[Any], str]) -> tuple[int, ...]:
     key, *source = named_read[0]
     return (key, -1, -1) if source[0] == "init" else (key, *source)
 
 
-def all_before(before: Dict[Item, List[Item]], end: Item) -> Set[Item]:
+def all_before(before: dict[Item, list[Item]], end: Item) -> set[Item]:
     """Everything from which a path leads to `end`, including `end`."""
-    seen: Set[Item] = {end}
+    seen: set[Item] = {end}
     waiting = [end]
     while waiting:
         for item in before.get(waiting.pop(), ()):
@@ -75,22 +74,22 @@ def all_before(before: Dict[Item, List[Item]], end: Item) -> Set[Item]:
     return seen
 
 
-def offers(session: int, first: int, transactions: List[Any]) -> Iterator[List[Any]]:
+def offers(session: int, first: int, transactions: list[Any]) -> Iterator[list[Any]]:
     """The lines that offer a session's transactions from this number on."""
     for start in range(first, len(transactions), LONGEST):
         yield ["offer", session, start, transactions[start : start + LONGEST]]
 
 
-def written_by(attempt: Attempt) -> Dict[str, str]:
+def written_by(attempt: Attempt) -> dict[str, str]:
     """For each key that it wrote, the file's text of the writes."""
-    texts_of: Dict[str, List[str]] = {}
+    texts_of: dict[str, list[str]] = {}
     for access in attempt.accesses:
         if access.kind in (WRITE, APPEND):
             texts_of.setdefault(access.key, []).append(access.text)
     return {key: " ".join(texts) for key, texts in texts_of.items()}
 
 
-def named_stub(stub: Stub, attempts: Tuple[Attempt, ...]) -> NamedTransaction:
+def named_stub(stub: Stub, attempts: tuple[Attempt, ...]) -> NamedTransaction:
     owner = attempts[stub.owner]
     if stub.kind == ABORTED:
         return NamedTransaction(owner.name, ABORTED, (), owner.where)

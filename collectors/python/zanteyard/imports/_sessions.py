@@ -1,13 +1,12 @@
 """Histories that are sessions of transactions of reads and writes by value: dbcop's as JSON,
 PolySI's as text, and plain CSV."""
 
-from __future__ import annotations
-
 import csv
 import io
 import re
+from collections.abc import Iterator, Sequence
 from dataclasses import dataclass, field
-from typing import Any, Dict, Iterator, List, Optional, Sequence, Tuple
+from typing import Any
 
 from ..core.errors import ImportRefusedError
 from ._json import JsonReader
@@ -33,7 +32,7 @@ NO_INITIAL = "this write writes the initial value of keys (--initial names anoth
 
 
 def access_of(
-    kind: str, key: str, value: Optional[str], text: str, initial: str, line: int
+    kind: str, key: str, value: str | None, text: str, initial: str, line: int
 ) -> Access:
     """A read or write. A read of the initial value, which may not be written, has no value."""
     if kind == WRITE and (value is None or value == initial):
@@ -49,7 +48,7 @@ class _RecordedTransaction:
     number: str
     line: int
     outcome: str = COMMITTED
-    accesses: List[Access] = field(default_factory=list)
+    accesses: list[Access] = field(default_factory=list)
     has_ended: bool = False
 
 
@@ -57,8 +56,8 @@ class _RecordedTransactions:
     """Puts the lines of transactions together. A session has one transaction at a time."""
 
     def __init__(self) -> None:
-        self._all: List[_RecordedTransaction] = []
-        self._last: Dict[str, _RecordedTransaction] = {}  # by session
+        self._all: list[_RecordedTransaction] = []
+        self._last: dict[str, _RecordedTransaction] = {}  # by session
 
     def at(self, session: str, number: str, line: int) -> _RecordedTransaction:
         """The transaction of a line; a new one if it isn't the session's last."""
@@ -71,7 +70,7 @@ class _RecordedTransactions:
             raise ImportRefusedError(line, "this transaction ended earlier in the file")
         return last
 
-    def last_number(self, session: str) -> Optional[str]:
+    def last_number(self, session: str) -> str | None:
         """The number of the session's last transaction; None if it has none."""
         return self._last[session].number if session in self._last else None
 
@@ -80,7 +79,7 @@ class _RecordedTransactions:
         if not self._all:
             raise ImportRefusedError(max(1, last_line), "the file has no transaction")
         unused = 0
-        attempts: List[Attempt] = []
+        attempts: list[Attempt] = []
         for recorded in self._all:
             accesses = recorded.accesses
             if recorded.outcome != COMMITTED:
@@ -150,7 +149,7 @@ def read_polysi(text: str, initial: str = "0") -> Recording:
     """Reads lines `r(key,value,session,transaction)` and `w(..)`, all whole numbers. A session's
     lines are in its order. Raises ImportRefusedError."""
     transactions = _RecordedTransactions()
-    sessions: Dict[str, str] = {}  # by transaction
+    sessions: dict[str, str] = {}  # by transaction
     number = 0
     for number, line in enumerate(text.split("\n"), 1):
         if not line.strip():
@@ -196,7 +195,7 @@ def read_dbcop(text: str, initial: str = "0") -> Recording:
     return recorded.recording("dbcop", last_line)
 
 
-def _dbcop_sessions(text: str) -> Iterator[Tuple[int, Any]]:
+def _dbcop_sessions(text: str) -> Iterator[tuple[int, Any]]:
     """Each session with its line; if they are in an object, with the object's line."""
     reader = JsonReader(text)
     if text.lstrip()[:1] == "[":

@@ -6,10 +6,8 @@ docs/IMPORT.md argues why, case by case. If a value doesn't identify its writer,
 refused.
 """
 
-from __future__ import annotations
-
+from collections.abc import Iterator
 from dataclasses import dataclass
-from typing import Dict, Iterator, List, Set, Tuple, Union
 
 from ..core.errors import ImportRefusedError
 from ._recording import ABORTED, APPEND, COMMITTED, READ, READ_LIST, WRITE, Access, Recording
@@ -36,15 +34,15 @@ class Absent:
     value: str
 
 
-Origin = Union[None, int, Stub, Absent]  # None for the initial state, else an attempt's place
+Origin = int | Stub | Absent | None  # None for the initial state, else an attempt's place
 
 
 @dataclass
 class Sourced:
     """What an attempt did, by source, each read and write with its text in the file."""
 
-    reads: Dict[Tuple[str, Origin], str]
-    writes: Dict[str, str]
+    reads: dict[tuple[str, Origin], str]
+    writes: dict[str, str]
 
 
 class Chain:
@@ -52,11 +50,11 @@ class Chain:
     groups. What was recorded for it needn't be recorded again for a list that begins alike."""
 
     def __init__(self) -> None:
-        self.elements: Tuple[str, ...] = ()
-        self.last: Dict[int, Origin] = {0: None}  # the last one's writer, by their number
-        self.starts: Dict[int, int] = {}  # by owner, the number of elements before its own
+        self.elements: tuple[str, ...] = ()
+        self.last: dict[int, Origin] = {0: None}  # the last one's writer, by their number
+        self.starts: dict[int, int] = {}  # by owner, the number of elements before its own
 
-    def common(self, front: Tuple[str, ...]) -> int:
+    def common(self, front: tuple[str, ...]) -> int:
         """The number of elements that the list has in common with this one: all of either, if they
         are whole groups, or none."""
         count = min(len(front), len(self.elements))
@@ -64,7 +62,7 @@ class Chain:
             return count
         return 0
 
-    def add(self, elements: Tuple[str, ...], owner: int) -> None:
+    def add(self, elements: tuple[str, ...], owner: int) -> None:
         """Adds elements after the last one."""
         self.starts[owner] = len(self.elements)
         self.elements += elements
@@ -78,14 +76,14 @@ class Sources:
     def __init__(self, recording: Recording) -> None:
         """Raises ImportRefusedError if a value that was read doesn't identify its writer."""
         self._attempts = recording.attempts
-        self._writers: Dict[Tuple[str, str], List[int]] = {}
-        self._last: Dict[Tuple[int, str], str] = {}  # last write of an attempt to a key
-        self._appended: Dict[Tuple[int, str], List[str]] = {}
+        self._writers: dict[tuple[str, str], list[int]] = {}
+        self._last: dict[tuple[int, str], str] = {}  # last write of an attempt to a key
+        self._appended: dict[tuple[int, str], list[str]] = {}
         for at, attempt in enumerate(self._attempts):
             for access in attempt.accesses:
                 self._note_write(at, access)
-        self._chains: Dict[str, Chain] = {}
-        self.of: Dict[int, Sourced] = {
+        self._chains: dict[str, Chain] = {}
+        self.of: dict[int, Sourced] = {
             at: Sourced({}, self._writes_of(at))
             for at, attempt in enumerate(self._attempts)
             if attempt.outcome == COMMITTED
@@ -105,8 +103,8 @@ class Sources:
             writers.append(at)
         self._last[at, access.key] = access.value
 
-    def _writes_of(self, at: int) -> Dict[str, str]:
-        written: Dict[str, str] = {}
+    def _writes_of(self, at: int) -> dict[str, str]:
+        written: dict[str, str] = {}
         for access in self._attempts[at].accesses:
             if access.kind in (WRITE, APPEND):
                 before = written.get(access.key)
@@ -121,7 +119,7 @@ class Sources:
         return sourced
 
     def _look_up(self, at: int) -> None:
-        own: Dict[str, Tuple[str, ...]] = {}
+        own: dict[str, tuple[str, ...]] = {}
         for access in self._attempts[at].accesses:
             if access.kind in (WRITE, APPEND):
                 assert isinstance(access.value, str)
@@ -138,7 +136,7 @@ class Sources:
         if isinstance(origin, int):
             self._took_effect(origin)
 
-    def _register(self, at: int, access: Access, own: Tuple[str, ...]) -> None:
+    def _register(self, at: int, access: Access, own: tuple[str, ...]) -> None:
         assert access.value is None or isinstance(access.value, str)
         if own:
             if access.value != own[-1]:
@@ -173,7 +171,7 @@ class Sources:
             return Stub(writer, DRAFT)
         return writer
 
-    def _list(self, at: int, access: Access, own: Tuple[str, ...]) -> None:
+    def _list(self, at: int, access: Access, own: tuple[str, ...]) -> None:
         """Looks up a list, which reveals the order of its writers: the writer of each element has
         read the key from the writer of the element before."""
         value = access.value
@@ -211,11 +209,11 @@ class Sources:
         self._read(at, access, before)
 
     def _groups(
-        self, at: int, access: Access, front: Tuple[str, ...], known: int, chain: Chain
-    ) -> Iterator[Tuple[Origin, Tuple[str, ...]]]:
+        self, at: int, access: Access, front: tuple[str, ...], known: int, chain: Chain
+    ) -> Iterator[tuple[Origin, tuple[str, ...]]]:
         """The writers of a list's elements from that place on, in order, each with its elements; a
         Stub if whole transactions can't have appended the list."""
-        seen: Set[Origin] = {*chain.starts} if known else set()
+        seen: set[Origin] = {*chain.starts} if known else set()
         place = known
         while place < len(front):
             origin = self._writer(at, access, front[place])

@@ -2,9 +2,7 @@
 which nothing that is offered was in flight. What ended before a pause comes before what began after
 it."""
 
-from __future__ import annotations
-
-from typing import Dict, List, Mapping, Sequence
+from collections.abc import Mapping, Sequence
 
 from ..core._records import AuditId
 from ..core.errors import ImportRefusedError
@@ -56,7 +54,7 @@ class Times:
     def _bound(self, of: Mapping[int, Sourced]) -> None:
         """Bounds the ends: a source had taken effect before its reader did, so an attempt of
         unknown outcome had taken effect by the end of each attempt that read from it."""
-        readers: Dict[int, List[int]] = {}
+        readers: dict[int, list[int]] = {}
         for at, sourced in of.items():
             for _, origin in sourced.reads:
                 if isinstance(origin, int) and origin in of:
@@ -72,10 +70,10 @@ class Times:
                 waiting += [origin for _, origin in of[at].reads
                             if isinstance(origin, int) and origin in of]
 
-    def pauses(self, every: int = EVERY) -> List[int]:
+    def pauses(self, every: int = EVERY) -> list[int]:
         """Places at which nothing is in flight: each transaction ended before, or began there or
         later. At least `every` transactions are between two of them."""
-        places: List[int] = []
+        places: list[int] = []
         latest, count = 0, 0
         for began, at in sorted((began, at) for at, began in self.began.items()):
             if began > latest and count >= every:

@@ -1,17 +1,16 @@
 """Journals about snapshot isolation of an earlier version, which asked the program about
 transactions that it had split in two."""
 
-from __future__ import annotations
-
 import json
-from typing import Any, Dict, List, Sequence, Tuple
+from collections.abc import Sequence
+from typing import Any
 
 from ..core._own_keys import FORM
 from ..promises._asking import KEYS, Asking, asked_in, most_remaining
 from ..promises._kinds import SNAPSHOT
 
 
-def asking_itself(lines: Sequence[bytes], saved: int) -> Tuple[List[bytes], int]:
+def asking_itself(lines: Sequence[bytes], saved: int) -> tuple[list[bytes], int]:
     """The lines in this version's form, and how many of them belong to the checkpoint, as the first
     `saved` did. Raises ValueError, TypeError or LookupError if they are malformed."""
     opening, marks, *more = map(json.loads, lines)
@@ -19,7 +18,7 @@ def asking_itself(lines: Sequence[bytes], saved: int) -> Tuple[List[bytes], int]
         return [*lines], saved
     _, sessions, limit, *_ = opening
     limit = min(limit, most_remaining(SNAPSHOT, FORM))
-    begun: Dict[int, int] = {session: number for session, number in (marks[3:] or [[]])[0]}
+    begun: dict[int, int] = {session: number for session, number in (marks[3:] or [[]])[0]}
     # A commit reads from its begin by keys that the begin wrote.
     stars = [
         [key + KEYS, session, first]
@@ -27,7 +26,7 @@ def asking_itself(lines: Sequence[bytes], saved: int) -> Tuple[List[bytes], int]
         if word == "offer" and txns and begun.get(session) == first
         for key in txns[0][1]
     ]
-    front: List[Any] = [
+    front: list[Any] = [
         ["resume", sessions, limit, FORM, SNAPSHOT.name],
         [*marks[:3], [session in begun for session in range(sessions)]],
         ["last", stars],

@@ -8,11 +8,10 @@ first line that uses them, counts such as the number of reported rounds, and rep
 later checkpoint is a single record, so that it exists as a whole or not at all.
 """
 
-from __future__ import annotations
-
 import json
+from collections.abc import Iterable, Iterator, Sequence
 from dataclasses import dataclass, field
-from typing import Any, Dict, Iterable, Iterator, List, NamedTuple, Optional, Sequence
+from typing import Any, NamedTuple
 
 from ..core.errors import JournalDamagedError
 from ..promises._kinds import ASKED, SERIALIZABLE, SNAPSHOT
@@ -30,7 +29,7 @@ class Violation(NamedTuple):
     """The first violated report of an audit: which audit of the run it was, and the reply."""
 
     audit: int
-    reply: List[Any]
+    reply: list[Any]
 
 
 @dataclass
@@ -47,14 +46,14 @@ class Head:
     limit: int
     run_name: str
     audit: int = 1
-    coverage: Optional[Dict[str, Any]] = None
+    coverage: dict[str, Any] | None = None
     rounds: int = 0
     left_out: int = 0
     is_of_sessions: bool = False
-    joined: List[List[int]] = field(default_factory=list)
+    joined: list[list[int]] = field(default_factory=list)
     promise: str = SERIALIZABLE.name
     from_before: int = 0
-    store: Optional[List[str]] = None
+    store: list[str] | None = None
 
     def take_figures(
         self,
@@ -62,7 +61,7 @@ class Head:
         left_out: int,
         is_of_sessions: bool,
         from_before: int = 0,
-        store: Optional[List[str]] = None,
+        store: list[str] | None = None,
     ) -> None:
         """Takes the values of a later record. An earlier version's journals lack the last two."""
         self.rounds, self.left_out, self.is_of_sessions = rounds, left_out, is_of_sessions
@@ -75,10 +74,10 @@ class Kept:
     the state of the last one. The first `saved` of them belong to the checkpoint."""
 
     head: Head
-    names: List[str] = field(default_factory=list)  # of keys, by number
-    violations: List[Violation] = field(default_factory=list)
-    lines: List[bytes] = field(default_factory=list)
-    undone: List[Any] = field(default_factory=list)  # [session, number, the line's form] each
+    names: list[str] = field(default_factory=list)  # of keys, by number
+    violations: list[Violation] = field(default_factory=list)
+    lines: list[bytes] = field(default_factory=list)
+    undone: list[Any] = field(default_factory=list)  # [session, number, the line's form] each
     saved: int = 0
     is_whole: bool = False  # the checkpoint was read to its end
 
@@ -157,7 +156,7 @@ def checkpoint(
     violations: Iterable[Violation],
     saved: Sequence[bytes],
     undone: Sequence[Any] = (),
-) -> List[bytes]:
+) -> list[bytes]:
     """A checkpoint, as the texts of its records. `names` is the record of the key names that no
     earlier record has."""
     return [
@@ -170,7 +169,7 @@ def checkpoint(
     ]
 
 
-def _plain(head: Head) -> Dict[str, Any]:
+def _plain(head: Head) -> dict[str, Any]:
     """The head as earlier versions can read it, too, if they know its promise."""
     its = {**vars(head)}
     if head.promise == SERIALIZABLE.name:

@@ -5,13 +5,12 @@ only after the file has been rewritten, since only then is it flushed to the dis
 at PATH are PATH.lock, which stays, and PATH.new, which exists briefly.
 """
 
-from __future__ import annotations
-
 import fcntl
 import logging
 import os
 import weakref
-from typing import Iterable, List, NoReturn, Optional
+from collections.abc import Iterable
+from typing import NoReturn
 
 from ..core._private_files import check_folder
 from ..core.errors import (
@@ -41,8 +40,8 @@ class Journal:
         self.path = os.path.realpath(path)  # one lock, whatever links lead to it
         self.size = 0  # bytes of the file's whole records
         self._is_torn = False  # the file has bytes after them
-        self._file: Optional[int] = None
-        self._lock: Optional[int] = None
+        self._file: int | None = None
+        self._lock: int | None = None
         _journals.add(self)
         try:
             check_folder(os.path.dirname(self.path))
@@ -61,7 +60,7 @@ class Journal:
         """Whether there is a file to continue from."""
         return os.path.lexists(self.path)
 
-    def read(self) -> List[bytes]:
+    def read(self) -> list[bytes]:
         """The texts of all records. An incomplete record at the end is left out, which is logged,
         and removed by the next `append`. Raises JournalDamagedError and JournalVersionError."""
         self._let_go()

@@ -1,17 +1,16 @@
 """Turns the lines of a journal into a history: what was taken in and not forgotten."""
 
-from __future__ import annotations
-
 import json
+from collections.abc import Iterable, Sequence
 from dataclasses import dataclass, field
-from typing import Any, Dict, Iterable, List, Sequence
+from typing import Any
 
 from ..core._records import ABORTED, AuditId, History, Logged
 from ..core.errors import JournalDamagedError
 from ..promises._asking import KEYS, asked_in
 from ..promises._kinds import SNAPSHOT
 
-ScriptLine = List[Any]
+ScriptLine = list[Any]
 LAST = b'["last",'
 
 
@@ -21,11 +20,11 @@ class State:
     remain, in the form of lines, and whether it is closed; for each key its last writer that is
     gone; and the transactions with which sessions returned since the checkpoint."""
 
-    gone: List[int] = field(default_factory=list)
-    remaining: List[List[Any]] = field(default_factory=list)
-    closed: List[bool] = field(default_factory=list)
-    last: Dict[int, AuditId] = field(default_factory=dict)
-    joined: List[AuditId] = field(default_factory=list)  # with which sessions returned
+    gone: list[int] = field(default_factory=list)
+    remaining: list[list[Any]] = field(default_factory=list)
+    closed: list[bool] = field(default_factory=list)
+    last: dict[int, AuditId] = field(default_factory=dict)
+    joined: list[AuditId] = field(default_factory=list)  # with which sessions returned
     keys: int = 1 << 64  # those of transactions are below this
 
     def take(self, word: str, *parts: Any) -> None:
@@ -49,7 +48,7 @@ class State:
         elif word != "resumed":
             raise ValueError(f"unknown line {word}")
 
-    def join(self, session: int, txns: List[Any]) -> None:
+    def join(self, session: int, txns: list[Any]) -> None:
         """Opens a new session, or one that was closed."""
         if session == len(self.gone):
             self.gone.append(0)
@@ -67,7 +66,7 @@ class State:
             self.remaining[session][number - self.gone[session]] = txn
 
     @property
-    def received(self) -> List[int]:
+    def received(self) -> list[int]:
         return [gone + len(txns) for gone, txns in zip(self.gone, self.remaining)]
 
     def history(self, names: Sequence[str]) -> History:
@@ -75,7 +74,7 @@ class State:
         as values and statements."""
         return [[_logged(txn, names) for txn in txns] for txns in self.remaining]
 
-    def base(self, names: Sequence[str]) -> Dict[str, AuditId]:
+    def base(self, names: Sequence[str]) -> dict[str, AuditId]:
         return {_name(key, names): source for key, source in self.last.items()}
 
 

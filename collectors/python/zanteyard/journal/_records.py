@@ -8,11 +8,9 @@ damage: by a disk, by a machine that went down, or by another program that wrote
 checksums find accidental damage, not deliberate changes.
 """
 
-from __future__ import annotations
-
 import struct
 import zlib
-from typing import Iterator, Tuple
+from collections.abc import Iterator
 
 from ..core.errors import JournalDamagedError
 
@@ -27,7 +25,7 @@ def record(text: bytes) -> bytes:
     return head + CHECK.pack(zlib.crc32(head)) + text
 
 
-def records(content: bytes, at: int) -> Iterator[Tuple[bytes, int]]:
+def records(content: bytes, at: int) -> Iterator[tuple[bytes, int]]:
     """The texts from this position on, each with the position after it, up to an incomplete record.
     Raises JournalDamagedError if one is damaged."""
     while at + BEFORE <= len(content):

@@ -1,9 +1,8 @@
 """What an audit writes to its journal as it goes on, and when the journal is rewritten."""
 
-from __future__ import annotations
-
 import json
-from typing import Any, Callable, Dict, Iterable, List, Optional, Sequence, Tuple
+from collections.abc import Callable, Iterable, Sequence
+from typing import Any
 
 from ..core._records import ABORTED, AuditId
 from ..promises._kinds import ASKED, Promise
@@ -36,7 +35,7 @@ class JournalWriter:
         journal: Journal,
         head: Callable[[], Head],
         names: Sequence[str],
-        kept: Optional[Kept] = None,
+        kept: Kept | None = None,
     ) -> None:
         self.journal = journal
         self._head, self._names = head, names
@@ -45,13 +44,13 @@ class JournalWriter:
         self.is_of_sessions = kept.head.is_of_sessions if kept else False
         self.from_before = kept.head.from_before if kept else 0
         self.store = kept.head.store if kept else None
-        self.violations: List[Violation] = list(kept.violations) if kept else []
+        self.violations: list[Violation] = list(kept.violations) if kept else []
         self._noted = len(kept.names) if kept else 0  # how many names the journal has
         self._figures = self._figures_by_now()  # as the journal has them
         self.changes = len(kept.lines) - kept.saved if kept else 0  # lines after the checkpoint
         # What aborted attempts did, in the form of lines: a program's saved state says only that
         # they exist.
-        self._undone: Dict[AuditId, Any] = {}
+        self._undone: dict[AuditId, Any] = {}
         if kept is not None:
             self._undone.update(
                 (AuditId((session, number)), txn) for session, number, txn in kept.undone
@@ -74,7 +73,7 @@ class JournalWriter:
     def is_checkpoint_due(self) -> bool:
         return self._has_begun and self.journal.size > self._due
 
-    def kept(self) -> Optional[Kept]:
+    def kept(self) -> Kept | None:
         """What the journal says about this audit, without the keys' names; None before the first
         checkpoint."""
         return kept_in(self.journal, has_names=False) if self._has_begun else None
@@ -93,14 +92,14 @@ class JournalWriter:
                 undone = ((number, txn) for number, txn in enumerate(txns, first) if txn[2:])
                 self._undone.update((AuditId((session, number)), txn) for number, txn in undone)
 
-    def _undone_of(self, saved: Sequence[bytes]) -> List[Any]:
+    def _undone_of(self, saved: Sequence[bytes]) -> list[Any]:
         """The aborted attempts that remain in this saved state."""
         if self._undone:
             _, gone, *_ = json.loads(saved[1])
             self._undone = {id: txn for id, txn in self._undone.items() if id[1] >= gone[id[0]]}
         return [[*id, txn] for id, txn in self._undone.items()]
 
-    def note_report(self, violation: Optional[List[Any]]) -> None:
+    def note_report(self, violation: list[Any] | None) -> None:
         """Notes one more round, and its reply if it was violated."""
         self.rounds += 1
         if violation is not None:
@@ -112,7 +111,7 @@ class JournalWriter:
         if self._has_begun:
             self._note([])
 
-    def note_violation(self, reply: List[Any]) -> None:
+    def note_violation(self, reply: list[Any]) -> None:
         """Notes the first violation of the audit, which stays true."""
         audit = self._head().audit
         if all(violation.audit != audit for violation in self.violations):
@@ -144,7 +143,7 @@ class JournalWriter:
             self.journal.append([behind])
         return has_room
 
-    def _note(self, entries: List[bytes]) -> None:
+    def _note(self, entries: list[bytes]) -> None:
         """Writes these entries and whatever else has changed, with one write. The changes come
         first, since a write may be cut off."""
         count, now = len(self._names), self._figures_by_now()
@@ -156,6 +155,6 @@ class JournalWriter:
             self.journal.append(entries)
         self._noted, self._figures = count, now
 
-    def _figures_by_now(self) -> Tuple[Any, ...]:
+    def _figures_by_now(self) -> tuple[Any, ...]:
         now = (self.rounds, self.left_out, self.is_of_sessions)
         return (*now, self.from_before, self.store)

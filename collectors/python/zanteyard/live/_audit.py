@@ -1,11 +1,10 @@
 """One audit of a live run: it takes in what waits, runs rounds, and makes room by cuts."""
 
-from __future__ import annotations
-
 import logging
 import time
 from collections import Counter
-from typing import Any, Dict, Iterable, List, Optional, Sequence, Set, Tuple, Union
+from collections.abc import Iterable, Sequence
+from typing import Any
 
 from ..core._outcome import COLLECTOR, PENDING, RUNNING, SERIAL, VIOLATED, Outcome, kind_of
 from ..core._own_keys import FENCE, LONGEST
@@ -24,7 +23,7 @@ from ._told import ClientTold, RoundTold, Teller
 
 logger = logging.getLogger("zanteyard")
 MEANWHILE = 0.04  # seconds during which more transactions arrive while a round is searched
-AnyAuditor = Union[Auditor, AuditorApart]
+AnyAuditor = Auditor | AuditorApart
 
 
 class Audit:
@@ -41,8 +40,8 @@ class Audit:
         run_name: str,
         coverage: Coverage,
         counted: int = 0,
-        earlier: Tuple[Outcome, ...] = (),
-        tenancy: Optional[Tenancy] = None,
+        earlier: tuple[Outcome, ...] = (),
+        tenancy: Tenancy | None = None,
         closed: Iterable[int] = (),
     ) -> None:
         self._auditor, self._backlog, self._figures = auditor, backlog, figures
@@ -50,20 +49,20 @@ class Audit:
         self.earlier = earlier
         self.name = f"{run_name}, audit {len(earlier) + 1}" if earlier else run_name
         self.began = time.monotonic()
-        self.why_no_cut: Optional[str] = None  # what was wrong with the last meeting
+        self.why_no_cut: str | None = None  # what was wrong with the last meeting
         self.taken_in = 0
         self._told_of = 0  # how many of these the last round covered
         self._behind = 0.0  # the longest that one of them waited since the last round, in seconds
-        self.report: Optional[Report] = None
+        self.report: Report | None = None
         self.left_out = 0  # reads whose source the audit doesn't cover
         self.from_before = 0  # reads of versions from before this audit
-        self._pending: Tuple[Pending, ...] = ()
+        self._pending: tuple[Pending, ...] = ()
         self._is_collectors_own = False
-        self.missing: Optional[MissingError] = None  # what may have been done and will never arrive
+        self.missing: MissingError | None = None  # what may have been done and will never arrive
         self._tenancy = tenancy or Tenancy()
-        self._closed: Set[int] = {*closed}
+        self._closed: set[int] = {*closed}
         # By session, what waits for the session to join after a fence that isn't taken in yet.
-        self._held: Dict[int, List[HandedIn]] = {}
+        self._held: dict[int, list[HandedIn]] = {}
         self._is_searched = False  # a round; no session joins meanwhile
 
     @property
@@ -80,7 +79,7 @@ class Audit:
         """Whether something was taken in after the last round."""
         return self.taken_in > self._told_of
 
-    def outcome(self, has_ended: bool, failure: Optional[Exception]) -> Outcome:
+    def outcome(self, has_ended: bool, failure: Exception | None) -> Outcome:
         audited = sum(self.report.counts) if self.report else 0
         kind, handed_in = RUNNING, self.handed_in
         if self.is_violated or has_ended:
@@ -163,9 +162,9 @@ class Audit:
 
     # sessions that join
 
-    def _without_held(self, taken: Sequence[HandedIn]) -> List[HandedIn]:
+    def _without_held(self, taken: Sequence[HandedIn]) -> list[HandedIn]:
         """Holds back what has to wait until its session has joined; returns the rest."""
-        ready: List[HandedIn] = []
+        ready: list[HandedIn] = []
         for handed_in in taken:
             _, session, number, _ = handed_in
             if session in self._held or self._joins(session, number):
@@ -174,7 +173,7 @@ class Audit:
                 ready.append(handed_in)
         return ready
 
-    def _joins(self, session: int, number: Optional[int]) -> bool:
+    def _joins(self, session: int, number: int | None) -> bool:
         if number is None or self._covered(session, number) is None:
             return False
         return session in self._closed or session >= self._auditor.sessions
@@ -200,7 +199,7 @@ class Audit:
         is_next = session <= self._auditor.sessions
         return is_next and (source is None or self._backlog.is_taken(*source))
 
-    def _fence_of(self, session: int) -> Optional[StoreId]:
+    def _fence_of(self, session: int) -> StoreId | None:
         """The fence that the first transaction of a joining session has read; None if it read
         none."""
         logged = self._held[session][0][3]
@@ -231,7 +230,7 @@ class Audit:
             self._backlog.note_taken(session, number)
         self._held.clear()
 
-    def _why_held(self) -> Optional[str]:
+    def _why_held(self) -> str | None:
         """A message about what still waits to join; None if nothing does."""
         for session in sorted(self._held):
             source = self._fence_of(session)
@@ -240,7 +239,7 @@ class Audit:
                 return f"session {session} was to join after the fence {fence}, which never arrived"
         return f"session {min(self._held)} never joined" if self._held else None
 
-    def vacant(self) -> Dict[int, int]:
+    def vacant(self) -> dict[int, int]:
         """The sessions that may return, each with the number of its next transaction."""
         if not self._closed:
             return {}
@@ -255,7 +254,7 @@ class Audit:
         """Whether this audit covers the transaction."""
         return self._covered(session, number) is not None
 
-    def _covered(self, session: int, number: int) -> Optional[int]:
+    def _covered(self, session: int, number: int) -> int | None:
         """The transaction's number in this audit; None if it isn't audited."""
         if session >= max(SESSIONS, self._auditor.sessions):
             return None
@@ -294,7 +293,7 @@ class Audit:
         last round."""
         return self.has_news and time.monotonic() - self._figures.told_at >= seconds
 
-    def run_round(self, no_cut: Optional[str] = None, goes_on: bool = False) -> None:
+    def run_round(self, no_cut: str | None = None, goes_on: bool = False) -> None:
         """Runs a round over everything taken in so far, and a cut after it unless `no_cut` gives a
         reason against that; then reports the round. With `goes_on`, it takes in more during the
         search."""
@@ -320,10 +319,10 @@ class Audit:
         if goes_on:
             self._let_join()
 
-    def _go_on_while_it_is_made(self) -> Optional[Exception]:
+    def _go_on_while_it_is_made(self) -> Exception | None:
         """Takes in what waits until the report is ready. Returns the first error, to be raised
         after the report."""
-        wrong: Optional[Exception] = None
+        wrong: Exception | None = None
         self._auditor.begin_round()
         self._is_searched = True
         try:
@@ -337,13 +336,13 @@ class Audit:
             self._is_searched = False
         return wrong
 
-    def _awaited(self) -> Dict[int, int]:
+    def _awaited(self) -> dict[int, int]:
         if self.report is None or self.report.kind != PENDING:
             return {}
         reads = never_came(self._auditor.history, self._auditor.marks)
         return dict(Counter(read.source[0] for read in reads))
 
-    def _cut(self, report: Report) -> Tuple[Optional[Cut], str]:
+    def _cut(self, report: Report) -> tuple[Cut | None, str]:
         """What was forgotten; or None and the reason, which is empty if the verdict is the
         reason."""
         if report.kind not in (SERIAL, PENDING):

@@ -1,8 +1,7 @@
 """Begins an audit while clients are running; `core/_window.py` says what it covers."""
 
-from __future__ import annotations
-
-from typing import Any, Iterable, List, Optional, Sequence, Tuple
+from collections.abc import Iterable, Sequence
+from typing import Any
 
 from ..core._window import SKIPPED, Coverage
 from ..session._place import Place
@@ -18,9 +17,9 @@ def coverage_from_now(
     on, and the places of lost processes may be used again. A process that doesn't answer isn't
     audited. `sessions` is the number of sessions; `SessionPool.grow` adds none until the audit has
     begun."""
-    early: List[int] = [0] * sessions
-    first: List[Optional[int]] = [None] * sessions
-    unknown: List[Tuple[Tuple[int, int], ...]] = [()] * sessions
+    early: list[int] = [0] * sessions
+    first: list[int | None] = [None] * sessions
+    unknown: list[tuple[tuple[int, int], ...]] = [()] * sessions
     # Asked twice: whatever had been answered when the first call returned had been answered before
     # anything was sent that hadn't been sent at the second.
     for session, answered, _, _ in _asked(groups, places):
@@ -43,7 +42,7 @@ def coverage_from_now(
     return Coverage(early, first, unknown=unknown)
 
 
-def _asked(groups: Sequence[QuiesceGroup], places: SessionPool) -> Iterable[Tuple[Any, ...]]:
+def _asked(groups: Sequence[QuiesceGroup], places: SessionPool) -> Iterable[tuple[Any, ...]]:
     """For each session: how many of its transactions have been answered, the first number that
     hasn't been sent, and the numbers whose outcome is unknown."""
     edges = places.edges()

@@ -1,10 +1,9 @@
 """What clients have handed in and the auditor hasn't taken in yet."""
 
-from __future__ import annotations
-
 import queue
 import threading
-from typing import Any, Dict, Iterable, List, Optional, Sequence, Set, Tuple
+from collections.abc import Iterable, Sequence
+from typing import Any
 
 from ..core._own_keys import FLAG, is_own
 from ..core._records import Logged
@@ -12,7 +11,7 @@ from ..core._records import Logged
 # When it arrived by the monotonic clock, the session, the transaction's number (None for the end of
 # the session), and what was logged. A plain tuple of plain values is no work for the clients'
 # garbage collector.
-HandedIn = Tuple[float, int, Optional[int], Any]
+HandedIn = tuple[float, int, int | None, Any]
 DROPPED = -1  # in place of a session: counts what other processes couldn't hand over
 
 
@@ -33,17 +32,17 @@ class Backlog:
         self.room = most  # how many may wait now, before clients have to wait
         # Keys whose last writer didn't read them and that nobody has read since. Changed by the
         # holder of a session's turn, and by a meeting, which holds all turns.
-        self._unseen: Set[str] = set()
+        self._unseen: set[str] = set()
         # Keys whose last writer's session has ended. For the auditor's thread.
-        self._ends: Set[str] = set()
+        self._ends: set[str] = set()
         self._waiting: queue.SimpleQueue[HandedIn] = queue.SimpleQueue()
-        self._next_numbers: Dict[int, int] = {}
-        self._taken: Dict[int, int] = {}  # for each session, the number after the last one taken
-        self._closed: Set[int] = set()  # sessions whose end was taken
+        self._next_numbers: dict[int, int] = {}
+        self._taken: dict[int, int] = {}  # for each session, the number after the last one taken
+        self._closed: set[int] = set()  # sessions whose end was taken
         # For each session, when the current audit began and asked it what it had done, by the
         # monotonic clock. An end from before that time belongs to the previous audit.
-        self.reopened: Dict[int, float] = {}
-        self._counts: Dict[int, int] = {}  # by session, over all audits
+        self.reopened: dict[int, float] = {}
+        self._counts: dict[int, int] = {}  # by session, over all audits
         self._dropping = threading.Lock()
 
     def count(self, session: int, number: int, unseen: Iterable[str] = ()) -> None:
@@ -75,11 +74,11 @@ class Backlog:
     def put(self, handed_in: HandedIn) -> None:
         self._waiting.put(handed_in)
 
-    def take(self, most: int) -> List[HandedIn]:
+    def take(self, most: int) -> list[HandedIn]:
         """Takes what waits, at most this many. For one thread at a time."""
         return [self._waiting.get() for _ in range(min(len(self), most))]
 
-    def note_taken(self, session: int, number: Optional[int]) -> None:
+    def note_taken(self, session: int, number: int | None) -> None:
         """Notes that a transaction, or the session's end, is no longer needed: the auditor has it,
         or no audit wants it."""
         if number is None:
@@ -87,7 +86,7 @@ class Backlog:
         else:
             self._taken[session] = number + 1
 
-    def is_taken(self, session: int, number: Optional[int]) -> bool:
+    def is_taken(self, session: int, number: int | None) -> bool:
         """Whether neither this transaction nor an earlier one is needed any more."""
         if number is None:
             return session in self._closed
@@ -115,7 +114,7 @@ class Backlog:
         """Lowers the number that may wait to what can be taken in."""
         self.room = max(0, min(self.most, free))
 
-    def take_unseen(self) -> Set[str]:
+    def take_unseen(self) -> set[str]:
         """Returns the keys that were written without being read, and counts them as read from now
         on."""
         keys, self._unseen = self._unseen, set()
@@ -125,7 +124,7 @@ class Backlog:
         """Puts keys back that weren't read after all."""
         self._unseen.update(keys)
 
-    def take_ends(self) -> Set[str]:
+    def take_ends(self) -> set[str]:
         """Returns the keys last written by sessions that have ended, and counts them as read from
         now on."""
         keys, self._ends = self._ends, set()

@@ -1,7 +1,5 @@
 """Keeps meetings and new audits waiting until it is known what killed processes did."""
 
-from __future__ import annotations
-
 import threading
 
 

@@ -1,9 +1,6 @@
 """Counters of a live run, over all of its audits."""
 
-from __future__ import annotations
-
 from dataclasses import dataclass, field
-from typing import Dict, Optional
 
 
 @dataclass
@@ -16,7 +13,7 @@ class Figures:
     told_behind: float = 0.0  # the same between the last two rounds
     told_at: float = 0.0  # time of the last round, by the monotonic clock
     cut_at: float = 0.0  # the same for the last cut, or the beginning
-    kinds: Dict[str, int] = field(default_factory=dict)  # rounds of each verdict
+    kinds: dict[str, int] = field(default_factory=dict)  # rounds of each verdict
     # For each session, how many reads of its transactions were pending in the last round; only if
     # somebody asks for it.
-    awaited: Optional[Dict[int, int]] = None
+    awaited: dict[int, int] | None = None

@@ -1,9 +1,9 @@
 """The interface of a live audit for clients in other processes; `remote` calls it."""
 
-from __future__ import annotations
-
+import contextlib
 import logging
-from typing import Any, Callable, ContextManager, Iterable, List, Optional, Set, Tuple
+from collections.abc import Callable, Iterable
+from typing import Any
 
 from ..core._forks import is_forked
 from ..core._records import unpacked
@@ -26,7 +26,7 @@ class ForProcesses(LiveFigures):
     redacts: bool
     _packed: Any  # packs what was logged, if the auditor takes it packed
     _crash_searches: CrashSearches
-    _at_end: List[Callable[[], object]]
+    _at_end: list[Callable[[], object]]
 
     # the audit
 
@@ -77,7 +77,7 @@ class ForProcesses(LiveFigures):
             self._coordinator.groups.remove(group)
 
     @property
-    def finding_out(self) -> ContextManager[None]:
+    def finding_out(self) -> contextlib.AbstractContextManager[None]:
         """A context for finding out what a killed process did: no meeting and no other audit begins
         meanwhile."""
         return self._crash_searches
@@ -133,14 +133,14 @@ class ForProcesses(LiveFigures):
         """The number after the session's last transaction that was handed in."""
         return self._backlog.next_number(session)
 
-    def is_taken(self, session: int, number: Optional[int]) -> bool:
+    def is_taken(self, session: int, number: int | None) -> bool:
         """Whether neither this transaction nor an earlier one is needed any more; without a number,
         whether the session's end isn't."""
         return self._backlog.is_taken(session, number)
 
     # sessions
 
-    def take_place(self, seconds: float) -> Optional[Place]:
+    def take_place(self, seconds: float) -> Place | None:
         """A session that no client has; None if none becomes free within this many seconds."""
         return self._pool.take(seconds)
 
@@ -160,7 +160,7 @@ class ForProcesses(LiveFigures):
         """Records that nobody has these sessions in this audit."""
         self._pool.drop(numbers)
 
-    def place_for_nobody(self, is_new: bool) -> Optional[Place]:
+    def place_for_nobody(self, is_new: bool) -> Place | None:
         """The place for a client if no session is left. A new client gets one that no audit covers,
         or None if all sessions have clients. Ends this audit, since a client goes on unaudited."""
         if is_new:
@@ -168,12 +168,13 @@ class ForProcesses(LiveFigures):
         self._lose_for_a_client()
         return None
 
-    def _without_place(self) -> Optional[Place]:
+    def _without_place(self) -> Place | None:
         """A place that no audit covers, for a new client; None if all sessions have clients."""
         if self._pool.are_all_taken:
             return None
+        place = self._pool.take_unaudited()  # first, so that the next audit has a session for it
         self._lose_for_a_client()
-        return self._pool.take_unaudited()
+        return place
 
     def _lose_for_a_client(self) -> None:
         """Ends this audit, because a client goes on unaudited for lack of a session."""
@@ -190,11 +191,11 @@ class ForProcesses(LiveFigures):
 
     # continuing in another process of the auditor
 
-    def numbers_here(self) -> Set[int]:
+    def numbers_here(self) -> set[int]:
         """The sessions that clients of this process have."""
         return {*self._group.numbers()}
 
-    def places_left(self) -> Tuple[List[Place], int]:
+    def places_left(self) -> tuple[list[Place], int]:
         """The places that no client has, and the number of the next one that no audit covers."""
         return self._pool.nobodys_by_now()
 

@@ -1,22 +1,21 @@
 """Groups what clients have handed in, by session, for the auditor."""
 
-from __future__ import annotations
-
-from typing import Any, Dict, Iterable, List, Optional, Tuple
+from collections.abc import Iterable
+from typing import Any
 
 from ..core._own_keys import LONGEST
 from ..program._intake import Fragment
 
 
 def fragments(
-    offers: Iterable[Tuple[int, Optional[int], Any]], longest: int = LONGEST
-) -> List[Fragment]:
+    offers: Iterable[tuple[int, int | None, Any]], longest: int = LONGEST
+) -> list[Fragment]:
     """For each session in `offers`: (session, first number, transactions), with at most `longest`
     of these. Transactions without a number are left out. After a gap in a session's numbers a new
     fragment begins, which the auditor refuses: accepting it could make a serial run look
     violated."""
-    cut: List[Fragment] = []
-    last: Dict[int, Tuple[int, int, List[Any]]] = {}
+    cut: list[Fragment] = []
+    last: dict[int, tuple[int, int, list[Any]]] = {}
     for session, number, logged in offers:
         if number is None:
             continue

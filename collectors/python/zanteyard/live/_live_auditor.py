@@ -12,8 +12,9 @@ from __future__ import annotations
 import logging
 import threading
 import time
+from collections.abc import Callable
 from dataclasses import replace
-from typing import Any, Callable, List, Optional
+from typing import Any
 
 from ..core._forks import is_forked
 from ..core._outcome import INCOMPLETE, RATHER_LOSE_THE_AUDIT, Outcome, Policy
@@ -85,20 +86,20 @@ class LiveAuditor(ForProcesses):
     def __init__(
         self,
         auditor: AnyAuditor,
-        run_name: Optional[str] = None,
+        run_name: str | None = None,
         every: int = EVERY,
         seconds: float = 2.0,
         idle: float = 30.0,
         patience: float = 1.0,
         most: int = 2048,
-        tell: Optional[Tell] = None,
+        tell: Tell | None = None,
         policy: Policy = RATHER_LOSE_THE_AUDIT,
-        journal: Optional[str] = None,
-        round_seconds: Optional[float] = None,
+        journal: str | None = None,
+        round_seconds: float | None = None,
         elsewhere: bool = False,
         redacts: bool = False,
-        on_round: Optional[Callable[[RoundTold], object]] = None,
-        on_client: Optional[Callable[[ClientTold], object]] = None,
+        on_round: Callable[[RoundTold], object] | None = None,
+        on_client: Callable[[ClientTold], object] | None = None,
     ) -> None:
         if auditor.is_resumed and not elsewhere:
             raise ValueError("a live audit can't continue from a journal: begin another run")
@@ -128,7 +129,7 @@ class LiveAuditor(ForProcesses):
         self._cuts_seen, self._may_meet_at = self.cuts, 0.0
         self._in_vain = 0  # meetings since the last cut
         self._crash_searches = CrashSearches()
-        self._at_end: List[Callable[[], object]] = []
+        self._at_end: list[Callable[[], object]] = []
         self._thread = threading.Thread(target=self._serve, name="zanteyard", daemon=True)
         self._thread.start()
 
@@ -142,7 +143,7 @@ class LiveAuditor(ForProcesses):
             return Session(self, 0, store, self.run_name, patience)
         if not self.auditor.has_sessions:
             self.auditor.note_sessions()
-        owed: List[Place] = []  # places that no session has yet
+        owed: list[Place] = []  # places that no session has yet
         try:
             place = self._pool.take(self.policy.wait, owed) or self._without_place()
             if place is None:
@@ -165,7 +166,7 @@ class LiveAuditor(ForProcesses):
     def __enter__(self) -> LiveAuditor:
         return self
 
-    def __exit__(self, kind: Optional[type], *_: object) -> None:
+    def __exit__(self, kind: type | None, *_: object) -> None:
         """As `stop`. If an exception ends the block, it doesn't wait for the rest to be audited."""
         if kind is not None:
             self.lose(AuditLostError(f"it was abandoned ({kind.__name__})"))
@@ -207,7 +208,7 @@ class LiveAuditor(ForProcesses):
         slow = slowness_of(getattr(self.auditor, "path", ""))
         return f"the auditor can't keep up: {waits}{slow}"
 
-    def _renew(self, session: Session) -> Optional[Place]:
+    def _renew(self, session: Session) -> Place | None:
         # If nothing is audited, nobody waits for a place.
         place = self._pool.take(0.0 if self._drops() else self.policy.wait)
         if place is None:
@@ -216,12 +217,13 @@ class LiveAuditor(ForProcesses):
             self._give_back(session.place)
         return place or session.place or self._pool.take_unaudited()
 
-    def _cant_join(self, session: Session, why: Exception) -> Optional[Place]:
+    def _cant_join(self, session: Session, why: Exception) -> Place | None:
+        place = self._pool.take_unaudited()  # first, so that the next audit has a session for it
         self.lose(AuditLostError(
             f"a client couldn't join: {str(why).strip() or type(why).__name__}"
         ))
         self._give_back(session.place)
-        return self._pool.take_unaudited()
+        return place
 
     def _give_back(self, place: Place) -> None:
         self._pool.give_back([place])
@@ -396,7 +398,7 @@ class LiveAuditor(ForProcesses):
         self._teller.line(told)
         logger.warning("another audit begins, %s; the last one ended: %s", self.name, why)
 
-    def _next_audit(self, coverage: Coverage, before: Optional[Outcome] = None) -> Audit:
+    def _next_audit(self, coverage: Coverage, before: Outcome | None = None) -> Audit:
         """The next audit, after the previous one with this outcome, if there was one."""
         more = (self._backlog, self._figures, self._teller, self.run_name, coverage)
         tenancy = self._pool.tenancy

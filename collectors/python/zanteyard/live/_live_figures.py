@@ -1,8 +1,5 @@
 """What is known of a live audit so far."""
 
-from __future__ import annotations
-
-from typing import Optional, Tuple
 
 from ..core._outcome import Outcome
 from ..core._records import Report
@@ -24,8 +21,8 @@ class LiveFigures(LocalSessions):
     _pool: SessionPool
     _coordinator: QuiesceCoordinator
     _figures: Figures
-    _lost: Optional[Exception] = None  # why nothing is audited until another audit begins
-    _failure: Optional[Exception] = None  # why nothing more is audited at all
+    _lost: Exception | None = None  # why nothing is audited until another audit begins
+    _failure: Exception | None = None  # why nothing more is audited at all
     _is_stopping = _has_ended = False
 
     @property
@@ -39,17 +36,17 @@ class LiveFigures(LocalSessions):
         return self._audit.name
 
     @property
-    def earlier(self) -> Tuple[Outcome, ...]:
+    def earlier(self) -> tuple[Outcome, ...]:
         """The outcomes of the audits that ended before this one began."""
         return self._audit.earlier
 
     @property
-    def report(self) -> Optional[Report]:
+    def report(self) -> Report | None:
         """The report of this audit's last round; None before the first."""
         return self._audit.report
 
     @property
-    def failure(self) -> Optional[Exception]:
+    def failure(self) -> Exception | None:
         """Why nothing more is audited, once that is so; then `outcome` isn't serial."""
         return self._failure
 
@@ -125,12 +122,12 @@ class LiveFigures(LocalSessions):
         return self._pool.free
 
     @property
-    def missing(self) -> Optional[MissingError]:
+    def missing(self) -> MissingError | None:
         """What may have been done in this audit and will never arrive."""
         return self._audit.missing
 
     @property
-    def lost(self) -> Optional[Exception]:
+    def lost(self) -> Exception | None:
         """Why nothing is audited until another audit begins."""
         return self._lost
 

@@ -1,7 +1,5 @@
 """How often a live audit has rounds and meetings."""
 
-from __future__ import annotations
-
 from dataclasses import dataclass
 
 PATIENT = 30  # factor by which a meeting waits longer if the next one may be too late

@@ -1,9 +1,8 @@
 """Holds meetings of the sessions of all processes; `session/_quiesce.py` says what a meeting is."""
 
-from __future__ import annotations
-
 import time
-from typing import Any, List, NamedTuple, Optional, Protocol, Sequence, Set, Tuple
+from collections.abc import Sequence
+from typing import Any, NamedTuple, Protocol
 
 from ..core._own_keys import FLAG, is_own
 from ..session._place import Place
@@ -38,7 +37,7 @@ class QuiesceGroup(Protocol):
 
     def begin_gather(
         self, meeting: int, seconds: float, leads: bool, places: Sequence[Place], idle: float
-    ) -> Wait[Tuple[List[int], List[Place]]]:
+    ) -> Wait[tuple[list[int], list[Place]]]:
         ...
 
     def begin_flag(self, meeting: int, places: Sequence[Place]) -> Wait[None]:
@@ -53,7 +52,7 @@ class QuiesceGroup(Protocol):
     def release(self) -> None:
         ...
 
-    def edges(self) -> Optional[Sequence[Tuple[Any, ...]]]:
+    def edges(self) -> Sequence[tuple[Any, ...]] | None:
         """None if the process doesn't answer; then none of its sessions is audited."""
 
     def reopen(self) -> None:
@@ -65,19 +64,19 @@ class Met(NamedTuple):
     is how many transactions were waiting to be taken in when clients went on: the source of each of
     their reads is among them or was taken in before."""
 
-    failure: Optional[str]
+    failure: str | None
     came: int
 
 
 class QuiesceCoordinator:
     """For the auditor's thread, except `groups`, to which any thread may add."""
 
-    def __init__(self, groups: List[QuiesceGroup], places: SessionPool, backlog: Backlog) -> None:
+    def __init__(self, groups: list[QuiesceGroup], places: SessionPool, backlog: Backlog) -> None:
         self.groups, self._pool, self._backlog = groups, places, backlog
         self.meetings = 0
         self.is_meeting = False  # clients wait for the meeting, and so for nothing else
         self._counted = 0  # transactions handed in when the last one ended
-        self._kept: List[Place] = []  # by the last one, for clients that come
+        self._kept: list[Place] = []  # by the last one, for clients that come
 
     @property
     def new(self) -> int:
@@ -100,7 +99,7 @@ class QuiesceCoordinator:
         self._wait_for_who_comes()
         self.meetings, self.is_meeting = self.meetings + 1, True
         groups, places = list(self.groups), self._pool.lend()
-        failure: Optional[str] = None
+        failure: str | None = None
         try:
             failure = self._hold(groups, places, patience, idle)
             if failure is None:
@@ -136,8 +135,8 @@ class QuiesceCoordinator:
             self._backlog.put((time.monotonic(), number, None, None))
 
     def _hold(
-        self, groups: Sequence[QuiesceGroup], places: List[Place], patience: float, idle: float
-    ) -> Optional[str]:
+        self, groups: Sequence[QuiesceGroup], places: list[Place], patience: float, idle: float
+    ) -> str | None:
         """Holds all sessions. Returns the reason if that fails. Adds places that clients give back
         to `places`."""
         number, ends = self.meetings, time.monotonic() + patience
@@ -177,7 +176,7 @@ class QuiesceCoordinator:
             passed(ends)
         return None
 
-    def _lead(self, leading: QuiesceGroup, unread: Set[int], ends: float) -> None:
+    def _lead(self, leading: QuiesceGroup, unread: set[int], ends: float) -> None:
         """Has the leader read what nobody has read. First come the flags of `unread` and those of
         ended sessions, with as many keys as there is room for."""
         gone = self._backlog.take_ends()

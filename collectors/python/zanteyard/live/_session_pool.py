@@ -1,11 +1,10 @@
 """The auditor's sessions that no client has."""
 
-from __future__ import annotations
-
 import threading
 import time
 from collections import deque
-from typing import Any, Deque, Dict, Iterable, List, Mapping, Optional, Set, Tuple
+from collections.abc import Iterable, Mapping
+from typing import Any
 
 from ..core._tenancy import Tenancy
 from ..core._window import SESSIONS
@@ -31,22 +30,22 @@ class SessionPool:
     def __init__(self, sessions: int) -> None:
         self.sessions = sessions  # including one that hasn't joined yet
         self.tenancy = Tenancy()  # which clients had which sessions
-        self._left: Deque[Place] = deque(Place(number) for number in range(sessions))
-        self._back: Deque[Place] = deque()  # to be joined by their next clients
-        self._ended: Dict[int, Place] = {}  # by number: closed, and not forgotten yet
-        self._lent: Dict[int, Place] = {}  # by number: lent to meetings
-        self._taken: Set[int] = set()  # the numbers that clients have
+        self._left: deque[Place] = deque(Place(number) for number in range(sessions))
+        self._back: deque[Place] = deque()  # to be joined by their next clients
+        self._ended: dict[int, Place] = {}  # by number: closed, and not forgotten yet
+        self._lent: dict[int, Place] = {}  # by number: lent to meetings
+        self._taken: set[int] = set()  # the numbers that clients have
         self._changed = threading.Condition()  # guards the above
         self._is_lending = False
         self._can_join = False  # this audit has a fence to join after
-        self._new: Optional[int] = None  # the new session that hasn't joined yet
+        self._new: int | None = None  # the new session that hasn't joined yet
         self._new_at = 0.0  # when it was given out, by the monotonic clock
         self._waiting = 0  # clients
         self._without = 0  # clients that got none since this audit began
         self._has_ended = False  # nothing more is audited
         self._next_unaudited = max(SESSIONS, sessions)
 
-    def take(self, seconds: float, owed: Optional[List[Place]] = None) -> Optional[Place]:
+    def take(self, seconds: float, owed: list[Place] | None = None) -> Place | None:
         """A place; None if none becomes free within this many seconds. It is also appended to
         `owed`, so that it isn't lost if an interrupt comes."""
         owed = [] if owed is None else owed
@@ -108,12 +107,12 @@ class SessionPool:
         with self._changed:
             self._is_lending = True
 
-    def coming(self, there: Iterable[int]) -> Set[int]:
+    def coming(self, there: Iterable[int]) -> set[int]:
         """The numbers that clients have and that aren't in `there` yet."""
         with self._changed:
             return self._taken.difference(there)
 
-    def lend(self) -> List[Place]:
+    def lend(self) -> list[Place]:
         """Lends all open places to a meeting, until `take_back`."""
         with self._changed:
             self._is_lending, places = True, list(self._left)
@@ -129,7 +128,7 @@ class SessionPool:
                     self._taken.remove(place.number)
                     self._lent[place.number] = place
 
-    def spare(self, places: Iterable[Place]) -> List[Place]:
+    def spare(self, places: Iterable[Place]) -> list[Place]:
         """The lent places that stay open for clients that come. A closed place returns only after a
         cut, and nobody knows when that is. So half of the places without clients stay available,
         and a few if there are few."""
@@ -143,7 +142,7 @@ class SessionPool:
             half = (len(lent) + len(self._ended) - joining + 1) // 2
             return lent[: max(0, SPARE - joining, half)]
 
-    def close(self, places: Iterable[Place]) -> List[int]:
+    def close(self, places: Iterable[Place]) -> list[int]:
         """Marks those lent places as ended that have done nothing after the meeting's fence, and
         returns their numbers."""
         with self._changed:
@@ -186,7 +185,7 @@ class SessionPool:
     # sessions that join and return
 
     @property
-    def new(self) -> Optional[int]:
+    def new(self) -> int | None:
         """The number that is to join next; None if there is none."""
         return self._new
 
@@ -260,16 +259,16 @@ class SessionPool:
             self._can_join, self._new = False, None
             self._changed.notify_all()
 
-    def nobodys(self) -> Set[int]:
+    def nobodys(self) -> set[int]:
         """The numbers of places that are neither free nor a client's."""
         with self._changed:
             return self._nobodys()
 
-    def numbers(self) -> List[int]:
+    def numbers(self) -> list[int]:
         with self._changed:
             return [place.number for place in [*self._left, *self._back]]
 
-    def edges(self) -> List[Tuple[Any, ...]]:
+    def edges(self) -> list[tuple[Any, ...]]:
         """As `SessionGroup.edges`; nothing runs in these."""
         with self._changed:
             places = [*self._left, *self._back, *filter(_is_over, self._ended.values())]
@@ -277,7 +276,7 @@ class SessionPool:
 
     # continuing in another process of the auditor
 
-    def nobodys_by_now(self) -> Tuple[List[Place], int]:
+    def nobodys_by_now(self) -> tuple[list[Place], int]:
         """The free places and the lent ones that no process has been told about, or that were
         answered for; and the number of the next place that no audit covers."""
         with self._changed:
@@ -326,7 +325,7 @@ class SessionPool:
             return Place(self._new, must_join=True)
         return self._left.popleft()
 
-    def _nobodys(self) -> Set[int]:
+    def _nobodys(self) -> set[int]:
         left = [*self._left, *self._back, *filter(_is_over, self._ended.values())]
         return {*range(self.sessions)} - self._taken - {place.number for place in left}
 

@@ -1,9 +1,8 @@
 """What a live audit reports as it goes on: values for its callers, and lines in the log."""
 
-from __future__ import annotations
-
 import logging
-from typing import Any, Callable, NamedTuple, Optional
+from collections.abc import Callable
+from typing import Any, NamedTuple
 
 from ..core._records import Cut, Report
 
@@ -21,7 +20,7 @@ class RoundTold(NamedTuple):
     rate: float
     behind: float
     remaining: int
-    cut: Optional[Cut]
+    cut: Cut | None
     no_cut: str = ""
 
     def __str__(self) -> str:
@@ -60,9 +59,9 @@ class Teller:
 
     def __init__(
         self,
-        tell: Optional[Tell] = None,
-        on_round: Optional[Callable[[RoundTold], object]] = None,
-        on_client: Optional[Callable[[ClientTold], object]] = None,
+        tell: Tell | None = None,
+        on_round: Callable[[RoundTold], object] | None = None,
+        on_client: Callable[[ClientTold], object] | None = None,
     ) -> None:
         self._lines, self._rounds, self._clients = tell, on_round, on_client
         self._has_failed = False
@@ -79,7 +78,7 @@ class Teller:
         logger.info("%s", told)
         self._call(self._clients, told)
 
-    def _call(self, function: Optional[Callable[[Any], object]], told: Any) -> None:
+    def _call(self, function: Callable[[Any], object] | None, told: Any) -> None:
         if function is None:
             return
         try:

@@ -5,8 +5,9 @@ from __future__ import annotations
 import json
 import logging
 from collections import Counter
+from collections.abc import Container, Sequence
 from dataclasses import asdict
-from typing import Any, Container, Dict, List, Optional, Sequence, Tuple, Union
+from typing import Any
 
 from ..core._outcome import RATHER_LOSE_THE_AUDIT, Policy
 from ..core._own_keys import FENCE
@@ -62,10 +63,10 @@ class Auditor(Rounds):
         cls,
         journal: str,
         program: str = PROGRAM,
-        script: Optional[str] = None,
+        script: str | None = None,
         policy: Policy = RATHER_LOSE_THE_AUDIT,
-        round_seconds: Optional[float] = None,
-        promise: Optional[str] = None,
+        round_seconds: float | None = None,
+        promise: str | None = None,
     ) -> Auditor:
         """Continues the audit of this journal after its process has gone. `received`, `closed`,
         `history` and `violation` say where it stands. What clients did after `received` must be
@@ -83,20 +84,20 @@ class Auditor(Rounds):
             reopened_audit.journal.close()
             raise
 
-    def _start(self, coverage: Optional[Coverage]) -> None:
+    def _start(self, coverage: Coverage | None) -> None:
         self.coverage, self.left_out = coverage, 0  # reads whose source the audit doesn't cover
         self.from_before = 0
-        self.numbers: Dict[str, int] = {FENCE: 0}
+        self.numbers: dict[str, int] = {FENCE: 0}
         self.names = [FENCE]  # key names by number, and numbers by name
         self.history = [[] for _ in range(self.sessions)]  # what was taken in and isn't forgotten
         self.marks = [0] * self.sessions  # how many transactions of each session are forgotten
         self.closed = [False] * self.sessions  # sessions that have ended
         # The last forgotten writer of each key that has one.
-        self.base: Dict[str, AuditId] = {}
+        self.base: dict[str, AuditId] = {}
         self._tenancy = Tenancy()  # of clients, by their first transactions
         self._have_no_round()
         self.audits += 1
-        self.script_failure: Optional[OSError] = None
+        self.script_failure: OSError | None = None
         try:
             self._open_script()
             if isinstance(self.journal, Reopened):
@@ -123,7 +124,7 @@ class Auditor(Rounds):
                 raise ProgramTooOldError(too_old(self.path, form[0])) from error
             raise
 
-    def _started(self, journal: Union[str, Reopened, None]) -> Union[Pipes, SupervisedProgram]:
+    def _started(self, journal: str | Reopened | None) -> Pipes | SupervisedProgram:
         if journal is None:
             return Pipes(self.path)
         program = journaled(self.path, journal, self._head, self.names)
@@ -138,7 +139,7 @@ class Auditor(Rounds):
         more = (self._tenancy.joined(), self.promise.name, self.from_before, self._store())
         return Head(*plain, 0, 0, False, *more)
 
-    def _store(self) -> Optional[List[str]]:
+    def _store(self) -> list[str] | None:
         """The store that this run is about, in the journal's form; None until a client has
         identified it."""
         identity = self.audited_store.identity
@@ -170,12 +171,12 @@ class Auditor(Rounds):
         self.ask(["save", "marks"])  # once this is answered, the state is restored
 
     @property
-    def received(self) -> List[int]:
+    def received(self) -> list[int]:
         """How many transactions of each session were taken in, including forgotten ones."""
         return [gone + len(txns) for gone, txns in zip(self.marks, self.history)]
 
     @property
-    def violation(self) -> Optional[Report]:
+    def violation(self) -> Report | None:
         violations = (
             self.program.keeping.violations if isinstance(self.program, SupervisedProgram) else ()
         )
@@ -193,7 +194,7 @@ class Auditor(Rounds):
 
     # a line for a session, and its answer
 
-    def _prepare(self, kind: str, session: int, *offered: Any) -> Tuple[str, Any]:
+    def _prepare(self, kind: str, session: int, *offered: Any) -> tuple[str, Any]:
         if kind == "close":
             return written(["close", session]), None
         number, logged = offered
@@ -201,7 +202,7 @@ class Auditor(Rounds):
         self._note_figures(*fragment[3:])
         return self._offer_of(fragment), fragment
 
-    def _begin_take(self, asked: Tuple[str, Any]) -> None:
+    def _begin_take(self, asked: tuple[str, Any]) -> None:
         self._give(asked[:1])
 
     def _wait_for_take(self, seconds: float) -> None:
@@ -210,8 +211,8 @@ class Auditor(Rounds):
         self.program.wait(1, seconds)
 
     def _end_take(
-        self, kind: str, asked: Tuple[str, Any], seconds: float
-    ) -> Optional[RefusedError]:
+        self, kind: str, asked: tuple[str, Any], seconds: float
+    ) -> RefusedError | None:
         text, fragment = asked
         assert self.program is not None
         (answer,) = self.program.answers(1, seconds)
@@ -225,14 +226,14 @@ class Auditor(Rounds):
             self.closed[json.loads(text)[1]] = True
         return refusal
 
-    def _offer_of(self, fragment: Tuple[Any, ...], joins: bool = False) -> str:
+    def _offer_of(self, fragment: tuple[Any, ...], joins: bool = False) -> str:
         session, first, txns, *_ = fragment
         where = ["offer", session, first]
         if joins:  # as a new session, or as one that returns
             where = ["join", session] if session >= self.sessions else ["join", session, first]
         return written([*where, [*map(self.txn, txns)]])
 
-    def _keep_history(self, fragment: Tuple[Any, ...], joins: bool = False) -> None:
+    def _keep_history(self, fragment: tuple[Any, ...], joins: bool = False) -> None:
         session, _, txns, left_out, from_before = fragment
         if session == len(self.history):  # a new session has joined
             self.marks.append(0)
@@ -249,7 +250,7 @@ class Auditor(Rounds):
             self.taken_in += len(txns)
 
     @property
-    def written_last(self) -> List[Sequence[str]]:
+    def written_last(self) -> list[Sequence[str]]:
         """For each session the keys that its last transaction wrote, unless that is forgotten."""
         return [self._writes(txns[-1]) if txns else () for txns in self.history]
 
@@ -257,12 +258,12 @@ class Auditor(Rounds):
         return logged.writes
 
     @property
-    def vacant(self) -> List[int]:
+    def vacant(self) -> list[int]:
         return [at for at, txns in enumerate(self.history) if self.closed[at] and not txns]
 
     def offer_all(
         self, fragments: Sequence[Fragment], joining: Container[int] = ()
-    ) -> List[Fragment]:
+    ) -> list[Fragment]:
         refused, wrong = [], None
         full = set()  # sessions for which there was no room
         with self._between_rounds(bool(joining)):
@@ -302,7 +303,7 @@ class Auditor(Rounds):
                 self.program.keeping.store = self._store()
                 self.program.keeping.note_figures()
 
-    def _covered(self, fragment: Fragment) -> Tuple[Any, ...]:
+    def _covered(self, fragment: Fragment) -> tuple[Any, ...]:
         """The fragment as the audit sees it, how many reads were left out, and how many read
         versions from before."""
         session, first, txns = fragment
@@ -315,11 +316,11 @@ class Auditor(Rounds):
     def _from_before(self, logged: Any) -> int:
         return int(logged.from_before)
 
-    def _moved(self, logged: Any) -> Tuple[Any, int]:
+    def _moved(self, logged: Any) -> tuple[Any, int]:
         assert self.coverage is not None
         return self.coverage.moved(logged)
 
-    def txn(self, logged: Any) -> List[Any]:
+    def txn(self, logged: Any) -> list[Any]:
         """A transaction as lines have it. What an aborted attempt did has no effect; one that did
         nothing looks like any other idle transaction."""
         did_read, did_write = logged.did
@@ -363,7 +364,7 @@ class Auditor(Rounds):
             raise refusal
         return cut
 
-    def _begun(self) -> List[List[int]]:
+    def _begun(self) -> list[list[int]]:
         """The transactions of which only the begin is forgotten."""
         if not self.promise.asks_itself:
             return []
@@ -392,7 +393,7 @@ class Auditor(Rounds):
         several clients. A live audit shows the client's number instead."""
         return self.live_called(id) if self.live_called else self._tenancy.called_by_first(id)
 
-    def _end_program(self) -> Optional[int]:
+    def _end_program(self) -> int | None:
         if self.script is not None:
             self.script.close()
             self.script = None

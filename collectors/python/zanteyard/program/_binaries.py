@@ -4,13 +4,12 @@ A wheel contains the program in the folder `bin` of this package, next to a note
 (`made.json`, which package.sh writes). In a clone it is in the prover's output folder.
 """
 
-from __future__ import annotations
-
 import hashlib
 import json
 import os
+from collections.abc import Mapping
 from dataclasses import dataclass
-from typing import Any, Mapping, Optional
+from typing import Any
 
 from ..core.errors import ProgramMissingError
 
@@ -35,7 +34,7 @@ class ProgramOrigin:
     """How a program was built. `is_proved` is None if there is no note."""
 
     path: str
-    is_proved: Optional[bool]
+    is_proved: bool | None
     kit: str = ""
     commit: str = ""
     is_as_noted: bool = True  # whether the file's hash is the one in the note

@@ -1,12 +1,11 @@
 """`zanteyard check-report SCRIPT REPLIES`: has a separate program check stored replies, which runs
 no search and doesn't rely on the auditor (`cobra_check`, docs/FORMATS.md)."""
 
-from __future__ import annotations
-
 import argparse
 import contextlib
 import subprocess
-from typing import IO, Iterator, Tuple
+from collections.abc import Iterator
+from typing import IO
 
 from ..core.errors import ProgramEndedError, ZanteyardError
 from ._binaries import find_checker
@@ -29,7 +28,7 @@ def run(asked: argparse.Namespace) -> int:
         return check(script, replies)
 
 
-def by_turns(script: IO[bytes], replies: IO[bytes]) -> Iterator[Tuple[bytes, bytes]]:
+def by_turns(script: IO[bytes], replies: IO[bytes]) -> Iterator[tuple[bytes, bytes]]:
     """Each line of the script with its reply, which is empty if it is missing; the checker reports
     that. Raises ZanteyardError if there are more replies than lines."""
     for line in script:

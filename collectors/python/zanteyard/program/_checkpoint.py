@@ -1,15 +1,14 @@
 """How a program hands out its state, and how another one starts from it (docs/FORMATS.md)."""
 
-from __future__ import annotations
-
 import json
-from typing import Any, Generator, List, Sequence
+from collections.abc import Generator, Sequence
+from typing import Any
 
 from ..core.errors import JournalError, ProgramEndedError, ZanteyardError
 from ..promises._asking import form_of
 from ..promises._kinds import SERIALIZABLE, Promise
 
-Answers = Generator[List[bytes], List[bytes], List[bytes]]  # yields lines, is sent their answers
+Answers = Generator[list[bytes], list[bytes], list[bytes]]  # yields lines, is sent their answers
 
 OK, RESUMED = b'["ok"]', b'["resumed"]'
 REFUSED, NO_MEMORY = b'["no",', b'["no",16,'
@@ -24,8 +23,8 @@ TRIES = 3  # if a line is refused because memory ran out
 def saved_lines(limit: int, promise: Promise = SERIALIZABLE) -> Answers:
     """The lines that bring another program to this one's state. Raises JournalError if the program
     can't say. In each step all unfinished parts are requested at once, each from where it ended."""
-    last: List[bytes] = []
-    remaining: List[bytes] = []
+    last: list[bytes] = []
+    remaining: list[bytes] = []
     (marks,) = yield from _answers([MARKS])
     sessions = len(json.loads(marks)[1])  # including those that have joined
     ends_at = {-1: 0, **dict.fromkeys(range(sessions), 0)}  # of keys; of each session
@@ -61,14 +60,14 @@ def _end_of(answer: bytes) -> int:
     return int(first) + len(txns)
 
 
-def standing_lines(sessions: int) -> List[bytes]:
+def standing_lines(sessions: int) -> list[bytes]:
     """Lines that ask how many transactions of each session are gone, whether it is closed, and how
     many were taken in. The start is past the last possible number, so the answers are empty."""
     return [MARKS, *(_part(session, NUMBERS) for session in range(sessions))]
 
 
 def is_standing(
-    answers: Sequence[bytes], gone: List[int], closed: List[bool], received: List[int]
+    answers: Sequence[bytes], gone: list[int], closed: list[bool], received: list[int]
 ) -> bool:
     """Whether these answers to those lines mean that the program has this state."""
     marks, *ends = map(json.loads, answers)
@@ -76,7 +75,7 @@ def is_standing(
     return bool(marks[:3] == ["marks", gone, closed] and ends == wanted)
 
 
-def _answers(lines: List[bytes]) -> Answers:
+def _answers(lines: list[bytes]) -> Answers:
     for _ in range(TRIES):
         answers = yield lines
         refused = [answer for answer in answers if answer.startswith(REFUSED)]

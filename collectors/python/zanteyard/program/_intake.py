@@ -1,15 +1,14 @@
 """What an auditor takes from sessions and what users call, whichever process runs its program."""
 
-from __future__ import annotations
-
 import logging
 import os
 import secrets
 import threading
 import time
 from collections import deque
+from collections.abc import Container, Iterator, Sequence
 from contextlib import suppress
-from typing import Any, Container, Deque, Dict, Iterator, List, Optional, Sequence, Tuple, Union
+from typing import Any
 
 from ..core._locks import give_back, take
 from ..core._outcome import RATHER_LOSE_THE_AUDIT, VIOLATED, Outcome, Policy, kind_of
@@ -33,8 +32,8 @@ ROUND_SECONDS = 60.0  # the default limit of a round's search
 # A search is polled again after an eighth of the time that it has taken, within these bounds.
 SHARE, LEAST_PAUSE, LONGEST_PAUSE = 8, 0.0005, 0.02
 LATEST = 10.0  # seconds after which a late answer is given up, even if no client waits for it
-Effort = Tuple[int, int, int]  # nodes, depth, workers
-Fragment = Tuple[int, int, Sequence[Any]]  # session, first number, transactions
+Effort = tuple[int, int, int]  # nodes, depth, workers
+Fragment = tuple[int, int, Sequence[Any]]  # session, first number, transactions
 logger = logging.getLogger("zanteyard")
 
 
@@ -56,18 +55,18 @@ class Intake:
     history: History  # for each session, what was taken in and isn't forgotten
     has_sessions = False  # that hand in to it
     from_before = 0  # reads of versions from before this audit
-    live_called: Optional[AuditNaming] = None  # how a live audit names transactions
+    live_called: AuditNaming | None = None  # how a live audit names transactions
 
     def __init__(
         self,
         sessions: int,
-        limit: Optional[int] = None,
+        limit: int | None = None,
         program: str = PROGRAM,
-        run_name: Optional[str] = None,
-        script: Optional[str] = None,
+        run_name: str | None = None,
+        script: str | None = None,
         policy: Policy = RATHER_LOSE_THE_AUDIT,
-        journal: Union[str, Reopened, None] = None,
-        round_seconds: Optional[float] = None,
+        journal: str | Reopened | None = None,
+        round_seconds: float | None = None,
         promise: str = SERIALIZABLE.name,
     ) -> None:
         self.promise = ASKED[promise]
@@ -87,7 +86,7 @@ class Intake:
         self.token = secrets.token_hex(12)  # unique to this run, even if its name isn't
         self.audited_store = AuditedStore()
         self.audits = 0
-        self._waiting: Deque[Tuple[Any, ...]] = deque()
+        self._waiting: deque[tuple[Any, ...]] = deque()
         self.is_ended = False  # by its owner
         self.lock = threading.RLock()  # the state here follows the replies in their order
         self._rounds = threading.RLock()  # one round at a time, for one caller
@@ -96,15 +95,15 @@ class Intake:
 
     # what each kind does in its own way
 
-    def _start(self, coverage: Optional[Coverage]) -> None:
+    def _start(self, coverage: Coverage | None) -> None:
         raise NotImplementedError
 
-    def _end_program(self) -> Optional[int]:
+    def _end_program(self) -> int | None:
         raise NotImplementedError
 
     def offer_all(
         self, fragments: Sequence[Fragment], joining: Container[int] = ()
-    ) -> List[Fragment]:
+    ) -> list[Fragment]:
         """Offers several fragments, each (session, first number, transactions), and returns those
         for which there was no room. For the sessions in `joining` the fragment is what they join
         with, as in an Auditor's `join`; each of these has one fragment."""
@@ -123,7 +122,7 @@ class Intake:
         that, and after an interrupt."""
         raise NotImplementedError
 
-    def _end_take(self, kind: str, asked: Any, seconds: float) -> Optional[RefusedError]:
+    def _end_take(self, kind: str, asked: Any, seconds: float) -> RefusedError | None:
         """Reads the answer, and returns the refusal in it, if any."""
         raise NotImplementedError
 
@@ -202,7 +201,7 @@ class Intake:
         transactions are unknown. Raises JournalError."""
         self.has_sessions = True
 
-    def keep_journal(self, path: str, round_seconds: Optional[float] = None) -> None:
+    def keep_journal(self, path: str, round_seconds: float | None = None) -> None:
         """Adds a journal to an auditor that hasn't been used yet. Raises JournalError; the auditor
         has then ended."""
         with self.lock:
@@ -230,7 +229,7 @@ class Intake:
     marks: Any  # how many of each session are forgotten
 
     @property
-    def violation(self) -> Optional[Report]:
+    def violation(self) -> Report | None:
         """The journal's first violated report, if there is a journal and a violation: it stays
         true, whatever is reported later."""
         return None
@@ -258,7 +257,7 @@ class Intake:
             raise FullError(f"no room for transaction {number} of session {session}")
 
     @property
-    def vacant(self) -> List[int]:
+    def vacant(self) -> list[int]:
         """The closed sessions of which nothing remains, which may return."""
         raise NotImplementedError
 
@@ -272,7 +271,7 @@ class Intake:
             raise self.failure
         return self.last_round(efforts)
 
-    def start_anew(self, coverage: Optional[Coverage] = None) -> None:
+    def start_anew(self, coverage: Coverage | None = None) -> None:
         """Starts a new audit with a new program. With a Coverage, numbers count from the beginning
         of that audit. Raises ProgramEndedError after `end`."""
         with self.lock:
@@ -282,7 +281,7 @@ class Intake:
             self._be_in_step()  # with the new program
             self._start(coverage)
 
-    def end(self) -> Optional[int]:
+    def end(self) -> int | None:
         """Ends the program, and returns its status, or None if unknown. May be called again."""
         self.is_ended = True
         with self.lock:
@@ -299,10 +298,10 @@ class Intake:
         self.audited_store.meet(identity)
 
     def _begin_count(self) -> None:
-        self.failure: Optional[Exception] = None
+        self.failure: Exception | None = None
         self.taken_in, self._is_round_begun = 0, False
         # For each session, the number after the last one counted, and how many were counted.
-        self._seen: Dict[int, Tuple[int, int]] = {}
+        self._seen: dict[int, tuple[int, int]] = {}
         self._late: Any = None  # a session's request that isn't answered yet, and when it was sent
 
     def take(self, session: int, number: int, logged: Logged) -> None:
@@ -331,11 +330,11 @@ class Intake:
         """The session does nothing more."""
         self._hand_in(("close", session))
 
-    def _hand_in(self, what: Tuple[Any, ...]) -> None:
+    def _hand_in(self, what: tuple[Any, ...]) -> None:
         if self.failure is not None:
             return
         self._waiting.append(what)
-        taken: List[bool] = []
+        taken: list[bool] = []
         ends = time.monotonic() + self.policy.wait
         try:
             if take(self.lock, self.policy.wait, taken):  # else the holder of the lock takes it in
@@ -343,7 +342,7 @@ class Intake:
         finally:
             give_back(self.lock, taken)
 
-    def _take_in(self, ends: Optional[float] = None) -> None:
+    def _take_in(self, ends: float | None = None) -> None:
         """Takes in everything that waits, until the time `ends`. An answer that isn't there by then
         is read by the next caller, without waiting for it again."""
         with self.lock:
@@ -422,7 +421,7 @@ class Intake:
 
 
 def never_came(
-    history: History, marks: Optional[Sequence[int]] = None
+    history: History, marks: Sequence[int] | None = None
 ) -> Iterator[Pending]:
     """The reads of a history that name transactions which aren't in it."""
     marks = marks or [0] * len(history)

@@ -1,11 +1,10 @@
 """Sends lines to cobra_audit, reads its replies, and keeps the lines in a script."""
 
-from __future__ import annotations
-
 import json
 import logging
 import time
-from typing import Any, List, Mapping, Optional, Sequence, Tuple, Type, Union
+from collections.abc import Mapping, Sequence
+from typing import Any
 
 from ..core._own_keys import LARGE_FORM
 from ..core._private_files import private
@@ -30,7 +29,7 @@ SHOWN = 160  # characters of a refused line
 WAITS = (0.1, 0.5)  # seconds until a line that was answered NoMemory is sent again
 ENDED = "cobra_audit was closed"
 logger = logging.getLogger("zanteyard")
-KINDS: Mapping[str, Type[RefusedError]] = {
+KINDS: Mapping[str, type[RefusedError]] = {
     "Backlog": FullError,
     "BadLine": BadLineError,
     "NoCut": NoCutError,
@@ -58,7 +57,7 @@ def written(line: Sequence[Any]) -> str:
     return json.dumps(line, separators=(",", ":"))
 
 
-def refusal_of(text: str, reply: Sequence[Any]) -> Optional[RefusedError]:
+def refusal_of(text: str, reply: Sequence[Any]) -> RefusedError | None:
     """The error for this line, if the reply refuses it."""
     if reply[0] != "no":
         return None
@@ -69,10 +68,10 @@ def refusal_of(text: str, reply: Sequence[Any]) -> Optional[RefusedError]:
 class Lines(Intake):
     """Safe for use by several threads: each call is one line and its reply."""
 
-    script_path: Optional[str]
-    script_failure: Optional[OSError]  # why the script lacks lines
+    script_path: str | None
+    script_failure: OSError | None  # why the script lacks lines
     script: Any = None  # an unbuffered file, whose `write` returns how much it took
-    program: Union[Pipes, SupervisedProgram, None] = None
+    program: Pipes | SupervisedProgram | None = None
 
     def _open_script(self) -> None:
         """Opens the script. That of a later audit is next to the first one's, with the audit's
@@ -81,7 +80,7 @@ class Lines(Intake):
             behind = f".{self.audits}" if self.audits > 1 else ""
             self.script = open(f"{self.script_path}{behind}", "wb", 0, opener=private)
 
-    def ask(self, line: Sequence[Any]) -> List[Any]:
+    def ask(self, line: Sequence[Any]) -> list[Any]:
         """The reply to a line of docs/FORMATS.md. A line that is refused because memory ran out is
         sent again."""
         text = written(line)
@@ -100,8 +99,8 @@ class Lines(Intake):
         self._leave_step()
 
     def _settled(
-        self, text: str, reply: List[Any], seconds: float = SECONDS
-    ) -> Tuple[List[Any], Optional[RefusedError]]:
+        self, text: str, reply: list[Any], seconds: float = SECONDS
+    ) -> tuple[list[Any], RefusedError | None]:
         """The reply and the refusal in it, after repeating a line that was refused because memory
         ran out."""
         for wait in WAITS:
@@ -111,7 +110,7 @@ class Lines(Intake):
             (reply,) = self._replies_to([text])
         return reply, refusal_of(text, reply)
 
-    def _replies_to(self, texts: Sequence[str], is_kept: bool = True) -> List[List[Any]]:
+    def _replies_to(self, texts: Sequence[str], is_kept: bool = True) -> list[list[Any]]:
         """The replies to lines that are sent one after another and kept in the script. Raises
         ProgramLateError if that takes too long. The caller has called `_begin_to_ask`."""
         self._give(texts, is_kept)

@@ -1,12 +1,11 @@
 """A program that answers line by line over pipes, with a time limit for each wait."""
 
-from __future__ import annotations
-
 import os
 import select
 import subprocess
 import time
-from typing import Iterable, List, NoReturn
+from collections.abc import Iterable
+from typing import NoReturn
 
 from ..core.errors import ProgramEndedError, ProgramLateError
 
@@ -32,7 +31,7 @@ class Pipes:
         self.errors = self.process.stderr
         self.rest = b""  # what was read after the last whole line
         self.unsent = memoryview(b"")  # rest of the lines that aren't written yet
-        self.found: List[bytes] = []  # answers that nobody has taken yet
+        self.found: list[bytes] = []  # answers that nobody has taken yet
         self.is_in_step = True  # no write or read was interrupted halfway
         self.waits = select.poll()
         self.waits.register(self.output, select.POLLIN | select.POLLHUP)
@@ -45,13 +44,13 @@ class Pipes:
         self.still_in_step()
         self.unsent = memoryview(bytes(self.unsent) + b"".join(line + b"\n" for line in lines))
 
-    def answers(self, count: int, seconds: float) -> List[bytes]:
+    def answers(self, count: int, seconds: float) -> list[bytes]:
         """The next `count` answers, in the order of their lines. Raises what `wait` raises."""
         self.wait(count, seconds)
         answers, self.found = self.found[:count], self.found[count:]
         return answers
 
-    def taken(self) -> List[bytes]:
+    def taken(self) -> list[bytes]:
         """All answers that have arrived so far."""
         taken, self.found = self.found, []
         return taken

@@ -1,10 +1,8 @@
 """Begins an audit with a journal, or continues one."""
 
-from __future__ import annotations
-
 import logging
+from collections.abc import Callable, Sequence
 from dataclasses import dataclass
-from typing import Callable, List, Optional, Sequence, Union
 
 from ..core._window import Coverage
 from ..core.errors import JournalDamagedError, JournalError
@@ -27,7 +25,7 @@ class Reopened:
     state: State
 
     @property
-    def coverage(self) -> Optional[Coverage]:
+    def coverage(self) -> Coverage | None:
         plain = self.kept.head.coverage
         if plain is None:
             return None
@@ -35,7 +33,7 @@ class Reopened:
         return Coverage(plain["early"], plain["first"], plain["last"], unknown)
 
 
-def reopened(path: str, promise: Optional[str] = None) -> Reopened:
+def reopened(path: str, promise: str | None = None) -> Reopened:
     """Raises JournalError if there is no valid journal, or if its audit checks another promise."""
     journal = Journal(path)
     try:
@@ -65,7 +63,7 @@ def _state_of(kept: Kept, path: str) -> State:
 
 def journaled(
     program: str,
-    journal: Union[str, Reopened],
+    journal: str | Reopened,
     head: Callable[[], Head],
     names: Sequence[str],
 ) -> SupervisedProgram:
@@ -87,7 +85,7 @@ def journaled(
         raise
 
 
-def _earlier(journal: Journal, run_name: str) -> List[Violation]:
+def _earlier(journal: Journal, run_name: str) -> list[Violation]:
     """The violations that earlier audits of this run reported, which are kept."""
     if not journal.is_there:
         return []

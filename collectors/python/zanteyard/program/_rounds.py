@@ -1,11 +1,10 @@
 """Rounds of an auditor, which takes in more while each is searched."""
 
-from __future__ import annotations
-
 import time
 from collections import deque
+from collections.abc import Iterator, Sequence
 from contextlib import contextmanager
-from typing import Any, Deque, Iterator, List, Optional, Sequence
+from typing import Any
 
 from ..core._records import Report
 from ..core.errors import NoRoundError
@@ -25,10 +24,10 @@ class Rounds(Lines):
     def _have_no_round(self, told: int = 0) -> None:
         """Initial state with a new program; `told` rounds were reported before."""
         self.effort = EFFORTS[0]  # of the last round
-        self._efforts: Deque[Effort] = deque()  # to be tried if this one is spent
-        self._search: Optional[SearchedRound] = None
+        self._efforts: deque[Effort] = deque()  # to be tried if this one is spent
+        self._search: SearchedRound | None = None
         self._may_be_open = False  # a round, after an interrupt
-        self._report: Optional[Report] = None  # ready, but not yet taken
+        self._report: Report | None = None  # ready, but not yet taken
         self._told = told  # reported rounds
         self._uncounted = 0  # reported rounds that the program doesn't count
 
@@ -119,10 +118,10 @@ class Rounds(Lines):
                     return
             search.pause(SECONDS)
 
-    def _ask_of_round(self, line: Sequence[Any]) -> List[Any]:
+    def _ask_of_round(self, line: Sequence[Any]) -> list[Any]:
         return self._collect() if line == COLLECT else self.ask(line)
 
-    def _collect(self) -> List[Any]:
+    def _collect(self) -> list[Any]:
         """Asks for the report. The script has this line once, after everything that arrived during
         the search."""
         text = written(COLLECT)

@@ -1,14 +1,13 @@
 """One round of cobra_audit, which goes on searching while more lines arrive (docs/FORMATS.md)."""
 
-from __future__ import annotations
-
 import time
-from typing import Any, Callable, List, Optional, Sequence
+from collections.abc import Callable, Sequence
+from typing import Any
 
 from ..core.errors import BadLineError, NoMemoryError, ProgramTooOldError
 from ._intake import pause_after
 
-Ask = Callable[[Sequence[Any]], List[Any]]  # returns the reply to a line; raises RefusedError
+Ask = Callable[[Sequence[Any]], list[Any]]  # returns the reply to a line; raises RefusedError
 BEGIN, COLLECT, SKIP = ["begin"], ["collect"], ["skip"]
 REPORT = "report"
 WAITS = (0.1, 0.5)  # seconds until a search that ran out of memory is tried again
@@ -33,7 +32,7 @@ class SearchedRound:
         except BadLineError as error:
             raise ProgramTooOldError(TOO_OLD) from error
 
-    def look(self) -> Optional[List[Any]]:
+    def look(self) -> list[Any] | None:
         """The report, if the search has ended. A search that takes too long is skipped; then the
         round is over and `is_skipped` is set. Raises NoMemoryError after running out of memory
         repeatedly; then the round is over, too."""

@@ -14,9 +14,10 @@ import socket
 import struct
 import subprocess
 import sys
+from collections.abc import Container, Sequence
 from multiprocessing.connection import Pipe
 from multiprocessing.reduction import ForkingPickler
-from typing import Any, Container, List, Optional, Sequence, Tuple, Union
+from typing import Any
 
 from ..core._outcome import RATHER_LOSE_THE_AUDIT, Policy
 from ..core._own_keys import FENCE
@@ -57,7 +58,7 @@ class AuditorApart(Intake):
     process: Any = None
     _connection: Any = None
 
-    def _start(self, coverage: Optional[Coverage]) -> None:
+    def _start(self, coverage: Coverage | None) -> None:
         self._figures = (0, 0, 0)
         self.audits += 1
         settings = (self.sessions, self.limit, self.path, self.run_name)
@@ -131,7 +132,7 @@ class AuditorApart(Intake):
             self._ask("last_round")  # this finds a cut
         return self._ask(name, *arguments)
 
-    def _ask(self, name: str, *arguments: Any, seconds: Optional[float] = None) -> Any:
+    def _ask(self, name: str, *arguments: Any, seconds: float | None = None) -> Any:
         if seconds is None:
             seconds = SECONDS + MORE + 2 * self.round_seconds
         packed = ForkingPickler.dumps((name, arguments))
@@ -185,7 +186,7 @@ class AuditorApart(Intake):
         except (OSError, EOFError) as error:
             raise ProgramUnreachableError(f"{UNREACHABLE}: {error}") from error
 
-    def _receive(self) -> Tuple[bool, Any]:
+    def _receive(self) -> tuple[bool, Any]:
         """Whether the call failed, and its result or its error."""
         try:
             is_failed, result, log_lines = self._connection.recv()
@@ -210,7 +211,7 @@ class AuditorApart(Intake):
     def _wait_for_take(self, seconds: float) -> None:
         self._wait(seconds)
 
-    def _end_take(self, kind: str, asked: Any, seconds: float) -> Optional[RefusedError]:
+    def _end_take(self, kind: str, asked: Any, seconds: float) -> RefusedError | None:
         is_failed, result = self._receive()
         if is_failed:
             failure: RefusedError = result  # of whatever class, it was read completely
@@ -230,7 +231,7 @@ class AuditorApart(Intake):
 
     def offer_all(
         self, fragments: Sequence[Fragment], joining: Container[int] = ()
-    ) -> List[Fragment]:
+    ) -> list[Fragment]:
         """As Intake has it; the transactions may be packed."""
         joins = [session for session, _, _ in fragments if session in joining]
         plain = [*map(self._plain, fragments)]
@@ -238,7 +239,7 @@ class AuditorApart(Intake):
         self.sessions = max([self.sessions, *(session + 1 for session in joins)])
         return [fragment for fragment in fragments if fragment[0] in refused]
 
-    def _store_to_note(self) -> Optional[StoreIdentity]:
+    def _store_to_note(self) -> StoreIdentity | None:
         """The store, if there is a journal."""
         return self.audited_store.identity if self.journal is not None else None
 
@@ -256,13 +257,13 @@ class AuditorApart(Intake):
         return self._figures[2]
 
     @property
-    def vacant(self) -> List[int]:
-        vacant: List[int] = self._call("get", "vacant")
+    def vacant(self) -> list[int]:
+        vacant: list[int] = self._call("get", "vacant")
         return vacant
 
     @property
-    def written_last(self) -> List[Sequence[str]]:
-        keys: List[Sequence[str]] = self._call("get", "written_last")
+    def written_last(self) -> list[Sequence[str]]:
+        keys: list[Sequence[str]] = self._call("get", "written_last")
         return keys
 
     @staticmethod
@@ -320,11 +321,11 @@ class AuditorApart(Intake):
         return self._call("get", "closed")
 
     @property
-    def violation(self) -> Optional[Report]:
+    def violation(self) -> Report | None:
         if self.journal is None:
             return None
         try:
-            report: Optional[Report] = self._call("get", "violation")
+            report: Report | None = self._call("get", "violation")
         except ZanteyardError:
             return None  # it can't be reached, and the journal still has it
         return report
@@ -333,10 +334,10 @@ class AuditorApart(Intake):
     def script_failure(self) -> Any:
         return self._call("get", "script_failure")
 
-    def _end_program(self) -> Optional[int]:
+    def _end_program(self) -> int | None:
         self._late = None
         try:
-            status: Optional[int] = self._ask("end", seconds=2 * ENDING)
+            status: int | None = self._ask("end", seconds=2 * ENDING)
         except ProgramEndedError:
             status = None
         self._connection.close()

@@ -1,13 +1,12 @@
 """The process between the clients' process and cobra_audit: it answers the calls of an
 AuditorApart."""
 
-from __future__ import annotations
-
 import gc
 import logging
 import signal
+from collections.abc import Sequence
 from multiprocessing.connection import Connection
-from typing import Any, List, Optional, Sequence, Tuple
+from typing import Any
 
 from ..core._outcome import RATHER_LOSE_THE_AUDIT
 from ..core._records import as_bytes, unpacked
@@ -28,13 +27,13 @@ class OfPacked(Auditor):
         self,
         *arguments: Any,
         audits: int = 1,
-        coverage: Optional[Coverage] = None,
+        coverage: Coverage | None = None,
         **more: Any,
     ) -> None:
         self._earlier, self._began = audits - 1, coverage
         super().__init__(*arguments, **more)
 
-    def _start(self, _: Optional[Coverage]) -> None:
+    def _start(self, _: Coverage | None) -> None:
         self.audits = self._earlier
         super()._start(self._began)
 
@@ -43,7 +42,7 @@ class OfPacked(Auditor):
         packed: Any = [[*map(as_bytes, txns)] for txns in self.history]
         self.history = packed
 
-    def txn(self, packed: bytes) -> List[Any]:
+    def txn(self, packed: bytes) -> list[Any]:
         return super().txn(unpacked(packed))
 
     def _without_reads(self, packed: bytes) -> bytes:  # type: ignore[override]
@@ -55,7 +54,7 @@ class OfPacked(Auditor):
     def _from_before(self, packed: bytes) -> int:
         return unpacked(packed).from_before
 
-    def _moved(self, packed: bytes) -> Tuple[bytes, int]:
+    def _moved(self, packed: bytes) -> tuple[bytes, int]:
         logged, left_out = super()._moved(unpacked(packed))
         return as_bytes(logged), left_out
 
@@ -63,7 +62,7 @@ class OfPacked(Auditor):
 class Telling(logging.Handler):
     """Collects the log's lines with their levels."""
 
-    def __init__(self, lines: List[Tuple[int, str]]) -> None:
+    def __init__(self, lines: list[tuple[int, str]]) -> None:
         super().__init__()
         self.told = lines
 
@@ -76,7 +75,7 @@ class Served:
 
     def __init__(self) -> None:
         self.auditor: Any = None  # an OfPacked, once it is opened
-        self.told: List[Tuple[int, str]] = []  # log lines to send with the next answer
+        self.told: list[tuple[int, str]] = []  # log lines to send with the next answer
 
     def _tell_log(self) -> None:
         """With a journal, sends log lines about restarted programs to the clients' process."""
@@ -90,14 +89,14 @@ class Served:
         limit: int,
         program: str,
         run_name: str,
-        script: Optional[str],
-        journal: Optional[str],
-        round_seconds: Optional[float],
+        script: str | None,
+        journal: str | None,
+        round_seconds: float | None,
         audits: int,
-        coverage: Optional[Coverage],
+        coverage: Coverage | None,
         has_sessions: bool,
         promise: str,
-        store: Optional[StoreIdentity],
+        store: StoreIdentity | None,
     ) -> None:
         if journal is not None:
             self._tell_log()
@@ -110,7 +109,7 @@ class Served:
             self.auditor.note_sessions()
 
     def resume(
-        self, program: str, script: Optional[str], journal: str, round_seconds: Optional[float]
+        self, program: str, script: str | None, journal: str, round_seconds: float | None
     ) -> None:
         """Replaces a process that is gone. Its script stays, next to the new one."""
         self._tell_log()
@@ -122,7 +121,7 @@ class Served:
         self,
         fragments: Sequence[Fragment],
         joining: Sequence[int],
-        store: Optional[StoreIdentity] = None,
+        store: StoreIdentity | None = None,
     ) -> Any:
         """Returns the sessions for whose transactions there was no room, and the figures. `store`
         is the store that they are about, which the journal records, too."""
@@ -135,7 +134,7 @@ class Served:
         """The report and the figures."""
         return self.auditor.last_round(), self._figures()
 
-    def _figures(self) -> Tuple[int, int, int]:
+    def _figures(self) -> tuple[int, int, int]:
         """How many reads were left out, how many read versions from before, and how many
         transactions remain."""
         auditor = self.auditor
@@ -148,10 +147,10 @@ class Served:
     def get(self, name: str) -> Any:
         return getattr(self.auditor, name)
 
-    def end(self) -> Optional[int]:
+    def end(self) -> int | None:
         return self.auditor.end() if self.auditor else None
 
-    def answer(self, name: str, arguments: Sequence[Any]) -> Tuple[bool, Any, Any]:
+    def answer(self, name: str, arguments: Sequence[Any]) -> tuple[bool, Any, Any]:
         try:
             deed = getattr(self if hasattr(self, name) else self.auditor, name)
             is_failed, result = False, deed(*arguments)

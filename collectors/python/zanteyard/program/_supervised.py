@@ -7,15 +7,14 @@ wasn't answered by then is given to it as a new one, and nothing else that the d
 counts.
 """
 
-from __future__ import annotations
-
 import json
 import logging
 import os
 import time
 from collections import deque
+from collections.abc import Generator, Sequence
 from itertools import islice, takewhile
-from typing import Any, Deque, Generator, List, Optional, Sequence
+from typing import Any
 
 from ..core._forks import is_forked
 from ..core.errors import JournalError, ProgramEndedError, ProgramLateError
@@ -34,7 +33,7 @@ from ._checkpoint import (
 )
 from ._pipes import Pipes
 
-Talk = Generator[List[bytes], List[bytes], None]  # yields lines, and is sent their answers
+Talk = Generator[list[bytes], list[bytes], None]  # yields lines, and is sent their answers
 
 MOST = 8  # programs that may die over one line, or over one round
 SILENT = 45.0  # seconds for a program to answer a line, which never waits for a search
@@ -58,22 +57,22 @@ class SupervisedProgram:
         self,
         path: str,
         keeping: JournalWriter,
-        kept: Optional[Kept] = None,
+        kept: Kept | None = None,
     ) -> None:
         """`kept` is the journal's contents, if it continues one."""
         self.path, self.keeping = path, keeping
         self.restarts, self.made_in = 0, os.getpid()
-        self._given: Deque[bytes] = deque()  # lines whose answers weren't passed on
+        self._given: deque[bytes] = deque()  # lines whose answers weren't passed on
         self._sent = 0  # how many of these were sent
-        self._found: Deque[bytes] = deque()  # answers that nobody has taken yet
-        self._talk: Optional[Talk] = None  # its own exchange, during which no caller's line is sent
+        self._found: deque[bytes] = deque()  # answers that nobody has taken yet
+        self._talk: Talk | None = None  # its own exchange, during which no caller's line is sent
         self._asked = 0  # lines of it that were sent last
-        self._last_round: Optional[bytes] = None  # which may have found a cut
+        self._last_round: bytes | None = None  # which may have found a cut
         self._lacks_cut = False  # that round was another program's
         # After how many of the journal's changes it was, if known.
-        self._round_at: Optional[int] = None
+        self._round_at: int | None = None
         # The lines by which a round was opened and searched; and after how many changes.
-        self._open: List[bytes] = []
+        self._open: list[bytes] = []
         self._open_at = 0
         self._deaths = 0  # since a line was answered
         self._round_deaths = 0  # since the open round was begun
@@ -97,7 +96,7 @@ class SupervisedProgram:
         self._still_in_step()
         self._given.extend(lines)
 
-    def answers(self, count: int, seconds: float) -> List[bytes]:
+    def answers(self, count: int, seconds: float) -> list[bytes]:
         self.wait(count, seconds)
         return [self._found.popleft() for _ in range(count)]
 
@@ -106,6 +105,21 @@ class SupervisedProgram:
         while len(self._found) < count:
             self._still_in_step()
             self._go_on(until)
+
+    def begin_again(self, lines: Sequence[bytes]) -> None:
+        """Goes on with another program, in the state to which these lines lead. No answer may be
+        awaited. Raises JournalError."""
+        self._still_in_step()
+        self.keeping.note_checkpoint(lines)
+        self._last_round, self._lacks_cut, self._round_at, self._open = None, False, None, []
+        self._is_in_step = False
+        self._pipes.kill()
+        self._pipes.end()
+        self._pipes = self._program()
+        kept = self.keeping.kept()
+        assert kept is not None
+        self._begin(self._resume(kept))
+        self._is_in_step = True
 
     def kill(self) -> None:
         self._is_in_step = False
@@ -173,7 +187,7 @@ class SupervisedProgram:
             self._sent += len(lines)
         self._is_in_step = True
 
-    def _take(self, answers: List[bytes]) -> None:
+    def _take(self, answers: list[bytes]) -> None:
         self._silent_at = float("inf")
         if self._talk is not None:
             self._go_on_talking(answers)
@@ -238,7 +252,7 @@ class SupervisedProgram:
         self._note_told(json.loads(answer) if kind == b"violated" else None)
         return answer
 
-    def _note_told(self, violation: Optional[List[Any]]) -> None:
+    def _note_told(self, violation: list[Any] | None) -> None:
         """Notes one more round."""
         try:
             self.keeping.note_report(violation)
@@ -252,18 +266,18 @@ class SupervisedProgram:
         self._talk = talk
         self._ask(next(talk))
 
-    def _ask(self, lines: List[bytes]) -> None:
+    def _ask(self, lines: list[bytes]) -> None:
         self._asked = len(lines)
         self._pipes.ask(lines)
 
-    def _go_on_talking(self, answers: List[bytes]) -> None:
+    def _go_on_talking(self, answers: list[bytes]) -> None:
         assert self._talk is not None
         try:
             self._ask(self._talk.send(answers))
         except StopIteration:
             self._talk = None
 
-    def _checkpoint(self, answer: Optional[bytes] = None) -> Talk:
+    def _checkpoint(self, answer: bytes | None = None) -> Talk:
         """Writes a checkpoint, then passes this answer on."""
         saved = yield from saved_lines(self.keeping.limit, self.keeping.promise)
         is_last = self._round_at == self.keeping.changes  # nothing has come since that round
@@ -279,7 +293,7 @@ class SupervisedProgram:
         already in a checkpoint become part of the round."""
         assert self._last_round is not None
         kept, at = self.keeping.kept(), self._round_at
-        behind: List[bytes] = kept.lines[kept.saved + at :] if kept and at is not None else []
+        behind: list[bytes] = kept.lines[kept.saved + at :] if kept and at is not None else []
         if kept and behind:
             self._pipes.kill()
             self._pipes.end()
@@ -293,7 +307,7 @@ class SupervisedProgram:
         if reply[2] == "violated":  # through later lines; the next round reports it
             self.keeping.note_violation([reply[0], self.keeping.rounds, *reply[2:]])
 
-    def _begun_with(self, lines: List[bytes], *more: bytes) -> Answers:
+    def _begun_with(self, lines: list[bytes], *more: bytes) -> Answers:
         """Gives these lines, which must be answered ok; returns the answers to the lines in
         `more`."""
         answers = yield [*lines, *more]

@@ -2,9 +2,8 @@
 about real-time order by what is added to transactions (`_times.py`). Its answers have transactions
 as they were offered."""
 
-from __future__ import annotations
-
-from typing import Any, Iterator, List, Optional, Sequence
+from collections.abc import Iterator, Sequence
+from typing import Any
 
 from ..core._own_keys import FORM, LARGE_FORM, LONGEST
 from ..core.errors import CantBeAskedError
@@ -38,7 +37,7 @@ def longest(promise: Promise) -> int:
     return LONGEST // 2 if promise.asks_itself else LONGEST
 
 
-def form_of(promise: Promise, sessions: int, limit: int) -> List[Any]:
+def form_of(promise: Promise, sessions: int, limit: int) -> list[Any]:
     """The end of the line that opens a script about the promise, with so many sessions, in which
     `limit` transactions may remain: version 3 only if it needs that."""
     is_small = sessions <= SESSIONS and limit <= most_remaining(promise, FORM)
@@ -51,14 +50,14 @@ def is_opening(promise: Promise, sessions: int, limit: int) -> bool:
     return 1 <= sessions <= MOST_SESSIONS and 1 <= limit <= most_remaining(promise)
 
 
-def asked_in(line: Sequence[Any]) -> Optional[Promise]:
+def asked_in(line: Sequence[Any]) -> Promise | None:
     """The promise that a script is about if this is its first line; None if it is no such line."""
     if not line or line[0] not in OPENS or len(line) < 3:
         return None
     return SNAPSHOT if line[4:] == [SNAPSHOT.name] else SERIALIZABLE
 
 
-def begun_in(marks: Sequence[Any]) -> Iterator[List[int]]:
+def begun_in(marks: Sequence[Any]) -> Iterator[list[int]]:
     """The transactions of which only the begin is forgotten, from the reply to `save`."""
     for session, (mark, has_begun) in enumerate(zip(marks[1], marks[3])):
         if has_begun:
@@ -72,14 +71,14 @@ class Asking:
     def __init__(
         self,
         promise: Promise = SERIALIZABLE,
-        timeline: Optional[Timeline] = None,
+        timeline: Timeline | None = None,
         keeps_version: bool = False,
     ) -> None:
         self.promise, self._keeps_version = promise, keeps_version
         self._timeline = timeline if promise.is_timed else None
         self._is_own = False  # the script asks by itself
 
-    def asked(self, line: List[Any]) -> List[List[Any]]:
+    def asked(self, line: list[Any]) -> list[list[Any]]:
         """The lines that are given in place of this one: one, or two for a long offer. Raises
         CantBeAskedError if the line isn't possible with this promise."""
         word = line[0] if line and isinstance(line[0], str) else ""
@@ -91,7 +90,7 @@ class Asking:
             return [*self._offered(line)]
         return [line]
 
-    def _opening(self, line: List[Any]) -> List[Any]:
+    def _opening(self, line: list[Any]) -> list[Any]:
         is_own = asked_in(line) == SNAPSHOT
         if is_own == self.promise.asks_itself:
             self._is_own = is_own
@@ -113,7 +112,7 @@ class Asking:
             return ["open", sessions, limit, LARGE_FORM, SNAPSHOT.name]
         return ["open", sessions, limit, *form_of(SNAPSHOT, sessions, limit)]
 
-    def _offered(self, line: List[Any]) -> Iterator[List[Any]]:
+    def _offered(self, line: list[Any]) -> Iterator[list[Any]]:
         word, session, *place, transactions = line
         first = place[0] if place else 0
         if self._timeline is not None:
@@ -170,6 +169,6 @@ def _is_read(read: Any) -> bool:
     return read[1:] == ["init"] or (len(read) == 3 and all(map(is_number, read[1:])))
 
 
-def ids_of(part: Sequence[Any]) -> List[Any]:
+def ids_of(part: Sequence[Any]) -> list[Any]:
     """A choice or an arc without the words that name a transaction's event."""
     return [it for it in part if it not in EVENTS]

@@ -1,9 +1,7 @@
 """The promises that can be checked, and their texts."""
 
-from __future__ import annotations
-
+from collections.abc import Mapping
 from dataclasses import dataclass
-from typing import Mapping, Tuple
 
 EVENTS = ("begin", "commit")  # follow a transaction's numbers in answers about snapshots
 
@@ -46,7 +44,7 @@ WITHOUT_SESSIONS: Mapping[Promise, Promise] = {SERIALIZABLE: SESSIONLESS, SNAPSH
 ASKED: Mapping[str, Promise] = {each.name: each for each in (SERIALIZABLE, SNAPSHOT, STRICT)}
 LIVE = (SERIALIZABLE.name, SNAPSHOT.name)  # can be checked while clients run
 # All promises, each before those that it implies; and what follows directly from each.
-ALL: Tuple[Promise, ...] = (
+ALL: tuple[Promise, ...] = (
     STRICT,
     SERIALIZABLE,
     SESSIONLESS,
@@ -55,7 +53,7 @@ ALL: Tuple[Promise, ...] = (
     GENERALIZED,
     PREFIX,
 )
-IMPLIED: Mapping[Promise, Tuple[Promise, ...]] = {
+IMPLIED: Mapping[Promise, tuple[Promise, ...]] = {
     STRICT: (SERIALIZABLE, STRONG_SNAPSHOT),
     SERIALIZABLE: (SESSIONLESS, SNAPSHOT),
     SESSIONLESS: (GENERALIZED,),
@@ -66,13 +64,13 @@ IMPLIED: Mapping[Promise, Tuple[Promise, ...]] = {
 }
 
 
-def weaker(promise: Promise) -> Tuple[Promise, ...]:
+def weaker(promise: Promise) -> tuple[Promise, ...]:
     """The promises that this one implies, without itself."""
     found = {at for each in IMPLIED[promise] for at in (each, *weaker(each))}
     return tuple(each for each in ALL if each in found)
 
 
-def stronger(promise: Promise) -> Tuple[Promise, ...]:
+def stronger(promise: Promise) -> tuple[Promise, ...]:
     """The promises that imply this one, without itself."""
     return tuple(each for each in ALL if promise in weaker(each))
 

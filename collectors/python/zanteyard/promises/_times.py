@@ -6,16 +6,15 @@ the latest of those that had ended, since the others had ended before one of the
 key has one writer, so no choice arises.
 """
 
-from __future__ import annotations
-
 from bisect import bisect_left
+from collections.abc import Mapping, Sequence
 from itertools import accumulate
-from typing import Any, Dict, List, Mapping, Optional, Sequence, Tuple
+from typing import Any
 
 TIME_KEYS = 1 << 62  # keys of scripts that are checked with times are below this
 NUMBERS = 1 << 48  # of a session's transactions
-Id = Tuple[int, int]
-Span = Tuple[int, Optional[int]]  # when it began, and when it ended, or None if unknown
+Id = tuple[int, int]
+Span = tuple[int, int | None]  # when it began, and when it ended, or None if unknown
 
 
 class Timeline:
@@ -25,13 +24,13 @@ class Timeline:
     def __init__(self, spans: Mapping[Id, Span]) -> None:
         self.spans = dict(spans)
         ends = ((end, id) for id, (_, end) in spans.items() if end is not None)
-        ended: List[Tuple[int, Id]] = sorted(ends)
-        self._ends: List[int] = [end for end, _ in ended]
-        self._ids: List[Id] = [id for _, id in ended]
+        ended: list[tuple[int, Id]] = sorted(ends)
+        self._ends: list[int] = [end for end, _ in ended]
+        self._ids: list[Id] = [id for _, id in ended]
         # For each count of transactions that ended first, when the last of them began.
-        begins: List[int] = [spans[id][0] for id in self._ids]
-        self._last_begins: List[int] = list(accumulate(begins, max))
-        self._latest: Dict[Id, Sequence[Id]] = {id: self._latest_of(id) for id in self.spans}
+        begins: list[int] = [spans[id][0] for id in self._ids]
+        self._last_begins: list[int] = list(accumulate(begins, max))
+        self._latest: dict[Id, Sequence[Id]] = {id: self._latest_of(id) for id in self.spans}
         self._read = {source for sources in self._latest.values() for source in sources}
 
     def _latest_of(self, id: Id) -> Sequence[Id]:
@@ -44,7 +43,7 @@ class Timeline:
         first = bisect_left(self._ends, self._last_begins[count - 1])
         return self._ids[first:count]
 
-    def rewritten(self, id: Id, transaction: Sequence[Any]) -> List[Any]:
+    def rewritten(self, id: Id, transaction: Sequence[Any]) -> list[Any]:
         """A transaction of a line, extended so that it keeps the real-time order."""
         reads, keys, *undone = transaction
         sources = sorted([time_key(source), *source] for source in self._latest.get(id, ()))
@@ -57,7 +56,7 @@ def time_key(id: Id) -> int:
     return TIME_KEYS + id[0] * NUMBERS + id[1]
 
 
-def mistake_in(spans: Mapping[Id, Span]) -> Optional[str]:
+def mistake_in(spans: Mapping[Id, Span]) -> str | None:
     """What is impossible about these times: a transaction that ends before it begins, or before its
     predecessor in the session began. None if nothing is."""
     for id, (began, end) in sorted(spans.items()):
@@ -69,7 +68,7 @@ def mistake_in(spans: Mapping[Id, Span]) -> Optional[str]:
     return None
 
 
-UNITS: Mapping[str, Sequence[Tuple[int, str]]] = {
+UNITS: Mapping[str, Sequence[tuple[int, str]]] = {
     "ns": ((10**9, "s"), (10**6, "ms"), (10**3, "µs"), (1, "ns")),
 }
 

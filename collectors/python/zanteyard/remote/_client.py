@@ -7,8 +7,9 @@ import os
 import threading
 import time
 import weakref
+from collections.abc import Callable
 from dataclasses import astuple
-from typing import Any, Callable, Dict, List, Optional
+from typing import Any
 
 from ..core._outcome import Policy
 from ..core._records import Logged
@@ -39,9 +40,10 @@ class AuditClient(LocalSessions):
     (`core/_crash_notes.py`, `_stream_client.py`).
 
     Raises OSError if there is no server, ProgramEndedError if it doesn't answer, OtherVersionError
-    if the versions of the two processes don't fit, and KeyFileError, an OSError, if the key can't
-    be used. With `redacts`, neither values nor constants of statements leave this process or get
-    into its notes. Safe for use by several threads.
+    if the versions of the two processes don't fit, FolderUnfitError if another user listens at the
+    path or has the notes' folder, and KeyFileError, an OSError, if the key can't be used. With
+    `redacts`, neither values nor constants of statements leave this process or get into its notes.
+    Safe for use by several threads.
     """
 
     def __init__(
@@ -49,14 +51,14 @@ class AuditClient(LocalSessions):
         address: str,
         audit: str = "audit",
         redacts: bool = False,
-        key: Optional[str] = None,
+        key: str | None = None,
     ) -> None:
         self.redacts = redacts
         self._door = door_to(address, audit, key)
         self._messages = self._door.messages
         run_name, self.is_named, self.token, most, policy = self._door.welcome()
         super().__init__(run_name, Policy(*policy))
-        self._notes: Dict[Any, int] = {}  # the numbers by which the auditor's process knows them
+        self._notes: dict[Any, int] = {}  # the numbers by which the auditor's process knows them
         self._count, self._noting = 0, threading.Lock()
         _forked.add(self)
         self._outbox = Outbox(self._messages, most)
@@ -66,7 +68,7 @@ class AuditClient(LocalSessions):
         self._calls = QuiesceCalls(self._group, self._messages, self._outbox, coming)
         self._is_over = self._is_gone = False  # the audit, and the auditor's process
         self._renewed = 0.0  # when a session that had ended was last refused another place
-        self._deeds: Dict[str, Callable[..., None]] = {
+        self._deeds: dict[str, Callable[..., None]] = {
             "call": self._calls.put,
             "left": self._requests.take_answer,
             "over": self._note_end,
@@ -79,7 +81,7 @@ class AuditClient(LocalSessions):
             thread.start()
 
     @property
-    def sessions(self) -> List[Session]:
+    def sessions(self) -> list[Session]:
         """The sessions of this process."""
         return self._group.sessions
 
@@ -94,7 +96,7 @@ class AuditClient(LocalSessions):
         unknown outcome. Raises what `LiveAuditor.session` raises, and ProgramEndedError if nothing
         more is audited or nobody answers."""
         seconds = ANSWERING + self.policy.wait  # a meeting may have all free places for that long
-        owed: List[Place] = []  # places that no session has yet
+        owed: list[Place] = []  # places that no session has yet
         try:
             owed += filter(None, [self._requests.asked("join", True, seconds=seconds)])
             if owed:
@@ -172,7 +174,7 @@ class AuditClient(LocalSessions):
         self.take_packed(session, number, logged, None)
 
     def take_packed(
-        self, session: int, number: int, logged: Logged, packed: Optional[bytes]
+        self, session: int, number: int, logged: Logged, packed: bytes | None
     ) -> None:
         """The same; `packed` is what was logged as bytes, if it is packed already."""
         if self._outbox.lost is not None or self._is_gone:
@@ -220,7 +222,7 @@ class AuditClient(LocalSessions):
     def _leaves(self) -> bool:
         return self._calls.is_leaving
 
-    def _renew(self, session: Session) -> Optional[Place]:
+    def _renew(self, session: Session) -> Place | None:
         """Another place for a session that has ended. If there is none, the client goes on
         unaudited, and asks again at most once a second."""
         if session.place is not None and time.monotonic() < self._renewed + 1:
@@ -237,10 +239,12 @@ class AuditClient(LocalSessions):
             self._give_back(session.place)
         return answer
 
-    def _cant_join(self, session: Session, why: Exception) -> Optional[Place]:
-        if self._outbox.lost is None:
-            self._lose(f"a client couldn't join: {why}")
-        answer = self._requests.ask("overflow", seconds=self.policy.wait / 2)
+    def _cant_join(self, session: Session, why: Exception) -> Place | None:
+        try:  # first, so that the next audit has a session for it
+            answer = self._requests.ask("overflow", seconds=self.policy.wait / 2)
+        finally:
+            if self._outbox.lost is None:
+                self._lose(f"a client couldn't join: {why}")
         if answer is not None:
             self._give_back(session.place)
         return answer

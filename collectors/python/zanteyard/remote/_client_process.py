@@ -1,12 +1,11 @@
 """A process of clients, seen from the auditor's process."""
 
-from __future__ import annotations
-
 import logging
 import threading
 import time
+from collections.abc import Callable, Sequence
 from dataclasses import astuple
-from typing import Any, Callable, Dict, Optional, Sequence, Tuple
+from typing import Any
 
 from ..core._records import Logged
 from ..core._store_identity import checked
@@ -36,7 +35,7 @@ class ClientProcess:
         self.group = RemoteGroup(messages, waits, live.give_back_lent, live.give_back)
         self.thread = threading.Thread(target=self._listen, daemon=True)
         self._has_all_noted = True
-        self._deeds: Dict[str, Callable[..., None]] = {
+        self._deeds: dict[str, Callable[..., None]] = {
             "answer": self.group.take_answer,
             "assumed": self._take_assumed,
             "back": self._take_back,
@@ -160,7 +159,7 @@ class ClientProcess:
             self._live.give_back(place for place in places if place.number not in ended)
             self._live.drop_places(place.number for place in places if place.number in ended)
 
-    def _hand_in(self, session: int, transactions: Sequence[Tuple[int, Logged]]) -> None:
+    def _hand_in(self, session: int, transactions: Sequence[tuple[int, Logged]]) -> None:
         for came, number, unseen, packed in handed_in(transactions):
             self._live.hand_in_packed(came, session, number, unseen, packed)
 
@@ -168,7 +167,7 @@ class ClientProcess:
         self._has_all_noted = False
 
     def _take_logged(
-        self, logged: Sequence[Tuple[float, int, Optional[int], Any, Any]], dropped: int
+        self, logged: Sequence[tuple[float, int, int | None, Any, Any]], dropped: int
     ) -> None:
         """Takes in transactions, then answers. Until the answer they count as on their way, which
         makes clients there wait for room."""
@@ -180,7 +179,7 @@ class ClientProcess:
         self.messages.tell("taken", len(logged))
 
     def _take_one(
-        self, came: float, session: int, number: Optional[int], unseen: Any, packed: Any
+        self, came: float, session: int, number: int | None, unseen: Any, packed: Any
     ) -> None:
         live = self._live
         if number is None:

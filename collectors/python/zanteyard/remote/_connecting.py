@@ -1,13 +1,11 @@
 """Connects a process of clients to the auditor's process, over a local socket or over streams of a
 Redis."""
 
-from __future__ import annotations
-
 import contextlib
 import functools
 import os
 from multiprocessing.connection import Client
-from typing import Any, Dict, Optional, Protocol
+from typing import Any, Protocol
 
 from ..core._crash_notes import FORKED, CrashNotes
 from ..core._private_files import check_folder
@@ -16,6 +14,7 @@ from ..core._version import FORM, VERSION
 from ..core.errors import OtherVersionError, ProgramEndedError
 from ._messages import Messages
 from ._outbox import Outbox
+from ._peer import refuse_others
 
 ANSWERING = 5.0  # seconds for an answer of the auditor's process
 
@@ -40,10 +39,10 @@ class Door(Protocol):
         """Records a fork before it happens. Raises OSError if that fails."""
 
 
-def door_to(address: str, audit: str, key: Optional[str]) -> Door:
+def door_to(address: str, audit: str, key: str | None) -> Door:
     """Connects to the audit of this name in the Redis if `address` is a URL, and else to the socket
     at this path. Raises OSError if there is no server, and KeyFileError if the key's file can't be
-    used."""
+    used, and FolderUnfitError if another user has the socket."""
     if "://" in address:
         from ._stream_client import StreamDoor  # only here, since redis-py is optional
 
@@ -68,6 +67,11 @@ def welcomed(messages: Any) -> Any:
 class SocketDoor:
     def __init__(self, path: str) -> None:
         connection: Any = Client(path, "AF_UNIX")
+        try:
+            refuse_others(path, connection.fileno())
+        except BaseException:
+            connection.close()
+            raise
         self.messages = Messages(connection)
         self._notes_path = ""
 
@@ -85,7 +89,7 @@ class SocketDoor:
         """Notes in files. If writing them fails, that is reported without waiting; the missing
         files say the same."""
         tell = functools.partial(outbox.put_behind, "unnoted")
-        sent: Dict[int, int] = outbox.sent
+        sent: dict[int, int] = outbox.sent
         return CrashNotes(f"{self._notes_path}-{which}", sent, tell)
 
     def asks(self, asks: Any) -> Any:

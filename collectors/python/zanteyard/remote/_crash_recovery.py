@@ -8,11 +8,10 @@ session (docs/COLLECTORS.md). If a client itself didn't know what it had done, f
 it read what a forked child wrote, recovery fails, unless the store says that nothing was committed.
 """
 
-from __future__ import annotations
-
 import logging
 import time
-from typing import Any, Callable, Dict, Iterable, List, Optional, Sequence, Set, Tuple
+from collections.abc import Callable, Iterable, Sequence
+from typing import Any
 
 from ..core._commit_status import find_out
 from ..core._crash_notes import CrashNote, notes_of
@@ -23,7 +22,7 @@ from ..session._place import Place
 
 SECONDS = 5.0  # seconds for asking the store for one outcome
 NOTHING = Logged((), (), "aborted")
-Noted = Dict[int, List[Tuple[CrashNote, Any]]]  # by session; each with how to ask the store
+Noted = dict[int, list[tuple[CrashNote, Any]]]  # by session; each with how to ask the store
 logger = logging.getLogger("zanteyard")
 
 
@@ -46,9 +45,9 @@ class CrashedProcess:
         self.notes, self.run_name, self.is_dead = notes, run_name, is_dead
         self.next_number = next_number  # of a session, after what was handed in
         # Transactions that were noted before they were sent, and weren't answered.
-        self._unanswered: Set[StoreId] = set()
+        self._unanswered: set[StoreId] = set()
 
-    def told(self, place: Place) -> Sequence[Tuple[int, Logged]]:
+    def told(self, place: Place) -> Sequence[tuple[int, Logged]]:
         """What the session did and nobody has handed in: numbers, and what is to be logged.
         Afterwards the place is as if it had been given back, or has ended. If its client was to
         join, only what follows its fence is handed in, and the fence may be missing. Raises
@@ -69,11 +68,11 @@ class CrashedProcess:
         place.is_due = False
         return ()
 
-    def _told(self, place: Place) -> Sequence[Tuple[int, Logged]]:
+    def _told(self, place: Place) -> Sequence[tuple[int, Logged]]:
         first = max(place.begun, self.next_number(place.number))
         before, answered = self.sorted_out(place.number, first)
         last = max((*before, *answered, first - 1))
-        transactions: List[Tuple[int, Logged]] = []
+        transactions: list[tuple[int, Logged]] = []
         place.begun, place.is_due, place.has_flag = first, True, False
         for note, _ in self.notes.get(place.number, ()):
             if note.outcome == "unknown" and note.is_last and note.number < first:
@@ -104,11 +103,11 @@ class CrashedProcess:
 
     def sorted_out(
         self, session: int, first: int
-    ) -> Tuple[Dict[int, Tuple[CrashNote, Any]], Dict[int, CrashNote]]:
+    ) -> tuple[dict[int, tuple[CrashNote, Any]], dict[int, CrashNote]]:
         """By number, from `first` on: the notes from before a commit was sent, with how to ask the
         store, and the notes of its answer."""
-        before: Dict[int, Tuple[CrashNote, Any]] = {}
-        answered: Dict[int, CrashNote] = {}
+        before: dict[int, tuple[CrashNote, Any]] = {}
+        answered: dict[int, CrashNote] = {}
         for note, how in self.notes.get(session, ()):
             if note.number < first:
                 continue
@@ -123,8 +122,8 @@ class CrashedProcess:
         return before, answered
 
     def logged(
-        self, number: int, before: Optional[Tuple[CrashNote, Any]], answered: Optional[CrashNote]
-    ) -> Optional[Logged]:
+        self, number: int, before: tuple[CrashNote, Any] | None, answered: CrashNote | None
+    ) -> Logged | None:
         """What is to be logged; None for a fence that may or may not exist."""
         if answered is None:
             return NOTHING if before is None else self.asked(*before)
@@ -143,7 +142,7 @@ class CrashedProcess:
             raise LostError("its notes lack what a transaction wrote")
         return writes_alone(unpacked(before[0].packed))
 
-    def asked(self, note: CrashNote, how: Any) -> Optional[Logged]:
+    def asked(self, note: CrashNote, how: Any) -> Logged | None:
         """What is to be logged of a transaction whose commit was sent and not answered."""
         assert note.packed is not None
         logged = unpacked(note.packed)
@@ -175,7 +174,7 @@ class CrashedProcess:
         return "init"
 
 
-def in_files(asks: Dict[str, Any]) -> Noted:
+def in_files(asks: dict[str, Any]) -> Noted:
     """The notes in these files. Raises LostError if any are missing."""
     noted: Noted = {}
     for path, how in asks.items():
@@ -187,7 +186,7 @@ def in_files(asks: Dict[str, Any]) -> Noted:
     return noted
 
 
-def without_end(transactions: List[Tuple[int, Logged]]) -> List[Tuple[int, Logged]]:
+def without_end(transactions: list[tuple[int, Logged]]) -> list[tuple[int, Logged]]:
     """Drops the last transactions of a session that is closed after them, if they did nothing or
     only touched flags that nobody will read. They would add nothing, and nothing would determine
     their place in the order. A flag that exists has only read the flag before it."""
@@ -218,8 +217,8 @@ def writes_alone(logged: Logged) -> Logged:
 
 
 def handed_in(
-    transactions: Iterable[Tuple[int, Logged]]
-) -> Iterable[Tuple[float, int, Sequence[str], bytes]]:
+    transactions: Iterable[tuple[int, Logged]]
+) -> Iterable[tuple[float, int, Sequence[str], bytes]]:
     """Transactions as a process hands them over: when they arrived, the number, the keys that were
     written without being read, and what was logged, as bytes."""
     for number, logged in transactions:

@@ -4,9 +4,8 @@ A client names only the kind of its store and the table. Someone who can write t
 make the daemon open a connection that it wasn't started for, or run a statement of theirs.
 """
 
-from __future__ import annotations
-
-from typing import Any, List, Sequence
+from collections.abc import Sequence
+from typing import Any
 
 from ..core.errors import ZanteyardError
 
@@ -19,8 +18,8 @@ class ListedStores:
     password."""
 
     def __init__(self, dsns: Sequence[str] = (), tables: Sequence[str] = ("zanteyard",)) -> None:
-        self._words: List[Any] = []
-        self._tables: List[str] = []
+        self._words: list[Any] = []
+        self._tables: list[str] = []
         if not dsns:
             return
         try:
@@ -43,7 +42,7 @@ class ListedStores:
         if not isinstance(told, (tuple, list)) or len(told) != 2 or told[0] != POSTGRES:
             return None
         tables = [table for table in self._tables if table == told[1]]
-        each: List[Any] = []
+        each: list[Any] = []
         for table in tables:
             each += [(POSTGRES, words, {}, table) for words in self._words]
         return (POSTGRES, each) if each else None

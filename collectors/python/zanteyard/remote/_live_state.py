@@ -5,12 +5,10 @@ It is written before a client is told about a place, so that no place is given o
 flushed to the disk, with the journal, before anything is trimmed from a stream.
 """
 
-from __future__ import annotations
-
 import marshal
 import os
 from dataclasses import dataclass, field
-from typing import Any, Dict, List, Optional, Tuple
+from typing import Any
 
 from ..core._version import FORM
 from ..core._version import VERSION as PACKAGE
@@ -36,15 +34,15 @@ class LiveState:
     token: str
     audits: int
     meetings: int
-    left: List[Tuple[Any, ...]] = field(default_factory=list)
+    left: list[tuple[Any, ...]] = field(default_factory=list)
     unaudited: int = 0
-    clients: Dict[str, Dict[str, Any]] = field(default_factory=dict)
-    missing: Optional[str] = None
-    failure: Optional[str] = None
+    clients: dict[str, dict[str, Any]] = field(default_factory=dict)
+    missing: str | None = None
+    failure: str | None = None
     form: int = FORM
     version: str = PACKAGE
     written: int = 0
-    store: Optional[Tuple[str, ...]] = None
+    store: tuple[str, ...] | None = None
 
 
 class StateFile:
@@ -76,7 +74,7 @@ class StateFile:
             version, fields = marshal.loads(text)
             if version != VERSION:
                 raise ValueError(f"it has version {version}")
-            earlier: Dict[str, Any] = {"form": 0, "version": "unknown"}  # before these were noted
+            earlier: dict[str, Any] = {"form": 0, "version": "unknown"}  # before these were noted
             return LiveState(**{**earlier, **fields})
         except (OSError, ValueError, TypeError, EOFError, JournalDamagedError) as error:
             raise JournalError(f"can't continue from {self.path}: {error}") from error

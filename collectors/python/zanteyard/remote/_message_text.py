@@ -4,11 +4,9 @@ What was logged is kept as bytes in each process and spelled out in a message, s
 unpacks another one's bytes. Reading any text takes time and memory in proportion to its length.
 """
 
-from __future__ import annotations
-
 import json
 import marshal
-from typing import Any, Dict, List, Tuple
+from typing import Any
 
 from ..core._records import Logged, as_bytes
 
@@ -46,14 +44,14 @@ def message_of(text: bytes) -> Any:
     return message
 
 
-def _written_out(value: Any) -> Dict[str, Any]:
+def _written_out(value: Any) -> dict[str, Any]:
     """Spells out bytes, which are what this process has logged."""
     if not isinstance(value, bytes):
         raise TypeError(f"{type(value).__name__} isn't a plain value")
     return {LOGGED: marshal.loads(value) if value else None}
 
 
-def _logged(value: Dict[str, Any]) -> Any:
+def _logged(value: dict[str, Any]) -> Any:
     if [*value] != [LOGGED]:
         raise NoMessageError("it has an unknown object")
     fields = value[LOGGED]
@@ -70,7 +68,7 @@ def _logged(value: Dict[str, Any]) -> Any:
     return as_bytes(Logged._make(fields))
 
 
-def _frozen(value: List[Any], deep: int) -> Tuple[Any, ...]:
+def _frozen(value: list[Any], deep: int) -> tuple[Any, ...]:
     """The list as a tuple. Raises NoMessageError if it is nested more than `deep` levels or has a
     number beyond the bounds."""
     if not deep:
@@ -79,7 +77,7 @@ def _frozen(value: List[Any], deep: int) -> Tuple[Any, ...]:
     return tuple(value)
 
 
-def _freeze(value: List[Any], deep: int) -> None:
+def _freeze(value: list[Any], deep: int) -> None:
     """Does so for its elements."""
     for at, each in enumerate(value):
         kind = type(each)

@@ -1,14 +1,12 @@
 """One end of a connection between two processes of one machine."""
 
-from __future__ import annotations
-
 import marshal
 import os
 import socket
 import struct
 import threading
 from multiprocessing.connection import Connection
-from typing import Any, List
+from typing import Any
 
 from ..core._locks import give_back, take
 
@@ -29,7 +27,7 @@ class Messages:
     def send(self, *message: Any, seconds: float = SENDING) -> None:
         """Sends a message. Waits up to `seconds` for other threads' messages. Raises OSError if the
         other end is gone or accepts nothing."""
-        text, taken = marshal.dumps(message), []  # type: bytes, List[bool]
+        text, taken = marshal.dumps(message), []  # type: bytes, list[bool]
         try:
             if not take(self._lock, seconds, taken):
                 raise OSError("another message is still being sent")

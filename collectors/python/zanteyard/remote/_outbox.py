@@ -1,11 +1,10 @@
 """What sessions of one process did, on its way to the auditor's process."""
 
-from __future__ import annotations
-
 import queue
 import threading
 import time
-from typing import Any, Dict, List, Optional, Sequence, Tuple
+from collections.abc import Sequence
+from typing import Any
 
 from ..core._own_keys import LONGEST
 from ..core._records import Logged, as_bytes
@@ -14,7 +13,7 @@ from ._messages import Messages
 
 # When it was done, the session, the number (None for the end of the session), the keys that were
 # written without being read, and what was logged, as bytes.
-Packed = Tuple[float, int, Optional[int], Sequence[str], bytes]
+Packed = tuple[float, int, int | None, Sequence[str], bytes]
 
 
 class Outbox:
@@ -25,17 +24,17 @@ class Outbox:
         """At most `most` transactions per session are on their way before clients have to wait."""
         self._messages, self._most = messages, most
         self._waiting: queue.SimpleQueue[Packed] = queue.SimpleQueue()
-        self._behind: queue.SimpleQueue[Tuple[Any, ...]] = queue.SimpleQueue()
+        self._behind: queue.SimpleQueue[tuple[Any, ...]] = queue.SimpleQueue()
         self._sending = threading.Lock()  # keeps the order of what one session did
         self._wake = threading.Event()  # somebody waits for room
         self._sent = self._taken = 0
-        self.sent: Dict[int, int] = {}  # for each session, the number after the last one sent
+        self.sent: dict[int, int] = {}  # for each session, the number after the last one sent
         self.dropped = 0  # transactions that are done and not handed over; they still count
-        self.lost: Optional[str] = None
-        self._told_lost: Optional[str] = None
+        self.lost: str | None = None
+        self._told_lost: str | None = None
 
     def put(
-        self, session: int, number: int, logged: Logged, packed: Optional[bytes] = None
+        self, session: int, number: int, logged: Logged, packed: bytes | None = None
     ) -> None:
         """Raises ValueError if it can't be packed. `packed` is what was logged as bytes, if it is
         packed already."""
@@ -93,7 +92,7 @@ class Outbox:
             for message in behind:  # including reports of missed ones, whose reason is sent by now
                 self._messages.send(*message)
 
-    def _send(self, logged: List[Packed]) -> None:
+    def _send(self, logged: list[Packed]) -> None:
         dropped, self.dropped = self.dropped, 0
         self._sent += len(logged)
         self._messages.send("logged", logged, dropped)
@@ -102,5 +101,5 @@ class Outbox:
                 self.sent[session] = number + 1
 
 
-def _taken_from(waiting: "queue.SimpleQueue[Any]", count: int) -> List[Any]:
+def _taken_from(waiting: "queue.SimpleQueue[Any]", count: int) -> list[Any]:
     return [waiting.get() for _ in range(count)]

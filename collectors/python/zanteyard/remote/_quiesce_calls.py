@@ -1,11 +1,10 @@
 """Runs the calls that meetings in the auditor's process make to this process's sessions."""
 
-from __future__ import annotations
-
 import queue
 import time
+from collections.abc import Callable, Sequence
 from dataclasses import astuple
-from typing import Any, Callable, Dict, List, Optional, Sequence, Set, Tuple
+from typing import Any
 
 from ..live._quiesce_coordinator import COMING
 from ..session._place import Place
@@ -13,7 +12,7 @@ from ..session._quiesce import QuiesceMissed, SessionGroup
 from ._messages import Messages
 from ._outbox import Outbox
 
-IncomingCall = Tuple[
+IncomingCall = tuple[
     int, str, Sequence[Any]
 ]  # its number, or 0 if no answer is wanted; name; arguments
 
@@ -22,15 +21,15 @@ class QuiesceCalls:
     """Runs calls one after another in a thread of their own; any thread may add them."""
 
     def __init__(
-        self, group: SessionGroup, messages: Messages, outbox: Outbox, coming: Set[int]
+        self, group: SessionGroup, messages: Messages, outbox: Outbox, coming: set[int]
     ) -> None:
         """`coming` are the numbers of sessions that were given to clients of this process and may
         not have reached them yet."""
         self._group, self._messages, self._outbox = group, messages, outbox
         self._coming = coming
-        self._waiting: queue.SimpleQueue[Optional[IncomingCall]] = queue.SimpleQueue()
+        self._waiting: queue.SimpleQueue[IncomingCall | None] = queue.SimpleQueue()
         self.is_leaving = False  # it takes part in no further meeting
-        self._deeds: Dict[str, Callable[..., Any]] = {
+        self._deeds: dict[str, Callable[..., Any]] = {
             "edges": self._edges,
             "flag": lambda meeting, places: self._group.share(meeting, places, "flag"),
             "gather": self._gather,
@@ -73,7 +72,7 @@ class QuiesceCalls:
 
     def _gather(
         self, meeting: int, seconds: float, leads: bool, idle: float, places: Sequence[Place]
-    ) -> Tuple[List[int], List[Tuple[Any, ...]]]:
+    ) -> tuple[list[int], list[tuple[Any, ...]]]:
         if self.is_leaving:
             raise QuiesceMissed("it leaves")
         self._wait_for_who_comes()
@@ -89,6 +88,6 @@ class QuiesceCalls:
             there.update(self._group.numbers())
         self._coming.clear()  # nothing is given out meanwhile
 
-    def _edges(self, _: Sequence[Place]) -> List[Tuple[Any, ...]]:
+    def _edges(self, _: Sequence[Place]) -> list[tuple[Any, ...]]:
         self._outbox.begin_anew()
         return self._group.edges()

@@ -1,7 +1,5 @@
 """Counts messages in the Redis that don't belong to the audit."""
 
-from __future__ import annotations
-
 import logging
 import threading
 import time

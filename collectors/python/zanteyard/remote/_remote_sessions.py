@@ -1,11 +1,10 @@
 """The sessions of another process, as meetings use them: through calls over its connection."""
 
-from __future__ import annotations
-
 import threading
 import time
+from collections.abc import Callable, Iterable, Sequence
 from dataclasses import astuple, dataclass, replace
-from typing import Any, Callable, Dict, Iterable, List, Optional, Sequence, Set, Tuple
+from typing import Any
 
 from ..core.errors import ElsewhereError
 from ..session._place import Place
@@ -23,7 +22,7 @@ class _OutgoingCall:
 
     name: str
     lent: Sequence[Place]
-    answer: Optional[Tuple[Any, Optional[str], bool]] = None
+    answer: tuple[Any, str | None, bool] | None = None
     is_late: bool = False
 
 
@@ -44,15 +43,15 @@ class RemoteGroup:
         """A call waits `wait` seconds longer than it may take. If its answer arrives later or isn't
         used, `give_back` returns what was lent, and `leave` the places of idle clients."""
         self._messages, self._wait, self._give_back, self._leave = messages, wait, give_back, leave
-        self._numbers: Dict[int, Place] = {}  # its places, as they were given to it
-        self._untold: Set[int] = set()  # of these, the ones that it hasn't been told about
-        self.ended: Set[int] = set()  # of these, the ones that it says have ended
+        self._numbers: dict[int, Place] = {}  # its places, as they were given to it
+        self._untold: set[int] = set()  # of these, the ones that it hasn't been told about
+        self.ended: set[int] = set()  # of these, the ones that it says have ended
         self.asked_at = 0.0  # when `edges` was last answered, by the monotonic clock
-        self._had_ended: Set[int] = set()  # of `ended`, by then
+        self._had_ended: set[int] = set()  # of `ended`, by then
         self._has_left = False
         self._changed = threading.Condition()  # guards the following
-        self._calls: Dict[int, _OutgoingCall] = {}
-        self._unread: List[_OutgoingCall] = []  # answered
+        self._calls: dict[int, _OutgoingCall] = {}
+        self._unread: list[_OutgoingCall] = []  # answered
         self._asked = 0
 
     def add(self, place: Place) -> None:
@@ -67,7 +66,7 @@ class RemoteGroup:
     def note_told(self, number: int) -> None:
         self._untold.discard(number)
 
-    def note_joined(self, number: int, transaction: Optional[int]) -> None:
+    def note_joined(self, number: int, transaction: int | None) -> None:
         """Notes that a transaction of this session has arrived, or with None, the session's end. It
         may be from before the process got this place."""
         place = self._numbers.get(number)
@@ -77,11 +76,11 @@ class RemoteGroup:
     def remove(self, number: int) -> None:
         self._numbers.pop(number, None)
 
-    def places(self) -> List[Place]:
+    def places(self) -> list[Place]:
         """Its places, as they were given to it."""
         return list(self._numbers.values())
 
-    def lent(self) -> List[Place]:
+    def lent(self) -> list[Place]:
         """What was lent for calls that it hasn't answered."""
         with self._changed:
             return [place for call in self._calls.values() for place in call.lent]
@@ -93,7 +92,7 @@ class RemoteGroup:
         """How many calls there were."""
         return self._asked
 
-    def open_calls(self) -> List[Tuple[int, str, List[Tuple[Any, ...]]]]:
+    def open_calls(self) -> list[tuple[int, str, list[tuple[Any, ...]]]]:
         """The unanswered calls: number, name, and the places that are lent for each."""
         with self._changed:
             return [
@@ -101,7 +100,7 @@ class RemoteGroup:
                 for asked, call in self._calls.items()
             ]
 
-    def given_back(self) -> List[Place]:
+    def given_back(self) -> list[Place]:
         """Its places that came back in answers that weren't used yet."""
         with self._changed:
             answers = [
@@ -114,7 +113,7 @@ class RemoteGroup:
         asked: int,
         places: Iterable[Place],
         ended: Iterable[int],
-        calls: Iterable[Tuple[int, str, Sequence[Place]]],
+        calls: Iterable[tuple[int, str, Sequence[Place]]],
     ) -> None:
         """Continues with these places, and with these calls, whose answers nobody waits for."""
         self._asked = asked
@@ -161,10 +160,10 @@ class RemoteGroup:
 
     def begin_gather(
         self, meeting: int, seconds: float, leads: bool, places: Sequence[Place], idle: float
-    ) -> Wait[Tuple[List[int], List[Place]]]:
+    ) -> Wait[tuple[list[int], list[Place]]]:
         wait = self._begin("gather", meeting, seconds, leads, idle, lent=places)
 
-        def gathered(ends: float) -> Tuple[List[int], List[Place]]:
+        def gathered(ends: float) -> tuple[list[int], list[Place]]:
             flags, given_back = wait(ends)
             for number, *_ in given_back:
                 self._numbers.pop(number, None)
@@ -197,9 +196,9 @@ class RemoteGroup:
             place.must_join = False  # all are open then
         self._messages.tell("call", 0, "reopen", ([],), seconds=self.patience)
 
-    def edges(self) -> Optional[Sequence[Tuple[Any, ...]]]:
+    def edges(self) -> Sequence[tuple[Any, ...]] | None:
         try:
-            edges: Sequence[Tuple[Any, ...]]
+            edges: Sequence[tuple[Any, ...]]
             edges = self._begin("edges")(time.monotonic() + self.patience)
             return edges
         except (QuiesceMissed, ElsewhereError):
@@ -209,9 +208,9 @@ class RemoteGroup:
         self,
         asked: int,
         result: Any,
-        failure: Optional[str],
+        failure: str | None,
         is_missed: bool,
-        lent: Sequence[Tuple[Any, ...]],
+        lent: Sequence[tuple[Any, ...]],
     ) -> None:
         with self._changed:
             call = self._calls.pop(asked, None)

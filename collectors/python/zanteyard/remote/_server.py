@@ -18,7 +18,7 @@ import shutil
 import threading
 import time
 from multiprocessing.connection import Client, Listener
-from typing import Any, List
+from typing import Any
 
 from ..core._private_files import check_folder
 from ..core.errors import FolderUnfitError
@@ -37,7 +37,7 @@ class AuditServer:
 
     def __init__(self, live: LiveAuditor, path: str) -> None:
         self.path, self._live = path, live
-        self._processes: List[SocketProcess] = []
+        self._processes: list[SocketProcess] = []
         self._is_closing, self._count = False, 0
         # The folder for the processes' notes. It is absolute, since they may run in other folders.
         self.notes = os.path.abspath(f"{path}.notes")

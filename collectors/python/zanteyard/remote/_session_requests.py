@@ -1,18 +1,17 @@
 """Requests sessions that no client has from the auditor's process."""
 
-from __future__ import annotations
-
 import queue
 import threading
 import time
-from typing import Any, List, Optional, Sequence, Set, Tuple
+from collections.abc import Sequence
+from typing import Any
 
 from ..core._locks import give_back, take
 from ..core.errors import ProgramLateError
 from ..session._place import Place
 from ._messages import Messages
 
-PlaceAnswer = Tuple[int, Optional[Sequence[Any]]]  # the request's number, and a place or None
+PlaceAnswer = tuple[int, Sequence[Any] | None]  # the request's number, and a place or None
 
 
 class SessionRequests:
@@ -21,12 +20,12 @@ class SessionRequests:
     def __init__(self, messages: Messages) -> None:
         self._messages, self._asking = messages, threading.Lock()
         self._asked, self.has_ended = 0, False
-        self._answers: queue.SimpleQueue[Optional[PlaceAnswer]] = queue.SimpleQueue()
+        self._answers: queue.SimpleQueue[PlaceAnswer | None] = queue.SimpleQueue()
         # The numbers of open places that were given to clients here and may not have reached them
         # yet.
-        self.coming: Set[int] = set()
+        self.coming: set[int] = set()
 
-    def ask(self, kind: str, *more: Any, seconds: float) -> Optional[Place]:
+    def ask(self, kind: str, *more: Any, seconds: float) -> Place | None:
         """A place: a free one for the kind "join", one that no audit covers for "overflow". None if
         none is free, or if nobody answers within this many seconds."""
         try:
@@ -34,10 +33,10 @@ class SessionRequests:
         except ProgramLateError:
             return None
 
-    def asked(self, kind: str, *more: Any, seconds: float) -> Optional[Place]:
+    def asked(self, kind: str, *more: Any, seconds: float) -> Place | None:
         """The same, but raises ProgramLateError if nobody answers in time."""
         late = ProgramLateError(f"the auditor's process didn't answer for {seconds:g} s")
-        taken: List[bool] = []
+        taken: list[bool] = []
         try:
             if not take(self._asking, seconds, taken):  # others wait for theirs
                 raise late
@@ -80,7 +79,7 @@ class SessionRequests:
             if answer is not None and answer[1] is not None:
                 self._tell_back(answer[1])
 
-    def _answer(self, ends: float) -> Optional[Place]:
+    def _answer(self, ends: float) -> Place | None:
         while True:
             answer = self._answers.get(timeout=max(0.001, ends - time.monotonic()))
             if answer is None:

@@ -1,32 +1,27 @@
 """A process of clients on the same machine, connected by a socket in the file system."""
 
-from __future__ import annotations
-
 import glob
 import os
-import socket
-import struct
 from contextlib import suppress
 from multiprocessing.connection import Connection, wait
-from typing import Any, Dict, Optional
+from typing import Any
 
 from ..core._crash_notes import FORKED, notes_of
 from ..live._live_auditor import LiveAuditor
 from ._client_process import ClientProcess
 from ._crash_recovery import LostError, Noted, in_files
 from ._messages import Messages
+from ._peer import peer_of
 
 ENDING = 5.0  # seconds to notice that a process is dead after its connection has ended
-PEER = struct.Struct("iII")  # the process's, the user's and the group's number
 
 
-def watched(connection: Connection) -> Optional[int]:
+def watched(connection: Connection) -> int | None:
     """A descriptor that becomes readable when the process at the other end has ended; None if the
     system has none."""
+    peer = peer_of(connection.fileno())
     try:
-        with socket.socket(fileno=os.dup(connection.fileno())) as same:
-            peer = same.getsockopt(socket.SOL_SOCKET, socket.SO_PEERCRED, PEER.size)
-        return os.pidfd_open(PEER.unpack(peer)[0])
+        return None if peer is None else os.pidfd_open(peer.process)
     except (AttributeError, OSError):
         return None
 
@@ -45,7 +40,7 @@ class SocketProcess(ClientProcess):
         """`notes` is the path of its sessions' notes, without their numbers."""
         super().__init__(live, Messages(connection))
         self.notes_path, self._connection = notes, connection
-        self._asks: Dict[str, Any] = {}  # by path of its notes: how to ask the store
+        self._asks: dict[str, Any] = {}  # by path of its notes: how to ask the store
         self._watch = watched(connection)
 
     def _most(self) -> int:

@@ -1,7 +1,5 @@
 """Which store the audit is about, as the auditor's process says."""
 
-from __future__ import annotations
-
 import threading
 import time
 from typing import Any

@@ -5,7 +5,8 @@ from __future__ import annotations
 import os
 import secrets
 import socket
-from typing import Any, Callable, Optional
+from collections.abc import Callable
+from typing import Any
 
 from ._connecting import ANSWERING, welcomed
 from ._outbox import Outbox
@@ -75,7 +76,7 @@ class StreamNotes:
     has_failed = False
 
     def __init__(
-        self, messages: ClientsEnd, which: int, wait: float, lost: Callable[[], Optional[str]]
+        self, messages: ClientsEnd, which: int, wait: float, lost: Callable[[], str | None]
     ) -> None:
         self._messages, self._which, self._wait, self._lost = messages, which, wait, lost
 

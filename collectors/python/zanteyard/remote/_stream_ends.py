@@ -9,15 +9,14 @@ the reader.
 Each entry is signed. The reader deletes entries with a wrong signature, and counts them.
 """
 
-from __future__ import annotations
-
 import logging
 import re
 import threading
 import time
 from collections import deque
+from collections.abc import Callable
 from itertools import islice
-from typing import Any, Callable, Deque, List, Optional, Tuple
+from typing import Any
 
 import redis
 
@@ -49,7 +48,7 @@ class RedisLink:
         self.is_up = True  # it answered the last request
         self._has_ended = False
 
-    def ask(self, commands: List[Command], seconds: float) -> Optional[List[Any]]:
+    def ask(self, commands: list[Command], seconds: float) -> list[Any] | None:
         """The answers to these commands, which may include errors. None if the Redis can't be
         reached within this many seconds."""
         with self._asking:
@@ -128,12 +127,12 @@ class Appender:
         url: str,
         key: str,
         signer: Signer,
-        is_over: Optional[Callable[[RedisLink, float], Any]] = None,
+        is_over: Callable[[RedisLink, float], Any] | None = None,
     ) -> None:
         self.key, self._link, self._is_over = key, RedisLink(url), is_over
         self.signer = signer
         self._sending, self._numbering = threading.Lock(), threading.Lock()
-        self._kept: Deque[Tuple[int, bytes, bytes]] = deque()  # not confirmed yet, with signatures
+        self._kept: deque[tuple[int, bytes, bytes]] = deque()  # not confirmed yet, with signatures
         self.last = 0  # the last number given
         self.there = 0  # Redis has everything up to here
         self.confirmed = 0
@@ -172,7 +171,7 @@ class Appender:
         while not self.is_gone and self.there < number:
             if not (insists or self._link.is_up):
                 return False
-            taken: List[bool] = []
+            taken: list[bool] = []
             try:
                 left = max(0.0, ends - time.monotonic())
                 if take(self._sending, left, taken) and self.there < number:
@@ -190,7 +189,7 @@ class Appender:
     def go_on(self, seconds: float) -> None:
         """Tries a Redis again that couldn't be reached, and sends what waits. Callers that don't
         insist would never try again."""
-        taken: List[bool] = []
+        taken: list[bool] = []
         try:
             if take(self._sending, seconds, taken) and not (self._link.is_up or self.is_gone):
                 self._send(seconds)
@@ -281,14 +280,14 @@ class Reader:
         self.key, self.last, self._has_gaps = key, 0, has_gaps
         self._opens, self._refuse = opens, refuse
         self._link = RedisLink(url)
-        self._found: Deque[Tuple[int, Any]] = deque()
+        self._found: deque[tuple[int, Any]] = deque()
         self.read_at = time.monotonic()  # when Redis last answered
 
     @property
     def is_up(self) -> bool:
         return self._link.is_up
 
-    def receive(self, seconds: float) -> Optional[Tuple[int, Any]]:
+    def receive(self, seconds: float) -> tuple[int, Any] | None:
         """The next message's number, and the message; None if none arrives in time. Raises Gap."""
         if not self._found:
             self._read(seconds)
@@ -330,7 +329,7 @@ class Reader:
         return True
 
 
-def opened(id: bytes, fields: Any, opens: Callable[[int, bytes, bytes], Any]) -> Tuple[int, Any]:
+def opened(id: bytes, fields: Any, opens: Callable[[int, bytes, bytes], Any]) -> tuple[int, Any]:
     """An entry's number and its message. Raises NoMessageError."""
     numbered = NUMBERED.fullmatch(id)
     if numbered is None or not fields or len(fields) != 4 or [*fields[::2]] != [FIELD, SIGNATURE]:
@@ -357,8 +356,8 @@ def is_of_another_type(reply: object) -> bool:
 
 
 def asked(
-    link: RedisLink, commands: List[Command], seconds: float, of_any_type: bool = False
-) -> List[Any]:
+    link: RedisLink, commands: list[Command], seconds: float, of_any_type: bool = False
+) -> list[Any]:
     """The answers. Raises OSError if Redis can't be reached or refuses a command, and
     StrangeRedisError if a key has a value of another type, unless that is allowed by
     `of_any_type`."""

@@ -6,13 +6,12 @@ a Redis that is away or loses data costs only time. The auditor's end tells the 
 message everything is taken for good, and up to which it has heard.
 """
 
-from __future__ import annotations
-
 import os
 import threading
 import time
 from collections import deque
-from typing import Any, Callable, Deque, Optional, Tuple
+from collections.abc import Callable
+from typing import Any
 
 from ..core._shared_key import Signer
 from ._message_text import NoMessageError
@@ -73,14 +72,14 @@ class ClientsEnd(StreamMessages):
         down = opener(Signer(key, DOWN, audit, client))
         super().__init__(up, Reader(url, self.names.down(client), down, has_gaps=True))
         self._made_in = os.getpid()
-        self._logged: Deque[Tuple[int, int]] = deque()  # messages, with their transaction counts
-        self._next: Optional[Any] = None
+        self._logged: deque[tuple[int, int]] = deque()  # messages, with their transaction counts
+        self._next: Any | None = None
         self._heard = 0  # up to which message the auditor's process has heard
         self._is_over = False
         self._has_ended = threading.Event()
         self._beating = threading.Thread(target=self._beat, daemon=True)
 
-    def _is_buried(self, link: RedisLink, seconds: float) -> Optional[bool]:
+    def _is_buried(self, link: RedisLink, seconds: float) -> bool | None:
         replies = link.ask([("EXISTS", self.names.buried(self.client))], seconds)
         return None if replies is None else replies[0] == 1
 
@@ -200,7 +199,7 @@ class AuditorsEnd(StreamMessages):
         if not self.appender.is_up or self.appender.there < self.appender.last:
             self.appender.go_on(AGAIN)
 
-    def next(self) -> Optional[Tuple[int, Any]]:
+    def next(self) -> tuple[int, Any] | None:
         """The next message's number, and the message; None if none has arrived. Raises Gap."""
         return self.reader.receive(PAUSE)
 

@@ -22,8 +22,6 @@ table in its journal: a table in a Redis that lost its last second could give on
 keys.
 """
 
-from __future__ import annotations
-
 from typing import NamedTuple
 
 HERE = b"here"

@@ -1,11 +1,10 @@
 """A process of clients behind streams of a Redis, seen from the auditor's process."""
 
-from __future__ import annotations
-
 import time
 from collections import deque
+from collections.abc import Callable, Sequence
 from dataclasses import astuple
-from typing import Any, Callable, Deque, Dict, List, Optional, Sequence, Tuple
+from typing import Any
 
 from ..core._crash_notes import CrashNote
 from ..core._records import unpacked
@@ -56,17 +55,17 @@ class StreamProcess(ClientProcess):
         self.takes_writes: Callable[[], bool] = lambda: True  # whether the Redis accepts writes
         self.handled = self.kept = self._told_kept = self._told_heard = 0
         self._at = 0  # the message that this process read last
-        self.asks: Dict[int, Any] = {}  # by number of its notes: how to ask the store
+        self.asks: dict[int, Any] = {}  # by number of its notes: how to ask the store
         self.is_over = self._is_known = self._has_left = self._is_buried = False
         self._hears_rest = False  # it reads the stream under its other name
-        self._had: Optional[Dict[str, Any]] = None  # what it had when it was buried
+        self._had: dict[str, Any] | None = None  # what it had when it was buried
         self._again_until = 0  # its stream is read again up to here
         # What isn't taken in for good: for messages with transactions, each session's last number;
         # and notes about what hasn't been handed over.
-        self._logged: Deque[Tuple[int, Dict[int, Optional[int]]]] = deque()
-        self._notes: Dict[int, Deque[Tuple[int, int, CrashNote]]] = {}
-        self._held: Dict[int, List[Tuple[float, int, Optional[int], Any, Any]]] = {}
-        self._quiet_since: Optional[float] = None
+        self._logged: deque[tuple[int, dict[int, int | None]]] = deque()
+        self._notes: dict[int, deque[tuple[int, int, CrashNote]]] = {}
+        self._held: dict[int, list[tuple[float, int, int | None, Any, Any]]] = {}
+        self._quiet_since: float | None = None
         self._deeds.update(
             hello=lambda *_: None,
             beat=messages.appender.confirm,
@@ -132,7 +131,7 @@ class StreamProcess(ClientProcess):
     def _wait_for_others(self, logged: Sequence[Any], is_again: bool) -> None:
         """Waits until the streams of processes that had these sessions before have been read
         again."""
-        firsts: Dict[int, int] = {}
+        firsts: dict[int, int] = {}
         for _, session, number, _, _ in logged:
             if number is not None and self._live.covers(session, number):
                 firsts.setdefault(session, number)
@@ -161,7 +160,7 @@ class StreamProcess(ClientProcess):
         """Takes in transactions. After a restart of the auditor's process, some of them were taken
         in before."""
         live, now = self._live, time.monotonic()
-        last: Dict[int, Optional[int]] = {}
+        last: dict[int, int | None] = {}
         is_again = self._at <= self.handled
         for _, session, number, unseen, packed in logged:
             last[session] = number
@@ -176,7 +175,7 @@ class StreamProcess(ClientProcess):
             self._drop_notes(session)
 
     def _take_one(
-        self, came: float, session: int, number: Optional[int], unseen: Any, packed: Any
+        self, came: float, session: int, number: int | None, unseen: Any, packed: Any
     ) -> None:
         """An attempt that did nothing is held until its session does something else. If it were the
         last one of a closed session, nothing would determine its place in the order, and no fence
@@ -269,7 +268,7 @@ class StreamProcess(ClientProcess):
 
     # continuing in another process of the auditor
 
-    def state(self) -> Dict[str, Any]:
+    def state(self) -> dict[str, Any]:
         """Its state as plain values. The caller holds the lock."""
         group = self.group
         is_gone = self._has_left or (self.is_over and not self._is_buried)
@@ -287,12 +286,12 @@ class StreamProcess(ClientProcess):
             **({"places": [], "calls": []} if is_gone else self._had or self._has()),
         }
 
-    def _has(self) -> Dict[str, Any]:
+    def _has(self) -> dict[str, Any]:
         gone = {place.number for place in self.group.given_back()}
         plain = [astuple(place) for place in self.group.places() if place.number not in gone]
         return {"places": plain, "calls": self.group.open_calls()}
 
-    def begin_behind(self, state: Dict[str, Any]) -> List[Place]:
+    def begin_behind(self, state: dict[str, Any]) -> list[Place]:
         """Continues with this state of another process, before anything is read. Returns the places
         that are lent to it."""
         self.handled, self.asks = state["handled"], state["asks"]

@@ -21,7 +21,7 @@ import secrets
 import socket
 import threading
 import time
-from typing import Any, Dict, List, Optional
+from typing import Any
 
 from ..core._outcome import Outcome
 from ..core._shared_key import shared_key
@@ -76,16 +76,16 @@ class StreamServer:
         audit: str = "audit",
         silence: float = SILENCE,
         on_their_way: int = ON_THEIR_WAY,
-        key: Optional[str] = None,
-        stores: Optional[ListedStores] = None,
+        key: str | None = None,
+        stores: ListedStores | None = None,
     ) -> None:
         self._key, self._stores = shared_key(key), stores or ListedStores()
-        self.refused, self.failure = Refused(), None  # type: Refused, Optional[Exception]
+        self.refused, self.failure = Refused(), None  # type: Refused, Exception | None
         self.url, self.names, self._live = url, StreamKeys(audit), live
         self._silence, self._on_their_way = silence, on_their_way
         self._link = RedisLink(url)
         self._lock = threading.RLock()  # guards the saved state
-        self._processes: Dict[str, StreamProcess] = {}
+        self._processes: dict[str, StreamProcess] = {}
         self._is_closing = self._is_left = False
         journal = live.auditor.journal
         self._file = StateFile(journal) if isinstance(journal, str) else None
@@ -94,7 +94,7 @@ class StreamServer:
         self._holder = f"{socket.gethostname()} {whose} {live.run_name}".encode()
         self._ours = live.token.encode()  # written for each admitted client
         self._trimmed_at = self._held_at = 0.0
-        self._downs: Dict[str, int] = {}
+        self._downs: dict[str, int] = {}
         self._scanned: Any = 0  # scan position in a hash that is too long to be read at once
         self._take_audit()
         try:
@@ -173,7 +173,7 @@ class StreamServer:
         return self._link.is_up
 
     @property
-    def heard(self) -> Dict[str, int]:
+    def heard(self) -> dict[str, int]:
         """For each client process, up to which message its stream is no longer needed; for
         monitoring."""
         heard = [entry for entry in list(self._processes.items()) if not entry[1].is_over]
@@ -323,7 +323,7 @@ class StreamServer:
         if kept and self._file is not None:
             self._file.bring_to_disk()
             self._save()
-        commands: List[Any] = []
+        commands: list[Any] = []
         for client, process in kept:
             commands.append(("XTRIM", process.ends.reader.key, "MINID", f"{process.kept + 1}-0"))
         for client, process in self._processes.items():
@@ -351,7 +351,7 @@ class StreamServer:
     def _remove(self, client: str) -> None:
         """Removes a process that has left or was given up."""
         names = self.names
-        commands: List[Any] = [("DEL", names.up(client), names.rest(client))]
+        commands: list[Any] = [("DEL", names.up(client), names.rest(client))]
         commands += [("EXPIRE", names.down(client), 60), ("HDEL", names.clients, client)]
         asked(self._link, commands, WAITS)
         self._processes.pop(client).messages.close()
@@ -372,7 +372,7 @@ class StreamServer:
             if rest_entries and not whatever:
                 return False
             # an earlier process of the auditor may have renamed it already
-            end: List[Any] = [("MULTI",), ("RENAMENX", up, rest_of_it), ("DEL", up)]
+            end: list[Any] = [("MULTI",), ("RENAMENX", up, rest_of_it), ("DEL", up)]
             end.append(("HDEL", self.names.clients, ends.client))
             end.append(("SET", self.names.buried(ends.client), "", "EX", KEPT_AT_LEAST))
             end += [("EXPIRE", rest_of_it, KEPT_AT_LEAST)]
@@ -444,7 +444,7 @@ class StreamServer:
             live.note_missing(MissingError(state.missing))
         if state.failure:
             live.lose(AuditLostError(state.failure))
-        lent: List[Place] = []
+        lent: list[Place] = []
         for client, of_client in state.clients.items():
             lent += self._add(client, of_client["admission"]).begin_behind(of_client)
         left = [Place(*plain) for plain in state.left]

@@ -1,11 +1,10 @@
 """Runs a transaction, again if it is aborted; and the fence by which a client joins."""
 
-from __future__ import annotations
-
 import math
 import time
+from collections.abc import Callable, Iterator
 from contextlib import contextmanager
-from typing import Callable, Iterator, TypeVar
+from typing import TypeVar
 
 from ..core._own_keys import FENCE
 from ..core.errors import AbortedError, OutcomeUnknownError

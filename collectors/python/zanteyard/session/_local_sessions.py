@@ -1,9 +1,6 @@
 """The sessions of one process, whether the auditor is in the same process or in another one."""
 
-from __future__ import annotations
-
 import os
-from typing import List, Optional
 
 from ..core._crash_notes import CrashNotes
 from ..core._locks import give_back, take
@@ -27,7 +24,7 @@ class LocalSessions:
     def leave_session(self, session: Session) -> None:
         """Ends this session's use by its client; another client may get its place. Raises
         ValueError in the middle of a transaction."""
-        taken: List[bool] = []
+        taken: list[bool] = []
         try:
             if not take(session.turn, self.policy.wait, taken):
                 raise ValueError(f"session {session.number} is in a transaction")
@@ -48,7 +45,7 @@ class LocalSessions:
             give_back(session.turn, taken)
 
     def _add_session(
-        self, place: Place, store: Store, patience: float, owed: List[Place]
+        self, place: Place, store: Store, patience: float, owed: list[Place]
     ) -> Session:
         """Makes a session with this place. If this raises, the caller gives back the places that
         `owed` still lists: those that no session would give back."""
@@ -78,7 +75,7 @@ class LocalSessions:
         """Whether what is done in sessions that are added from now on isn't handed in."""
         return False
 
-    def _notes_of(self, store: Store) -> Optional[CrashNotes]:
+    def _notes_of(self, store: Store) -> CrashNotes | None:
         """The files with the session's notes, for the process that recovers them if this one is
         killed."""
         return None
@@ -86,11 +83,11 @@ class LocalSessions:
     def _forget(self, notes: CrashNotes) -> None:
         """Removes the notes of a session that does nothing more. The caller holds its turn."""
 
-    def _renew(self, session: Session) -> Optional[Place]:
+    def _renew(self, session: Session) -> Place | None:
         """A place for a session that has ended: another session's, or its own, unaudited."""
         raise NotImplementedError
 
-    def _cant_join(self, session: Session, why: Exception) -> Optional[Place]:
+    def _cant_join(self, session: Session, why: Exception) -> Place | None:
         """A place that no audit covers, if there is one, for a session whose client can't join. It
         goes on unaudited."""
         raise NotImplementedError

@@ -1,10 +1,9 @@
 """The collector's own transactions over a session's connection: fences, flags, marks, and a fence's
 reads."""
 
-from __future__ import annotations
-
 import time
-from typing import Any, Callable, Sequence
+from collections.abc import Callable, Sequence
+from typing import Any
 
 from ..core._own_keys import FLAG, MARK
 from ._attempts import attempted, join_behind

@@ -1,9 +1,6 @@
 """A session of the auditor, as its client or the pool keeps it."""
 
-from __future__ import annotations
-
 from dataclasses import dataclass
-from typing import Tuple
 
 RANGES = 16  # ranges of numbers that a place keeps
 
@@ -24,7 +21,7 @@ class Place:
     is_audited: bool = True
     is_ended: bool = False
     is_lent: bool = False
-    unknown: Tuple[Tuple[int, int], ...] = ()
+    unknown: tuple[tuple[int, int], ...] = ()
     must_join: bool = False
     client: int = 0
 

@@ -10,12 +10,11 @@ overwrites what it read comes after it. Flags are written in parallel, and the m
 parallel: five statements are run one after another, however many sessions there are.
 """
 
-from __future__ import annotations
-
 import threading
 import time
+from collections.abc import Callable, Sequence
 from concurrent.futures import Future, ThreadPoolExecutor, wait
-from typing import Any, Callable, Dict, List, Optional, Sequence, Tuple
+from typing import Any
 
 from ._attempts import Result
 from ._place import Place
@@ -42,15 +41,15 @@ class SessionGroup:
     is_here = True
 
     def __init__(self) -> None:
-        self.sessions: List[Session] = []
+        self.sessions: list[Session] = []
         self.gate = threading.Lock()  # held during a meeting: no transaction begins
         self.lock = threading.Lock()  # protects what follows, since a timer may release
-        self.meeting: Optional[int] = None
-        self.held: Dict[Session, Any] = {}
+        self.meeting: int | None = None
+        self.held: dict[Session, Any] = {}
         self.leader: Any = None  # the Session that leads, if it is one of these
         self.timer: Any = None
         self.asked_at = 0.0  # when `edges` was called last, by the monotonic clock
-        self._had_ended: List[Place] = []  # the places that had ended by then
+        self._had_ended: list[Place] = []  # the places that had ended by then
         self.pool = ThreadPoolExecutor(64, "zanteyard-meeting")  # creates threads on demand
 
     def add(self, session: Session) -> None:
@@ -67,7 +66,7 @@ class SessionGroup:
 
     def gather(
         self, meeting: int, seconds: float, leads: bool, places: Sequence[Place], idle: float
-    ) -> Tuple[List[Any], List[Place]]:
+    ) -> tuple[list[Any], list[Place]]:
         """Holds all sessions and has flags written: by these sessions, and for the places in
         `places`, which are lent. Returns the numbers of those that have flags, and the places of
         sessions that were idle for `idle` seconds."""
@@ -117,7 +116,7 @@ class SessionGroup:
 
     def begin_gather(
         self, meeting: int, seconds: float, leads: bool, places: Sequence[Place], idle: float
-    ) -> Wait[Tuple[List[Any], List[Place]]]:
+    ) -> Wait[tuple[list[Any], list[Place]]]:
         """The `begin_` methods start a step and return a function that waits for its end, so that
         other processes can work at the same time. Here the step ends before they return."""
         gathered = self.gather(meeting, seconds, leads, places, idle)
@@ -147,7 +146,7 @@ class SessionGroup:
             self.held[session] = none_running()
             return session.place
 
-    def given_back(self, idle: float) -> List[Place]:
+    def given_back(self, idle: float) -> list[Place]:
         """Takes the places of idle sessions back; their clients get another one when they return.
         The caller holds the lock."""
         places = []
@@ -202,7 +201,7 @@ class SessionGroup:
     def left(self) -> float:
         return max(0.0, self.ends - time.monotonic())
 
-    def release(self, meeting: Optional[int] = None) -> None:
+    def release(self, meeting: int | None = None) -> None:
         """Lets all sessions go on; one whose connection is still in use follows as soon as it is
         free. Does nothing if it was called before."""
         with self.lock:
@@ -214,12 +213,12 @@ class SessionGroup:
             running.add_done_callback(lambda _, turn=session.turn: turn.release())
         self.gate.release()
 
-    def edges(self) -> List[Tuple[Any, ...]]:
+    def edges(self) -> list[tuple[Any, ...]]:
         """For each session its number, how many of its transactions have been answered, the first
         number that hasn't been sent, and the numbers whose outcome is unknown. Call it twice:
         whatever had been answered when the first call returned had been answered before anything
         was sent that hadn't been sent at the second call."""
-        edges: List[Tuple[Any, ...]] = []
+        edges: list[tuple[Any, ...]] = []
         self.asked_at, self._had_ended = time.monotonic(), []
         for session in list(self.sessions):
             place = session.place  # its client may leave it meanwhile
@@ -252,7 +251,7 @@ class SessionGroup:
             place.is_ended = place.must_join = False
         self._had_ended = []
 
-    def numbers(self) -> List[Any]:
+    def numbers(self) -> list[Any]:
         """The numbers of the sessions' places."""
         places = [session.place for session in list(self.sessions)]
         return [place.number for place in places if place is not None]

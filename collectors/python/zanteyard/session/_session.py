@@ -10,8 +10,9 @@ import logging
 import math
 import threading
 import time
+from collections.abc import Callable, Iterator
 from contextlib import contextmanager
-from typing import Any, Callable, Iterator, List, Optional
+from typing import Any
 
 from ..core._crash_notes import CrashNotes
 from ..core._forks import keep
@@ -63,9 +64,9 @@ class Session(OwnTransactions):
         auditor: Any,
         number: int,
         store: Store,
-        run_name: Optional[str] = None,
+        run_name: str | None = None,
         patience: float = 5.0,
-        renew: Optional[Callable[[Session], Optional[Place]]] = None,
+        renew: Callable[[Session], Place | None] | None = None,
     ) -> None:
         if getattr(auditor, "is_resumed", False) is True:
             raise ValueError(
@@ -76,7 +77,7 @@ class Session(OwnTransactions):
             auditor.note_sessions()
         self.auditor, self.patience, self.renew = auditor, patience, renew
         self.calls = StoreCalls(store)
-        self.cant_join: Optional[Callable[[Session, Exception], Optional[Place]]] = None
+        self.cant_join: Callable[[Session, Exception], Place | None] | None = None
         self.is_changing = False  # it is getting or giving back its place, and holds its turn
         its_name = getattr(auditor, "run_name", "")
         self.run_name = run_name if run_name is not None else its_name
@@ -86,24 +87,24 @@ class Session(OwnTransactions):
         self.is_open = True
         self.started = 0  # transactions that the store has begun
         self.is_claimed, self.claim_at = False, 0.0  # `claim_at` is when it is tried again
-        self.unclaimed: Optional[Exception] = None  # why it isn't claimed, after an attempt
+        self.unclaimed: Exception | None = None  # why it isn't claimed, after an attempt
         # The store's identity, once the auditor has accepted it; or why it hasn't. What is done
         # before it is accepted isn't audited.
-        self.met: Optional[StoreIdentity] = None
-        self.unmet: Optional[Exception] = None
+        self.met: StoreIdentity | None = None
+        self.unmet: Exception | None = None
         self.is_unsure = False  # the store couldn't identify itself
         self.wait = getattr(getattr(auditor, "policy", None), "wait", 30.0)
         # Held by a transaction from its begin to its end, and by a meeting.
         self.turn = threading.Lock()
-        self.has_turn: List[bool] = []  # whether a client holds it without a transaction yet
+        self.has_turn: list[bool] = []  # whether a client holds it without a transaction yet
         # Held while a meeting waits for the turn; otherwise a busy client would take the turn again
         # first.
         self.gate = threading.Lock()
-        self.current: Optional[Transaction] = None  # the client's transaction, which holds the turn
-        self.running: Optional[Transaction] = None  # the same, or one of the collector's own
+        self.current: Transaction | None = None  # the client's transaction, which holds the turn
+        self.running: Transaction | None = None  # the same, or one of the collector's own
         self.used_at = time.monotonic()
-        self.failure: Optional[Exception] = None
-        self.notes: Optional[CrashNotes] = None  # for recovery if this process is killed
+        self.failure: Exception | None = None
+        self.notes: CrashNotes | None = None  # for recovery if this process is killed
         # Seconds that this client waited for the audit: in total, and the longest single wait.
         self.waited = self.longest = 0.0
         self.connecting = 0.0  # not counted yet: seconds of connecting to the store
@@ -120,7 +121,7 @@ class Session(OwnTransactions):
         self.calls = StoreCalls(store)
 
     @property
-    def number(self) -> Optional[int]:
+    def number(self) -> int | None:
         """The number of its session in the auditor; None if it has none."""
         place = self.place  # a meeting may take it away
         return place.number if place is not None else None
@@ -171,7 +172,7 @@ class Session(OwnTransactions):
         the store doesn't answer one of their statements on this connection. Such a statement gets
         the same time again and is then given up."""
         if self.gate.locked():
-            passed: List[bool] = []
+            passed: list[bool] = []
             try:
                 take(self.gate, self.wait, passed)
             finally:
@@ -344,7 +345,7 @@ class Session(OwnTransactions):
             raise
 
     @property
-    def unlooked(self) -> Optional[Exception]:
+    def unlooked(self) -> Exception | None:
         """Why nothing that is done now may be audited, if so."""
         return self.unmet or self.unclaimed
 
@@ -400,7 +401,7 @@ class Session(OwnTransactions):
             self.drop(before)
             raise
 
-    def drop(self, before: Optional[Transaction]) -> None:
+    def drop(self, before: Transaction | None) -> None:
         """Rolls back a transaction that has begun since and that an interrupt has left without an
         owner."""
         if self.current is not None and self.current is not before:
@@ -447,7 +448,7 @@ class Session(OwnTransactions):
             self.failure = error
             logger.error("auditing of session %s has stopped: %s", self.number, error)
 
-    def miss(self, number: int, error: Optional[Exception] = None) -> None:
+    def miss(self, number: int, error: Exception | None = None) -> None:
         """Records that it is unknown whether what was done under this number was handed in."""
         self.fail(error or AuditLostError("what it did is unknown"))
         miss = getattr(self.auditor, "miss", None)

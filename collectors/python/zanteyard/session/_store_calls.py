@@ -1,9 +1,8 @@
 """All calls that a session may make on a store, whichever of them the store has."""
 
-from __future__ import annotations
-
 import logging
-from typing import Any, Dict, Optional, Sequence, Tuple, Type
+from collections.abc import Sequence
+from typing import Any
 
 from ..core._records import Name, StoredValue
 from ..core._store_identity import StoreIdentity, identity_of
@@ -44,10 +43,10 @@ class StoreCalls(BoundedStore, BulkStore, TracedStore, ObservedStore, Identified
 
     # BulkStore
 
-    def read_all(self, keys: Sequence[str]) -> Dict[str, StoredValue]:
+    def read_all(self, keys: Sequence[str]) -> dict[str, StoredValue]:
         read_all = self._own("read_all")
         if read_all is not None:
-            values: Dict[str, StoredValue] = read_all(keys)
+            values: dict[str, StoredValue] = read_all(keys)
             return values
         each = ((key, self.store.read(key)) for key in keys)
         return {key: value for key, value in each if value is not None}
@@ -57,8 +56,8 @@ class StoreCalls(BoundedStore, BulkStore, TracedStore, ObservedStore, Identified
         """Whether `exchange` may be called: it has no substitute."""
         return self._own("exchange") is not None
 
-    def exchange(self, key: str, value: Any, name: Name) -> Optional[StoredValue]:
-        overwritten: Optional[StoredValue] = self._own("exchange")(key, value, name)
+    def exchange(self, key: str, value: Any, name: Name) -> StoredValue | None:
+        overwritten: StoredValue | None = self._own("exchange")(key, value, name)
         return overwritten
 
     # TracedStore
@@ -93,12 +92,12 @@ class StoreCalls(BoundedStore, BulkStore, TracedStore, ObservedStore, Identified
     # ObservedStore
 
     @property
-    def errors(self) -> Tuple[Type[BaseException], ...]:
+    def errors(self) -> tuple[type[BaseException], ...]:
         return tuple(self._own("errors", ()))
 
     @property
-    def statement(self) -> Optional[str]:
-        statement: Optional[str] = self._own("statement")
+    def statement(self) -> str | None:
+        statement: str | None = self._own("statement")
         return statement
 
     def has_answered(self, error: BaseException) -> bool:

@@ -4,8 +4,9 @@ from __future__ import annotations
 
 import logging
 import time
+from collections.abc import Iterable, Sequence
 from contextlib import suppress
-from typing import TYPE_CHECKING, Any, Dict, Iterable, List, Optional, Sequence, Set, Tuple
+from typing import TYPE_CHECKING, Any
 
 from ..core._circumstances import brief, caller
 from ..core._forks import UNAUDITED
@@ -25,20 +26,20 @@ class Transaction:
     def __init__(self, session: Session, number: int, holds: bool = True) -> None:
         self.session, self.store, self.number, self.holds = session, session.store, number, holds
         self.calls = session.calls  # the store's optional parts
-        self.reads: Set[Read] = set()
-        self.from_before: Set[str] = set()  # keys whose versions are from before this run
-        self.written: Dict[str, Any] = {}
+        self.reads: set[Read] = set()
+        self.from_before: set[str] = set()  # keys whose versions are from before this run
+        self.written: dict[str, Any] = {}
         self.is_over = False
         self.is_committing = not holds  # from here on the store may have its writes
         self.is_in_doubt = False  # its commit was sent, and the outcome is unknown
         # For explanations of violations; the collector's own transactions have none of it.
-        self.values: List[Tuple[str, str, str]] = []
+        self.values: list[tuple[str, str, str]] = []
         self.began, self.caller = (time.time(), caller()) if holds else (0.0, "")
-        self.sent: Tuple[str, ...] = ()  # written keys that aren't written again at the commit
-        self.tried: List[str] = []  # keys whose write was sent to the store, whatever came of it
-        self.statements: Dict[Deed, str] = {}  # the statement of each deed, as in Logged
+        self.sent: tuple[str, ...] = ()  # written keys that aren't written again at the commit
+        self.tried: list[str] = []  # keys whose write was sent to the store, whatever came of it
+        self.statements: dict[Deed, str] = {}  # the statement of each deed, as in Logged
         self.prepared: Any = None  # what is logged if it is committed, and the same as bytes
-        self.unclear: Optional[Exception] = None  # why its effects are unknown, if they are
+        self.unclear: Exception | None = None  # why its effects are unknown, if they are
 
     def still_open(self) -> None:
         """Raises ValueError if the transaction has ended: a further access would be a separate
@@ -46,14 +47,14 @@ class Transaction:
         if self.is_over:
             raise ValueError(f"transaction {self.session.number}.{self.number} has ended")
 
-    def get(self, key: str, statement: Optional[str] = None) -> Any:
+    def get(self, key: str, statement: str | None = None) -> Any:
         """Reads a key. `statement` is shown with a violation in place of the store's statement."""
         self.still_open()
         if key in self.written:
             return self.written[key]  # its own write: not logged
         return self.was_read(key, self.store.read(key), statement)
 
-    def get_all(self, keys: Sequence[str]) -> Dict[str, Any]:
+    def get_all(self, keys: Sequence[str]) -> dict[str, Any]:
         """The values of these keys, by key; in one statement if the store can do that. The
         transaction must not have written them."""
         self.still_open()
@@ -61,7 +62,7 @@ class Transaction:
         return {key: self.was_read(key, values.get(key)) for key in keys}
 
     def was_read(
-        self, key: str, stored: Optional[StoredValue], statement: Optional[str] = None
+        self, key: str, stored: StoredValue | None, statement: str | None = None
     ) -> Any:
         read = (key, "init" if stored is None else self.source(stored[1]))
         if stored is not None and read[1] == "init" and self.holds:
@@ -72,26 +73,26 @@ class Transaction:
             self.values.append(("read", key, brief(None if stored is None else stored[0])))
         return None if stored is None else stored[0]
 
-    def was_run(self, deed: Deed, statement: Optional[str] = None) -> None:
+    def was_run(self, deed: Deed, statement: str | None = None) -> None:
         statement = statement or self.calls.statement
         if statement:
             self.statements.setdefault(deed, statement)
 
-    def source(self, name: Optional[Name]) -> Source:
+    def source(self, name: Name | None) -> Source:
         if name is None or name[0] != self.session.run_name:
             return "init"  # from before this run
         if name[1] >= UNAUDITED > (self.session.number or 0) and self.unclear is None:
             self.unclear = AuditLostError("it read what a forked child wrote without being audited")
         return (name[1], name[2])
 
-    def put(self, key: str, value: Any, statement: Optional[str] = None) -> None:
+    def put(self, key: str, value: Any, statement: str | None = None) -> None:
         # Sent to the store once, at the commit, so that others can only read the last version.
         self.still_open()
         self.written[key] = value
         if statement:
             self.statements[(key,)] = statement
 
-    def delete(self, key: str, statement: Optional[str] = None) -> None:
+    def delete(self, key: str, statement: str | None = None) -> None:
         self.put(key, None, statement)
 
     def exchange(self, key: str, value: Any) -> None:
@@ -316,7 +317,7 @@ class Transaction:
         tried_reads, tried_writes = self.undone() if is_told else ([], [])
         statements = tuple(self.statements.items())
         if outcome != "committed":
-            deeds: Set[Deed] = {*reads, *tried_reads}
+            deeds: set[Deed] = {*reads, *tried_reads}
             deeds.update((key,) for key in (*writes, *tried_writes))
             statements = tuple(statement for statement in statements if statement[0] in deeds)
         reads = [*reads]
@@ -335,7 +336,7 @@ class Transaction:
         logged = Logged(reads, writes, outcome, *more, *tried, from_before=count)
         return redacted(logged) if self.session.redacts else logged
 
-    def undone(self) -> Tuple[List[Read], List[str]]:
+    def undone(self) -> tuple[list[Read], list[str]]:
         """What an aborted transaction has read, and what it wrote under its name. Writes that were
         still to be sent at the commit don't count."""
         id = StoreId((self.session.number or 0, self.number))

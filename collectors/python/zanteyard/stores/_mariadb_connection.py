@@ -1,7 +1,5 @@
 """Time limits for MariaDB's statements and answers."""
 
-from __future__ import annotations
-
 import math
 import time
 from typing import Any

@@ -1,13 +1,12 @@
 """Connections to PostgreSQL and its answers, each with a time limit."""
 
-from __future__ import annotations
-
 import math
 import os
 import select
 import socket
 import time
-from typing import Any, Callable, Dict, Optional, Sequence, Tuple
+from collections.abc import Callable, Sequence
+from typing import Any
 
 import psycopg2
 from psycopg2 import extensions
@@ -28,7 +27,7 @@ PLAIN = {"target_session_attrs": "any"}  # in place of an empty value, which lib
 def connected(dsn: str, seconds: float, first: Callable[[Any], Any] = bool) -> Any:
     """A connection on which `first` has been called. Raises psycopg2's errors, and OperationalError
     after this many seconds."""
-    more: Dict[str, Any] = {}
+    more: dict[str, Any] = {}
     if "connect_timeout" not in extensions.parse_dsn(dsn):
         more["connect_timeout"] = max(LEAST, math.ceil(seconds))
 
@@ -50,14 +49,14 @@ def to_its_server(dsn: str, connection: Any) -> str:
     info = connection.info
     if not info.host:
         return dsn
-    its: Dict[str, Any] = {"host": info.host, "port": info.port}
+    its: dict[str, Any] = {"host": info.host, "port": info.port}
     address = address_of(connection)
     if address is not None:
         its["hostaddr"] = address
     return str(extensions.make_dsn(dsn, **its))
 
 
-def address_of(connection: Any) -> Optional[str]:
+def address_of(connection: Any) -> str | None:
     """The server's IP address; None if it is reached by a socket path."""
     try:
         with socket.socket(fileno=os.dup(connection.fileno())) as same:
@@ -77,18 +76,18 @@ def answer(
     text: str,
     values: Sequence[Any],
     seconds: float,
-    its: Optional[Tuple[str, str]] = None,
-) -> Optional[Sequence[Any]]:
+    its: tuple[str, str] | None = None,
+) -> Sequence[Any] | None:
     """The statement's first row, over a connection of its own. Raises what `connected` raises. If
     `its` is given, OperationalError is raised unless its first text, as a statement, returns its
     second."""
     ends = time.monotonic() + seconds
-    row: Optional[Sequence[Any]] = within(seconds, lambda: first_row(dsn, text, values, ends, its))
+    row: Sequence[Any] | None = within(seconds, lambda: first_row(dsn, text, values, ends, its))
     return row
 
 
 def outcome_told(
-    dsn: str, text: str, values: Sequence[Any], seconds: float, which: Optional[str] = None
+    dsn: str, text: str, values: Sequence[Any], seconds: float, which: str | None = None
 ) -> str:
     """"committed", "aborted" or "unknown". The statement returns the status of the transaction's
     number, whether its write exists, and which server and table answer. If that isn't `which`, if
@@ -112,8 +111,8 @@ def first_row(
     text: str,
     values: Sequence[Any],
     ends: float,
-    its: Optional[Tuple[str, str]] = None,
-) -> Optional[Sequence[Any]]:
+    its: tuple[str, str] | None = None,
+) -> Sequence[Any] | None:
     connection = psycopg2.connect(dsn, async_=True)
     try:
         wait(connection, ends)
@@ -126,11 +125,11 @@ def first_row(
 
 def row_of(
     connection: Any, text: str, values: Sequence[Any], ends: float
-) -> Optional[Sequence[Any]]:
+) -> Sequence[Any] | None:
     cursor = connection.cursor()
     cursor.execute(text, values)
     wait(connection, ends)
-    row: Optional[Sequence[Any]] = cursor.fetchone()
+    row: Sequence[Any] | None = cursor.fetchone()
     return row
 
 
@@ -155,11 +154,11 @@ def within(seconds: float, call: Callable[[], Any], drop: Callable[[Any], object
         raise psycopg2.OperationalError(str(error)) from None
 
 
-def environment() -> Dict[str, str]:
+def environment() -> dict[str, str]:
     return {word: os.environ[name] for name, word in WORDS.items() if os.environ.get(name)}
 
 
-def reached(dsn: Dict[str, str], around: Dict[str, str]) -> Optional[Dict[str, str]]:
+def reached(dsn: dict[str, str], around: dict[str, str]) -> dict[str, str] | None:
     """The words that lead from this process to the server that a client reached with this DSN in
     the environment `around`; None if there are none."""
     here = environment()

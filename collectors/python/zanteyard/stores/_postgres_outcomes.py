@@ -1,10 +1,9 @@
 """Finds out from another process what became of a PostgreSQL transaction whose client was
 killed."""
 
-from __future__ import annotations
-
 import time
-from typing import Any, Dict, List, Optional, Sequence, Tuple
+from collections.abc import Sequence
+from typing import Any
 
 from psycopg2 import extensions
 
@@ -12,7 +11,7 @@ from ..core._commit_status import UNKNOWN, CommitStatus
 from ..core._own_keys import FLAG
 from ..core._records import Name
 from ._postgres_connection import answer, reached
-from .postgres import AGE, FIRST, LIVES, OVERWRITE, TRANSACTION, WHICH, XACT_STATUS
+from .postgres import AGE, FIRST, IS, LIVES, NAMED, OVERWRITE, TEXT, TRANSACTION, WHICH, XACT_STATUS
 from .postgres import literal, which_of, with_table
 
 # A pooled connection may be used by another client now, so the transaction, or the collector's own
@@ -20,20 +19,22 @@ from .postgres import literal, which_of, with_table
 # statement was its last, it has finished. A statement before that may have the same key.
 CHANGES = OVERWRITE[OVERWRITE.index("run = ") : OVERWRITE.index(" AS before")]
 MAKES = FIRST[: FIRST.index(TRANSACTION)].rstrip()
-RUNS_STILL = f"""SELECT state = 'idle', position(%s IN query) > 0, position(%s IN query) > 0
-    FROM pg_stat_activity WHERE pid = %s AND {AGE} = %s"""
+HAS = "pg_catalog.strpos(query, %s) OPERATOR(pg_catalog.>) 0"
+RUNS_STILL = f"""SELECT state {IS} 'idle', {HAS}, {HAS}
+    FROM pg_catalog.pg_stat_activity WHERE pid {IS} %s AND {AGE} {IS} %s"""
 WHOSE, ITS = f"SELECT {LIVES}", f"SELECT {WHICH}"
 WHAT_BECAME = f"""SELECT {XACT_STATUS}, {LIVES}"""
-ITS_ROW = """SELECT value FROM {table} WHERE key = %s AND run = %s AND session = %s
-    AND number = %s"""
-THE_ROW = """SELECT (run, session, number) = (%s::text, %s::int, %s::bigint), value FROM {table}
-    WHERE key = %s"""
-END_IT = f"""SELECT pg_terminate_backend(pid) FROM pg_stat_activity WHERE pid = %s AND {AGE} = %s
-    AND CASE WHEN %s THEN position(%s IN query) > 0 OR position(%s IN query) > 0
-    ELSE backend_xid::text = (%s::text::numeric %% 4294967296)::text END"""
+ITS_ROW = f"SELECT value FROM {{table}} WHERE {NAMED}"
+THE_ROW = f"""SELECT (run, session, number) {IS}
+    (%s::{TEXT}, %s::pg_catalog.int4, %s::pg_catalog.int8), value
+    FROM {{table}} WHERE key {IS} %s"""
+END_IT = f"""SELECT pg_catalog.pg_terminate_backend(pid) FROM pg_catalog.pg_stat_activity
+    WHERE pid {IS} %s AND {AGE} {IS} %s AND CASE WHEN %s THEN {HAS} OR {HAS}
+    ELSE backend_xid::{TEXT} {IS} pg_catalog.mod(%s::{TEXT}::pg_catalog.numeric, 4294967296)::{TEXT}
+    END"""
 
 
-def statements_of(table: str, key: str, run: str, session: int, number: int) -> Tuple[str, str]:
+def statements_of(table: str, key: str, run: str, session: int, number: int) -> tuple[str, str]:
     """The two statements of the collector's `exchange` with this key and name, in a form that no
     other statement contains."""
     key, run = literal(key), literal(run)
@@ -42,8 +43,8 @@ def statements_of(table: str, key: str, run: str, session: int, number: int) -> 
 
 
 def asked(
-    dsn: Dict[str, str],
-    around: Dict[str, str],
+    dsn: dict[str, str],
+    around: dict[str, str],
     table: str,
     *,
     ticket: Any,
@@ -87,10 +88,10 @@ def asked(
     return UNKNOWN
 
 
-def overwritten(value: Optional[str]) -> Sequence[Name]:
+def overwritten(value: str | None) -> Sequence[Name]:
     """The names that a row of the collector's own keeps, the latest first, up to the first line
     that is none."""
-    names: List[Name] = []
+    names: list[Name] = []
     for line in (value or "").split("\n"):
         parts = line.split(" ", 2)
         if len(parts) < 3 or not (parts[0].isdecimal() and parts[1].isdecimal()):
@@ -142,7 +143,7 @@ class Asks:
 
     def seen_last(
         self, pid: Any, since: Any, statements: Sequence[str], seconds: float
-    ) -> Optional[str]:
+    ) -> str | None:
         """Which of its two statements the killed client's server process has finished: "changes" or
         "makes"; "gone" if the process no longer exists; None if unknown."""
         while True:

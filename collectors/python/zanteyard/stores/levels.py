@@ -1,9 +1,7 @@
 """The isolation levels of each store: each level's name on the command line and its full name, the
 strictest first."""
 
-from __future__ import annotations
-
-from typing import Mapping
+from collections.abc import Mapping
 
 SNAPSHOT = "snapshot isolation"  # MariaDB's repeatable read with innodb_snapshot_isolation
 # What Redis watches: each key, before it is read; or each written key, which is then compared with

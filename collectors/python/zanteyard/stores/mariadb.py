@@ -8,14 +8,13 @@ written there as that of an aborted attempt. Whichever of the two writes comes f
 other (`DECIDE`), so the answer is final.
 """
 
-from __future__ import annotations
-
 import logging
 import math
 import secrets
 import socket
 import time
-from typing import Any, Dict, Mapping, Optional, Sequence, Tuple
+from collections.abc import Mapping, Sequence
+from typing import Any
 
 import pymysql
 from pymysql.constants import SERVER_STATUS
@@ -104,7 +103,7 @@ def store_row() -> Sequence[Any]:
     return (STORE, secrets.token_hex(8), "", -1, 0)
 
 
-def named(table: str) -> Sequence[Optional[str]]:
+def named(table: str) -> Sequence[str | None]:
     """The names of the database, or None, and of the table, from what `quoted` returned."""
     parts = [part.replace("``", "`") for part in table.replace("%%", "%")[1:-1].split("`.`", 1)]
     return (parts[0], parts[1]) if len(parts) > 1 else (None, parts[0])
@@ -134,28 +133,28 @@ class MariaDBStore:
         level: str = "serializable",
         table: str = "zanteyard",
         patience: float = PATIENCE,
-        lock_wait: Optional[int] = None,
+        lock_wait: int | None = None,
         for_update: bool = False,
     ) -> None:
         checked_level("mariadb", level)
         self.dsn, self.level, self.table, self.patience = dict(dsn), level, quoted(table), patience
         self.lock_wait, self.locks = lock_wait, FOR_UPDATE if for_update else ""
         self.connection: Any = None
-        self.statement: Optional[str] = None  # the last statement, as the server got it
+        self.statement: str | None = None  # the last statement, as the server got it
         self.own, self.count = f"{LAST}{secrets.token_hex(8)}", 0
         self.before = ""  # prefix of a statement that is a transaction by itself
         self.is_alone = self.is_hung_up = False
         self.ends = math.inf  # time limit of a statement by itself
-        self.usual: Optional[float] = None  # the application's own time limit for answers
-        self._identity: Optional[StoreIdentity] = None  # of the table that the connection leads to
-        self.known: Optional[str] = None  # its `known` text
+        self.usual: float | None = None  # the application's own time limit for answers
+        self._identity: StoreIdentity | None = None  # of the table that the connection leads to
+        self.known: str | None = None  # its `known` text
         # Whether the transaction has written, can't be committed any more, and was ended between
         # two of its writes by something other than this store.
         self.has_written = self.has_failed = self.is_torn = False
 
     # the connection
 
-    def connect(self, seconds: Optional[float] = None) -> None:
+    def connect(self, seconds: float | None = None) -> None:
         """Opens the connection. Raises pymysql's errors."""
         self.is_hung_up = False
         waits = self.patience if seconds is None else seconds
@@ -167,7 +166,7 @@ class MariaDBStore:
         self.known = known_of(self._identity)
         self.usual = self.connection._read_timeout
 
-    def identity(self) -> Optional[StoreIdentity]:
+    def identity(self) -> StoreIdentity | None:
         """From a row that is written once, and the table's creation time. None without permission
         to write or read them."""
         if self.is_hung_up:
@@ -176,7 +175,7 @@ class MariaDBStore:
             self.connect()
         return self._identity
 
-    def opened(self, seconds: float) -> Tuple[Any, Optional[StoreIdentity]]:
+    def opened(self, seconds: float) -> tuple[Any, StoreIdentity | None]:
         """A connection, and the identity of what it leads to."""
         connection = self.connected(seconds)
         try:
@@ -185,7 +184,7 @@ class MariaDBStore:
             close_connection(connection)
             raise
 
-    def identity_at(self, connection: Any) -> Optional[StoreIdentity]:
+    def identity_at(self, connection: Any) -> StoreIdentity | None:
         schema, name = named(self.table)
         cursor = connection.cursor()
         try:
@@ -206,7 +205,7 @@ class MariaDBStore:
 
     def connected(self, seconds: float) -> Any:
         limits = {"connect_timeout": max(1, math.ceil(seconds))}
-        dsn: Dict[str, Any] = {"charset": "utf8mb4", **limits, **self.dsn, "autocommit": True}
+        dsn: dict[str, Any] = {"charset": "utf8mb4", **limits, **self.dsn, "autocommit": True}
         connection = pymysql.connect(**dsn)
         cursor = connection.cursor()
         cursor.execute(SET_UP)
@@ -293,7 +292,7 @@ class MariaDBStore:
 
     # what sessions call
 
-    def begin(self, seconds: Optional[float] = None) -> None:
+    def begin(self, seconds: float | None = None) -> None:
         self.get_ready(seconds)
         self.is_alone, self.before = False, ""
         try:
@@ -305,7 +304,7 @@ class MariaDBStore:
             self.connect(seconds)
             self.send("START TRANSACTION")
 
-    def get_ready(self, seconds: Optional[float] = None) -> None:
+    def get_ready(self, seconds: float | None = None) -> None:
         """Prepares a new transaction."""
         if self.is_hung_up:
             self.close()
@@ -323,11 +322,11 @@ class MariaDBStore:
         self.is_alone = True
         self.before = limited(SHARE * (self.ends - time.monotonic()))
 
-    def read(self, key: str) -> Optional[StoredValue]:
+    def read(self, key: str) -> StoredValue | None:
         row = self.ask(READ + (LOCKING if self.is_alone else self.locks), (key,)).fetchone()
         return None if row is None else (row[0], row[1:])
 
-    def read_all(self, keys: Sequence[str]) -> Dict[str, StoredValue]:
+    def read_all(self, keys: Sequence[str]) -> dict[str, StoredValue]:
         if not keys:
             return {}
         locks = LOCKING if self.is_alone else self.locks
@@ -337,7 +336,7 @@ class MariaDBStore:
     def write(self, key: str, value: Any, name: Name) -> None:
         self.put(key, value, name, "", "")
 
-    def exchange(self, key: str, value: Any, name: Name) -> Optional[StoredValue]:
+    def exchange(self, key: str, value: Any, name: Name) -> StoredValue | None:
         """Reads and writes in one statement, which locks the row first. So it returns the version
         that it overwrites, whatever the transaction's snapshot."""
         rows = self.put(key, value, name, KEEPING, BEFORE).fetchall()
@@ -414,7 +413,7 @@ class MariaDBStore:
             return "unknown"
         return str(value) if decided == count else "unknown"
 
-    def decided(self, count: int, seconds: float) -> Tuple[str, int]:
+    def decided(self, count: int, seconds: float) -> tuple[str, int]:
         """The value and count in the store's own row, into which it writes "aborted" unless the row
         is already there."""
         connection = self.connected(seconds)
@@ -425,7 +424,7 @@ class MariaDBStore:
             cursor = connection.cursor()
             row = (self.own, "aborted", "", OWN, count)
             cursor.execute(limited(seconds) + DECIDE.format(table=self.table), row)
-            decision: Tuple[str, int] = cursor.fetchone()
+            decision: tuple[str, int] = cursor.fetchone()
             return decision
         finally:
             close_connection(connection)
@@ -453,7 +452,7 @@ ITS_ROW = """SELECT before_run, before_session, before_number FROM {table} WHERE
 
 
 def asked(
-    dsn: Dict[str, Any], table: str, own: str, *, ticket: Any, seconds: float
+    dsn: dict[str, Any], table: str, own: str, *, ticket: Any, seconds: float
 ) -> CommitStatus:
     """The outcome of a transaction whose client process was killed."""
     store = MariaDBStore(dsn, patience=seconds)

@@ -7,7 +7,7 @@ import random
 import secrets
 import threading
 import time
-from typing import Any, Dict, List, Optional, Tuple
+from typing import Any
 
 from ..core._records import Name, StoredValue
 from ..core._store_identity import StoreIdentity
@@ -24,12 +24,12 @@ class MemoryStore:
     name, moment). A commit takes up to `takes` seconds on its way there, and up to `takes` on the
     way back."""
 
-    def __init__(self, fault: Optional[str] = None, takes: float = 0.0) -> None:
+    def __init__(self, fault: str | None = None, takes: float = 0.0) -> None:
         assert fault is None or fault in FAULTS, fault
         self.takes = takes
         self.fault, self.moment, self.lock = fault, 0, threading.RLock()
-        self.versions: Dict[str, List[Tuple[Any, Name, int]]] = {}
-        self.runs: Dict[str, str] = {}  # for each run's name, its token
+        self.versions: dict[str, list[tuple[Any, Name, int]]] = {}
+        self.runs: dict[str, str] = {}  # for each run's name, its token
         token = secrets.token_hex(8)
         self.identity = StoreIdentity(f"memory {token}", f"the in-memory store {token}")
 
@@ -45,16 +45,16 @@ class MemoryStore:
 class Connection:
     def __init__(self, shared: MemoryStore) -> None:
         self.shared, self.known = shared, True
-        self.lost: Optional[str] = None
-        self.seen: Dict[str, int] = {}
-        self.writes: Dict[str, StoredValue] = {}
+        self.lost: str | None = None
+        self.seen: dict[str, int] = {}
+        self.writes: dict[str, StoredValue] = {}
         self.last_outcome = "unknown"
 
     def begin(self) -> None:
         self.began, self.seen, self.writes = self.shared.moment, {}, {}
         self.last_outcome = "aborted"  # nothing is stored yet
 
-    def read(self, key: str) -> Optional[StoredValue]:
+    def read(self, key: str) -> StoredValue | None:
         shared = self.shared
         at = shared.newest(key, shared.moment if shared.fault == "torn-read" else self.began)
         self.seen[key] = at

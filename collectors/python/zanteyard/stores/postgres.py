@@ -1,14 +1,13 @@
 """A table of PostgreSQL as a store. Each row has its writer's name next to the value; the value
 NULL marks a deleted key."""
 
-from __future__ import annotations
-
 import logging
 import os
 import re
 import socket
 import threading
-from typing import Any, Dict, List, Optional, Sequence, Tuple
+from collections.abc import Sequence
+from typing import Any
 
 import psycopg2
 from psycopg2 import errors, extensions
@@ -19,12 +18,19 @@ from ..core.errors import AbortedError, NameTakenError, OutcomeUnknownError
 from ._postgres_connection import connected, environment, outcome_told, to_its_server
 from .levels import checked_level
 
-TABLE = """CREATE TABLE IF NOT EXISTS {table} (
-    key text PRIMARY KEY, value text,
-    run text NOT NULL, session int NOT NULL, number bigint NOT NULL)"""
-READ = "SELECT value, run, session, number FROM {table} WHERE key = %s"
-READ_ALL = "SELECT key, value, run, session, number FROM {table} WHERE key = ANY(%s)"
-TRANSACTION = "RETURNING pg_current_xact_id()::text"  # of each write: no commit has to ask for it
+# A connection has the application's search path, since a pooler may lend it to others. So nothing
+# here but the table's name, which is the user's, may depend on that path: other names and operators
+# are qualified.
+IS = "OPERATOR(pg_catalog.=)"
+JOINS = "OPERATOR(pg_catalog.||)"
+TEXT = "pg_catalog.text"
+TABLE = f"""CREATE TABLE IF NOT EXISTS {{table}} (
+    key {TEXT} PRIMARY KEY, value {TEXT},
+    run {TEXT} NOT NULL, session pg_catalog.int4 NOT NULL, number pg_catalog.int8 NOT NULL)"""
+READ = f"SELECT value, run, session, number FROM {{table}} WHERE key {IS} %s"
+READ_ALL = f"SELECT key, value, run, session, number FROM {{table}} WHERE key {IS} ANY(%s)"
+# Of each write, so that no commit has to ask for it.
+TRANSACTION = f"RETURNING pg_catalog.pg_current_xact_id()::{TEXT}"
 WRITE = f"""INSERT INTO {{table}} VALUES (%s, %s, %s, %s, %s) ON CONFLICT (key) DO UPDATE
     SET value = excluded.value, run = excluded.run, session = excluded.session,
     number = excluded.number
@@ -32,46 +38,55 @@ WRITE = f"""INSERT INTO {{table}} VALUES (%s, %s, %s, %s, %s) ON CONFLICT (key) 
 # Locks the row before reading it, so that it returns the version that it overwrites. A plain
 # subselect would return what the statement's snapshot has, from before it waited for the lock.
 OVERWRITE = f"""UPDATE {{table}} AS now SET value = {{value}}, run = %s, session = %s, number = %s
-    FROM (SELECT * FROM {{table}} WHERE key = %s FOR UPDATE) AS before WHERE now.key = before.key
+    FROM (SELECT * FROM {{table}} WHERE key {IS} %s FOR UPDATE) AS before
+    WHERE now.key {IS} before.key
     {TRANSACTION}, before.value, before.run, before.session, before.number"""
 # The value of the collector's own keys is the name that is overwritten, so that it survives a lost
 # answer. It is followed by the names overwritten before, one per line, the latest first: others may
 # have written the key, for example when joining, before anybody asks.
 LINES = 32
-KEPT = f"""concat_ws(chr(10), concat_ws(' ', before.session, before.number, before.run),
-    array_to_string((string_to_array(nullif(before.value, ''), chr(10)))[1:{LINES - 1}],
-    chr(10)))"""
+LINE = "pg_catalog.chr(10)"
+KEPT = f"""pg_catalog.concat_ws({LINE},
+    pg_catalog.concat_ws(' ', before.session, before.number, before.run),
+    pg_catalog.array_to_string((pg_catalog.string_to_array(
+    CASE WHEN before.value {IS} '' THEN NULL ELSE before.value END, {LINE}))[1:{LINES - 1}],
+    {LINE}))"""
 FIRST = f"""INSERT INTO {{table}} VALUES (%s, %s, %s, %s, %s) ON CONFLICT (key) DO NOTHING
     {TRANSACTION}"""
 # A standby may not have heard of it yet.
-XACT_STATUS = "CASE WHEN pg_is_in_recovery() THEN NULL ELSE pg_xact_status(%s::text::xid8) END"
+XACT_STATUS = f"""CASE WHEN pg_catalog.pg_is_in_recovery() THEN NULL
+    ELSE pg_catalog.pg_xact_status(%s::{TEXT}::pg_catalog.xid8) END"""
 # Identifies the server, the database, the table, and the server's timeline. Another server, or this
 # one after a standby has replaced it, knows nothing of what was done here. A standby returns no
 # timeline.
-TABLE_OID = "{literal}::regclass::oid"
-DATABASE_OID = "(SELECT oid FROM pg_database WHERE datname = current_database())"
-SYSTEM = "(SELECT system_identifier FROM pg_control_system())"
-TIMELINE = """CASE WHEN NOT pg_is_in_recovery()
-    THEN left(pg_walfile_name(pg_current_wal_lsn()), 8) END"""
-WHICH = f"concat_ws(' ', {SYSTEM}, {DATABASE_OID}, {TABLE_OID}, {TIMELINE})"
-STATUS = f"""SELECT {XACT_STATUS}, EXISTS (SELECT 1 FROM {{table}}
-    WHERE key = %s AND run = %s AND session = %s AND number = %s), {WHICH}"""
-CLAIM = """WITH mine AS (INSERT INTO {table} VALUES (%s, %s, %s, %s, %s)
+TABLE_OID = "{literal}::pg_catalog.regclass::pg_catalog.oid"
+DATABASE_OID = f"""(SELECT oid FROM pg_catalog.pg_database
+    WHERE datname {IS} pg_catalog.current_database())"""
+SYSTEM = "(SELECT system_identifier FROM pg_catalog.pg_control_system())"
+TIMELINE = """CASE WHEN NOT pg_catalog.pg_is_in_recovery() THEN pg_catalog.left(
+    pg_catalog.pg_walfile_name(pg_catalog.pg_current_wal_lsn()), 8) END"""
+WHICH = f"pg_catalog.concat_ws(' ', {SYSTEM}, {DATABASE_OID}, {TABLE_OID}, {TIMELINE})"
+NAMED = f"key {IS} %s AND run {IS} %s AND session {IS} %s AND number {IS} %s"
+STATUS = f"SELECT {XACT_STATUS}, EXISTS (SELECT 1 FROM {{table}} WHERE {NAMED}), {WHICH}"
+CLAIM = f"""WITH mine AS (INSERT INTO {{table}} VALUES (%s, %s, %s, %s, %s)
     ON CONFLICT (key) DO NOTHING RETURNING value)
-    SELECT value FROM mine UNION ALL SELECT value FROM {table} WHERE key = %s"""
+    SELECT value FROM mine UNION ALL SELECT value FROM {{table}} WHERE key {IS} %s"""
 # The names of runs that claimed none, as with earlier versions of this package: looked up once.
-CLAIM_ALL = """INSERT INTO {table} SELECT DISTINCT %s || run, '', run, -1, 0 FROM {table}
-    WHERE session >= 0 ON CONFLICT (key) DO NOTHING"""
+CLAIM_ALL = f"""INSERT INTO {{table}} SELECT DISTINCT %s {JOINS} run, '', run, -1, 0 FROM {{table}}
+    WHERE session OPERATOR(pg_catalog.>=) 0 ON CONFLICT (key) DO NOTHING"""
 READING = "SET TRANSACTION ISOLATION LEVEL SERIALIZABLE, READ ONLY; "
 # The connection's server process and when it started; and what changes whenever the server starts
 # or crashes, after which it may give a transaction's number to another one.
-AGE = "extract(epoch FROM backend_start)::text"
+AGE = f"extract(epoch FROM backend_start)::{TEXT}"
 OF = " of "  # followed by the server's identity, after what changes with each start
-LIVES = f"""concat_ws(' ', extract(epoch FROM pg_postmaster_start_time()),
-    (SELECT extract(epoch FROM stats_reset) FROM pg_stat_bgwriter)) || '{OF}' || {WHICH}"""
-LIFE = f"""SELECT pg_backend_pid(),
-    (SELECT {AGE} FROM pg_stat_activity WHERE pid = pg_backend_pid()), {LIVES},
-    concat_ws(' ', {SYSTEM}, {DATABASE_OID}, {TABLE_OID}), current_database()"""
+LIVES = f"""pg_catalog.concat_ws(' ', extract(epoch FROM pg_catalog.pg_postmaster_start_time()),
+    (SELECT extract(epoch FROM stats_reset) FROM pg_catalog.pg_stat_bgwriter))
+    {JOINS} '{OF}' {JOINS} {WHICH}"""
+ITS_PID = "pg_catalog.pg_backend_pid()"
+LIFE = f"""SELECT {ITS_PID},
+    (SELECT {AGE} FROM pg_catalog.pg_stat_activity WHERE pid {IS} {ITS_PID}), {LIVES},
+    pg_catalog.concat_ws(' ', {SYSTEM}, {DATABASE_OID}, {TABLE_OID}),
+    pg_catalog.current_database()"""
 BARRED = (errors.InsufficientPrivilege, errors.UndefinedFunction, errors.FeatureNotSupported)
 CONFLICTS = (errors.SerializationFailure, errors.DeadlockDetected, errors.LockNotAvailable)
 PATIENCE = 5.0  # seconds for a connection, and for an outcome
@@ -101,7 +116,7 @@ def with_table(text: str, table: str) -> str:
     return text.format(table=table, literal=literal(table))
 
 
-def which_of(life: Optional[str]) -> Optional[str]:
+def which_of(life: str | None) -> str | None:
     """The server, database and table in the life of a connection."""
     return life.partition(OF)[2] if life is not None else None
 
@@ -145,26 +160,26 @@ class PostgresStore:
         self.dsn, self.level, self.table, self.patience = dsn, level, quoted(table), patience
         self.connection: Any = None
         self._its_dsn = dsn  # for exactly the server of the current, or last, connection
-        self.transaction_id: Optional[str] = None
-        self.written: Tuple[Any, ...] = ()  # the last key written, and the name stored with it
-        self.statement: Optional[str] = None  # the last statement, as the server got it
+        self.transaction_id: str | None = None
+        self.written: tuple[Any, ...] = ()  # the last key written, and the name stored with it
+        self.statement: str | None = None  # the last statement, as the server got it
         self.before = ""  # prefix of the transaction's first statement
         self.is_alone = self.is_hung_up = False
         # What another process needs in order to find out about a commit on this connection: the
         # server process, when that started, the server's life, and which table it is.
-        self.life: Tuple[Any, ...] = (0, None, None)
-        self._identity: Optional[StoreIdentity] = None
+        self.life: tuple[Any, ...] = (0, None, None)
+        self._identity: StoreIdentity | None = None
 
-    def connect(self, seconds: Optional[float] = None) -> None:
+    def connect(self, seconds: float | None = None) -> None:
         """Opens the connection. Raises psycopg2's errors."""
         self.is_hung_up = False
-        told: List[Any] = []
+        told: list[Any] = []
         waits = self.patience if seconds is None else seconds
         self.connection = connected(self.dsn, waits, lambda it: told.append(self.told_by(it)))
         self._its_dsn = to_its_server(self.dsn, self.connection)
         self.life, self._identity = told[0]
 
-    def told_by(self, connection: Any) -> Tuple[Tuple[Any, ...], Optional[StoreIdentity]]:
+    def told_by(self, connection: Any) -> tuple[tuple[Any, ...], StoreIdentity | None]:
         """The life and the identity of what a connection leads to, asked before anything else is
         done with it."""
         connection.autocommit = True  # transactions are begun here, together with a statement
@@ -184,7 +199,7 @@ class PostgresStore:
         shown = f"table {self.table} of {where} ({known})"
         return tuple(life), StoreIdentity(f"postgres {known}", shown)
 
-    def identity(self) -> Optional[StoreIdentity]:
+    def identity(self) -> StoreIdentity | None:
         """From the numbers of the server, the database and the table, whatever address leads there.
         A standby has those of its primary. None if this role may not read them."""
         if self.is_hung_up:
@@ -215,7 +230,7 @@ class PostgresStore:
         self.statement = cursor.query.decode(errors="replace")[len(before) :]
         return cursor
 
-    def begin(self, seconds: Optional[float] = None) -> None:
+    def begin(self, seconds: float | None = None) -> None:
         if self.is_hung_up or self.is_in_transaction:
             self.close()
         if self.connection is None or self.connection.closed:
@@ -241,11 +256,11 @@ class PostgresStore:
         self.is_alone = True
         self.before = f"SET LOCAL statement_timeout = {max(1, int(1000 * seconds))}; "
 
-    def read(self, key: str) -> Optional[StoredValue]:
+    def read(self, key: str) -> StoredValue | None:
         row = self.ask(READ, (key,), is_reading=True).fetchone()
         return None if row is None else (row[0], row[1:])
 
-    def read_all(self, keys: Sequence[str]) -> Dict[str, StoredValue]:
+    def read_all(self, keys: Sequence[str]) -> dict[str, StoredValue]:
         rows = self.ask(READ_ALL, ([*keys],), is_reading=True)
         return {row[0]: (row[1], row[2:]) for row in rows}
 
@@ -253,7 +268,7 @@ class PostgresStore:
         self.written = (key, *name)
         (self.transaction_id,) = self.ask(WRITE, (key, value, *name)).fetchone()
 
-    def exchange(self, key: str, value: Any, name: Name) -> Optional[StoredValue]:
+    def exchange(self, key: str, value: Any, name: Name) -> StoredValue | None:
         self.written = (key, *name)
         keeps = KEPT if self.is_alone else "%s"
         values = (*name, key) if self.is_alone else (value, *name, key)

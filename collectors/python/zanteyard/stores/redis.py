@@ -7,14 +7,13 @@ in the same EXEC: it says what was committed last. To find out an unknown outcom
 there that the attempt was aborted, which prevents a late EXEC.
 """
 
-from __future__ import annotations
-
 import json
 import logging
 import secrets
 import socket
 import time
-from typing import Any, Dict, List, Optional, Sequence
+from collections.abc import Sequence
+from typing import Any
 
 import redis
 
@@ -43,7 +42,7 @@ def text_of(value: Any, name: Name) -> str:
     return MARK + text
 
 
-def found_in(text: Optional[str]) -> Optional[StoredValue]:
+def found_in(text: str | None) -> StoredValue | None:
     """The value and name in a text. A text that no store of this kind has written has no name, and
     is a value as a whole."""
     if text is None:
@@ -82,12 +81,12 @@ class RedisStore:
         checked_level("redis", level)
         self.url, self.level, self.prefix, self.patience = url, level, prefix, patience
         self.connection: Any = None
-        self.statement: Optional[str] = None
+        self.statement: str | None = None
         self.own, self.count = f"{prefix}{LAST}{secrets.token_hex(8)}", 0
-        self._identity: Optional[StoreIdentity] = None  # of the Redis that is connected
-        self.token: Optional[str] = None  # found there under STORE
-        self.seen: Dict[str, Optional[str]] = {}  # what was read, by key
-        self.queued: List[Command] = []
+        self._identity: StoreIdentity | None = None  # of the Redis that is connected
+        self.token: str | None = None  # found there under STORE
+        self.seen: dict[str, str | None] = {}  # what was read, by key
+        self.queued: list[Command] = []
         self.is_alone = self.is_hung_up = False
         self.ends = 0.0  # time limit of the collector's own statement
         # Of the transaction: whether something of it was done by itself, and whether it was done in
@@ -96,7 +95,7 @@ class RedisStore:
 
     # the connection
 
-    def connect(self, seconds: Optional[float] = None) -> None:
+    def connect(self, seconds: float | None = None) -> None:
         """Opens the connection. Raises redis-py's errors, and StoreUnfitError if the server may
         drop any key."""
         self.is_hung_up = False
@@ -114,7 +113,7 @@ class RedisStore:
 
     def connected(self, seconds: float) -> Any:
         # Bytes that aren't UTF-8, which another program may have written, become a text, too.
-        more: Dict[str, Any] = {"decode_responses": True, "encoding_errors": "surrogateescape"}
+        more: dict[str, Any] = {"decode_responses": True, "encoding_errors": "surrogateescape"}
         return connected(self.url, seconds, **more)
 
     def look_at_it(self, connection: Any) -> None:
@@ -122,7 +121,7 @@ class RedisStore:
         lost its data, for example by a restart, gets its identity back from a store that knows it:
         what is missing then are lost writes, not another store."""
         key, mine = f"{self.prefix}{STORE}", self.token or secrets.token_hex(8)
-        asked: List[Command] = [("INFO", "memory"), ("SET", key, mine, "NX"), ("GET", key)]
+        asked: list[Command] = [("INFO", "memory"), ("SET", key, mine, "NX"), ("GET", key)]
         memory, done, told = answers(connection, asked)
         self.see_that_nothing_is_dropped(memory)
         is_barred = isinstance(told, BARRED) or (told is None and isinstance(done, BARRED))
@@ -133,7 +132,7 @@ class RedisStore:
             shown = f"{where}, prefix {self.prefix!r} (store {told})"
             self._identity = StoreIdentity(f"redis {told} {number} {self.prefix}", shown)
 
-    def identity(self) -> Optional[StoreIdentity]:
+    def identity(self) -> StoreIdentity | None:
         """From a key that is written once, and stays when the server restarts or is replaced. None
         without permission to write or read it."""
         if self.is_hung_up:
@@ -154,7 +153,7 @@ class RedisStore:
                 "names: an evicted key would be reported as a lost write"
             )
 
-    def send(self, *commands: Command) -> List[Any]:
+    def send(self, *commands: Command) -> list[Any]:
         """Sends commands; all commands of a transaction pass through here. Each call is one round
         trip. It never opens a connection, since what the old one watched would be forgotten."""
         connection = self.connection
@@ -188,7 +187,7 @@ class RedisStore:
         """Watches the store's own key, and nothing else any more."""
         self.sent_in_time(("UNWATCH",), ("WATCH", self.own))
 
-    def get_ready(self, seconds: Optional[float] = None) -> None:
+    def get_ready(self, seconds: float | None = None) -> None:
         if self.is_hung_up:
             self.close()
         if self.connection is None:
@@ -211,14 +210,14 @@ class RedisStore:
         key.encode()
         return self.prefix + key
 
-    def read(self, key: str) -> Optional[StoredValue]:
+    def read(self, key: str) -> StoredValue | None:
         return self.read_all([key]).get(key)
 
-    def read_all(self, keys: Sequence[str]) -> Dict[str, StoredValue]:
+    def read_all(self, keys: Sequence[str]) -> dict[str, StoredValue]:
         if not keys:
             return {}
         full_keys = [self.its(key) for key in keys]
-        commands: List[Command] = (
+        commands: list[Command] = (
             [("MGET", *full_keys)] if len(full_keys) > 1 else [("GET", *full_keys)]
         )
         if self.level == WATCHED and not self.is_alone:
@@ -232,19 +231,19 @@ class RedisStore:
 
     def texts_of(
         self, full_keys: Sequence[str], commands: Sequence[Command]
-    ) -> List[Optional[str]]:
+    ) -> list[str | None]:
         """The answer to the last command. MGET hides values that aren't strings, such as lists; the
         GETs that follow raise an error for them, as reading a single key does."""
         answer = self.asked(commands)[-1]
         if len(full_keys) == 1:
             return [answer]
-        texts: List[Optional[str]] = answer
+        texts: list[str | None] = answer
         absent = [("GET", each) for each, text in zip(full_keys, texts) if text is None]
         if absent:
             self.asked(absent)
         return texts
 
-    def asked(self, commands: Sequence[Command]) -> List[Any]:
+    def asked(self, commands: Sequence[Command]) -> list[Any]:
         """Sends commands. If a transaction's connection is lost, it can't be committed any more."""
         try:
             return self.sent_in_time(*commands)
@@ -253,7 +252,7 @@ class RedisStore:
                 raise OutcomeUnknownError(str(error)) from error
             raise
 
-    def sent_in_time(self, *commands: Command) -> List[Any]:
+    def sent_in_time(self, *commands: Command) -> list[Any]:
         """Sends commands with a time limit; afterwards the application's own limit applies
         again."""
         if not self.is_alone:
@@ -280,7 +279,7 @@ class RedisStore:
         except BROKEN as error:
             raise OutcomeUnknownError(str(error)) from error
 
-    def exchange(self, key: str, value: Any, name: Name) -> Optional[StoredValue]:
+    def exchange(self, key: str, value: Any, name: Name) -> StoredValue | None:
         """In a transaction the key is watched, at every level except "single commands"."""
         full_key = self.its(key)
         command = ("SET", full_key, text_of(value, name), "GET")
@@ -296,7 +295,7 @@ class RedisStore:
         self.queued.append(command[:-1])
         return found_in(text)
 
-    def exchanged_alone(self, command: Command) -> Optional[StoredValue]:
+    def exchanged_alone(self, command: Command) -> StoredValue | None:
         try:
             self.watch_own()
         except BROKEN as error:
@@ -330,7 +329,7 @@ class RedisStore:
             if texts != [self.seen[key] for key in keys]:
                 raise AbortedError("a key that was read and is to be written has changed")
 
-    def executed(self, commands: Sequence[Command]) -> List[Any]:
+    def executed(self, commands: Sequence[Command]) -> list[Any]:
         """The answer to each command. Raises AbortedError if a watched key has changed, and
         redis-py's ResponseError if the server has refused the whole."""
         own = [("SET", self.own, f"{self.count} committed")] if commands else []

@@ -7,13 +7,12 @@ out writes so to the row. In WAL mode this overwrites what the failed commit has
 which would otherwise take effect when the file is opened again.
 """
 
-from __future__ import annotations
-
 import os
 import secrets
 import sqlite3
 import time
-from typing import Any, Dict, List, Optional, Sequence, Tuple
+from collections.abc import Sequence
+from typing import Any
 
 from ..core._commit_status import CommitStatus, kept, overwritten
 from ..core._records import Name, StoredValue
@@ -83,12 +82,12 @@ class SQLiteStore:
         checked_level("sqlite", level)
         self.path, self.level, self.table, self.patience = path, level, quoted(table), patience
         self.connection: Any = None
-        self.statement: Optional[str] = None  # the last statement, followed by its values
+        self.statement: str | None = None  # the last statement, followed by its values
         self.own, self.count = f"{LAST}{secrets.token_hex(8)}", 0
         self.is_alone = self.has_failed = False
         self.waits = 0.0  # the connection's current busy timeout, in seconds
-        self._identity: Optional[StoreIdentity] = None  # of the last file opened
-        self.known: Optional[str] = None  # its `known` text
+        self._identity: StoreIdentity | None = None  # of the last file opened
+        self.known: str | None = None  # its `known` text
 
     # the connection
 
@@ -98,13 +97,13 @@ class SQLiteStore:
         self._identity = self.identity_by_now()
         self.known = known_of(self._identity)
 
-    def identity(self) -> Optional[StoreIdentity]:
+    def identity(self) -> StoreIdentity | None:
         """From the file's number on its device, whatever path leads there."""
         if self.connection is None:
             self.connect()
         return self._identity
 
-    def identity_by_now(self) -> Optional[StoreIdentity]:
+    def identity_by_now(self) -> StoreIdentity | None:
         """The identity of the file that has the path now; None if there is none, as for a database
         in memory."""
         try:
@@ -117,7 +116,7 @@ class SQLiteStore:
         return StoreIdentity(f"sqlite {where} {self.table}", shown)
 
     def connected(self) -> Any:
-        more: Dict[str, Any] = {"isolation_level": None, "check_same_thread": False}
+        more: dict[str, Any] = {"isolation_level": None, "check_same_thread": False}
         more["timeout"] = self.waits = self.patience
         if self.level != UNCOMMITTED:
             return sqlite3.connect(self.path, **more)
@@ -188,10 +187,10 @@ class SQLiteStore:
         self.get_ready(min(seconds, self.patience))
         self.is_alone = True
 
-    def read(self, key: str) -> Optional[StoredValue]:
+    def read(self, key: str) -> StoredValue | None:
         return self.read_all([key]).get(key)
 
-    def read_all(self, keys: Sequence[str]) -> Dict[str, StoredValue]:
+    def read_all(self, keys: Sequence[str]) -> dict[str, StoredValue]:
         """A read by itself at "read uncommitted" keeps other writers out, so that it returns
         committed values of one moment."""
         is_guarded = self.is_alone and self.level == UNCOMMITTED
@@ -199,7 +198,7 @@ class SQLiteStore:
             self.start(True, self.waits)
         try:
             if len(keys) == 1:
-                rows: List[Any] = [(keys[0], *row) for row in self.ask(READ, keys)]
+                rows: list[Any] = [(keys[0], *row) for row in self.ask(READ, keys)]
             else:
                 marks = ", ".join("?" * len(keys))
                 rows = self.ask(READ_ALL, [*keys], keys=marks).fetchall()
@@ -212,7 +211,7 @@ class SQLiteStore:
         own = (self.own, None, name[0], OWN, self.count)
         self.ask(WRITE, [*own, key, value, *name], rows=f"{ROW}, {ROW}")
 
-    def exchange(self, key: str, value: Any, name: Name) -> Optional[StoredValue]:
+    def exchange(self, key: str, value: Any, name: Name) -> StoredValue | None:
         """Reads and writes; nobody else can write in between."""
         is_by_itself = self.is_alone or self.level == AUTOCOMMIT
         if is_by_itself:
@@ -338,7 +337,7 @@ class SQLiteStore:
         row = (RUN + run_name, token, run_name, -1, 0)
         try:
             self.ask(FIRST, row)
-            rows: List[Tuple[Any, ...]] = self.ask(READ, row[:1]).fetchall()
+            rows: list[tuple[Any, ...]] = self.ask(READ, row[:1]).fetchall()
             self.end()
         except BaseException:
             self.rollback()

@@ -1,8 +1,7 @@
 """A store in memory with one of its faults, and a few clients whose reads show the fault."""
 
-from __future__ import annotations
-
-from typing import Any, Callable, Mapping, Sequence
+from collections.abc import Callable, Mapping, Sequence
+from typing import Any
 
 from ..core.errors import AbortedError
 from ..program._auditor import Auditor

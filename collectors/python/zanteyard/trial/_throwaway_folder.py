@@ -1,14 +1,11 @@
 """A temporary folder that is removed at the end, even if this program is killed."""
 
-from __future__ import annotations
-
 import os
 import secrets
 import shutil
 import subprocess
 import tempfile
 import time
-from typing import Optional
 
 PID = "own_server.pid"  # in the folder: the number of the process to kill first
 TRIES = 600  # attempts to remove it: what was just killed may still create files
@@ -39,7 +36,7 @@ class ThrowawayFolder:
 
     def __init__(self) -> None:
         self.path = ""
-        self.watch: Optional[subprocess.Popen[bytes]] = None
+        self.watch: subprocess.Popen[bytes] | None = None
 
     def make(self) -> None:
         self.path = new_path()

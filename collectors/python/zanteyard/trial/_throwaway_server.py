@@ -1,12 +1,10 @@
 """A server program in a temporary folder."""
 
-from __future__ import annotations
-
 import os
 import shutil
 import subprocess
 import time
-from typing import Any, Dict, List, Optional
+from typing import Any
 
 from ._throwaway_folder import PID, ThrowawayFolder
 
@@ -22,13 +20,13 @@ class ThrowawayServer:
     it runs as that user."""
 
     program = ""
-    user: Optional[str] = None
+    user: str | None = None
 
     def __init__(self) -> None:
-        self.process: Optional[subprocess.Popen[bytes]] = None
+        self.process: subprocess.Popen[bytes] | None = None
         self.own_folder = ThrowawayFolder()
 
-    def call(self) -> List[str]:
+    def call(self) -> list[str]:
         """The program with its arguments."""
         raise NotImplementedError
 
@@ -65,7 +63,7 @@ class ThrowawayServer:
     def start(self) -> None:
         """Starts the server, also after `stop`."""
         with open(f"{self.folder}/log", "ab") as log:
-            quiet: Dict[str, Any] = {"stdin": subprocess.DEVNULL, "stdout": log, "stderr": log}
+            quiet: dict[str, Any] = {"stdin": subprocess.DEVNULL, "stdout": log, "stderr": log}
             # A terminal's Ctrl-C is meant for the clients: the audit still needs the server for its
             # last round.
             process = subprocess.Popen(

@@ -5,11 +5,10 @@ A step that the store doesn't allow, for example because it would have to wait f
 aborts that client's transaction. So the stores must not wait for locks.
 """
 
-from __future__ import annotations
-
+from collections.abc import Callable, Iterator, Mapping, Sequence
 from contextlib import suppress
 from dataclasses import dataclass
-from typing import Any, Callable, Dict, Iterator, List, Mapping, Optional, Sequence
+from typing import Any
 
 from ..core._outcome import RATHER_WAIT, Outcome
 from ..core.errors import AbortedError, OutcomeUnknownError
@@ -35,7 +34,7 @@ class Client:
 
     def __init__(self, session: Session) -> None:
         self.session = session
-        self.transaction: Optional[Transaction] = None
+        self.transaction: Transaction | None = None
 
     def begin(self) -> None:
         with suppress(AbortedError):
@@ -244,8 +243,8 @@ class _OwnKeys:
         self.claim, self.identity = store.claim, store.identity
 
     @property
-    def statement(self) -> Optional[str]:
-        statement: Optional[str] = self.store.statement
+    def statement(self) -> str | None:
+        statement: str | None = self.store.statement
         return statement
 
     def read(self, key: str) -> Any:
@@ -258,7 +257,7 @@ class _OwnKeys:
         return self.store.exchange(self.prefix + key, value, name)
 
 
-def table_lines(seen_by_fault: Mapping[str, Sequence[Seen]], levels: Sequence[str]) -> List[str]:
+def table_lines(seen_by_fault: Mapping[str, Sequence[Seen]], levels: Sequence[str]) -> list[str]:
     """The results as a table, with a column for each level."""
     rows = [["", *levels]]
     rows += [[fault, *(str(cell) for cell in seen)] for fault, seen in seen_by_fault.items()]
@@ -268,7 +267,7 @@ def table_lines(seen_by_fault: Mapping[str, Sequence[Seen]], levels: Sequence[st
     ]
 
 
-def promise_lines(seen_by_fault: Mapping[str, Sequence[Seen]], levels: Sequence[str]) -> List[str]:
+def promise_lines(seen_by_fault: Mapping[str, Sequence[Seen]], levels: Sequence[str]) -> list[str]:
     """A table with a column for each level: for each promise "kept", or the first fault that broke
     it."""
     rows = [["", *levels]]
@@ -288,9 +287,9 @@ def table_of(
     make_stores: Callable[[str], Sequence[Any]],
     levels: Sequence[str],
     asks_promises: bool = False,
-) -> Dict[str, List[Seen]]:
+) -> dict[str, list[Seen]]:
     """What was seen of each fault at each level. `make_stores` makes SESSIONS stores of a level."""
-    seen_by_fault: Dict[str, List[Seen]] = {fault: [] for fault in FAULTS}
+    seen_by_fault: dict[str, list[Seen]] = {fault: [] for fault in FAULTS}
     for level in levels:
         stores = make_stores(level)
         try:

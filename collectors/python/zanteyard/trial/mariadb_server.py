@@ -6,7 +6,8 @@ from __future__ import annotations
 import os
 import secrets
 import shutil
-from typing import Any, Callable, Dict, List, Optional
+from collections.abc import Callable
+from typing import Any
 
 from ..core._visible import say
 from ._throwaway_server import ThrowawayServer
@@ -23,7 +24,7 @@ OPTIONS = (
 )
 
 
-def mariadbd() -> Optional[str]:
+def mariadbd() -> str | None:
     """The path of the server program; None if it isn't installed."""
     usual = "/usr/sbin/mariadbd"
     return shutil.which("mariadbd") or (usual if os.path.exists(usual) else None)
@@ -37,7 +38,7 @@ class MariaDBServer(ThrowawayServer):
     program, user, table = "mariadbd", "mysql", "zanteyard"
 
     @property
-    def dsn(self) -> Dict[str, Any]:
+    def dsn(self) -> dict[str, Any]:
         return {"unix_socket": self.socket, "user": "root", "database": DATABASE}
 
     def prepare_folder(self) -> None:
@@ -46,7 +47,7 @@ class MariaDBServer(ThrowawayServer):
             self.own(path)
         self.own(self.folder)
 
-    def call(self) -> List[str]:
+    def call(self) -> list[str]:
         as_user = ["--user=mysql"] if os.geteuid() == 0 else []
         data, errors = f"--datadir={self.folder}/data", f"--pid-file={self.folder}/server.pid"
         return [
@@ -58,7 +59,7 @@ class MariaDBServer(ThrowawayServer):
         import pymysql
 
         try:
-            dsn: Dict[str, Any] = {**self.dsn, "database": None, "connect_timeout": 5}
+            dsn: dict[str, Any] = {**self.dsn, "database": None, "connect_timeout": 5}
             connection = pymysql.connect(**dsn)
         except pymysql.MySQLError:
             return False
@@ -71,7 +72,7 @@ class MariaDBGuest:
     """Has the calls of a MariaDBServer, for a server that is already running. It creates one table
     with a unique name in the database that `dsn` names, and drops it at the end."""
 
-    def __init__(self, dsn: Dict[str, Any], tell: Callable[[str], object] = say) -> None:
+    def __init__(self, dsn: dict[str, Any], tell: Callable[[str], object] = say) -> None:
         self.dsn, self.tell = dsn, tell
         self.table = f"zanteyard_{secrets.token_hex(6)}"
 

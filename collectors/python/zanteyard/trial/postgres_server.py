@@ -9,8 +9,9 @@ import signal
 import subprocess
 import sys
 import time
+from collections.abc import Iterator, Sequence
 from contextlib import contextmanager
-from typing import Any, Dict, Iterator, Optional, Sequence
+from typing import Any
 
 from ._throwaway_folder import TRIES, new_path
 
@@ -19,7 +20,7 @@ STARTING = 300  # seconds for a server to take connections
 STOPPING = 20  # seconds for a server to stop
 
 
-def program(name: str) -> Optional[str]:
+def program(name: str) -> str | None:
     """The path of PostgreSQL's program of this name; None if it isn't installed."""
     places = glob.glob(f"/usr/lib/postgresql/*/bin/{name}")
     places.sort(key=lambda path: int(path.split("/")[4]))
@@ -69,11 +70,11 @@ class PostgresServer:
 
     def __init__(self) -> None:
         as_postgres = {"user": "postgres", "group": "postgres"}
-        self.user: Dict[str, Any] = as_postgres if os.geteuid() == 0 else {}
+        self.user: dict[str, Any] = as_postgres if os.geteuid() == 0 else {}
 
     def run(self, name: str, *arguments: str, **more: Any) -> None:
         call = [program(name) or name, *arguments]
-        quiet: Dict[str, Any] = {"stdin": subprocess.DEVNULL, "stdout": subprocess.DEVNULL}
+        quiet: dict[str, Any] = {"stdin": subprocess.DEVNULL, "stdout": subprocess.DEVNULL}
         subprocess.run(call, check=True, cwd=self.folder, **quiet, **self.user, **more)
 
     def __enter__(self) -> PostgresServer:
@@ -111,7 +112,7 @@ class PostgresServer:
             time.sleep(0.05)
             pid = self.runs()
 
-    def runs(self) -> Optional[int]:
+    def runs(self) -> int | None:
         """The server's process number, or None."""
         try:
             with open(f"{self.data}/postmaster.pid", encoding="ascii") as file:

@@ -5,13 +5,13 @@ from __future__ import annotations
 import secrets
 import shutil
 import socket
-from typing import Callable, List, Optional
+from collections.abc import Callable
 
 from ..core._visible import say
 from ._throwaway_server import ThrowawayServer
 
 
-def redis_server() -> Optional[str]:
+def redis_server() -> str | None:
     """The path of the server program; None if it isn't installed."""
     return shutil.which("redis-server")
 
@@ -30,7 +30,7 @@ class RedisServer(ThrowawayServer):
     def dsn(self) -> str:
         return f"unix://{self.socket}?db=0"
 
-    def call(self) -> List[str]:
+    def call(self) -> list[str]:
         own = ("--port", "0", "--unixsocket", self.socket, "--dir", self.folder, "--save", "")
         return [redis_server() or "redis-server", *own, *self.options]
 

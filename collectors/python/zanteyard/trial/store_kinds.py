@@ -5,7 +5,8 @@ from __future__ import annotations
 
 import argparse
 import os
-from typing import Any, Callable, Dict, List, Mapping, Sequence
+from collections.abc import Callable, Mapping, Sequence
+from typing import Any
 
 from ..core._visible import say
 from ..core.errors import ZanteyardError
@@ -198,9 +199,9 @@ class _MariaDB(StoreKind):
         return f"MariaDB {version.split('-')[0]}, pymysql {pymysql.__version__}"
 
 
-def words_of(text: str) -> Dict[str, Any]:
+def words_of(text: str) -> dict[str, Any]:
     """`host=.. port=.. user=..` as arguments of pymysql's `connect`. Raises CantAuditError."""
-    words: Dict[str, Any] = {}
+    words: dict[str, Any] = {}
     for word in text.split():
         name, equals, value = word.partition("=")
         if not equals:
@@ -237,7 +238,7 @@ class _Redis(StoreKind):
         import redis
 
         with redis.Redis.from_url(server.dsn) as client:
-            figures: Dict[str, Any] = dict(client.info("server"))
+            figures: dict[str, Any] = dict(client.info("server"))
         return f"Redis {figures['redis_version']}, redis-py {redis.__version__}"
 
 
@@ -252,10 +253,11 @@ class _SQLite(StoreKind):
     def add_arguments(self, asked: argparse.ArgumentParser) -> None:
         super().add_arguments(asked)
         about = "SQLite's journal mode (wal)"
-        asked.add_argument("--journal", choices=("wal", "delete"), default="wal", help=about)
+        modes = ("wal", "delete")
+        asked.add_argument("--journal-mode", choices=modes, default="wal", help=about)
 
     def _server(self, asked: Any) -> Any:
-        return SQLiteFile(asked.journal) if asked.dsn is None else SQLiteGuest(asked.dsn)
+        return SQLiteFile(asked.journal_mode) if asked.dsn is None else SQLiteGuest(asked.dsn)
 
     def maker(self, asked: Any, server: Any, **more: Any) -> MakesStore:
         if asked.level == "uncommitted" and getattr(asked, "processes", False):
@@ -335,5 +337,5 @@ def kind_named(command: str) -> StoreKind:
     return named
 
 
-def names() -> List[str]:
+def names() -> list[str]:
     return [kind.command for kind in KINDS]

@@ -1,10 +1,9 @@
 """Runs clients at the same time until a fault shows or the time is up; and tables of which levels
 have which faults under load."""
 
-from __future__ import annotations
-
 import time
-from typing import Any, Callable, Dict, List, Mapping, Sequence
+from collections.abc import Callable, Mapping, Sequence
+from typing import Any
 
 from ..core._outcome import RATHER_WAIT
 from ..explain._anomalies import find_anomaly
@@ -69,10 +68,10 @@ def at_once_table(
     levels: Sequence[str],
     seconds: float,
     workloads: Sequence[str] = tuple(EVERY_WORKLOAD),
-) -> Mapping[str, List[Seen]]:
+) -> Mapping[str, list[Seen]]:
     """What was seen of each workload at each level. Each one begins with new connections, and
     continues with the rows of the one before."""
-    seen_by_workload: Dict[str, List[Seen]] = {workload: [] for workload in workloads}
+    seen_by_workload: dict[str, list[Seen]] = {workload: [] for workload in workloads}
     for level in levels:
         for workload, seen in seen_by_workload.items():
             stores = make_stores(level)

@@ -1,14 +1,13 @@
 """Clients that run transactions on a store at the same time, in threads or in processes, for audits
 without an application."""
 
-from __future__ import annotations
-
 import multiprocessing
 import random
 import signal
 import threading
 import time
-from typing import Any, Callable, Dict, List, Optional, Sequence
+from collections.abc import Callable, Sequence
+from typing import Any
 
 from ..core.errors import AbortedError
 from ..remote._client import AuditClient
@@ -51,7 +50,7 @@ def blind(transaction: Any, client: int) -> None:
 
 
 Workload = Callable[[Any, int], None]
-WORKLOADS: Dict[str, Workload] = {"counter": counter, "skew": skew, "mixed": mixed, "blind": blind}
+WORKLOADS: dict[str, Workload] = {"counter": counter, "skew": skew, "mixed": mixed, "blind": blind}
 
 
 def pairs(transaction: Any, client: int) -> None:
@@ -78,7 +77,7 @@ def undone(transaction: Any, client: int) -> None:
 
 # Each of the others shows a fault of some level below serializable; these two show faults of lower
 # levels.
-EVERY_WORKLOAD: Dict[str, Workload] = {**WORKLOADS, "pairs": pairs, "undone": undone}
+EVERY_WORKLOAD: dict[str, Workload] = {**WORKLOADS, "pairs": pairs, "undone": undone}
 
 
 class Nothing:
@@ -100,11 +99,11 @@ class Clients:
         workload: Workload,
         seconds: float,
         is_over: Callable[[], bool],
-        rate: Optional[float] = None,
+        rate: float | None = None,
         first: int = 0,
     ) -> None:
         self.workload, self.is_over, self.committed, self.aborted = workload, is_over, 0, 0
-        self.failures: List[Exception] = []
+        self.failures: list[Exception] = []
         self.longest, self.lock = 0.0, threading.Lock()
         self.count = len(sessions)
         # Seconds from the begin of a client's transaction to that of its next one.
@@ -174,7 +173,7 @@ class ChurningClients(Clients):
         count: int,
         workload: Workload,
         seconds: float,
-        rate: Optional[float] = None,
+        rate: float | None = None,
         life: float = LIFE,
         is_over: Callable[[], bool] = lambda: False,
     ) -> None:
@@ -209,21 +208,21 @@ class ClientProcesses(Clients):
 
     def __init__(
         self,
-        path: Optional[str],
+        path: str | None,
         make_store: Callable[[], Any],
         count: int,
         workload: str,
         seconds: float,
-        rate: Optional[float] = None,
+        rate: float | None = None,
         is_over: Callable[[], bool] = lambda: False,
     ) -> None:
         self.committed = self.aborted = 0
         # Processor time while transactions ran, and in total.
         self.used = self.whole = 0.0
         self.failures = []
-        waited: List[float] = []
-        took: List[float] = []
-        longest: List[float] = []
+        waited: list[float] = []
+        took: list[float] = []
+        longest: list[float] = []
         spawned = multiprocessing.get_context(
             "spawn"
         )  # a fork would copy only one of the auditor's threads
@@ -270,11 +269,11 @@ def client_process(
     ready: Any,
     number: int,
     ended: Any,
-    path: Optional[str],
+    path: str | None,
     make_store: Callable[[], Any],
     workload: str,
     seconds: float,
-    rate: Optional[float],
+    rate: float | None,
 ) -> None:
     """One client in a process that does nothing else while transactions run, until the time is up
     or `ended` is set. Sends its counts, or what failed."""

@@ -4,19 +4,20 @@ Lines are passed on as bytes. Each `open` begins a new audit with a new program,
 of the previous one.
 """
 
-from __future__ import annotations
-
 import json
 import logging
 import os
+import re
 import uuid
 from collections import deque
-from typing import Any, Deque, Iterator, List, Optional, Sequence, Tuple, Union
+from collections.abc import Iterator, Sequence
+from typing import Any
 
 from ..core._own_keys import FENCE, FORM
 from ..core.errors import JournalError, ProgramEndedError, RefusedError
 from ..journal._file import Journal
 from ..journal._entries import Head
+from ..program._checkpoint import OK, saved_lines, why_not_resumed
 from ..program._lines import refusal_of as refused, written
 from ..program._pipes import Pipes
 from ..program._searched_round import SearchedRound
@@ -24,13 +25,14 @@ from ..program._supervised import SupervisedProgram
 from ..program._resuming import journaled
 from ..promises._asking import Asking, begun_in, most_remaining
 from ..promises._kinds import SERIALIZABLE, Promise
-from ._retained import OPEN
+from ._kept import Kept
 
 SECONDS = 60.0  # seconds for the reply to a line
+OPEN = re.compile(rb'\["open",(\d+),(\d+)')
 ROUND, TRUNCATE, CUT = b'["round",', b'["truncate"', b'["cut",'
 logger = logging.getLogger("zanteyard")
 
-Answered = Tuple[bytes, bytes]  # a line and its reply
+Answered = tuple[bytes, bytes]  # a line and its reply
 
 
 class Auditing:
@@ -40,7 +42,7 @@ class Auditing:
     def __init__(
         self,
         path: str,
-        journal: Optional[str] = None,
+        journal: str | None = None,
         round_seconds: float = 60.0,
         promise: Promise = SERIALIZABLE,
     ) -> None:
@@ -54,8 +56,9 @@ class Auditing:
         self._round = 0  # number of the last one
         self._uncounted = 0  # skipped rounds, which the program doesn't count
         self._refusal = b""  # the last reply that was a refusal
+        self._limit = 0  # transactions that may remain
         self.run_name = uuid.uuid4().hex
-        self._program: Union[Pipes, SupervisedProgram, None] = None
+        self._program: Pipes | SupervisedProgram | None = None
         if journal is not None:
             _set_aside(journal)
 
@@ -68,7 +71,7 @@ class Auditing:
         """Yields each line with its reply, as the replies arrive. Raises ProgramEndedError if the
         program ends or doesn't answer in time, and JournalError; then the audit is over. Lines
         before the first `open`, or of an audit that is over, aren't answered."""
-        waiting: Deque[bytes] = deque()
+        waiting: deque[bytes] = deque()
         for line in lines:
             if OPEN.match(line):
                 yield from self._answers(waiting)
@@ -97,24 +100,50 @@ class Auditing:
     def is_running(self) -> bool:
         return self._program is not None
 
+    def kept(self) -> Kept:
+        """What the program holds. Raises what `give` raises."""
+        talk = saved_lines(self._limit, self.promise)
+        lines = next(talk)
+        while True:
+            answers = [answer for _, answer in self._answers(deque(lines))]
+            try:
+                lines = talk.send(answers)
+            except StopIteration as ended:
+                return Kept(ended.value)
+
+    def go_on_with(self, lines: Sequence[bytes]) -> None:
+        """Goes on with another program, in the state to which these lines lead. Raises what `give`
+        raises."""
+        if isinstance(self._program, SupervisedProgram):
+            self._program.begin_again(lines)
+            return
+        if self._program is not None:
+            self._program.kill()
+            self._program.end()
+        self._program, self._uncounted = Pipes(self.path), self._round
+        for _, answer in self._answers(deque(lines)):
+            if answer != OK:
+                self._kill()
+                raise why_not_resumed(answer, "what the auditor gave out")
+
     def _begin(self, line: bytes) -> None:
         self.end()
         self.audits += 1
         self._round = self._uncounted = 0
         self._asking = Asking(self.promise, keeps_version=True)
+        found = OPEN.match(line)
+        assert found is not None
+        self._limit = int(found[2])
+        if self.promise.asks_itself:
+            self._limit = min(self._limit, most_remaining(self.promise, FORM))
         if self.journal is None:
             self._program = Pipes(self.path)
             return
-        found = OPEN.match(line)
-        assert found is not None
-        limit = int(found[2])
-        if self.promise.asks_itself:
-            limit = min(limit, most_remaining(self.promise, FORM))
-        head = Head(int(found[1]), limit, self.run_name, self.audits)
+        head = Head(int(found[1]), self._limit, self.run_name, self.audits)
         head.promise = self.promise.name
         self._program = journaled(self.path, self.journal, lambda: head, [FENCE])
 
-    def _answers(self, waiting: Deque[bytes]) -> Iterator[Answered]:
+    def _answers(self, waiting: deque[bytes]) -> Iterator[Answered]:
         """Gives all these lines at once, and yields each with its reply."""
         try:
             if waiting and self._program is not None:
@@ -156,11 +185,11 @@ class Auditing:
         begun = begun_in(self._reply_to(["save", "marks"]))
         return written([*json.loads(answer), [*begun]]).encode()
 
-    def _reply_to(self, line: Sequence[Any]) -> List[Any]:
+    def _reply_to(self, line: Sequence[Any]) -> list[Any]:
         """The reply to a line. Raises RefusedError."""
         text = written(line)
         ((_, answer),) = self._answers(deque([text.encode()]))
-        reply: List[Any] = json.loads(answer)
+        reply: list[Any] = json.loads(answer)
         refusal = refused(text, reply)
         if refusal is not None:
             self._refusal = answer
@@ -197,5 +226,5 @@ def refusal_of(reply: bytes) -> str:
     """The name of the refusal in a reply; empty if the line wasn't refused."""
     if not reply.startswith(b'["no",'):
         return ""
-    parts: List[str] = reply.decode(errors="replace").split('"')
+    parts: list[str] = reply.decode(errors="replace").split('"')
     return parts[3] if len(parts) > 3 else "refused"

@@ -1,17 +1,17 @@
 """The state of an audit, written by one thread and read by others."""
 
-from __future__ import annotations
-
 import threading
 import time
 from collections import deque
+from collections.abc import Mapping, Sequence
 from dataclasses import replace
-from typing import Any, Deque, Dict, List, Mapping, Sequence
+from typing import Any
 
 from ..explain._charts import RoundSeen
 from ..promises._kinds import SERIALIZABLE, Promise
 from ._feed import listed, number, seen_of, text, whole
 from ._state import Ended, Seen, Status, added
+from ._groups import Groups
 from ._violations import Violation
 
 ROUNDS = 180  # that are shown, the latest ones
@@ -23,15 +23,23 @@ class Board:
     """The state of an audit; safe for use by several threads. Times are in seconds since 1970."""
 
     def __init__(
-        self, title: str, origin: str = "", promise: Promise = SERIALIZABLE
+        self,
+        title: str,
+        origin: str = "",
+        promise: Promise = SERIALIZABLE,
+        at_least: float = 0.0,
+        groups: Groups | None = None,
     ) -> None:
+        self.groups = groups if groups is not None else Groups()
         now = time.time()
         self._turn = threading.Lock()
-        self._status = Status(title, now, now, origin=origin, promise=promise)
-        self._rounds: Deque[RoundSeen] = deque(maxlen=ROUNDS)
-        self._kinds: Dict[str, int] = {}
-        self._violations: List[Violation] = []
-        self._notes: Deque[str] = deque(maxlen=NOTES)
+        self._status = Status(
+            title, now, now, origin=origin, promise=promise, at_least=at_least
+        )
+        self._rounds: deque[RoundSeen] = deque(maxlen=ROUNDS)
+        self._kinds: dict[str, int] = {}
+        self._violations: list[Violation] = []
+        self._notes: deque[str] = deque(maxlen=NOTES)
         self._met = 0.0  # when the meeting was that the next round will cover
 
     def status(self) -> Status:
@@ -44,6 +52,8 @@ class Board:
                 kinds=dict(self._kinds),
                 violations=tuple(self._violations),
                 notes=tuple(self._notes),
+                groups=self.groups.listed(),
+                ungrouped=self.groups.more,
             )
 
     def _note(self, **changes: Any) -> None:
@@ -94,9 +104,20 @@ class Board:
                 remaining=remaining,
                 **more,
             )
-            if kind == "violated":
-                self._note(violations_count=status.violations_count + 1)
             return seen
+
+    def finds(self, count: int) -> None:
+        """Notes this many violations of the round that was reported last."""
+        with self._turn:
+            self._note(violations_count=self._status.violations_count + count)
+
+    def sets_aside(self, reads: int, unseen: int) -> None:
+        """Notes reads on which violations rest, and which aren't asked about any more; `unseen` of
+        them weren't looked at by themselves."""
+        with self._turn:
+            status = self._status
+            aside, more = status.reads_aside + reads, status.reads_unseen + unseen
+            self._note(reads_aside=aside, reads_unseen=more)
 
     def waits(self, lines: Sequence[str], count: int) -> None:
         """Notes the reads that wait after the last round."""
@@ -129,7 +150,9 @@ class Board:
         """Begins another audit, of which nothing is known yet."""
         with self._turn:
             its = {"is_over": False, "kind": "running", "pending": (), "pending_count": 0}
-            earlier = added(self._status.earlier_seen, self._status.seen)
+            last = self._status.seen
+            last = replace(last, totals=last.totals.closed())
+            earlier = added(self._status.earlier_seen, last)
             self._met = 0.0
             self._note(
                 audit=self._status.audit + 1, seen=Seen(), earlier_seen=earlier, remaining=0, **its

@@ -1,16 +1,16 @@
 """`zanteyard watch`: audits any application on PostgreSQL; only its connection string changes.
 
 docs/WATCH.md says how to use it. The exit status says what was found: 0 serial, 1 violated, 2 it
-can't begin, 3 pending, 4 something was lost or not decided, or nothing was checked.
+can't begin, 3 pending, 4 something was lost or not decided, or nothing was checked, 5 less was
+checked than --at-least.
 """
-
-from __future__ import annotations
 
 import argparse
 import logging
 import os
 import sys
-from typing import Any, Dict, List, Sequence, Tuple
+from collections.abc import Callable, Sequence
+from typing import Any
 from urllib.parse import unquote, urlsplit
 
 from ..core._visible import say, visible
@@ -18,20 +18,25 @@ from ..core.errors import ZanteyardError
 from ..program._binaries import find_program, origin_of
 from ..promises._kinds import ASKED, LIVE, SERIALIZABLE
 from . import _prepare
+from ._control import ControlError, control_path
+from ._clients import add_clients, mistake_in, words_for
 from ._database import Database, DatabaseError, DriverMissingError, without_password
 from ._ending import STATUS_WORDS
-from ._facts import create, findings, server_of
+from ._facts import findings, server_of, unneeded
+from ._groups import KnownFileError, known_in
+from ._hooks import Hooks, is_web
 from ._patterns import add_tables_option
 from ._prepare import host_name
 from ._proxy_program import find_proxy
 from ._run import Plan, Run, stopped_by_signals
 from ._sharing import add_sharing, mistake_of, words_of
-from ._supervising import CantBeginError
+from ._supervising import CantBeginError, Control
 from ._web import host_and_port
 
 MISTAKE = 2
 LISTEN = "127.0.0.1:6432"
 FORM = "%(asctime)s %(levelname)s %(message)s"
+WEBHOOK = "ZANTEYARD_WEBHOOK"
 URL = "ZANTEYARD_URL"  # the environment variable for it, so that no list of processes shows it
 logger = logging.getLogger("zanteyard")
 
@@ -42,7 +47,6 @@ def add_arguments(command: argparse.ArgumentParser) -> None:
         "url",
         metavar="URL",
         nargs="?",
-        default=os.environ.get(URL),
         help=f"the server, given as postgresql://user@server/database (or the environment's {URL})",
     )
     command.add_argument(
@@ -68,6 +72,12 @@ def add_arguments(command: argparse.ArgumentParser) -> None:
         "--sample", type=share, metavar="SHARE",
         help="audit only this share of the connections, such as 0.1",
     )
+    command.add_argument(
+        "--rollbacks", action="store_true",
+        help="below serializable, also check transactions that only read, and that their clients "
+        "rolled back though no statement had failed",
+    )
+    add_clients(command)
     add_sharing(command)
     add_tables_option(command, "audit only these tables, such as public.*,shop.orders")
     command.add_argument(
@@ -75,19 +85,103 @@ def add_arguments(command: argparse.ArgumentParser) -> None:
         help="the isolation level that the application relies on (serializable; docs/PROMISES.md)",
     )
     command.add_argument(
-        "--redact", action="store_true", help="hide the parameters and constants of statements"
+        "--redact", action="store_true",
+        help="hide constants, parameters and comments of statements, and rows' keys"
+    )
+    add_ending(command)
+    command.add_argument(
+        "--json", action="store_true",
+        help="print a line of JSON for each violation, and for the outcome (docs/FORMATS.md)",
+    )
+    add_telling(command)
+    command.add_argument(
+        "--at-least", type=percent, metavar="PERCENT", default=0.0,
+        help="end with status 5 if less than this share was checked in full of the transactions, "
+        "the SELECTs or the written rows",
     )
     command.add_argument(
-        "--seconds", type=float, metavar="S",
+        "--seconds", type=least_of(0.0), metavar="S",
         help="end after this many seconds (without it: at a signal)",
     )
     command.add_argument(
-        "--round-seconds", type=float, default=60.0, metavar="S",
+        "--round-seconds", type=least_of(0.0), default=60.0, metavar="S",
         help="seconds that the search of a round may take before the round is skipped (60)",
     )
+    add_logging(command)
+
+
+def add_logging(command: argparse.ArgumentParser) -> None:
     command.add_argument(
-        "--log", type=level, metavar="LEVEL", default="INFO", help="the log level (INFO)"
+        "--log", type=level, metavar="LEVEL", default="INFO",
+        help="the log level: DEBUG, INFO, WARNING or ERROR (INFO)",
     )
+    command.add_argument(
+        "-q", "--quiet", action="store_const", const=logging.WARNING, dest="log",
+        help="log only warnings and errors",
+    )
+    command.add_argument(
+        "-v", "--verbose", action="store_const", const=logging.DEBUG, dest="log",
+        help="log each round",
+    )
+
+
+def add_ending(command: argparse.ArgumentParser) -> None:
+    """Adds the options of how a proxy limits connections, ends and is replaced."""
+    command.add_argument(
+        "--drain", type=least_of(0.0), default=30.0, metavar="S",
+        help="seconds for which open transactions may go on when the proxy ends (30)",
+    )
+    command.add_argument(
+        "--most-connections", type=int, default=0, metavar="N",
+        help="refuse clients beyond this many (0: as many as the server takes)",
+    )
+    command.add_argument(
+        "--take-over", action="store_true",
+        help="replace the proxy that serves this address, though another program audits through "
+        "it; no client is refused",
+    )
+
+
+def add_telling(command: argparse.ArgumentParser) -> None:
+    """Adds the options of what happens at a violation."""
+    command.add_argument(
+        "--ignore", metavar="FILE",
+        help="set known violations aside: a file with the name of a shape, as the outcome shows "
+        "it, in each line; they are counted",
+    )
+    command.add_argument(
+        "--on-violation", metavar="COMMAND",
+        help="run this by the shell at the first violation of each shape, with the violation as a "
+        "line of JSON on standard input",
+    )
+    command.add_argument(
+        "--webhook", metavar="URL", type=web_address,
+        help=f"post that line to this address (or the environment's {WEBHOOK})",
+    )
+    command.add_argument(
+        "--until-violation", action="store_true",
+        help="end after the first violation that isn't set aside",
+    )
+
+
+def web_address(text: str) -> str:
+    if not is_web(text):
+        raise argparse.ArgumentTypeError("give a URL that begins with http:// or https://")
+    return text
+
+
+def least_of(least: float) -> Callable[[str], float]:
+    def number(text: str) -> float:
+        try:
+            found = float(text)
+        except ValueError:
+            found = least - 1
+        if not least <= found < float("inf"):
+            told = f"{text!r} isn't possible: give a number of at least {least:g}, such as 30"
+            raise argparse.ArgumentTypeError(told)
+        return found
+
+    return number
 
 
 def address(text: str) -> str:
@@ -103,16 +197,28 @@ def place(text: str) -> str:
 
 
 def share(text: str) -> float:
-    found = float(text)
+    try:
+        found = float(text)
+    except ValueError:
+        found = 0.0
     if not 0 < found <= 1:
-        raise argparse.ArgumentTypeError("give a number above 0 and at most 1")
+        told = f"{text!r} isn't a share: give a number above 0 and at most 1, such as 0.1"
+        raise argparse.ArgumentTypeError(told)
+    return found
+
+
+def percent(text: str) -> float:
+    found = float(text.removesuffix("%"))
+    if not 0 <= found <= 100:
+        raise argparse.ArgumentTypeError("give a number from 0 to 100")
     return found
 
 
 def level(text: str) -> int:
     found = logging.getLevelName(text.upper())
     if not isinstance(found, int):
-        raise argparse.ArgumentTypeError("give DEBUG, INFO, WARNING or ERROR")
+        told = f"there is no log level {text!r}: give DEBUG, INFO, WARNING or ERROR"
+        raise argparse.ArgumentTypeError(told)
     return found
 
 
@@ -121,20 +227,27 @@ def run(asked: Any) -> int:
     logging.basicConfig(level=asked.log, format=FORM, stream=sys.stderr)
     if not asked.url:
         return _mistake(f"no server was given: give its URL or set {URL}")
-    told = mistake_of(asked)
+    told = mistake_of(asked) or mistake_in(asked)
     if told is not None:
         return _mistake(told)
+    try:
+        known = known_in(asked.ignore) if asked.ignore is not None else frozenset()
+    except KnownFileError as error:
+        return _mistake(str(error))
     program, proxy = find_program(), find_proxy()
     lacks = prepared(asked.url)
     if lacks:
         return _mistake("\n".join(lacks))
     call, environment = call_of(proxy, asked)
     title = f"{visible(without_password(asked.url))}, through {asked.listen}"
+    control = control_of(asked)
     plan = Plan(
         call, program, title, origin_of(program).sentence(), environment,
         page=asked.page, metrics=asked.metrics, journal=asked.journal, save=asked.save,
         round_seconds=asked.round_seconds, for_seconds=asked.seconds, redacts=asked.redact,
-        promise=ASKED[asked.promise], listen=asked.listen,
+        promise=ASKED[asked.promise], listen=asked.listen, control=control,
+        is_json=asked.json, at_least=asked.at_least, known=known,
+        hooks=Hooks(asked.on_violation, asked.webhook), ends_at_violation=asked.until_violation,
     )
     watch = Run(plan, tell)
     with stopped_by_signals(watch):
@@ -142,6 +255,15 @@ def run(asked: Any) -> int:
             return watch.run()
         except CantBeginError as error:
             return _mistake(str(error))
+
+
+def control_of(asked: Any) -> Control | None:
+    """How the proxy is reached. None, with a warning, if there is no safe place for a socket."""
+    try:
+        return Control(control_path(asked.listen), asked.drain, asked.take_over)
+    except ControlError as error:
+        logger.warning("%s; so no later run can take this proxy over", error)
+        return None
 
 
 def tell(line: str) -> None:
@@ -154,16 +276,13 @@ def _mistake(told: str) -> int:
     return MISTAKE
 
 
-def prepared(url: str) -> List[str]:
-    """What this server still lacks for an audit after everything that can be created was. Empty if
-    nothing is missing, or if no driver is installed to ask the server."""
+def prepared(url: str) -> list[str]:
+    """What this server lacks for an audit. Empty if nothing is missing, or if no driver is
+    installed to ask the server."""
     try:
         with Database(url) as database:
             server = server_of(database, host_name(url))
             found = findings(database, server)
-            if not _prepare.is_ready(found):
-                create(database)
-                found = findings(database, server)
     except DriverMissingError as error:
         logger.info("the server wasn't checked first: %s", error)
         return []
@@ -171,13 +290,15 @@ def prepared(url: str) -> List[str]:
         return [f"can't query the server: {visible(str(error))}"]
     lacks = [one for one in found if one.is_needed and not one.is_right]
     if not lacks:
+        if told := unneeded(server):
+            logger.info("%s: zanteyard prepare shows the least role", visible(told))
         return []
     told = "the server isn't ready; `zanteyard prepare URL` shows everything that is missing"
     each = (": ".join(filter(None, (one.sentence, one.remedy))) for one in lacks)
     return [told, *(f"  {visible(line)}" for line in each)]
 
 
-def call_of(proxy: str, asked: Any) -> Tuple[Sequence[str], Dict[str, str]]:
+def call_of(proxy: str, asked: Any) -> tuple[Sequence[str], dict[str, str]]:
     """The proxy's program with its arguments, and its environment. The password is in the
     environment, since a list of processes would show arguments."""
     url, environment = asked.url, dict(os.environ)
@@ -188,14 +309,23 @@ def call_of(proxy: str, asked: Any) -> Tuple[Sequence[str], Dict[str, str]]:
     if password is not None:
         url, environment["PGPASSWORD"] = without_password(url), unquote(password)
     call = [proxy, "--server", url, "--listen", asked.listen]
+    if "password" in url:  # as a parameter, or that of a key: the proxy finds it in the environment
+        call, environment[URL] = [proxy, "--listen", asked.listen], url
     call.append(f"--parameters={'false' if asked.redact else 'true'}")
+    if asked.redact:
+        call.append("--redact")
+    call.append(f"--drain={asked.drain:g}s")
+    if asked.most_connections:
+        call.append(f"--most-connections={asked.most_connections}")
     if asked.promise != SERIALIZABLE.name:
         call.append(f"--promise={asked.promise}")
+    if asked.rollbacks:
+        call.append("--rollbacks")
     if asked.sample is not None:
         call.append(f"--sample={asked.sample:g}")
     if asked.tables is not None:
         call.append(f"--tables={asked.tables.text}")
-    call += words_of(asked, environment)
+    call += [*words_for(asked), *words_of(asked, environment)]
     return call, environment
 
 

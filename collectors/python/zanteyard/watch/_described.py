@@ -1,10 +1,9 @@
 """What the proxy knows about a transaction, for readers of an explanation."""
 
-from __future__ import annotations
-
 import time
+from collections.abc import Iterator, Sequence
 from dataclasses import dataclass
-from typing import Any, Iterator, Optional, Sequence, Tuple
+from typing import Any
 
 from ..core._records import AuditId, Source
 from ..core._visible import visible
@@ -20,11 +19,12 @@ class Statement:
     those that it is known to have made: the auditor's numbers of keys, and their writers."""
 
     text: str
-    parameters: Optional[Tuple[Optional[str], ...]] = None
+    parameters: tuple[str | None, ...] | None = None
     at: float = 0.0
-    unseen: Tuple[str, ...] = ()
+    unseen: tuple[str, ...] = ()
     place: str = ""  # the file and line, if the sender provides them
-    reads: Tuple[Tuple[int, Source], ...] = ()
+    reads: tuple[tuple[int, Source], ...] = ()
+    more_parameters: int = 0  # beyond those in `parameters`
 
     @property
     def plain(self) -> str:
@@ -41,11 +41,15 @@ class Statement:
         """The parameters on one line, each with its number; empty if there are none to show."""
         its = self.parameters or ()
         told = ", ".join(f"${at} = {_value(value)}" for at, value in enumerate(its, 1))
-        return told if len(told) <= VALUES else told[:VALUES] + " .."
+        told = told if len(told) <= VALUES else told[:VALUES] + " .."
+        return told + (f" and {self.more_parameters:,} more" if self.more_parameters else "")
 
 
-def _value(value: Optional[str]) -> str:
+def _value(value: str | None) -> str:
     return "NULL" if value is None else f"'{visible(value, VALUE)}'"
+
+
+ROLLED_BACK = "rolled back by the client"  # an outcome: with --rollbacks it is checked
 
 
 @dataclass(frozen=True)
@@ -62,7 +66,7 @@ class Described:
     began: float = 0.0  # seconds since 1970
     ended: float = 0.0
     is_fence: bool = False
-    statements: Tuple[Statement, ...] = ()
+    statements: tuple[Statement, ...] = ()
     statements_dropped: int = 0  # how many statements' texts weren't kept
     xid: int = 0  # its transaction number on the server, 0 if it has none
     proxy: str = ""  # the other machine's, if it came through one
@@ -71,7 +75,7 @@ class Described:
     def client(self) -> str:
         """A short description of its client."""
         if self.is_fence:
-            return "a fence of the proxy's own"
+            return "a fence, which no client ran"
         its = [visible(self.application, 80)] if self.application else []
         its += [f"from {visible(self.address, 80)}"] if self.address else []
         its += [f"as {visible(self.user, 80)}"] if self.user else []
@@ -89,14 +93,15 @@ def clock(at: float, has_parts: bool = True) -> str:
 
 
 def lines_of(
-    label: str, its: Optional[Described], reads: Sequence[Sequence[str]] = ()
+    label: str, its: Described | None, reads: Sequence[Sequence[str]] = ()
 ) -> Iterator[str]:
     """What it is and what it ran, as lines of text; `reads` go below their statements."""
     if its is None:
         yield f"{label}: no details are known"
         return
     began = f"began at {clock(its.began)}" if its.began else ""
-    facts = [its.client, visible(its.level, 80), began]
+    undone = its.outcome if its.outcome == ROLLED_BACK else ""
+    facts = [its.client, visible(its.level, 80), undone, began]
     yield f"{label}: " + ", ".join(fact for fact in facts if fact)
     for one, read in zip(its.statements, (*reads, *((),) * len(its.statements))):
         more = "".join(f"  [{it}]" for it in (one.values, visible(one.origin)) if it)
@@ -109,7 +114,7 @@ def lines_of(
 def by_time(ids: Sequence[AuditId], known: Any) -> Sequence[AuditId]:
     """The transactions by the time at which they began; those with unknown times last."""
 
-    def place(one: AuditId) -> Tuple[float, AuditId]:
+    def place(one: AuditId) -> tuple[float, AuditId]:
         its = known.get(one)
         return (its.began if its is not None and its.began else float("inf"), one)
 

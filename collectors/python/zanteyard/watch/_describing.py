@@ -1,10 +1,8 @@
 """Asks the proxy to describe the transactions of a violation."""
 
-from __future__ import annotations
-
 import logging
 import threading
-from typing import Callable, Dict, Sequence
+from collections.abc import Callable, Sequence
 
 from ..core._records import AuditId
 from ._described import Described
@@ -24,8 +22,8 @@ class Describing:
     ) -> None:
         self._left = [ids[at : at + AT_ONCE] for at in range(0, len(ids), AT_ONCE)]
         self._ask = ask
-        self._transactions: Dict[AuditId, Described] = {}
-        self._keys: Dict[int, Row] = {}
+        self._transactions: dict[AuditId, Described] = {}
+        self._keys: dict[int, Row] = {}
         self._change = threading.Condition()
         self._answers = 0
         self.is_open = True  # an answer is awaited

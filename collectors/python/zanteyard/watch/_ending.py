@@ -1,28 +1,38 @@
 """The outcome of an audit in words: how much was checked, what wasn't, and the exit status."""
 
-from __future__ import annotations
-
-from typing import Iterator, List, Mapping
+from collections.abc import Iterator, Mapping
 
 from ..core._visible import visible
 from ..promises._kinds import SERIALIZABLE, Promise
 from ._described import clock
+from ._groups import lines_of_groups
+from ._remedies import with_remedy
 from ._state import Seen, Status
 from ._text import counted
+from ._totals import Totals
 
 STATUSES: Mapping[str, int] = {"serial": 0, "violated": 1, "pending": 3}
 UNDECIDED = 4
+TOO_LITTLE = 5
 SHOWN = 15  # statement shapes
 STATUS_WORDS = (
     "Exit status: 0 serial, or the promise asked for was kept; 1 violated; 2 it can't start; 3 "
-    "pending; 4 something was lost or not decided, or nothing was checked."
+    "pending; 4 something was lost or not decided, or nothing was checked; 5 less was checked than "
+    "--at-least."
 )
+NAMES: Mapping[str, str] = {
+    "transactions": "transactions",
+    "selects": "SELECTs",
+    "writes": "writes",
+    "rows_read": "rows read",
+    "rows_written": "rows written",
+}
 
 
 def kind_of(status: Status) -> str:
     """The verdict over the whole run; "nothing" if nothing was checked."""
     kind = status.whole_kind
-    if kind in ("serial", "pending", "running") and not status.whole_seen.offered:
+    if kind in ("serial", "pending", "running") and status.whole_seen.is_nothing:
         return "nothing"
     return {"spent": "undecided", "running": "incomplete"}.get(kind, kind)
 
@@ -35,54 +45,95 @@ def word_of(kind: str, promise: Promise) -> str:
 
 def status_of(status: Status) -> int:
     """The exit status."""
-    return STATUSES.get(kind_of(status), UNDECIDED)
+    found = STATUSES.get(kind_of(status), UNDECIDED)
+    if not found and least_share(status.whole_seen.totals.closed()) < status.at_least:
+        return TOO_LITTLE
+    return found
 
 
 def lines_of(status: Status) -> Iterator[str]:
     """The outcome at the end of a run."""
     kind, seen = kind_of(status), status.whole_seen
-    if kind == "nothing":
-        yield "nothing was checked: no application read or wrote a table through the proxy"
+    if kind == "nothing" and not seen.totals.transactions.all:
+        yield from _nothing(status)
         return
     rounds = counted(status.rounds_count, "round")
     audits = f" and {counted(status.audit, 'audit')}" if status.audit > 1 else ""
-    checked = f"{seen.offered:,} of {seen.whole:,} transactions were checked"
     about = "" if status.promise == SERIALIZABLE else f" for {status.promise.title}"
-    yield f"{word_of(kind, status.promise)}: {checked}{about}, in {rounds}{audits}"
-    if status.violations_count:
-        its = counted(status.violations_count, "violation")
+    totals = seen.totals.closed()
+    word = word_of(kind, status.promise)
+    yield f"{word}: {shares(totals)} were checked{about}, in {rounds}{audits}"
+    if status.new_count:
+        its = counted(status.new_count, "violation")
         names = ", ".join(sorted({one.title for one in status.violations}))
         yield f"  {its} found" + (f": {names}" if names else "")
         yield from (f"  {line}" for line in status.standing.lines())
+    yield from (f"  {line}" for line in lines_of_groups(status.groups, status.ungrouped))
+    if status.reads_unseen:
+        told = counted(status.reads_unseen, "row read")
+        yield f"  {told} in violated rounds had no time to be looked at one by one"
     for one in status.ended:
         if one.is_lost:
             yield f"  an audit ended at {clock(one.at, False)}: {visible(one.reason)}"
     if status.pending_count:
         yield f"  {counted(status.pending_count, 'read')} named transactions that never arrived"
-    yield (
-        f"  {seen.reads:,} of {seen.whole_reads:,} row reads and {seen.writes:,} of "
-        f"{seen.whole_writes:,} row writes were checked"
-    )
-    yield from (f"  {line}" for line in seen.lines_of_reads())
-    if seen.empty:
-        its = counted(seen.empty, "more transaction")
-        yield f"  {its} read and wrote no row that the audit sees"
-    yield from _left_out(seen)
+    yield from (f"  {line}" for line in _table(totals))
+    yield from (f"  {line}" for line in seen.more_lines())
+    yield from (f"  {line}" for line in _reasons(totals))
     yield from _shapes(seen)
 
 
-def _left_out(seen: Seen) -> Iterator[str]:
-    rows: List[str] = []
-    for what, its in (
-        ("transactions", seen.folded),
-        ("row reads", seen.reads_left_out),
-        ("row writes", seen.writes_left_out),
-    ):
-        by_count = sorted(its.items(), key=lambda it: -it[1])
-        rows += [f"{count:>12,} {what:<13} {visible(why, 200)}" for why, count in by_count if count]
-    if rows:
-        yield "  not checked"
-        yield from (f"  {row}" for row in rows)
+def shares(totals: Totals) -> str:
+    """How much was checked in full: "20 of 52 transactions, 71 of 90 SELECTs and 10 of 61 written
+    rows"."""
+    its = [
+        f"{one.checked:,} of {one.all:,} {what}"
+        for one, what in (
+            (totals.transactions, "transactions"),
+            (totals.selects, "SELECTs"),
+            (totals.rows_written, "written rows"),
+        )
+        if one.all
+    ]
+    return " and ".join([", ".join(its[:-1]), its[-1]] if its[1:] else its) or "no transaction"
+
+
+def least_share(totals: Totals) -> float:
+    """The smallest of the shares that were checked in full, in percent."""
+    its = (totals.transactions, totals.selects, totals.rows_written)
+    return min((100 * one.checked / one.all for one in its if one.all), default=0.0)
+
+
+def _table(totals: Totals) -> Iterator[str]:
+    yield f"{'':<16}{'all':>12}{'checked':>12}{'in part':>12}{'not checked':>13}{'rolled back':>13}"
+    for name, one in totals.named():
+        if one.all or one.rolled_back:
+            yield (
+                f"{NAMES[name]:<16}{one.all:>12,}{one.checked:>12,}{one.partly:>12,}"
+                f"{one.unchecked:>13,}{one.rolled_back:>13,}"
+            )
+
+
+def _reasons(totals: Totals) -> Iterator[str]:
+    """Why something wasn't checked, and what helps."""
+    for title, is_part in (("checked in part", True), ("not checked", False)):
+        rows = [*totals.reasons(is_part)]
+        if rows:
+            yield title
+        for name, count, why in rows:
+            yield f"{count:>12,} {NAMES[name]:<13} {visible(with_remedy(why), 200)}"
+
+
+def _nothing(status: Status) -> Iterator[str]:
+    """The outcome of a run in which nothing was checked: what there was, and why not."""
+    seen = status.whole_seen
+    named = f"the database {visible(status.database)}" if status.database else "the database"
+    if not seen.connections_ever:
+        yield f"nothing was checked: no application connected to {named} through the proxy"
+    else:
+        its = counted(seen.connections_ever, "connection")
+        yield f"nothing was checked: the audit saw no row that {its} to {named} read or wrote"
+    yield from _shapes(seen)
 
 
 def _shapes(seen: Seen) -> Iterator[str]:

@@ -1,58 +1,70 @@
-"""Explains violations in threads of their own, while the audit goes on."""
-
-from __future__ import annotations
+"""Explains violations in threads of their own, while the audit goes on: the first one of each
+shape. The others are counted."""
 
 import logging
 import signal
 import threading
 import time
-from typing import Any, Callable, Dict, List, Sequence
+from collections.abc import Callable, Sequence
+from dataclasses import replace
+from typing import Any
 
 from ..core._records import AuditId
 from ..promises._kinds import SERIALIZABLE, Promise
 from ._describing import Describing
+from ._groups import Group, Groups, Shape, shape_of
+from ._stopping import STOPS
 from ._violations import EXPLAINING, Answered, Held, Violation, explained
 
 ANSWERING = 60.0  # seconds for each of the proxy's answers
-MOST = 16  # violations that are explained; the rest are counted
+MOST_DESCRIBED = 4096  # transactions of one report that the proxy is asked about
+MOST_WAITING = 64  # reports whose violations aren't all explained
 MOST_AT_ONCE = 2
 logger = logging.getLogger("zanteyard")
 
 
 class Explaining:
     """Explains violations. `begin` is for the thread that asks the auditor. `told` is called by a
-    thread of this object with each violation that has been explained."""
+    thread of this object with each violation that has been explained, and its group."""
 
     def __init__(
         self,
         program: str,
-        told: Callable[[Violation], object],
+        told: Callable[[Violation, Group], object],
         promise: Promise = SERIALIZABLE,
+        groups: Groups | None = None,
     ) -> None:
         self._program, self._told, self._promise = program, told, promise
+        self.groups = groups if groups is not None else Groups()
         self._turn = threading.Lock()
         self._places = threading.BoundedSemaphore(MOST_AT_ONCE)
-        self._asked: Dict[int, Describing] = {}
-        self._threads: List[threading.Thread] = []
+        self._asked: dict[int, Describing] = {}
+        self._threads: list[threading.Thread] = []
+        self._reports = 0
         self.count = 0
 
     def begin(
         self,
         report: Sequence[Any],
-        held: Held,
+        held: Sequence[Held],
         describe: Callable[[int, Sequence[AuditId]], bool],
     ) -> None:
-        """Begins to explain the violation of this report. Calls `describe` at once and after each
+        """Begins to explain the violations of this report. Calls `describe` at once and after each
         answer: it asks the proxy to describe these transactions, and returns whether it could."""
-        self.count += 1
-        if self.count > MOST:
+        first, now = self.count + 1, time.time()
+        self.count += len(held)
+        self._reports += 1
+        self._threads = [one for one in self._threads if one.is_alive()]
+        if len(self._threads) >= MOST_WAITING:
+            self.groups.enter_unseen(len(held))
             return
-        number, now = self.count, time.time()
-        asked = Describing(held.involved(), lambda some: describe(number, some))
+        ids = [*dict.fromkeys(id for one in held for id in one.involved())]
+        number = self._reports
+        asked = Describing(ids[:MOST_DESCRIBED], lambda some: describe(number, some))
         with self._turn:
             self._asked[number] = asked
         asked.go_on()
-        whole = (number, report, held, asked, now)
+        whole = (number, first, report, held, asked, now)
         thread = threading.Thread(target=self._explain, args=whole, daemon=True)
         self._threads.append(thread)
         thread.start()
@@ -77,20 +89,47 @@ class Explaining:
                 asked.close()
 
     def _explain(
-        self, number: int, report: Sequence[Any], held: Held, asked: Describing, now: float
+        self,
+        number: int,
+        first: int,
+        report: Sequence[Any],
+        held: Sequence[Held],
+        asked: Describing,
+        now: float,
     ) -> None:
-        signal.pthread_sigmask(signal.SIG_BLOCK, {signal.SIGINT})  # programs it starts inherit this
+        signal.pthread_sigmask(signal.SIG_BLOCK, STOPS)  # programs it starts inherit this
         try:
             answered = asked.take(ANSWERING)
-            with self._places:
-                its = (self._program, now, EXPLAINING, self._promise)
-                found = explained(number, report, held, answered, *its)
-            self._told(found)
+            new = []
+            for at, one in enumerate(held, first):
+                shape = shape_of(one, answered)
+                if self.groups.enter(shape, now):
+                    new.append((at, one, shape))
+            for at, one, shape in new:
+                self._explain_one(at, report, one, answered, now, shape)
         except Exception:  # the verdict stands, whatever fails here
-            logger.exception("can't explain violation %d", number)
+            logger.exception("can't group the violations of a round")
         finally:
             with self._turn:
                 self._asked.pop(number, None)
+
+    def _explain_one(
+        self,
+        number: int,
+        report: Sequence[Any],
+        held: Held,
+        answered: Answered,
+        now: float,
+        shape: Shape,
+    ) -> None:
+        try:
+            with self._places:
+                its = (self._program, now, EXPLAINING, self._promise)
+                found = explained(number, report, held, answered, *its)
+            group = self.groups.explained(shape, number, found.title)
+            self._told(replace(found, group=group.name), group)
+        except Exception:  # the verdict stands, whatever fails here
+            logger.exception("can't explain violation %d", number)
 
     def wait(self, seconds: float) -> None:
         """Waits until all violations that were begun are explained, at most this many seconds."""

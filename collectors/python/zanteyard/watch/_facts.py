@@ -1,26 +1,18 @@
 """What a server reports about itself, as far as an audit needs it."""
 
-from __future__ import annotations
-
+from collections.abc import Sequence
 from dataclasses import dataclass
-from typing import List, Optional, Sequence, Tuple
 
 from ._database import Database, DatabaseError
 from ._hosts import (
-    KEEP, PLUGINS, REPLICATION, SENDERS, SLOTS, WAL_LEVEL, WALINSPECT, Host, host_of
+    AUDITOR, KEEP, PLUGINS, REPLICATION, ROLE, SENDERS, SLOTS, WAL_LEVEL, WALINSPECT, Host, host_of
 )
 
 OLDEST = 130000  # PostgreSQL 13
-FENCE = "public.zanteyard_fence"
 PLUGIN, SHIPPED = "wal2json", "test_decoding"  # logical decoding plugins that the proxy can use
 INSTALL = f"install it on the server (Debian: postgresql-NN-{PLUGIN})"
 TRUSTED = "output_plugin_libraries"  # the server's list of allowed plugins
-CREATES = (
-    f"CREATE TABLE IF NOT EXISTS {FENCE} (id integer PRIMARY KEY CHECK (id = 0), "
-    "n bigint NOT NULL)",
-    f"INSERT INTO {FENCE} VALUES (0, 0) ON CONFLICT DO NOTHING",
-    f"GRANT SELECT, UPDATE ON {FENCE} TO PUBLIC",
-)
+UNUSED = "public.zanteyard_fence"  # which versions up to 0.1.0 created
 PROBE = "zanteyard_probe"
 BEHIND_SAVEPOINTS = "the writer of a row may be unknown if it wrote after a savepoint"
 NO_PLUGIN = ("58P01", "42704")  # undefined file, undefined object
@@ -47,19 +39,44 @@ class Server:
     database: str
     user: str
     host: Host
+    is_superuser: bool = False
 
 
 def server_of(database: Database, host_name: str) -> Server:
     """Asks the server what it is. Raises DatabaseError."""
-    ((version, number, name, user),) = database.run(
-        "SELECT current_setting('server_version'), current_setting('server_version_num')::int, "
-        "current_database(), current_user"
+    ((version, number, name, user, is_superuser),) = database.run(
+        "SELECT pg_catalog.current_setting('server_version'), "
+        "pg_catalog.current_setting('server_version_num')::pg_catalog.int4, "
+        "pg_catalog.current_database(), current_user, "
+        "(SELECT rolsuper FROM pg_catalog.pg_roles WHERE rolname = current_user)"
     )
-    settings = [row[0] for row in database.run("SELECT name FROM pg_settings WHERE name ~ '[.]'")]
-    return Server(version.split()[0], number, name, user, host_of(host_name, settings))
+    names = database.run("SELECT name FROM pg_catalog.pg_settings WHERE name ~ '[.]'")
+    settings = [row[0] for row in names]
+    host = host_of(host_name, settings)
+    return Server(version.split()[0], number, name, user, host, bool(is_superuser))
 
 
-def findings(database: Database, server: Server) -> List[Finding]:
+def least_role(server: Server) -> list[str]:
+    """How to make a role that may do what an audit needs, and nothing else."""
+    made = [server.host.remedy(ROLE, AUDITOR)]
+    if AUDITOR not in made[0]:
+        return made
+    database = '"' + server.database.replace('"', '""') + '"'
+    made.append(f"GRANT CONNECT ON DATABASE {database} TO {AUDITOR} (if PUBLIC may not connect)")
+    if server.number >= 150000:
+        called = f"GRANT EXECUTE ON FUNCTION pg_get_wal_record_info(pg_lsn) TO {AUDITOR}"
+        made.append(f"{called} (if the extension pg_walinspect is there)")
+    return made
+
+
+def unneeded(server: Server) -> str:
+    """What to say of a role that may do more than an audit needs; empty if there is nothing."""
+    if not server.is_superuser:
+        return ""
+    return f"the role {server.user} is a superuser, which an audit doesn't need"
+
+
+def findings(database: Database, server: Server) -> list[Finding]:
     """What the server has or lacks for an audit. Raises DatabaseError."""
     found = [_version(server), _wal_level(database, server)]
     found += [_senders(database, server), _slots(database, server)]
@@ -68,8 +85,8 @@ def findings(database: Database, server: Server) -> List[Finding]:
         found.append(_plugin(database, server))
     else:
         found += _plugin_untried(database, server)
-    found += [_fence(database, server), _walinspect(database, server), _keep(database, server)]
-    return found
+    found += [_walinspect(database, server), _keep(database, server)]
+    return found + _rules(database) + _unused(database)
 
 
 def _version(server: Server) -> Finding:
@@ -81,7 +98,7 @@ def _version(server: Server) -> Finding:
 
 
 def _wal_level(database: Database, server: Server) -> Finding:
-    level = database.one("SELECT current_setting('wal_level')")
+    level = database.one("SELECT pg_catalog.current_setting('wal_level')")
     if level == "logical":
         return Finding(True, True, "wal_level is logical")
     remedy = server.host.remedy(WAL_LEVEL, server.user)
@@ -89,23 +106,22 @@ def _wal_level(database: Database, server: Server) -> Finding:
 
 
 def _slots(database: Database, server: Server) -> Finding:
-    return _room(
-        database, server, "max_replication_slots", SLOTS, "FROM pg_replication_slots", "slots"
+    ((most, used),) = database.run(
+        "SELECT pg_catalog.current_setting('max_replication_slots')::pg_catalog.int4, "
+        "(SELECT pg_catalog.count(*) FROM pg_catalog.pg_replication_slots)"
     )
+    return _room(server, "max_replication_slots", most, used, SLOTS, "slots")
 
 
 def _senders(database: Database, server: Server) -> Finding:
-    return _room(
-        database, server, "max_wal_senders", SENDERS, "FROM pg_stat_replication", "senders"
-    )
-
-
-def _room(
-    database: Database, server: Server, setting: str, what: str, table: str, name: str
-) -> Finding:
     ((most, used),) = database.run(
-        f"SELECT current_setting('{setting}')::int, (SELECT count(*) {table})"
+        "SELECT pg_catalog.current_setting('max_wal_senders')::pg_catalog.int4, "
+        "(SELECT pg_catalog.count(*) FROM pg_catalog.pg_stat_replication)"
     )
+    return _room(server, "max_wal_senders", most, used, SENDERS, "senders")
+
+
+def _room(server: Server, setting: str, most: int, used: int, what: str, name: str) -> Finding:
     told = f"{setting} is {most}; {used} {name} are in use"
     if used < most:
         return Finding(True, True, told)
@@ -115,10 +131,14 @@ def _room(
 
 def _replication(database: Database, server: Server) -> Finding:
     may = database.one(
-        "SELECT rolreplication OR rolsuper FROM pg_roles WHERE rolname = current_user"
+        "SELECT rolreplication OR rolsuper FROM pg_catalog.pg_roles WHERE rolname = current_user"
     )
-    if not may and database.one("SELECT 1 FROM pg_roles WHERE rolname = 'rds_replication'"):
-        may = database.one("SELECT pg_has_role(current_user, 'rds_replication', 'member')")
+    if not may and database.one(
+        "SELECT 1 FROM pg_catalog.pg_roles WHERE rolname = 'rds_replication'"
+    ):
+        may = database.one(
+            "SELECT pg_catalog.pg_has_role(current_user, 'rds_replication', 'member')"
+        )
     if may:
         return Finding(True, True, f"the role {server.user} has the right to replicate")
     remedy = server.host.remedy(REPLICATION, server.user)
@@ -152,14 +172,14 @@ def _plugin(database: Database, server: Server) -> Finding:
         database.run("RESET statement_timeout")
 
 
-def _plugin_untried(database: Database, server: Server) -> List[Finding]:
+def _plugin_untried(database: Database, server: Server) -> list[Finding]:
     """What is known about the plugin while no slot can be created, so that it can be fixed together
     with the rest."""
     without = f"otherwise {SHIPPED} is used; {BEHIND_SAVEPOINTS}"
     if _is_missing(database):
         return [Finding(False, False, f"{PLUGIN} isn't installed: {without}", INSTALL)]
     trusted = _trusted(database)
-    names = database.one(f"SELECT current_setting('{TRUSTED}', true)") or ""
+    names = database.one(f"SELECT pg_catalog.current_setting('{TRUSTED}', true)") or ""
     if trusted is None or PLUGIN in (name.strip(" \"") for name in names.split(",")):
         return []
     told = f"{PLUGIN} isn't in the server's {TRUSTED}"
@@ -180,26 +200,16 @@ def _trust_remedy(server: Server, trusted: str) -> str:
 
 
 def _probe(database: Database, plugin: str) -> None:
-    database.run(f"SELECT pg_create_logical_replication_slot('{PROBE}', '{plugin}', true)")
-    database.run(f"SELECT pg_drop_replication_slot('{PROBE}')")
+    database.run(
+        "SELECT pg_catalog.pg_create_logical_replication_slot(%s, %s, true)", (PROBE, plugin)
+    )
+    database.run("SELECT pg_catalog.pg_drop_replication_slot(%s)", (PROBE,))
 
 
-def _trusted(database: Database) -> Optional[str]:
+def _trusted(database: Database) -> str | None:
     """The server's list of allowed plugins, with ours added; None if it has no such list."""
-    its: Optional[str] = database.one(f"SELECT current_setting('{TRUSTED}', true)")
+    its: str | None = database.one(f"SELECT pg_catalog.current_setting('{TRUSTED}', true)")
     return None if its is None else f"{its}, {PLUGIN}" if its else PLUGIN
-
-
-def _fence(database: Database, server: Server) -> Finding:
-    remedy = "zanteyard prepare --create, as a role that may create tables in the schema public"
-    if database.one("SELECT to_regclass(%s)", (FENCE,)) is None:
-        return Finding(False, True, f"the table {FENCE} doesn't exist", remedy)
-    if not database.one("SELECT has_table_privilege(%s, 'SELECT, UPDATE')", (FENCE,)):
-        told = f"the role {server.user} may not update {FENCE}"
-        return Finding(False, True, told, f"GRANT SELECT, UPDATE ON {FENCE} TO PUBLIC")
-    if database.one(f"SELECT count(*) FROM {FENCE} WHERE id = 0") != 1:
-        return Finding(False, True, f"{FENCE} has no row", remedy)
-    return Finding(True, True, f"the table {FENCE} exists, and {server.user} may update it")
 
 
 def _walinspect(database: Database, server: Server) -> Finding:
@@ -209,32 +219,47 @@ def _walinspect(database: Database, server: Server) -> Finding:
     if server.number < 150000:
         return Finding(False, False, f"{told} needs PostgreSQL 15; {without}")
     rows = database.run(
-        "SELECT e.extname IS NOT NULL FROM pg_available_extensions a "
-        "LEFT JOIN pg_extension e ON e.extname = a.name WHERE a.name = 'pg_walinspect'"
+        "SELECT e.extname IS NOT NULL FROM pg_catalog.pg_available_extensions a "
+        "LEFT JOIN pg_catalog.pg_extension e ON e.extname = a.name WHERE a.name = 'pg_walinspect'"
     )
     if not rows:
         return Finding(False, False, f"this server doesn't offer {told}; {without}")
     if not rows[0][0]:
         return Finding(False, False, f"the extension {told} isn't created; {without}", remedy)
-    if not _may_inspect(database):
-        told = f"the role {server.user} may not call {told}"
-        return Finding(False, False, f"{told}; {without}", remedy)
+    reason = _not_inspecting(database, server)
+    if reason:
+        return Finding(False, False, f"{reason}; {without}", remedy)
     return Finding(True, False, f"{told} exists, and {server.user} may call it")
 
 
-def _may_inspect(database: Database) -> bool:
-    return bool(
-        database.one(
-            "SELECT bool_and(has_function_privilege(p.oid, 'EXECUTE')) FROM pg_proc p "
-            "JOIN pg_depend d ON d.objid = p.oid AND d.classid = 'pg_proc'::regclass "
-            "JOIN pg_extension e ON e.oid = d.refobjid WHERE e.extname = 'pg_walinspect' "
-            "AND p.proname = 'pg_get_wal_records_info' AND d.deptype = 'e'"
-        )
+def _not_inspecting(database: Database, server: Server) -> str:
+    """Why the proxy won't call the function of pg_walinspect; empty if it will. The function is
+    found by its extension. It is in C, which only a superuser can make, and belongs to one, as the
+    extension does, or to the audit's own role."""
+    rows = database.run(
+        "SELECT (f.rolsuper OR f.rolname = current_user) AND (o.rolsuper OR o.rolname = "
+        "current_user) AND l.lanname = 'c' AND p.probin = '$libdir/pg_walinspect', "
+        "pg_catalog.has_function_privilege(p.oid, 'EXECUTE') "
+        "AND pg_catalog.has_schema_privilege(p.pronamespace, 'USAGE') "
+        "FROM pg_catalog.pg_extension e JOIN pg_catalog.pg_depend d ON d.refobjid = e.oid "
+        "AND d.refclassid = 'pg_catalog.pg_extension'::pg_catalog.regclass "
+        "AND d.classid = 'pg_catalog.pg_proc'::pg_catalog.regclass AND d.deptype = 'e' "
+        "JOIN pg_catalog.pg_proc p ON p.oid = d.objid "
+        "JOIN pg_catalog.pg_language l ON l.oid = p.prolang "
+        "JOIN pg_catalog.pg_roles f ON f.oid = p.proowner "
+        "JOIN pg_catalog.pg_roles o ON o.oid = e.extowner "
+        "WHERE e.extname = 'pg_walinspect' AND p.proname = 'pg_get_wal_record_info' "
+        "AND p.pronargs = 1 AND p.proargtypes[0] = 'pg_catalog.pg_lsn'::pg_catalog.regtype"
     )
+    if len(rows) != 1 or not rows[0][0]:
+        return "the extension pg_walinspect or its function doesn't belong to a superuser"
+    return "" if rows[0][1] else f"the role {server.user} may not call pg_walinspect"
 
 
 def _keep(database: Database, server: Server) -> Finding:
-    size: Optional[str] = database.one("SELECT current_setting('max_slot_wal_keep_size', true)")
+    size: str | None = database.one(
+        "SELECT pg_catalog.current_setting('max_slot_wal_keep_size', true)"
+    )
     if size not in (None, "-1"):
         return Finding(True, False, f"max_slot_wal_keep_size is {size}")
     told = (
@@ -244,15 +269,37 @@ def _keep(database: Database, server: Server) -> Finding:
     return Finding(False, False, told, server.host.remedy(KEEP, server.user))
 
 
-def create(database: Database) -> Sequence[Tuple[str, Optional[str]]]:
-    """Creates what the audit needs in the database. Returns each statement, and why it failed, if
-    it did."""
-    found: List[Tuple[str, Optional[str]]] = []
-    for statement in CREATES:
-        try:
-            database.run(statement)
-            found.append((statement, None))
-        except DatabaseError as error:
-            found.append((statement, str(error)))
-            break
-    return found
+def _rules(database: Database) -> list[Finding]:
+    """The server's rules by which it would let the proxy in instead of a client. Only a superuser
+    may read them."""
+    try:
+        rows = database.run(
+            "SELECT line_number, type, pg_catalog.array_to_string(database, ','), "
+            "pg_catalog.array_to_string(user_name, ','), auth_method "
+            "FROM pg_catalog.pg_hba_file_rules "
+            "WHERE auth_method IN ('trust', 'peer', 'ident', 'cert') "
+            "AND 'replication' <> ALL(database) "
+            "AND (pg_catalog.current_database() = ANY(database) OR database[1] IN "
+            "('all', 'sameuser', 'samerole', 'samegroup')) ORDER BY line_number"
+        )
+    except DatabaseError:
+        return []
+    if not rows:
+        return []
+    told = "; ".join(f"line {number}: {' '.join(its)}" for number, *its in rows)
+    return [
+        Finding(
+            False, False, f"rules of pg_hba.conf ask a client for no credential ({told}): if one "
+            "of them lets the proxy in, the proxy refuses the client",
+            "give roles passwords, and these rules the method scram-sha-256; or start the proxy "
+            "with --trust-clients (docs/SECURITY.md)",
+        )
+    ]
+
+
+def _unused(database: Database) -> list[Finding]:
+    """A table of an earlier version."""
+    if database.one("SELECT pg_catalog.to_regclass(%s)", (UNUSED,)) is None:
+        return []
+    told = f"the table {UNUSED} was made for an earlier version, and nothing uses it any more"
+    return [Finding(False, False, told, f"DROP TABLE {UNUSED}")]

@@ -1,19 +1,19 @@
 """Reads what the proxy writes (docs/PROXY_FEED.md) into plain values. Missing fields get empty
 values, and unknown events are left out."""
 
-from __future__ import annotations
-
 import json
+from collections.abc import Mapping, Sequence
 from dataclasses import replace
-from typing import Any, Dict, List, Mapping, Optional, Sequence, Tuple, Union
+from typing import Any
 
 from ..core._records import AuditId, Source
-from ._described import Described, Statement
+from ._described import ROLLED_BACK, Described, Statement
 from ._state import OtherProxy, Others, Seen, Shape
+from ._totals import Total, Totals
 from ._violations import Answered, Row
 
-Event = Dict[str, Any]
-Item = Union[bytes, Event]  # a line for the auditor, or an event
+Event = dict[str, Any]
+Item = bytes | Event  # a line for the auditor, or an event
 OTHERS = "others"  # the shape that counts all remaining shapes
 
 
@@ -24,10 +24,10 @@ class Split:
         self._rest = b""
         self.wrong = 0  # lines that were neither
 
-    def items(self, data: bytes) -> List[Item]:
+    def items(self, data: bytes) -> list[Item]:
         """The items that are complete so far."""
         *lines, self._rest = (self._rest + data).split(b"\n")
-        found: List[Item] = []
+        found: list[Item] = []
         for line in lines:
             if line.startswith(b"["):
                 found.append(line)
@@ -40,7 +40,7 @@ class Split:
         return found
 
 
-def _event(line: bytes) -> Optional[Event]:
+def _event(line: bytes) -> Event | None:
     if not line.startswith(b"{"):
         return None
     try:
@@ -80,31 +80,21 @@ def reasons(value: Any) -> Mapping[str, int]:
 def seen_of(event: Mapping[str, Any]) -> Seen:
     """The coverage in an event."""
     reads, writes = table(event.get("reads")), table(event.get("writes"))
-    connections, sessions = table(event.get("connections")), table(event.get("sessions"))
-    lag = table(event.get("lag"))
+    connections, lag = table(event.get("connections")), table(event.get("lag"))
     fences = whole(event.get("fences"))
     return Seen(
-        committed=whole(event.get("committed")) - fences,
+        totals=totals_of(table(event.get("totals"))),
+        committed=whole(event.get("committed")),
         offered=whole(event.get("offered")) - fences,
         fences=fences,
-        aborted=whole(event.get("aborted")),
-        empty=whole(event.get("empty")),
-        folded=reasons(event.get("folded")),
+        bare=whole(event.get("bare")),
         reads=whole(reads.get("offered")),
-        reads_seen=whole(reads.get("seen")),
-        reads_own=whole(reads.get("own")),
-        reads_before=whole(reads.get("before")),
-        reads_folded=whole(reads.get("folded")),
-        reads_left_out=reasons(reads.get("left_out")),
         writes=whole(writes.get("offered")),
-        writes_seen=whole(writes.get("seen")),
-        writes_left_out=reasons(writes.get("left_out")),
         shapes=tuple(_shape(table(it)) for it in listed(event.get("unseen"))),
         connections=whole(connections.get("now")),
         audited_connections=whole(connections.get("audited")),
         waiting_connections=whole(connections.get("waiting")),
         connections_ever=whole(connections.get("ever")),
-        sessions=whole(sessions.get("open")),
         lag_bytes=whole(lag.get("bytes")),
         lag_seconds=number(lag.get("seconds")),
         waiting=whole(event.get("pending")),
@@ -115,7 +105,36 @@ def seen_of(event: Mapping[str, Any]) -> Seen:
     )
 
 
-def _others(its: Any) -> Optional[Others]:
+def totals_of(its: Mapping[str, Any]) -> Totals:
+    """The totals in an event."""
+    selects, rows = table(its.get("selects")), table(its.get("rows_read"))
+    others = table(its.get("without_the_proxy"))
+    return Totals(
+        **{name: _total(table(its.get(name))) for name, _ in Totals().named()},
+        by_condition=whole(selects.get("by_condition")),
+        found_no_row=whole(selects.get("found_no_row")),
+        only_read=whole(table(its.get("transactions")).get("only_read")),
+        other_statements=whole(its.get("other_statements")),
+        own=whole(rows.get("own")),
+        from_before=whole(rows.get("from_before")),
+        of_unchecked=whole(rows.get("of_unchecked")),
+        others=whole(others.get("transactions")),
+        others_rows=whole(others.get("rows_written")),
+    )
+
+
+def _total(its: Mapping[str, Any]) -> Total:
+    return Total(
+        whole(its.get("all")),
+        whole(its.get("checked")),
+        reasons(its.get("in_part")),
+        reasons(its.get("not_checked")),
+        whole(its.get("waiting")),
+        whole(its.get("rolled_back")),
+    )
+
+
+def _others(its: Any) -> Others | None:
     if not isinstance(its, dict):
         return None
     proxies = tuple(_other(table(one)) for one in listed(its.get("proxies")))
@@ -144,8 +163,8 @@ def _shape(its: Mapping[str, Any]) -> Shape:
 
 def answered_of(event: Mapping[str, Any]) -> Answered:
     """The answer to `describe`."""
-    found: Dict[AuditId, Described] = {}
-    keys: Dict[int, Row] = {}
+    found: dict[AuditId, Described] = {}
+    keys: dict[int, Row] = {}
     for one in map(table, listed(event.get("transactions"))):
         id = AuditId((whole(one.get("session")), whole(one.get("number"))))
         if one.get("known") is True:
@@ -168,7 +187,7 @@ def _described(id: AuditId, one: Mapping[str, Any]) -> Described:
         text(one.get("user")),
         whole(one.get("connection")),
         text(one.get("level")),
-        "committed",
+        ROLLED_BACK if one.get("rolled_back") is True else "committed",
         number(one.get("began")),
         number(one.get("ended")),
         one.get("fence") is True,
@@ -179,10 +198,10 @@ def _described(id: AuditId, one: Mapping[str, Any]) -> Described:
     )
 
 
-def _statements(one: Mapping[str, Any]) -> Tuple[Statement, ...]:
+def _statements(one: Mapping[str, Any]) -> tuple[Statement, ...]:
     """The statements, each with the reads that it made; an older proxy's feed lacks these."""
     found = [_statement(table(it)) for it in listed(one.get("statements"))]
-    reads: List[List[Tuple[int, Source]]] = [[] for _ in found]
+    reads: list[list[tuple[int, Source]]] = [[] for _ in found]
     for read, at in zip(listed(one.get("reads")), listed(one.get("read_by"))):
         key, *source = listed(read) or (None,)
         if type(at) is int and 0 <= at < len(found) and type(key) is int:
@@ -195,13 +214,16 @@ def _statements(one: Mapping[str, Any]) -> Tuple[Statement, ...]:
 
 def _statement(its: Mapping[str, Any]) -> Statement:
     parameters = its.get("parameters")
-    values: Optional[Tuple[Optional[str], ...]] = None
+    values: tuple[str | None, ...] | None = None
     if isinstance(parameters, list):
         values = tuple(None if it is None else str(it) for it in parameters)
     file, line = text(its.get("file")), its.get("line")
     where = f"{file}:{line}" if file and line is not None else file
     unseen = tuple(text(it) for it in listed(its.get("unseen")))
-    return Statement(text(its.get("text")), values, number(its.get("at")), unseen, where)
+    more = whole(its.get("more_parameters"))
+    return Statement(
+        text(its.get("text")), values, number(its.get("at")), unseen, where, more_parameters=more
+    )
 
 
 def command(name: str, **more: Any) -> bytes:

@@ -1,23 +1,29 @@
 """Metrics of a watched audit, for Prometheus. Those that the daemon `zanteyard serve` has, too,
 have the same names."""
 
-from __future__ import annotations
-
-from typing import Iterator, Mapping
+from collections.abc import Iterator
 
 from ..core._prometheus import TEXT, Family, text_of
 from ..core._version import VERSION
 from ..promises._kinds import ALL
 from ._board import Board
 from ._state import Status
+from ._totals import Totals
 from ._web import TEXT as PLAIN
 from ._web import Answer
 
 KINDS = ("serial", "pending", "violated", "spent")
+WHAT = {
+    "transactions": "Transactions",
+    "selects": "SELECTs",
+    "writes": "Writing statements",
+    "rows_read": "Rows read",
+    "rows_written": "Rows written",
+}
 
 
 def families(status: Status) -> Iterator[Family]:
-    """All metrics. Counts of transactions, reads and writes are over all audits of this run."""
+    """All metrics. Counts are over all audits of this run."""
     seen, earlier = status.seen, status.earlier_seen
 
     def one(name: str, kind: str, about: str, value: float) -> Family:
@@ -32,20 +38,13 @@ def families(status: Status) -> Iterator[Family]:
     for name, field, about in (
         ("transactions_taken_total", "offered", "Transactions given to the auditor."),
         ("transactions_committed_total", "committed", "Commits in the server's log."),
-        ("transactions_aborted_total", "aborted", "Transactions of clients that aborted."),
         ("reads_taken_total", "reads", "Row reads given to the auditor."),
-        ("reads_from_before_total", "reads_before", "Of these, of versions from before the audit."),
-        ("reads_of_unchecked_total", "reads_folded", "Of these, of versions by unchecked writers."),
+        ("commits_without_rows_total", "bare", "Commits without a row, of no client."),
         ("writes_taken_total", "writes", "Row writes given to the auditor."),
         ("clients_total", "connections_ever", "Connections opened by clients."),
     ):
         yield one(name, "counter", about, getattr(seen, field) + getattr(earlier, field))
-    for name, field, about in (
-        ("transactions_left_out_total", "folded", "Transactions that weren't checked."),
-        ("reads_left_out_total", "reads_left_out", "Row reads that weren't checked."),
-        ("writes_left_out_total", "writes_left_out", "Row writes that weren't checked."),
-    ):
-        yield _by_reason(f"zanteyard_{name}", about, getattr(earlier, field), getattr(seen, field))
+    yield from _totals(status.whole_seen.totals)
     unseen = seen.unseen_count + earlier.unseen_count
     yield one("statements_unseen_total", "counter", "Statements only partly seen.", unseen)
     yield one(
@@ -56,10 +55,10 @@ def families(status: Status) -> Iterator[Family]:
     rounds = [((("kind", kind),), float(status.kinds.get(kind, 0))) for kind in KINDS]
     yield "zanteyard_rounds_total", "counter", "Rounds, by verdict.", rounds
     yield one("cuts_total", "counter", "How often transactions were forgotten.", status.cuts)
-    yield one("meetings_total", "counter", "Meetings of all connections.", status.meetings)
-    about = "Total time of all meetings, in seconds."
+    yield one("meetings_total", "counter", "Meetings of the audited connections.", status.meetings)
+    about = "For how long meetings held clients, in seconds."
     yield one("meeting_seconds_total", "counter", about, status.meetings_ms / 1000)
-    about = "Time of the longest meeting, in seconds."
+    about = "For how long the longest meeting held clients, in seconds."
     yield one("longest_meeting_seconds", "gauge", about, status.longest_meeting_ms / 1000)
     since = max(0.0, status.now - status.told_at) if status.told_at else 0.0
     yield one("seconds_since_round", "gauge", "Seconds since the last round.", since)
@@ -82,7 +81,17 @@ def families(status: Status) -> Iterator[Family]:
         yield one("redis_up", "gauge", "1 if Redis can be reached.", not seen.others.down)
     yield one("audits_total", "counter", "Audits started.", status.audit)
     yield one("violations_total", "counter", "Violations found.", status.violations_count)
-    yield one("violated", "gauge", "1 after a violation.", bool(status.violations_count))
+    yield one("violations_known_total", "counter", "Of these, set aside.", status.known_count)
+    shapes = [
+        (
+            (("name", it.name), ("anomaly", it.title), ("tables", ",".join(it.shape.tables))),
+            float(it.count),
+        )
+        for it in status.groups
+    ]
+    yield "zanteyard_violations_by_shape_total", "counter", "Violations of each shape.", shapes
+    about = "1 after a violation that isn't set aside."
+    yield one("violated", "gauge", about, status.new_count > 0)
     broken = status.standing.broken
     promises = [((("promise", it.name),), float(it in broken)) for it in ALL if not it.is_timed]
     about = "1 after an explained violation that breaks this promise."
@@ -95,12 +104,37 @@ def families(status: Status) -> Iterator[Family]:
     )
 
 
-def _by_reason(
-    name: str, about: str, earlier: Mapping[str, int], now: Mapping[str, int]
-) -> Family:
-    reasons = sorted({*earlier, *now})
-    samples = [((("reason", it),), float(earlier.get(it, 0) + now.get(it, 0))) for it in reasons]
-    return name, "counter", about, samples
+def _totals(totals: Totals) -> Iterator[Family]:
+    """The totals, by the names that they have in the feed and in JSON."""
+    for name, its in totals.named():
+        what = WHAT[name]
+        for place, count, about in (
+            ("all", its.all, f"{what} of clients, except rolled-back ones."),
+            ("checked", its.checked, f"{what} that were checked in full."),
+            ("rolled_back", its.rolled_back, f"{what} that were rolled back."),
+        ):
+            yield f"zanteyard_{name}_{place}_total", "counter", about, [((), count)]
+        yield f"zanteyard_{name}_waiting", "gauge", f"{what} that wait for a round.", [
+            ((), its.waiting)
+        ]
+        for place, reasons, about in (
+            ("in_part", its.in_part, f"{what} that were checked in part."),
+            ("not_checked", its.not_checked, f"{what} that weren't checked."),
+        ):
+            samples = [((("reason", it),), float(n)) for it, n in sorted(reasons.items())]
+            yield f"zanteyard_{name}_{place}_total", "counter", about, samples
+    for name, count, about in (
+        ("transactions_only_read", totals.only_read, "Rolled back, and --rollbacks checks them."),
+        ("selects_by_condition", totals.by_condition, "SELECTs not by one whole key."),
+        ("selects_found_no_row", totals.found_no_row, "SELECTs that returned no row."),
+        ("other_statements", totals.other_statements, "Definitions, procedures and the like."),
+        ("rows_read_own", totals.own, "Checked rows that the reader itself had written."),
+        ("rows_read_from_before", totals.from_before, "Checked rows from before the audit."),
+        ("rows_read_of_unchecked", totals.of_unchecked, "Checked rows by unchecked writers."),
+        ("transactions_without_the_proxy", totals.others, "Transactions of other programs."),
+        ("rows_written_without_the_proxy", totals.others_rows, "Rows that these wrote."),
+    ):
+        yield f"zanteyard_{name}_total", "counter", about, [((), count)]
 
 
 class Metrics:

@@ -5,14 +5,13 @@ What is said about providers is from their documentation, and wasn't tried. Menu
 for the names of the settings.
 """
 
-from __future__ import annotations
-
+from collections.abc import Iterable, Mapping
 from dataclasses import dataclass
-from typing import Iterable, Mapping
 
-WAL_LEVEL, SLOTS, SENDERS, REPLICATION, WALINSPECT, KEEP, PLUGINS = (
-    "wal_level", "slots", "senders", "replication", "walinspect", "keep", "plugins"
+WAL_LEVEL, SLOTS, SENDERS, REPLICATION, WALINSPECT, KEEP, PLUGINS, ROLE = (
+    "wal_level", "slots", "senders", "replication", "walinspect", "keep", "plugins", "role"
 )
+AUDITOR = "zanteyard"  # the least role's name, as a proposal
 
 
 @dataclass(frozen=True)
@@ -34,7 +33,8 @@ OWN = Host(
         SENDERS: "ALTER SYSTEM SET max_wal_senders = 10; then restart the server",
         REPLICATION: "as a superuser: ALTER ROLE {user} REPLICATION",
         WALINSPECT: "as a superuser: CREATE EXTENSION pg_walinspect; "
-        "GRANT pg_read_server_files TO {user}",
+        "GRANT EXECUTE ON FUNCTION pg_get_wal_record_info(pg_lsn) TO {user}",
+        ROLE: "CREATE ROLE {user} LOGIN REPLICATION PASSWORD '..'",
         KEEP: "ALTER SYSTEM SET max_slot_wal_keep_size = '4GB'; SELECT pg_reload_conf()",
         PLUGINS: "ALTER SYSTEM SET output_plugin_libraries = {trusted}; SELECT pg_reload_conf(). "
         "Every role with the right to replicate may then use it. With a hosting provider: the "
@@ -45,6 +45,7 @@ _AMAZON = {
     SLOTS: "in the parameter group: max_replication_slots = 10; then reboot",
     SENDERS: "in the parameter group: max_wal_senders = 10; then reboot",
     REPLICATION: "as the master user: GRANT rds_replication TO {user}",
+    ROLE: "CREATE ROLE {user} LOGIN PASSWORD '..'; GRANT rds_replication TO {user}",
     WALINSPECT: "as the master user: CREATE EXTENSION pg_walinspect, if this version offers it",
     KEEP: "in the parameter group: max_slot_wal_keep_size, in MB",
 }
@@ -97,6 +98,7 @@ AZURE = Host(
 SUPABASE = Host(
     "Supabase",
     {
+        ROLE: "use the role postgres: it may replicate, and is no superuser",
         WAL_LEVEL: "it is logical in every project by default: ask Supabase",
         REPLICATION: "use the role postgres, which may replicate; connect directly or through the "
         "pooler in session mode: its transaction mode has no replication",
@@ -105,6 +107,7 @@ SUPABASE = Host(
 NEON = Host(
     "Neon",
     {
+        ROLE: "create a role in the console: it may replicate, and is no superuser",
         WAL_LEVEL: "in the project's Settings, Logical Replication: Enable (it can't be undone)",
         REPLICATION: "use a role that was created in the console or by its API, and the endpoint "
         "without -pooler in its name",
@@ -114,6 +117,7 @@ NEON = Host(
 HEROKU = Host(
     "Heroku Postgres",
     {
+        ROLE: "as far as we know, no Heroku role may replicate",
         WAL_LEVEL: "as far as we know, Heroku offers no logical replication: ask them, or audit a "
         "copy of the application on a server of your own",
         REPLICATION: "as far as we know, no Heroku role may replicate",

@@ -1,10 +1,8 @@
 """What the proxy wrote and the auditor hasn't been given yet."""
 
-from __future__ import annotations
-
 import threading
 from collections import deque
-from typing import Deque, List, Optional, Sequence
+from collections.abc import Sequence
 
 from ._feed import Item
 
@@ -15,7 +13,7 @@ class Intake:
     """A queue from the thread that reads the proxy to the one that asks the auditor."""
 
     def __init__(self, most: int = MOST) -> None:
-        self._items: Deque[Item] = deque()
+        self._items: deque[Item] = deque()
         self._bytes, self._most = 0, most
         self._is_closed = False
         self._change = threading.Condition()
@@ -30,7 +28,7 @@ class Intake:
                 self._bytes += sum(map(_size, items))
                 self._change.notify_all()
 
-    def take(self, seconds: float) -> Optional[List[Item]]:
+    def take(self, seconds: float) -> list[Item] | None:
         """Everything that is there, as soon as there is something. An empty list if nothing arrives
         within this many seconds; None once it is closed and empty."""
         with self._change:

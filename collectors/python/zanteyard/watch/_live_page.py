@@ -1,14 +1,15 @@
 """The page of a running audit: the verdict so far, what was checked and what wasn't, rounds,
 clients, and each violation with a link to its own page. It works without scripting."""
 
-from __future__ import annotations
-
-from typing import Iterator, List, Mapping, Sequence, Tuple
+from collections.abc import Iterator, Mapping, Sequence
 
 from ..explain._charts import draw_rounds
 from ..core._version import VERSION
 from ..core._visible import escaped, html_text
 from ._described import clock
+from ._ending import NAMES
+from ._groups_page import groups_section
+from ._remedies import remedy_for
 from ._state import MOST_SHAPES, Shape, Status
 from ._style import EVERY_WITHOUT, SCRIPT, STYLE
 from ._text import counted
@@ -52,8 +53,8 @@ def whole_page(status: Status) -> str:
 
 
 def heading_of(status: Status) -> str:
-    if status.violations_count:
-        return f"{counted(status.violations_count, 'violation')} found"
+    if status.new_count:
+        return f"{counted(status.new_count, 'violation')} found"
     return HEADINGS[status.whole_kind]
 
 
@@ -64,6 +65,7 @@ def changing(status: Status) -> str:
             *_state(status),
             *_figures(status),
             *_violations(status),
+            *groups_section(status.groups, status.ungrouped),
             *_shares(status),
             *_others(status),
             *_shapes(status),
@@ -85,7 +87,7 @@ def _state(status: Status) -> Iterator[str]:
 
 
 def _sentences(status: Status) -> Iterator[str]:
-    if status.violations_count:
+    if status.new_count:
         found = HEADINGS["broken" if status.promise.is_split else "violated"]
         yield f"{found}. {_where_explained(status)}"
     elif status.rounds_count:
@@ -119,7 +121,7 @@ def _sentences(status: Status) -> Iterator[str]:
 def _where_explained(status: Status) -> str:
     if not status.violations:
         return "An explanation is being prepared."
-    return "Each has its own page, linked below."
+    return "The first of each shape has its own page, linked below."
 
 
 def lasting(seconds: float) -> str:
@@ -132,18 +134,16 @@ def lasting(seconds: float) -> str:
 
 
 def _figures(status: Status) -> Iterator[str]:
-    seen = status.whole_seen
-    of_all = f"{_share(seen.offered, seen.whole)} of {seen.whole:,}"
-    rows: List[Tuple[str, str, str]] = [
-        ("Transactions checked", f"{seen.offered:,}", of_all),
-        (
-            "Reads checked", f"{seen.reads:,}",
-            f"{_share(seen.reads, seen.whole_reads)} of {seen.whole_reads:,}",
-        ),
-        (
-            "Writes checked", f"{seen.writes:,}",
-            f"{_share(seen.writes, seen.whole_writes)} of {seen.whole_writes:,}",
-        ),
+    seen, totals = status.whole_seen, status.whole_seen.totals
+    rows: list[tuple[str, str, str]] = [
+        (f"{name} checked", f"{one.checked:,}", f"{_share(one.checked, one.all)} of {one.all:,}")
+        for name, one in (
+            ("Transactions", totals.transactions),
+            ("SELECTs", totals.selects),
+            ("Written rows", totals.rows_written),
+        )
+    ]
+    rows += [
         ("Rounds", f"{status.rounds_count:,}", f"{status.remaining:,} transactions held in memory"),
         ("Time to a verdict", f"{status.behind:.1f} s", f"{seen.waiting:,} transactions waiting"),
         (
@@ -177,10 +177,6 @@ def _violations(status: Status) -> Iterator[str]:
             f"{escaped(_capital(one.sentence), 400)}.{_standing(one)}</li>"
         )
     yield "</ol>"
-    more = status.violations_count - len(status.violations)
-    if more > 0:
-        told = "whose explanations aren’t ready or weren’t kept"
-        yield f"<p>{counted(more, 'more violation')}, {told}.</p>"
 
 
 def _standing(one: Violation) -> str:
@@ -193,19 +189,23 @@ def _capital(text: str) -> str:
 
 def _shares(status: Status) -> Iterator[str]:
     seen = status.whole_seen
-    if not (seen.whole or seen.whole_reads):
+    totals = seen.totals
+    if not (totals.transactions.all or totals.transactions.rolled_back):
         return
     yield "<h2>How much was checked</h2>"
-    for name, part, whole, what in (
-        ("Transactions", seen.offered, seen.whole, "transactions"),
-        ("Reads", seen.reads, seen.whole_reads, "rows read"),
-        ("Writes", seen.writes, seen.whole_writes, "rows written"),
-    ):
-        yield from _bar(name, part, whole, f"{_share(part, whole)}: {part:,} of {whole:,} {what}")
-    yield from (f"<p>{line}.</p>" for line in seen.lines_of_reads())
-    if seen.empty:
-        its = counted(seen.empty, "transaction")
-        yield f"<p>{its} read and wrote no row that the audit sees.</p>"
+    for key, one in totals.named():
+        if not (one.all or one.rolled_back):
+            continue
+        told = f"{_share(one.checked, one.all)}: {one.checked:,} of {one.all:,} {NAMES[key]}"
+        for count, what in (
+            (one.partly, "more in part"),
+            (one.waiting, "waiting for a round"),
+            (one.rolled_back, "more rolled back"),
+        ):
+            told += f"; {count:,} {what}" if count else ""
+        name = NAMES[key]
+        yield from _bar(name[:1].upper() + name[1:], one.checked, one.all, told)
+    yield from (f"<p>{html_text(line)}.</p>" for line in seen.more_lines())
     if seen.shapes:
         shapes = counted(len(seen.shapes), "shape")
         yield (
@@ -278,17 +278,19 @@ def _shapes(status: Status) -> Iterator[str]:
 
 
 def _left_out(status: Status) -> Iterator[str]:
-    seen = status.whole_seen
-    for title, its in (
-        ("Transactions that weren’t checked", seen.folded),
-        ("Row reads that weren’t checked", seen.reads_left_out),
-        ("Row writes that weren’t checked", seen.writes_left_out),
-    ):
-        rows = [(count, reason) for reason, count in its.items() if count]
+    totals = status.whole_seen.totals
+    for title, is_part in (("Checked in part", True), ("Not checked", False)):
+        rows = [*totals.reasons(is_part)]
         if rows:
-            yield f"<h2>{title}</h2><table><tbody>"
-            for count, reason in sorted(rows, reverse=True):
-                yield f'<tr><td class="count">{count:,}</td><td>{escaped(reason, 200)}</td></tr>'
+            yield f'<h2>{title}</h2><table class="stack"><thead><tr><th class="count">How many</th>'
+            yield "<th>What</th><th>Why</th><th>What helps</th></tr></thead><tbody>"
+            for name, count, why in rows:
+                yield (
+                    f'<tr><td class="count" data-of="How many">{count:,}</td>'
+                    f'<td data-of="What">{NAMES[name]}</td>'
+                    f'<td data-of="Why">{escaped(why, 200)}</td>'
+                    f'<td data-of="What helps">{escaped(remedy_for(why))}</td></tr>'
+                )
             yield "</tbody></table>"
 
 
@@ -299,8 +301,9 @@ def _rounds(status: Status) -> Iterator[str]:
     yield f'<figure><div class="wide">{draw_rounds(status.rounds)}</div></figure>'
     if status.meetings:
         yield (
-            f"<p>All connections met {counted(status.meetings, 'time')}. The last meeting took "
-            f"{status.meeting_ms:.0f} ms, the longest {status.longest_meeting_ms:.0f} ms. "
+            f"<p>The audited connections were held {counted(status.meetings, 'time')}, so that the "
+            f"auditor could forget: for {status.meeting_ms:.1f} ms the last time, and for "
+            f"{status.longest_meeting_ms:.1f} ms at most. "
             f"{counted(status.forgotten, 'transaction')} could be forgotten so far, at "
             f"{counted(status.cuts, 'cut')}.</p>"
         )

@@ -1,9 +1,7 @@
 """Where a statement came from, according to its comment in the form of sqlcommenter."""
 
-from __future__ import annotations
-
 import re
-from typing import Dict, Mapping, Tuple
+from collections.abc import Mapping
 from urllib.parse import unquote
 
 COMMENT = re.compile(r"/\*([^*]{1,2000}?)\*/")
@@ -18,9 +16,9 @@ FILES = (
 OTHERS = ("file", "source_location", "route", "controller", "action", "db_driver_method", "job")
 
 
-def tags_of(statement: str) -> Dict[str, str]:
+def tags_of(statement: str) -> dict[str, str]:
     """The values in the statement's comments, decoded; empty if it has none of that form."""
-    found: Dict[str, str] = {}
+    found: dict[str, str] = {}
     for comment in COMMENT.findall(statement):
         pairs = PAIR.findall(comment)
         if PAIR.sub("", comment).strip() == "":
@@ -48,7 +46,7 @@ def _origin(tags: Mapping[str, str]) -> str:
     return ""
 
 
-def without_tags(statement: str) -> Tuple[str, str]:
+def without_tags(statement: str) -> tuple[str, str]:
     """The statement without comments of that form, and where it came from."""
     tags = tags_of(statement)
     if not tags:

@@ -1,14 +1,12 @@
 """Which tables to audit: patterns such as `public.*` and `shop.orders`, separated by commas, with
 the same rules as in the proxy (proxy/src/zanteyard/catalog/filter.go)."""
 
-from __future__ import annotations
-
 import argparse
 import re
+from collections.abc import Iterable, Sequence
 from dataclasses import dataclass
-from typing import Iterable, List, Pattern, Sequence, Tuple
 
-Name = Tuple[str, str]  # schema and table, without quotes
+Name = tuple[str, str]  # schema and table, without quotes
 
 
 @dataclass(frozen=True)
@@ -17,8 +15,8 @@ class TablePattern:
     schema."""
 
     text: str
-    schema: Pattern[str]
-    table: Pattern[str]
+    schema: re.Pattern[str]
+    table: re.Pattern[str]
 
     def means(self, name: Name) -> bool:
         return bool(self.schema.fullmatch(name[0]) and self.table.fullmatch(name[1]))
@@ -35,7 +33,7 @@ class TablePatterns:
         """Whether one of these names matches. A partition has its topmost table's name, too."""
         return any(pattern.means(name) for name in names for pattern in self.its)
 
-    def idle(self, names: Sequence[Name]) -> List[str]:
+    def idle(self, names: Sequence[Name]) -> list[str]:
         """The patterns that match none of these names."""
         return [it.text for it in self.its if not any(map(it.means, names))]
 
@@ -56,7 +54,7 @@ def _pattern(text: str) -> TablePattern:
     return TablePattern(text, _regular(schema), _regular(table))
 
 
-def _regular(text: str) -> Pattern[str]:
+def _regular(text: str) -> re.Pattern[str]:
     return re.compile(".*".join(map(re.escape, text.split("*"))), re.DOTALL)
 
 

@@ -1,8 +1,7 @@
 """The reads of the last round that wait for a transaction."""
 
-from __future__ import annotations
-
-from typing import Any, List, Mapping, Sequence, Tuple
+from collections.abc import Mapping, Sequence
+from typing import Any
 
 from ..core._records import AuditId
 
@@ -11,10 +10,10 @@ SHOWN = 40
 
 def waiting_reads(
     transactions: Mapping[AuditId, Sequence[Any]], received: Sequence[int]
-) -> Tuple[List[str], int]:
+) -> tuple[list[str], int]:
     """Lines about the first of these reads, and how many there are. `received` is how many
     transactions of each session the auditor has."""
-    lines: List[str] = []
+    lines: list[str] = []
     count = 0
     for (session, number), its in sorted(transactions.items()):
         for key, *source in its[0]:

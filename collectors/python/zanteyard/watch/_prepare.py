@@ -1,51 +1,66 @@
 """`zanteyard prepare`: lists everything that a server and its tables lack for an audit, and how to
-fix each. The exit status is 0 if an audit can begin, and 2 if something is missing."""
-
-from __future__ import annotations
+fix each. The exit status is 0 if an audit can begin, 1 if something is missing, and 2 if the call
+is wrong or the server can't be queried."""
 
 import argparse
-from typing import Any, Iterator, List, Sequence
+from collections.abc import Iterator, Sequence
+from typing import Any, NoReturn
 from urllib.parse import parse_qs, urlsplit
 
 from ..core._visible import say, visible
+from ..explain._json import say_json
 from ._database import Database, DatabaseError, without_password
-from ._facts import Finding, Server, create, findings, server_of
+from ._facts import Finding, Server, findings, least_role, server_of, unneeded
 from ._hosts import DOCKER_NOTE, OWN
+from ._json import prepared_json
 from ._patterns import add_tables_option
 from ._schema import Table, asked_of, summary, tables_of
 from ._text import counted
 
-READY, MISSING = 0, 2
+READY, MISSING = 0, 1
 STATUS_WORDS = (
-    "Exit status: 0 if an audit can begin, 2 if something is missing or the server can't be "
-    "queried."
+    "Exit status: 0 if an audit can begin, 1 if something is missing, 2 if the call is wrong or "
+    "the server can't be queried."
 )
 NOT_SHOWN = "not seen; its reads and writes are left out and counted"
+
+
+class _Refused(argparse.Action):
+    """An option of version 0.1.0."""
+
+    def __call__(self, parser: argparse.ArgumentParser, *_: Any) -> NoReturn:
+        parser.error("--create isn't needed any more: an audit creates no table")
 
 
 def add_arguments(command: argparse.ArgumentParser) -> None:
     command.epilog = STATUS_WORDS
     command.add_argument(
-        "url", metavar="URL", help="the server, given as postgresql://user@server/database"
+        "url", metavar="URL", nargs="?",
+        help="the server, given as postgresql://user@server/database (or the environment's "
+        "ZANTEYARD_URL)",
     )
+    command.add_argument("--create", nargs=0, action=_Refused, help=argparse.SUPPRESS)
     command.add_argument(
-        "--create", action="store_true", help="create the audit's own table if it is missing"
+        "--json", action="store_true",
+        help="print one line of JSON instead of text (docs/FORMATS.md)",
     )
     add_tables_option(command, "show only these tables, such as public.*,shop.orders")
 
 
 def run(asked: Any) -> int:
+    if not asked.url:
+        raise DatabaseError("no server was given: give its URL or set ZANTEYARD_URL")
     with Database(asked.url) as database:
         server = server_of(database, host_name(asked.url))
-        say(heading(server, asked.url))
-        if asked.create:
-            for line in _created(database):
-                say(line)
         found = findings(database, server)
         idle: Sequence[str] = ()
         tables = tables_of(database)
         if asked.tables is not None:
             tables, idle = asked_of(tables, asked.tables)
+        if asked.json:
+            say_json(prepared_json(server, found, tables, is_ready(found)))
+            return READY if is_ready(found) else MISSING
+        say(heading(server, asked.url))
         for line in report(server, found, tables, idle):
             say(line)
     return READY if is_ready(found) else MISSING
@@ -73,11 +88,6 @@ def heading(server: Server, url: str) -> str:
     )
 
 
-def _created(database: Database) -> Iterator[str]:
-    for statement, error in create(database):
-        yield f"  {visible(statement)}" + (f": {visible(error)}" if error else "")
-
-
 def report(
     server: Server, found: Sequence[Finding], tables: Sequence[Table], idle: Sequence[str] = ()
 ) -> Iterator[str]:
@@ -90,6 +100,7 @@ def report(
             yield f"  {'':<8}  {visible(one.remedy)}"
             if server.host is OWN and one.sentence.startswith("wal_level"):
                 yield f"  {'':<8}  {DOCKER_NOTE}"
+    yield from _role(server)
     yield from _tables(tables)
     for pattern in idle:
         yield f"  no table matches {visible(pattern)} of --tables"
@@ -98,6 +109,14 @@ def report(
         yield f"{counted(len(missing), 'thing is', 'things are')} missing: an audit can't begin"
     else:
         yield "ready: an audit can begin"
+
+
+def _role(server: Server) -> Iterator[str]:
+    told = unneeded(server)
+    enough = f"the role: {visible(told)}; this one is enough"
+    yield enough if told else "the least role for an audit"
+    for line in least_role(server):
+        yield f"  {visible(line)}"
 
 
 def _tables(tables: Sequence[Table]) -> Iterator[str]:
@@ -111,7 +130,7 @@ def _tables(tables: Sequence[Table]) -> Iterator[str]:
         yield "  their reads and writes are left out and counted"
 
 
-def missing_of(url: str) -> List[Finding]:
+def missing_of(url: str) -> list[Finding]:
     """What this server lacks that an audit can't begin without. Raises DatabaseError."""
     with Database(url) as database:
         server = server_of(database, host_name(url))

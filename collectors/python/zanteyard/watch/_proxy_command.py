@@ -1,8 +1,6 @@
 """`zanteyard proxy`: a proxy next to another application server. What its applications read and
 write is checked by the audit of `zanteyard watch`, to which it reports over a Redis."""
 
-from __future__ import annotations
-
 import argparse
 import os
 import sys
@@ -10,7 +8,8 @@ from typing import Any
 
 from ..core._visible import say
 from ..promises._kinds import SERIALIZABLE
-from ._command import LISTEN, MISTAKE, URL, call_of, place
+from ._clients import add_clients, mistake_in
+from ._command import LISTEN, MISTAKE, URL, add_ending, call_of, control_of, place
 from ._patterns import add_tables_option
 from ._proxy_program import find_proxy
 from ._sharing import add_sharing, mistake_of
@@ -24,7 +23,9 @@ One audit of two application servers, each with its own proxy:
   second$ zanteyard proxy postgresql://admin@db.example/shop \\
               --redis rediss://redis.example --audit shop --key audit.key
 
-It passes traffic on until SIGTERM or SIGINT, with or without an audit.
+It passes traffic on until SIGTERM or SIGINT, with or without an audit. Then it accepts no more
+connections, and ends when no transaction is open any more. With --take-over a new proxy takes the
+place of the one that runs: no client is refused.
 
 Exit status: 0 after such a signal, 1 if it can't listen, 2 if the call is wrong."""
 
@@ -36,7 +37,6 @@ def add_arguments(command: argparse.ArgumentParser) -> None:
         "url",
         metavar="URL",
         nargs="?",
-        default=os.environ.get(URL),
         help=f"the server, given as postgresql://user@server/database (or the environment's {URL})",
     )
     command.add_argument(
@@ -44,28 +44,34 @@ def add_arguments(command: argparse.ArgumentParser) -> None:
         help=f"the address for applications to connect to ({LISTEN}); with a / it is a Unix "
         "socket's path",
     )
+    add_clients(command)
     add_sharing(command)
+    add_ending(command)
     command.add_argument(
         "--name", metavar="NAME", help="this proxy's name in the audit (the machine's name)"
     )
     add_tables_option(command, "look only at these tables, such as public.*,shop.orders")
     command.add_argument(
         "--redact", action="store_true",
-        help="don't send the parameters and constants of statements",
+        help="don't send the constants, parameters and comments of statements",
     )
-    command.set_defaults(sample=None, promise=SERIALIZABLE.name)  # the audit determines both
+    # The audit determines these.
+    command.set_defaults(sample=None, promise=SERIALIZABLE.name, rollbacks=False)
 
 
 def run(asked: Any) -> int:
     """Replaces this process by the proxy's program; returns an exit status only if it can't."""
     if not asked.url:
         return _mistake(f"no server was given: give its URL or set {URL}")
-    told = mistake_of(asked, True)
+    told = mistake_of(asked, True) or mistake_in(asked)
     if told is not None:
         return _mistake(told)
     program = find_proxy()
     call, environment = call_of(program, asked)
     more = ["--remote"] if asked.name is None else ["--remote", "--name", asked.name]
+    control = control_of(asked)
+    if control is not None:
+        more += ["--control", control.path, *(["--take-over"] if asked.take_over else [])]
     sys.stdout.flush()
     os.execve(program, [*call, *more], environment)
 

@@ -1,10 +1,8 @@
 """Where the program zanteyard-proxy is, and what it says about its build."""
 
-from __future__ import annotations
-
 import os
 import subprocess
-from typing import Mapping
+from collections.abc import Mapping
 
 from ..core._visible import visible
 from ..core.errors import ProgramMissingError
@@ -37,6 +35,17 @@ def find_proxy(environment: Mapping[str, str] = os.environ) -> str:
     if not os.access(path, os.X_OK):
         raise ProgramMissingError(f"{path} isn't executable")
     return path
+
+
+def version_of(path: str) -> str:
+    """What the program at a path says about its build; empty if it says nothing."""
+    try:
+        its = subprocess.run(
+            [path, "--version"], stdin=subprocess.DEVNULL, capture_output=True, timeout=ENDING
+        )
+    except (OSError, subprocess.SubprocessError):
+        return ""
+    return its.stdout.decode("utf-8", "replace").removeprefix(f"{NAME} ").removesuffix("\n")
 
 
 def build_of(environment: Mapping[str, str] = os.environ) -> str:

@@ -1,12 +1,9 @@
-"""Removes values: constants in statements, parameters, and the values in rows' keys."""
-
-from __future__ import annotations
+"""Removes values: constants and comments in statements, parameters, and values in rows' keys."""
 
 from dataclasses import replace
 
 from ..core._redacting import without_constants
 from ._described import Described, Statement
-from ._origins import without_tags
 from ._violations import Answered, Row
 
 
@@ -22,6 +19,4 @@ def _described(one: Described) -> Described:
 
 
 def _statement(one: Statement) -> Statement:
-    plain, origin = without_tags(one.text)
-    place = one.place or origin
-    return replace(one, text=without_constants(plain), parameters=None, place=place)
+    return replace(one, text=without_constants(one.text), parameters=None, place="")

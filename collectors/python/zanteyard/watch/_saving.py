@@ -1,10 +1,7 @@
 """Saves each violation in files: a page, a text, and a script for the auditor."""
 
-from __future__ import annotations
-
 import logging
 import os
-from typing import Tuple
 
 from ..core._private_files import private
 from ._violation_page import violation_page
@@ -13,7 +10,7 @@ from ._violations import Violation
 logger = logging.getLogger("zanteyard")
 
 
-def save(one: Violation, folder: str, title: str, origin: str) -> Tuple[str, ...]:
+def save(one: Violation, folder: str, title: str, origin: str) -> tuple[str, ...]:
     """Writes violation-N.html, .txt and .jsonl into the folder, which is created if necessary.
     Returns the names of the files that were written. Errors are logged."""
     found = []

@@ -1,12 +1,10 @@
 """What an audit sees of a database's tables, and what each of them lacks."""
 
-from __future__ import annotations
-
+from collections.abc import Iterable, Iterator, Sequence
 from dataclasses import dataclass, replace
-from typing import Any, Dict, Iterable, Iterator, List, Sequence, Tuple
+from typing import Any
 
 from ._database import Database
-from ._facts import FENCE
 from ._patterns import Name, TablePatterns
 
 # Types of primary key columns whose values the proxy can compare; also enums, and domains over
@@ -19,26 +17,28 @@ TABLES = """
 SELECT c.oid, n.nspname, c.relname, c.relkind, c.relpersistence, c.relreplident, c.relispartition,
        coalesce(m.nspname, n.nspname), coalesce(r.relname, c.relname),
        i.indexrelid IS NOT NULL, coalesce(i.indimmediate, true), coalesce(i.indisreplident, false)
-  FROM pg_class c
-  JOIN pg_namespace n ON n.oid = c.relnamespace
-  LEFT JOIN pg_index i ON i.indrelid = c.oid AND i.indisprimary
-  LEFT JOIN pg_class r ON c.relispartition AND r.oid = pg_partition_root(c.oid)
-  LEFT JOIN pg_namespace m ON m.oid = r.relnamespace
+  FROM pg_catalog.pg_class c
+  JOIN pg_catalog.pg_namespace n ON n.oid = c.relnamespace
+  LEFT JOIN pg_catalog.pg_index i ON i.indrelid = c.oid AND i.indisprimary
+  LEFT JOIN pg_catalog.pg_class r
+    ON c.relispartition AND r.oid = pg_catalog.pg_partition_root(c.oid)
+  LEFT JOIN pg_catalog.pg_namespace m ON m.oid = r.relnamespace
  WHERE c.relkind IN ('r', 'p', 'f', 'v', 'm') AND c.relpersistence <> 't'
    AND n.nspname NOT IN ('pg_catalog', 'information_schema') AND n.nspname !~ '^pg_(toast|temp)'
-   AND NOT EXISTS (SELECT FROM pg_depend d WHERE d.classid = 'pg_class'::regclass
+   AND NOT EXISTS (SELECT FROM pg_catalog.pg_depend d
+                   WHERE d.classid = 'pg_catalog.pg_class'::pg_catalog.regclass
                    AND d.objid = c.oid AND d.deptype = 'e')
  ORDER BY n.nspname, c.relname
 """
 COLUMNS = """
-SELECT i.indrelid, a.attname, format_type(a.atttypid, a.atttypmod), t.typtype, b.typname, b.typtype,
-       coalesce(l.collisdeterministic, true)
-  FROM pg_index i
- CROSS JOIN unnest(i.indkey) WITH ORDINALITY k(number, place)
-  JOIN pg_attribute a ON a.attrelid = i.indrelid AND a.attnum = k.number
-  JOIN pg_type t ON t.oid = a.atttypid
-  JOIN pg_type b ON b.oid = CASE t.typtype WHEN 'd' THEN t.typbasetype ELSE t.oid END
-  LEFT JOIN pg_collation l ON l.oid = a.attcollation
+SELECT i.indrelid, a.attname, pg_catalog.format_type(a.atttypid, a.atttypmod), t.typtype,
+       b.typname, b.typtype, coalesce(l.collisdeterministic, true)
+  FROM pg_catalog.pg_index i
+ CROSS JOIN pg_catalog.unnest(i.indkey) WITH ORDINALITY k(number, place)
+  JOIN pg_catalog.pg_attribute a ON a.attrelid = i.indrelid AND a.attnum = k.number
+  JOIN pg_catalog.pg_type t ON t.oid = a.atttypid
+  JOIN pg_catalog.pg_type b ON b.oid = CASE t.typtype WHEN 'd' THEN t.typbasetype ELSE t.oid END
+  LEFT JOIN pg_catalog.pg_collation l ON l.oid = a.attcollation
  WHERE i.indisprimary
  ORDER BY i.indrelid, k.place
 """
@@ -54,26 +54,26 @@ class Table:
     kind: str  # "table", "partition", "view" or "foreign table"
     reason: str = ""
     remedy: str = ""
-    names: Tuple[Name, ...] = ()  # its own, and its topmost table's
+    names: tuple[Name, ...] = ()  # its own, and its topmost table's
 
     @property
     def is_seen(self) -> bool:
         return not self.reason
 
 
-def tables_of(database: Database) -> List[Table]:
+def tables_of(database: Database) -> list[Table]:
     """All tables and views, except PostgreSQL's own, those of extensions, and temporary ones."""
-    columns: Dict[Any, List[Sequence[Any]]] = {}
+    columns: dict[Any, list[Sequence[Any]]] = {}
     for oid, *its in database.run(COLUMNS):
         columns.setdefault(oid, []).append(its)
     found = (
         replace(_table(row, columns.get(row[0], [])), names=(row[1:3], row[7:9]))
         for row in database.run(TABLES)
     )
-    return [table for table in found if table.name != FENCE]
+    return list(found)
 
 
-def asked_of(tables: Sequence[Table], asked: TablePatterns) -> Tuple[List[Table], List[str]]:
+def asked_of(tables: Sequence[Table], asked: TablePatterns) -> tuple[list[Table], list[str]]:
     """The tables that match, and the patterns that match none of all tables."""
     found = [table for table in tables if asked.have(table.names)]
     return found, asked.idle([name for table in tables for name in table.names])
@@ -123,7 +123,7 @@ def quoted(name: str) -> str:
     return '"' + name.replace('"', '""') + '"'
 
 
-def summary(tables: Sequence[Table]) -> Tuple[int, int, List[Table]]:
+def summary(tables: Sequence[Table]) -> tuple[int, int, list[Table]]:
     """How many tables are seen, how many there are, and the tables and views that aren't seen."""
     real = [table for table in tables if table.kind != "view"]
     seen = sum(table.is_seen for table in real)

@@ -1,15 +1,15 @@
 """The paths of the page's server."""
 
-from __future__ import annotations
-
+import json
 import re
-from typing import Optional
 
 from . import _live_page, _violation_page
 from ._board import Board
+from ._json import status_json
 from ._style import NOW
 from ._web import TEXT, Answer
 
+JSON = "application/json"
 VIOLATION = re.compile(r"/violation/([1-9]\d{0,8})(\.jsonl|\.txt)?")
 
 
@@ -19,16 +19,18 @@ class Pages:
     def __init__(self, board: Board) -> None:
         self._board = board
 
-    def __call__(self, path: str) -> Optional[Answer]:
+    def __call__(self, path: str) -> Answer | None:
         if path == "/":
             text = _live_page.whole_page(self._board.status())
             return Answer(text, policy=_live_page.POLICY)
         if path == NOW:
             return Answer(_live_page.changing(self._board.status()))
+        if path == "/status.json":
+            return Answer(json.dumps(status_json(self._board.status())), JSON)
         found = VIOLATION.fullmatch(path)
         return self._violation(int(found[1]), found[2] or "") if found else None
 
-    def _violation(self, number: int, form: str) -> Optional[Answer]:
+    def _violation(self, number: int, form: str) -> Answer | None:
         status = self._board.status()
         one = next((it for it in status.violations if it.number == number), None)
         if one is None:

@@ -1,21 +1,20 @@
 """How several proxies feed one audit over a Redis: the options that `watch` and `proxy` share, and
 the proxy program's arguments for them."""
 
-from __future__ import annotations
-
 import argparse
 import os
 import stat
-from typing import Any, Dict, List, Optional
+from typing import Any
 
 REDIS = "ZANTEYARD_REDIS"  # the environment variable with its URL, as for `serve`
+KEY = "ZANTEYARD_KEY"  # and that with the key's path, as for clients of `serve`
 LEAST = 16  # bytes of a key
 MAKE = "(umask 077; head -c 32 /dev/urandom | base64 > FILE) makes one"
 
 
 def add_sharing(command: argparse.ArgumentParser) -> None:
     command.add_argument(
-        "--redis", metavar="URL", default=os.environ.get(REDIS),
+        "--redis", metavar="URL",
         help=f"the Redis by which several proxies feed one audit (or the environment's {REDIS}); "
         "see the example in `zanteyard proxy --help`",
     )
@@ -26,10 +25,11 @@ def add_sharing(command: argparse.ArgumentParser) -> None:
     )
 
 
-def mistake_of(asked: Any, is_needed: bool = False) -> Optional[str]:
+def mistake_of(asked: Any, is_needed: bool = False) -> str | None:
     """What is wrong with these options; None if nothing is."""
-    if not (is_needed or asked.audit or asked.key):
-        return None  # a URL in the environment may be meant for something else
+    is_for_this = asked.key and asked.key != os.environ.get(KEY)
+    if not (is_needed or asked.audit or is_for_this):
+        return None  # what is in the environment may be meant for something else
     for name, value in (("--redis", asked.redis), ("--audit", asked.audit), ("--key", asked.key)):
         if not value:
             return f"{name} is missing: --redis, --audit and --key belong together"
@@ -44,12 +44,11 @@ def mistake_of(asked: Any, is_needed: bool = False) -> Optional[str]:
     return None
 
 
-def words_of(asked: Any, environment: Dict[str, str]) -> List[str]:
+def words_of(asked: Any, environment: dict[str, str]) -> list[str]:
     """Arguments for the proxy's program. The URL goes into `environment`, which other users can't
     read."""
     if not asked.audit:
         environment.pop(REDIS, None)
         return []
     environment[REDIS] = asked.redis
-    words = ["--audit", asked.audit, "--key", asked.key]
-    return [*words, "--redact"] if asked.redact else words
+    return ["--audit", asked.audit, "--key", asked.key]

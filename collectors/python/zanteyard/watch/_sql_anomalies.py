@@ -6,10 +6,9 @@ its update replaced. This module gives it its usual name. The verdict doesn't de
 is shown is a part of the log that the auditor found violated, too.
 """
 
-from __future__ import annotations
-
+from collections.abc import Container, Iterator, Mapping, Sequence
 from dataclasses import dataclass, replace
-from typing import Any, Container, Dict, Iterator, Mapping, Optional, Sequence, Set, Tuple
+from typing import Any
 
 from ..core._records import ABORTED, AuditId, History, Logged, Naming, ShownId, Source
 from ..explain._anomalies import UNREPEATABLE, Anomaly
@@ -21,11 +20,11 @@ from ..promises._kinds import SERIALIZABLE, Promise
 FRACTURED = "fractured read"
 
 
-def read_twice(history: History) -> Iterator[Tuple[ShownId, str, Set[Source]]]:
+def read_twice(history: History) -> Iterator[tuple[ShownId, str, set[Source]]]:
     """Transactions that read several versions of one key."""
     for session, transactions in enumerate(history):
         for number, logged in enumerate(transactions):
-            sources: Dict[str, Set[Source]] = {}
+            sources: dict[str, set[Source]] = {}
             for key, source in logged.reads:
                 sources.setdefault(key, set()).add(source)
             for key, its in sources.items():
@@ -44,12 +43,12 @@ class LostUpdate:
 
 def both_replaced(
     transactions: Mapping[AuditId, Sequence[Any]], counts: Sequence[int], keys: Container[int]
-) -> Optional[LostUpdate]:
+) -> LostUpdate | None:
     """The first lost update among the transactions of a round, of which `counts` has the number in
     each session; one on one of `keys`, if possible. Of a violated round, people understand this
     best."""
-    readers: Dict[Tuple[Any, ...], AuditId] = {}
-    found: Optional[LostUpdate] = None
+    readers: dict[tuple[Any, ...], AuditId] = {}
+    found: LostUpdate | None = None
     for one, its in sorted(transactions.items()):
         is_of_round = one[0] < len(counts) and one[1] < counts[one[0]]
         if not is_of_round or ABORTED in its:
@@ -67,10 +66,10 @@ def both_replaced(
 def lost_update(
     whole: History,
     key: str,
-    ids: Tuple[ShownId, ShownId],
+    ids: tuple[ShownId, ShownId],
     program: str,
     promise: Promise = SERIALIZABLE,
-) -> Optional[History]:
+) -> History | None:
     """The part of the history that consists of these two transactions, which read the same version
     of the key and both replaced it. None if the auditor doesn't find it violated by itself."""
     one, other = (
@@ -85,9 +84,9 @@ def lost_update(
 
 
 def _both(
-    whole: History, key: str, source: Source, ids: Tuple[ShownId, ShownId]
+    whole: History, key: str, source: Source, ids: tuple[ShownId, ShownId]
 ) -> History:
-    txns: Dict[ShownId, Logged] = {}
+    txns: dict[ShownId, Logged] = {}
     for one in ids:
         logged = whole[one[0]][one[1]]
         txns[one] = logged._replace(reads=[(key, source)], writes=[key])

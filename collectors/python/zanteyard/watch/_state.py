@@ -1,18 +1,19 @@
 """The current state of an audit as plain values, from which the page, the metrics and the final
 outcome are made."""
 
-from __future__ import annotations
-
+from collections.abc import Iterator, Mapping, Sequence
 from dataclasses import dataclass, field, replace
-from typing import ClassVar, Iterator, Mapping, Optional, Sequence, Tuple
+from typing import ClassVar
 
 from ..explain._charts import RoundSeen
 from ..explain._standing import Standing
 from ..promises._kinds import ALL, SERIALIZABLE, Promise
+from ._groups import Group
+from ._text import counted
+from ._totals import Totals
 from ._violations import Violation
 
 MOST_SHAPES = 200  # shown on a page
-ABORTED_READS = "it aborted"  # why the reads of an aborted transaction are left out
 
 
 @dataclass(frozen=True)
@@ -51,85 +52,76 @@ class Others:
 
 @dataclass(frozen=True)
 class Seen:
-    """The coverage of an audit: what was checked of everything that happened, without fences.
+    """The coverage of an audit: what was checked of everything that happened.
 
-    Of the `committed` transactions `offered` were given to the auditor. The others are in `folded`,
-    by reason, or did nothing to a table. `reads` and `writes` count rows that were read and written
-    by offered transactions. `reads_left_out` counts rows that were returned to a client and weren't
-    checked, by reason. `shapes` are statements of which something wasn't seen at all.
+    `totals` has each transaction with a statement on a table, each statement and each row in one
+    place. `offered` transactions, without fences, were given to the auditor, with so many `reads`
+    and `writes` of keys. `shapes` are statements of which something wasn't seen.
     """
 
-    committed: int = 0
+    totals: Totals = field(default_factory=Totals)
+    committed: int = 0  # in the server's log
     offered: int = 0
     fences: int = 0
-    aborted: int = 0
-    empty: int = 0  # transactions that read and wrote no table
-    folded: Mapping[str, int] = field(default_factory=dict)
+    bare: int = 0  # commits in the server's log without a row, of no client
     reads: int = 0
-    reads_seen: int = 0
-    reads_own: int = 0  # of what the reader itself had written
-    reads_before: int = 0  # of `reads`: of versions from before the audit
-    reads_folded: int = 0  # of `reads`: of versions by transactions that weren't checked
-    reads_left_out: Mapping[str, int] = field(default_factory=dict)
     writes: int = 0
-    writes_seen: int = 0
-    writes_left_out: Mapping[str, int] = field(default_factory=dict)
     shapes: Sequence[Shape] = ()
     connections: int = 0
     audited_connections: int = 0
     waiting_connections: int = 0  # for which no session is free
     connections_ever: int = 0
-    sessions: int = 0
     lag_bytes: int = 0  # of the server's log that the proxy hasn't read yet
     lag_seconds: float = 0.0
     waiting: int = 0  # transactions that the proxy holds before they are offered
     remaining: int = 0
     keys: int = 0
     statements_dropped: int = 0
-    others: Optional[Others] = None  # None if no Redis was named
+    others: Others | None = None  # None if no Redis was named
 
-    COUNTED: ClassVar[Tuple[str, ...]] = (
-        "committed", "offered", "fences", "aborted", "empty", "reads", "reads_seen", "reads_own",
-        "reads_before", "reads_folded", "writes", "writes_seen", "connections_ever",
+    COUNTED: ClassVar[tuple[str, ...]] = (
+        "committed", "offered", "fences", "bare", "reads", "writes", "connections_ever",
         "statements_dropped",
     )
-    BY_REASON: ClassVar[Tuple[str, ...]] = ("folded", "reads_left_out", "writes_left_out")
 
     @property
-    def whole(self) -> int:
-        """Transactions that were offered or folded."""
-        return self.offered + self.folded_count
+    def is_nothing(self) -> bool:
+        """Whether nothing was checked at all."""
+        its = self.totals.transactions
+        return not (its.checked or its.in_part)
 
-    @property
-    def whole_reads(self) -> int:
-        """Rows that were returned, except what the reader itself had written."""
-        return self.reads + self.left_out_count
-
-    @property
-    def whole_writes(self) -> int:
-        return self.writes + self.writes_left_out_count
-
-    @property
-    def folded_count(self) -> int:
-        return sum(self.folded.values())
-
-    @property
-    def left_out_count(self) -> int:
-        """Rows whose reads matter and weren't checked; reads of aborted transactions don't
-        matter."""
-        return sum(count for why, count in self.reads_left_out.items() if why != ABORTED_READS)
-
-    def lines_of_reads(self) -> Iterator[str]:
-        """Sentences about checked reads whose version says less than it could."""
-        if self.reads_before:
-            yield f"{self.reads_before:,} of the row reads were of versions from before the audit"
-        if self.reads_folded:
-            its = f"{self.reads_folded:,} of the row reads"
-            yield f"{its} were of versions that unchecked transactions wrote"
-
-    @property
-    def writes_left_out_count(self) -> int:
-        return sum(self.writes_left_out.values())
+    def more_lines(self) -> Iterator[str]:
+        """Sentences about what the shares don't say: what SELECTs asked for, and what the versions
+        of checked rows were."""
+        its = self.totals
+        if its.by_condition:
+            asked = counted(its.by_condition, "SELECT")
+            yield (
+                f"{asked} asked by a condition, not by a whole key: rows that it passed over "
+                "(phantoms) weren't checked"
+            )
+        if its.found_no_row:
+            yield f"{counted(its.found_no_row, 'SELECT')} found no row"
+        for count, what in (
+            (its.from_before, "were in a version from before the audit"),
+            (its.of_unchecked, "were in a version that an unchecked transaction wrote"),
+            (its.own, "had been written by the transaction that read them"),
+        ):
+            if count:
+                yield f"{count:,} of the checked rows {what}"
+        if its.only_read * 20 >= its.transactions.all + its.only_read:
+            told = f"{its.only_read:,} of those that were rolled back"
+            yield f"{told} had only read: --rollbacks checks such transactions"
+        if its.other_statements:
+            told = counted(its.other_statements, "more statement")
+            yield f"{told} defined something, called a procedure or the like: not looked into"
+        if its.others:
+            told = counted(its.others, "more transaction")
+            rows = counted(its.others_rows, "row")
+            yield f"{told}, with {rows} written, bypassed the proxy"
+        if self.bare:
+            told = counted(self.bare, "more commit")
+            yield f"{told} had no row, such as those of the server's own ANALYZE"
 
     @property
     def unseen_count(self) -> int:
@@ -165,10 +157,10 @@ class Status:
     audit: int = 1
     kind: str = "running"
     is_over: bool = False  # nothing is audited at the moment
-    ended: Tuple[Ended, ...] = ()
+    ended: tuple[Ended, ...] = ()
     seen: Seen = field(default_factory=Seen)
     earlier_seen: Seen = field(default_factory=Seen)  # of audits before this one
-    rounds: Tuple[RoundSeen, ...] = ()  # the latest ones
+    rounds: tuple[RoundSeen, ...] = ()  # the latest ones
     rounds_count: int = 0
     kinds: Mapping[str, int] = field(default_factory=dict)  # rounds of each verdict
     cuts: int = 0
@@ -177,17 +169,22 @@ class Status:
     behind: float = 0.0  # seconds from a meeting to its round's report
     told_at: float = 0.0  # when the last round reported; 0 before the first
     checked_until: float = 0.0  # everything answered by then was checked
-    pending: Tuple[str, ...] = ()
+    pending: tuple[str, ...] = ()
     pending_count: int = 0
-    violations: Tuple[Violation, ...] = ()  # those that have been explained
+    violations: tuple[Violation, ...] = ()  # those that have been explained
     violations_count: int = 0
+    groups: tuple[Group, ...] = ()  # the violations by shape
+    ungrouped: int = 0  # violations that are in no group
+    reads_aside: int = 0  # on which violations rest, and which aren't asked about any more
+    reads_unseen: int = 0  # of these: not looked at by themselves, for want of time
     meetings: int = 0
     meeting_ms: float = 0.0  # of the last one
     longest_meeting_ms: float = 0.0
     meetings_ms: float = 0.0  # total
     fences: int = 0  # of the last one
-    notes: Tuple[str, ...] = ()  # warnings
+    notes: tuple[str, ...] = ()  # warnings
     restarts: int = 0
+    at_least: float = 0.0  # percent that have to be checked
 
     @property
     def whole_seen(self) -> Seen:
@@ -199,11 +196,21 @@ class Status:
     def whole_kind(self) -> str:
         """The verdict over all audits so far: "violated" if there was a violation, "incomplete" if
         an audit ended early, and else the current audit's."""
-        if self.violations_count:
+        if self.new_count:
             return "violated"
         if self.is_over or any(one.is_lost for one in self.ended):
             return "incomplete"
         return self.kind
+
+    @property
+    def known_count(self) -> int:
+        """Violations of known shapes, which are set aside."""
+        return sum(one.count for one in self.groups if one.is_known)
+
+    @property
+    def new_count(self) -> int:
+        """Violations that aren't set aside."""
+        return self.violations_count - self.known_count
 
     @property
     def standing(self) -> Standing:
@@ -217,16 +224,10 @@ class Status:
 def added(one: Seen, other: Seen) -> Seen:
     """The coverage of two audits as one; counts are added."""
     adds = {name: getattr(one, name) + getattr(other, name) for name in Seen.COUNTED}
-    tables = {
-        name: _by_reason(getattr(one, name), getattr(other, name)) for name in Seen.BY_REASON
-    }
+    totals = one.totals.plus(other.totals)
     shapes = {(it.shape, it.reason, it.is_reads): it for it in one.shapes}
     for it in other.shapes:
         known = shapes.get((it.shape, it.reason, it.is_reads))
         its = it if known is None else replace(known, count=known.count + it.count)
         shapes[(it.shape, it.reason, it.is_reads)] = its
-    return replace(other, **adds, **tables, shapes=tuple(shapes.values()))
-
-
-def _by_reason(one: Mapping[str, int], other: Mapping[str, int]) -> Mapping[str, int]:
-    return {name: one.get(name, 0) + other.get(name, 0) for name in {**one, **other}}
+    return replace(other, **adds, totals=totals, shapes=tuple(shapes.values()))

@@ -1,7 +1,5 @@
 """The style of the pages, and the script with which the live page refreshes itself."""
 
-from __future__ import annotations
-
 from ..explain._html import STYLE as STORY_STYLE
 
 EVERY = 2  # seconds between two refreshes with scripting

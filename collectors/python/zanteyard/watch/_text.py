@@ -1,7 +1,5 @@
 """Numbers in words."""
 
-from __future__ import annotations
-
 
 def counted(number: int, what: str, several: str = "") -> str:
     """A number with its noun: "1 read", "2,000 reads"."""

@@ -1,15 +1,13 @@
 """The page of one violation: the picture, the statements that the application ran, and why no
 serial order is left. It works without scripting, and can be saved as one file."""
 
-from __future__ import annotations
-
-from typing import Iterable, Iterator, Sequence
+from collections.abc import Iterable, Iterator, Sequence
 
 from ..explain._anomalies import meaning_of
 from ..explain._html import BEFORE_YOU_ACCUSE, neither, picture_part, reasons_part
 from ..core._version import VERSION
 from ..core._visible import escaped, escaped_lines, html_lines, html_text, visible
-from ._described import Described, Statement, clock
+from ._described import ROLLED_BACK, Described, Statement, clock
 from ._style import STYLE
 from ._text import counted
 from ._violations import Told, Violation
@@ -117,6 +115,7 @@ def _facts(one: Told, its: Described) -> str:
     facts = [
         *_whence(its),
         escaped(its.level) if its.level not in ("", "unknown") else "",
+        escaped(its.outcome) if its.outcome == ROLLED_BACK else "",
         f"began at {clock(its.began)}" if its.began else "",
         f"ended at {clock(its.ended)}" if its.ended else "",
         f"the server’s number {its.xid}" if its.xid else "",

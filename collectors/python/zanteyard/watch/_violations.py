@@ -1,12 +1,9 @@
 """Explains a violation in the proxy's history: from a round's refutation to the statements that the
 application ran."""
 
-from __future__ import annotations
-
-import re
+from collections.abc import Iterable, Iterator, Mapping, Sequence
 from dataclasses import dataclass, replace
-from typing import Any, Dict, Iterable, Iterator, List, Mapping, Optional, Sequence, Set
-from typing import Tuple
+from typing import Any
 
 from ..core._own_keys import FENCE
 from ..core._records import ABORTED, AuditId, History, Logged, Read, ShownId, Source
@@ -14,19 +11,19 @@ from ..core._visible import visible
 from ..explain._audited import audited_apart, from_start, named, refuted
 from ..explain._reasons import explanation_of
 from ..explain._report import Story, story_lines, story_of
-from ..explain._shrinking import smaller
+from ..explain._shrinking import Part, is_violated, smaller
 from ..explain._standing import standing
 from ..explain._words import version
 from ..promises._asking import ids_of
 from ..promises._kinds import SERIALIZABLE, Promise
+from ._conflicts import READ_BEFORE, Cycle
 from ._described import Described, by_time, clock, lines_of
-from ._retained import Retained, Transaction
+from ._kept import Kept, Transaction
 from ._sql_anomalies import LostUpdate, both_replaced, lost_update
 from ._sql_anomalies import named as named_story
 from ._statement_reads import as_shown, by_statement
 
 EXPLAINING = 15.0  # seconds for reducing a violated history, and the same for its promises
-CLOSED_ENDS = re.compile(rb"(?:true|false)\],")  # in a reply to `show`, before the last writers
 
 
 @dataclass(frozen=True)
@@ -36,7 +33,7 @@ class Row:
 
     table: str
     values: str  # as one text
-    columns: Tuple[str, ...] = ()  # their names, if known
+    columns: tuple[str, ...] = ()  # their names, if known
 
     def named(self) -> str:
         """Its name, such as accounts(id=7), or accounts(7) if the columns' names are unknown."""
@@ -67,7 +64,7 @@ class Told:
     label: str
     id: AuditId
     its: Any  # a Described, or None
-    reads: Tuple[Tuple[str, ...], ...] = ()  # by statement: what it read, as far as it is shown
+    reads: tuple[tuple[str, ...], ...] = ()  # by statement: what it read, as far as it is shown
 
 
 @dataclass(frozen=True)
@@ -78,7 +75,8 @@ class Violation:
     round: int
     at: float
     story: Story
-    told: Tuple[Told, ...]
+    told: tuple[Told, ...]
+    group: str = ""  # the name of its shape (`_groups.py`)
 
     @property
     def title(self) -> str:
@@ -106,6 +104,8 @@ class Violation:
             yield from (f"    {line}" for line in lines_of(label, one.its, one.reads))
         yield "because"
         yield from (f"    {visible(line)}" for line in self.story.because)
+        if self.group:
+            yield f"others of this shape are counted as {self.group}"
 
 
 def visible_line(line: str) -> str:
@@ -114,9 +114,9 @@ def visible_line(line: str) -> str:
     return " " * (len(line) - len(body)) + visible(body)
 
 
-def keys_of(certificate: Iterable[Sequence[Any]]) -> Set[int]:
+def keys_of(certificate: Iterable[Sequence[Any]]) -> set[int]:
     """The keys that a refutation names."""
-    found: Set[int] = set()
+    found: set[int] = set()
     for kind, *rest in certificate:
         arcs: Sequence[Any] = ()
         if kind in ("nowrite", "gone"):
@@ -130,31 +130,37 @@ def keys_of(certificate: Iterable[Sequence[Any]]) -> Set[int]:
     return found
 
 
-def last_writers(shown: bytes, keys: Iterable[int]) -> Dict[int, AuditId]:
-    """The last forgotten writers of these keys, from the auditor's reply to `show`. The reply may
-    be many megabytes long, and isn't parsed as a whole."""
-    begins = CLOSED_ENDS.search(shown)
-    names = b"|".join(b"%d" % key for key in sorted(keys))
-    if begins is None or not names:
-        return {}
-    found = re.compile(rb"\[(" + names + rb"),(\d+),(\d+)\]").finditer(shown, begins.end())
-    return {int(its[1]): AuditId((int(its[2]), int(its[3]))) for its in found}
-
-
 class Held:
-    """What the auditor holds, restricted to the keys that its refutation names and that of a lost
-    update: whatever order explains the whole explains this. It has what `from_start` and `refuted`
-    need of an auditor. `shown` is the auditor's reply to `show`."""
+    """A part of what the auditor holds that is violated by itself: without `cycle` all transactions
+    with the keys that the refutation in the report names and that of a lost update, else those of
+    the cycle, and the writers of what they read. It has what `from_start` and `refuted` need of an
+    auditor. `last` has the last forgotten writers of these keys, if they are known."""
 
-    def __init__(self, retained: Retained, report: Sequence[Any], shown: bytes):
+    def __init__(
+        self,
+        kept: Kept,
+        report: Sequence[Any],
+        cycle: Cycle | None = None,
+        last: Mapping[int, AuditId] | None = None,
+    ):
         _, _, _, counts, self.certificate = report
-        self.marks = [*retained.marks]
-        transactions = retained.transactions()
-        keys = keys_of(self.certificate)
-        self.lost: Optional[LostUpdate] = both_replaced(transactions, counts, keys)
-        if self.lost is not None:
-            keys.add(self.lost.key)
-        last = last_writers(shown, keys)
+        self.marks, self._cycle = [*kept.marks], cycle
+        self.edges = cycle.edges if cycle is not None else ()
+        transactions: Mapping[AuditId, Transaction] = kept.transactions
+        self.lost: LostUpdate | None = None
+        if cycle is None:
+            keys = keys_of(self.certificate)
+            self.lost = both_replaced(transactions, counts, keys)
+            if self.lost is not None:
+                keys.add(self.lost.key)
+        else:
+            keys = cycle.keys
+            self.lost = _lost_in(cycle, transactions)
+            transactions = {
+                one: transactions[one] for one in cycle.deeds() if one in transactions
+            }
+        self.keys = keys
+        last = kept.last(keys) if last is None else last
         self.base = {key_text(key): its for key, its in last.items() if key in keys}
         self.history: History = [[] for _ in self.marks]
         for (session, number), its in sorted(transactions.items()):
@@ -165,12 +171,14 @@ class Held:
         """The reads of a remaining transaction, with sources as in the auditor's lines."""
         return self.history[one[0]][one[1] - self.marks[one[0]]].did[0]
 
-    def involved(self) -> List[AuditId]:
+    def involved(self) -> list[AuditId]:
         """The remaining transactions that an explanation may mention, the most likely first: those
         of a lost update, those that the refutation names, and all others that did something with
         the same keys."""
         lost = [self.lost.one, self.lost.other] if self.lost is not None else []
-        did: Set[AuditId] = set()
+        if self._cycle is not None:
+            return [one for one in self._cycle.deeds() if self._is_held(one)]
+        did: set[AuditId] = set()
         for session, transactions in enumerate(self.history):
             for number, logged in enumerate(transactions, self.marks[session]):
                 reads, writes = logged.did
@@ -186,20 +194,57 @@ class Held:
             return False
         return 0 <= number - self.marks[session] < len(self.history[session])
 
-    def lost_part(self, whole: History, program: str, promise: Promise) -> Optional[History]:
+    def lost_part(self, whole: History, program: str, promise: Promise) -> History | None:
         """The lost update as a part of the whole that `from_start` made of this."""
         if self.lost is None:
             return None
         one, other = (shown_id(id, self.marks) for id in (self.lost.one, self.lost.other))
         return lost_update(whole, key_text(self.lost.key), (one, other), program, promise)
 
+    def cycle_part(self, whole: History, program: str, promise: Promise) -> History | None:
+        """What the cycle rests on, as a part of the whole that `from_start` made of this. None
+        without a cycle, or if the auditor doesn't find that violated by itself."""
+        if self._cycle is None:
+            return None
+        txns: dict[ShownId, Logged] = {}
+        for one, (reads, keys) in self._cycle.deeds().items():
+            if not self._is_held(one):
+                continue
+            there, names = shown_id(one, self.marks), {key_text(key) for key in keys}
+            wanted = {
+                (key_text(key), "init" if its == ["init"] else tuple(its)) for key, *its in reads
+            }
+            real = self.history[one[0]][one[1] - self.marks[one[0]]].reads
+            logged = whole[there[0]][there[1]]
+            txns[there] = logged._replace(
+                reads=[its for its, raw in zip(logged.reads, real) if raw in wanted],
+                writes=[key for key in logged.writes if key in names],
+            )
+        first = ShownId((0, 0))  # what stands for everything that is forgotten, if anything is
+        last = [key for its in txns.values() for key, source in its.reads if source == first]
+        if last:
+            txns.setdefault(first, whole[0][0]._replace(reads=(), writes=[*dict.fromkeys(last)]))
+        found = Part(txns).history(len(whole))
+        return found if is_violated(found, program, promise) else None
+
     @staticmethod
     def called(one: AuditId) -> str:
         return f"{one[0]}.{one[1]}"
 
 
-def _logged(its: Transaction, keys: Set[int]) -> Logged:
-    reads: List[Read] = []
+def _lost_in(cycle: Cycle, transactions: Mapping[AuditId, Transaction]) -> LostUpdate | None:
+    """The lost update that a cycle of two transactions is: one has read a version, and overwrote
+    another one, after the other transaction had replaced it."""
+    if len(cycle.ids) != 2:
+        return None
+    for edge in cycle.edges:
+        if edge.kind == READ_BEFORE and edge.version[0] in transactions[edge.one][1]:
+            return LostUpdate(edge.version[0], edge.other, edge.one)
+    return None
+
+
+def _logged(its: Transaction, keys: set[int]) -> Logged:
+    reads: list[Read] = []
     for key, *source in its[0]:
         if key in keys:
             reads.append((key_text(key), "init" if source == ["init"] else tuple(source)))
@@ -228,7 +273,7 @@ def explained(
     `seconds`. Raises ProgramEndedError and similar errors."""
     _, round_number, _, counts, certificate = report
     history, names = from_start(held)
-    part = held.lost_part(history, program, promise)
+    part = held.lost_part(history, program, promise) or held.cycle_part(history, program, promise)
     part = part or smaller(history, program, seconds, refuted(held, certificate), promise)
     real = {
         there: absolute(there, held.marks)
@@ -262,7 +307,7 @@ def explained(
     def read(key: str, source: Source) -> str:
         return f"read {shown.get(key, key)} {version(shown.get(key, key), source, called)}"
 
-    def made(one: ShownId) -> Tuple[Tuple[str, ...], ...]:
+    def made(one: ShownId) -> tuple[tuple[str, ...], ...]:
         its, raw = answered.transactions.get(ids[one]), held.reads(ids[one])
         found = by_statement(its, small[one[0]][one[1]].did[0], raw, writers, key_text)
         return tuple(tuple(read(*its) for its in reads) for reads in found)
@@ -276,7 +321,7 @@ def explained(
 
 def compact(
     history: History, order: Sequence[int] = ()
-) -> Tuple[History, Dict[ShownId, ShownId]]:
+) -> tuple[History, dict[ShownId, ShownId]]:
     """The same history without transactions that did nothing and without empty sessions, renumbered
     without gaps; and for each new number the old one. A transaction that is read from stays. The
     sessions are in this order, followed by those that aren't in it."""
@@ -296,7 +341,7 @@ def compact(
         for number, old in enumerate(ids)
     }
 
-    def moved(reads: Iterable[Read]) -> List[Read]:
+    def moved(reads: Iterable[Read]) -> list[Read]:
         return [(key, new.get(source, source)) for key, source in reads]
 
     def one(old: ShownId) -> Logged:

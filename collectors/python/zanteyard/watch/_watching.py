@@ -1,17 +1,16 @@
 """A running audit: passes what the proxy writes to the auditor, notes the replies, and tells the
 proxy what it needs of them."""
 
-from __future__ import annotations
-
 import json
 import logging
 import signal
 import threading
 import time
-from typing import Callable, Dict, List, Optional, Sequence
+from collections.abc import Callable, Sequence
+from typing import Any
 
 from ..core.errors import JournalError, ProgramEndedError, ZanteyardError
-from ._auditing import Auditing, refusal_of
+from ._auditing import OPEN, Auditing, refusal_of
 from ._board import Board
 from ._ending import word_of
 from ._explaining import Explaining
@@ -19,16 +18,18 @@ from ._feed import Event, Item, answered_of, command, text, whole
 from ._intake import Intake
 from ._pending import waiting_reads
 from ._redacting import without_values
-from ._retained import Retained
-from ._violations import Held
+from ._found import Found, found_in
+from ._stopping import STOPS
 
 OK, REPORT, CUT = b'["ok"]', b'["report",', b'["cut",'
 TRUNCATE, ROUND = b'["truncate"', b'["round"'
-SHOW = b'["show"]'
 GONE = "gone"  # an event of this program: the proxy has ended
 LOOKS = 0.2  # seconds between two checks whether another audit should begin
 PAUSES = (1.0, 2.0, 5.0, 15.0, 60.0)  # seconds before another audit begins, each time longer
+LEAVING = 2.0  # seconds in which a signal that the proxy got reaches this program as well
 CALM = 300.0  # seconds after which an audit's end counts as the first again
+DESCRIBING = 5.0  # seconds for which the proxy may not forget what it has to describe
+MOST_ASKED = 8  # rounds over the same transactions, each without what the one before found
 PENDING = 5.0  # seconds between two lists of waiting reads
 TOLD = 60.0  # seconds between two log lines with the same text
 MOST_WARNINGS = 100  # that are remembered
@@ -58,18 +59,20 @@ class Watching:
         self.stopped = threading.Event()  # the proxy's last lines have been audited
         self.gone = 0  # proxies whose last lines were read
         self._tell = tell
-        self._retained = Retained()
+        self._marks: list[int] = []  # of each session, how many transactions are forgotten
+        self._owed: list[list[int]] = []  # marks that the proxy hasn't been told yet
+        self._owed_until = float("inf")
         self._received = 0  # transactions of the last round
-        self._violated: Optional[bytes] = None  # a report that hasn't been handled yet
         self._is_stopping = self._has_started = False
         self._has_given_up = False  # the proxy ended its audit, and hasn't begun another one
         self.cant_begin = ""  # why the very first audit couldn't begin
-        self._restart_at: Optional[float] = None  # by the monotonic clock
+        self._restart_at: float | None = None  # by the monotonic clock
+        self._drained_at: float | None = None  # when the proxy had no connection left
         self._ends = 0  # of audits, in quick succession
         self._ended_at = float("-inf")
         self._looked_at = self._logged_at = float("-inf")
         self._logged_kind = ""
-        self._warned: Dict[str, float] = {}  # when each was logged last
+        self._warned: dict[str, float] = {}  # when each was logged last
         self._thread = threading.Thread(target=self._run, daemon=True)
 
     def start(self) -> None:
@@ -87,15 +90,16 @@ class Watching:
         self._thread.join()
 
     def _run(self) -> None:
-        # A terminal's signals are meant for this program only, not for those that it starts.
-        signal.pthread_sigmask(signal.SIG_BLOCK, {signal.SIGINT})
+        signal.pthread_sigmask(signal.SIG_BLOCK, STOPS)  # programs it starts inherit this
         try:
             while True:
                 items = self.intake.take(LOOKS)
                 if items is None:
                     break
                 self._take(items)
+                self._tell_cuts()
                 self._begin_anew_if_due()
+                self._leave_if_due()
         except Exception:
             logger.exception("the audit ends because of a bug in this program")
             self.board.ended("a bug in this program; see the log")
@@ -104,7 +108,7 @@ class Watching:
             self.auditing.end()
 
     def _take(self, items: Sequence[Item]) -> None:
-        lines: List[bytes] = []
+        lines: list[bytes] = []
         for item in items:
             if isinstance(item, bytes):
                 lines.append(item)
@@ -122,8 +126,6 @@ class Watching:
         try:
             for line, reply in self.auditing.give(lines):
                 self._answered(line, reply)
-            if self._violated is not None:
-                self._see_to_violation()
         except RefusedLineError as error:
             self._lose(str(error))
         except (ProgramEndedError, JournalError) as error:
@@ -132,23 +134,25 @@ class Watching:
 
     def _answered(self, line: bytes, reply: bytes) -> None:
         if reply == OK:
-            self._retained.note(line)
+            if opened := OPEN.match(line):
+                self._marks, self._owed = [0] * int(opened[1]), []
         elif reply.startswith(REPORT):
-            self._reported(reply)
+            if self._reported(reply):
+                self._go_on_after(line, json.loads(reply))
         elif line.startswith(TRUNCATE):
             if reply.startswith(CUT):
                 self._cut(reply)
-            self._tell(command("cut", marks=self._retained.marks))
+            self._owed.append([*self._marks])
+            self._tell_cuts()
         elif line.startswith(ROUND):
             logger.warning("a round was refused: %s", refusal_of(reply))
         else:
             shown = line[:60].decode(errors="replace")
             raise RefusedLineError(f"the auditor answered {refusal_of(reply)} to {shown}")
 
-    def _reported(self, reply: bytes) -> None:
+    def _reported(self, reply: bytes) -> bool:
+        """Notes a round, and returns whether it was violated."""
         _, number, kind, counts, *_ = json.loads(reply)
-        if self._violated is not None:
-            return  # a violation is final
         self._received = sum(counts)
         seen = self.board.round(kind, counts, self._remaining)
         now = time.monotonic()
@@ -160,44 +164,75 @@ class Watching:
             "round %d: %s; %d transactions, %d of them held in memory; %.1f s behind",
             number, word_of(kind, self.auditing.promise), seen.taken, seen.remaining, seen.behind,
         )
-        if kind == "violated":
-            self._violated = reply
-        elif kind == "pending" and now >= self._looked_at + PENDING:
+        if kind == "pending" and now >= self._looked_at + PENDING:
             self._looked_at = now
-            self.board.waits(*waiting_reads(self._retained.transactions(), counts))
+            self.board.waits(*waiting_reads(self.auditing.kept().transactions, counts))
+        return bool(kind == "violated")
 
     def _cut(self, reply: bytes) -> None:
-        _, _, gone, _, *begun = json.loads(reply)
-        self._retained.forget(gone, *begun)
+        _, _, gone, *_ = json.loads(reply)
+        for session, _ in gone:
+            self._marks[session] += 1
         self.board.cut(len(gone), self._remaining)
+
+    def _tell_cuts(self) -> None:
+        """Lets the proxy forget, once it has described what it was asked about."""
+        now = time.monotonic()
+        if self._owed and self.explaining.is_asking and now < self._owed_until:
+            self._owed_until = min(self._owed_until, now + DESCRIBING)
+            return
+        self._owed_until = float("inf")
+        while self._owed:
+            self._tell(command("cut", marks=self._owed.pop(0)))
 
     @property
     def _remaining(self) -> int:
         """Transactions of the last round that the auditor remembers."""
-        return self._received - sum(self._retained.marks)
+        return self._received - sum(self._marks)
 
-    def _see_to_violation(self) -> None:
-        assert self._violated is not None
-        report, self._violated = json.loads(self._violated), None
+    def _go_on_after(self, line: bytes, report: list[Any]) -> None:
+        """Handles the violated report on this line. What the violations in it rest on is left out,
+        and the round is repeated over the rest, until that isn't violated (docs/FOLDING.md, "After
+        a violation")."""
+        for tried in range(MOST_ASKED):
+            kept = self.auditing.kept()
+            found = found_in(kept, report, self.auditing.promise, tried)
+            self._tell_violations(found)
+            if not found.reads:
+                break
+            self.board.sets_aside(len(found.reads), found.unseen)
+            self.auditing.go_on_with(kept.without(found.reads))
+            reply = self.auditing.ask(line)
+            if not reply.startswith(REPORT):
+                raise RefusedLineError(f"the auditor answered {refusal_of(reply)} to a round")
+            if not self._reported(reply):
+                return
+            report = json.loads(reply)
+        self._end_audit("what is left of a violated round is violated for another reason", False)
+
+    def _tell_violations(self, found: Found) -> None:
+        count = len(found.held)
+        self.board.finds(count)
         sentence = self.auditing.promise.sentence("violated")
-        logger.error("VIOLATED: %s; explanation follows", sentence)
-        held = Held(self._retained, report, self.auditing.ask(SHOW))
+        more = f" ({count} times)" if count > 1 else ""
+        logger.error("VIOLATED: %s%s; explanation follows", sentence, more)
         self.explaining.begin(
-            report,
-            held,
+            found.report,
+            found.held,
             lambda id, its: self._tell(command("describe", id=id, transactions=its)),
         )
-        self._end_audit("a violation was found", is_lost=False)
 
     # the audit's end, and the next audit
 
-    def _lose(self, reason: str) -> None:
-        logger.error("the audit ended: %s; applications run on as before", reason)
+    def _lose(self, reason: str, has_proxy: bool = True) -> None:
+        go_on = has_proxy and not self._is_stopping
+        logger.error(
+            "the audit ended: %s%s", reason, "; applications run on as before" if go_on else ""
+        )
         self._end_audit(reason)
 
     def _end_audit(self, reason: str, is_lost: bool = True) -> None:
         self.auditing.end()
-        self._violated = None
         self.board.ended(reason, is_lost)
         now = time.monotonic()
         self._ends = self._ends + 1 if now < self._ended_at + CALM else 1
@@ -214,6 +249,19 @@ class Watching:
             self._restart_at = None
             if not self._is_stopping:
                 self._tell(command("restart"))
+
+    def _leave_if_due(self) -> None:
+        """Lets a proxy end that was told to. If this program may have been told as well, it is
+        about to want a last round."""
+        if self._drained_at is None:
+            return
+        if self._is_stopping:
+            is_due = self.stopped.is_set() and not self.explaining.is_asking
+        else:
+            is_due = time.monotonic() >= self._drained_at + LEAVING
+        if is_due:
+            self._drained_at = None
+            self._tell(command("leave"))
 
     def _begin_anew(self) -> None:
         self._has_given_up = False
@@ -248,13 +296,15 @@ class Watching:
             if not self.stopped.is_set():  # else it was told to end
                 self._has_given_up = True
                 self._given_up(event)
+        elif name == "drained":
+            self._drained_at = time.monotonic()
         elif name == "stopped":
             self.stopped.set()
         elif name == GONE:
             self.explaining.expect_no_answers()
             self.gone += 1
-            self._has_given_up = False
-            self._lose(text(event.get("reason")))
+            self._has_given_up, self._drained_at = False, None
+            self._lose(text(event.get("reason")), has_proxy=False)
             self._restart_at = None  # the next proxy begins an audit by itself
             if self._is_stopping:
                 self.stopped.set()

@@ -4,18 +4,20 @@ to requests that use another server's name."""
 from __future__ import annotations
 
 import base64
+import contextlib
 import hashlib
 import ipaddress
 import socket
 import threading
+from collections.abc import Callable
 from dataclasses import dataclass
 from http.server import BaseHTTPRequestHandler, HTTPServer
-from typing import Any, Callable, Optional, Tuple
+from typing import Any
 
 from ..core._version import VERSION
 
 MOST_AT_ONCE = 16  # requests; more are answered 503
-SLOWEST = 10.0  # seconds for a client to send its request, and to take the answer
+SLOWEST = 10.0  # seconds for a client to send its request and to take the answer, both together
 LONGEST_PATH = 200
 HTML = "text/html; charset=utf-8"
 TEXT = "text/plain; charset=utf-8"
@@ -34,7 +36,7 @@ class Answer:
 NOT_FOUND = Answer("there is no such page\n", TEXT, 404)
 OTHER_NAME = Answer("this server has another name\n", TEXT, 421)
 BUSY = b"HTTP/1.0 503 Service Unavailable\r\nContent-Length: 0\r\nConnection: close\r\n\r\n"
-Tell = Callable[[str], Optional[Answer]]
+Tell = Callable[[str], Answer | None]
 
 
 def policy_for(style: str, script: str = "") -> str:
@@ -49,7 +51,7 @@ def _sum_of(text: str) -> str:
     return "sha256-" + base64.b64encode(hashlib.sha256(text.encode()).digest()).decode()
 
 
-def host_and_port(address: str) -> Tuple[str, int]:
+def host_and_port(address: str) -> tuple[str, int]:
     """The host and port in HOST:PORT. Raises ValueError. The host may be an IPv6 address in
     brackets."""
     host, colon, port = address.rpartition(":")
@@ -78,13 +80,18 @@ def is_own_name(named: str, host: str) -> bool:
         return False
 
 
+def _hang_up(request: socket.socket) -> None:
+    with contextlib.suppress(OSError):  # it has ended meanwhile
+        request.shutdown(socket.SHUT_RDWR)
+
+
 class _Server(HTTPServer):
     """One thread per request, with a limit on their number."""
 
     daemon_threads = True
     request_queue_size = 64
 
-    def __init__(self, address: Tuple[str, int], handler: Any) -> None:
+    def __init__(self, address: tuple[str, int], handler: Any) -> None:
         self.address_family = socket.AF_INET6 if ":" in address[0] else socket.AF_INET
         self.places = threading.BoundedSemaphore(MOST_AT_ONCE)
         super().__init__(address, handler)
@@ -114,11 +121,15 @@ class _Server(HTTPServer):
             raise
 
     def _answer(self, request: Any, client_address: Any) -> None:
+        late = threading.Timer(SLOWEST, _hang_up, (request,))  # however it spreads its bytes
+        late.daemon = True
+        late.start()
         try:
             self.finish_request(request, client_address)
         except Exception:  # such as a client that hangs up; that must not fill the log
             pass
         finally:
+            late.cancel()
             self.places.release()
             self.shutdown_request(request)
 

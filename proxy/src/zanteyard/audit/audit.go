@@ -8,9 +8,11 @@ import (
 	"fmt"
 	"io"
 	"os"
+	"sync"
 	"time"
 
 	"zanteyard/feed"
+	"zanteyard/guard"
 	"zanteyard/join"
 	"zanteyard/record"
 	"zanteyard/slot"
@@ -38,6 +40,13 @@ type Audit struct {
 	config Config
 	inbox  *join.Inbox
 	writer *feed.Writer
+
+	lock   sync.Mutex
+	cancel func()       // ends it while it begins
+	joiner *join.Joiner // nil until it has begun
+	failed error        // why it ended
+
+	reading sync.WaitGroup // whoever reads the parent's commands
 }
 
 // New makes an audit. It does nothing before Run, and holds the sessions' records until then.
@@ -49,7 +58,7 @@ func New(config Config) *Audit {
 		config.Kept = 4 << 30
 	}
 	if config.Slot.Name == "" {
-		config.Slot.Name = fmt.Sprintf("zanteyard_%d_%d", os.Getpid(), time.Now().Unix())
+		config.Slot.Name = fmt.Sprintf("zanteyard_%d_%d", os.Getpid(), time.Now().UnixMicro())
 	}
 	return &Audit{config: config, inbox: join.NewInbox(config.Held), writer: feed.NewWriter(config.Out)}
 }
@@ -57,21 +66,65 @@ func New(config Config) *Audit {
 // Sink takes the sessions' records.
 func (a *Audit) Sink() record.Sink { return a.inbox }
 
+// Drained tells the parent that no connection is left, and none will come.
+func (a *Audit) Drained() { a.writer.Event(join.Drained{At: time.Now()}) }
+
 // beginning limits how long the slot may take to begin: it waits for all open transactions.
 const beginning = 2 * time.Minute
 
+// ErrGone is the reason of an audit whose parent doesn't read any more.
+var ErrGone = errors.New("the program that it reports to is gone")
+
 // Run audits until ctx ends or the audit does. It tells the parent why, and returns the reason.
 func (a *Audit) Run(ctx context.Context) error {
+	panicked := true
+	err := guard.Run("the audit", func() error {
+		err := a.run(ctx)
+		panicked = false
+		return err
+	})
+	if panicked {
+		a.inbox.Close()
+		a.writer.Abandon(join.Ended{Reason: err.Error()})
+	}
+	return err
+}
+
+func (a *Audit) run(ctx context.Context) (err error) {
+	ctx, cancel := context.WithCancel(ctx)
+	defer cancel()
+	a.lock.Lock()
+	a.cancel = cancel
+	if a.failed != nil { // it came before
+		cancel()
+	}
+	a.lock.Unlock()
 	written := make(chan struct{})
 	go func() {
 		defer close(written)
-		a.writer.Run() // if it fails, the parent is gone; reading its commands will report that
+		if err := guard.Run("the feed", a.writer.Run); guard.IsFault(err) {
+			a.End(err)
+			a.writer.Abandon(join.Ended{Reason: err.Error()})
+		} else if err != nil {
+			a.End(ErrGone)
+			cancel()
+		}
 	}()
-	defer func() { <-written }()
-	defer a.writer.Close()
-	ctx, cancel := context.WithCancel(ctx)
-	defer cancel()
-	its, err := a.begin(ctx)
+	defer func() {
+		a.writer.Close()
+		<-written
+		if failed := a.reason(); failed != nil {
+			err = failed
+		}
+	}()
+	var its *running
+	err = guard.Run("the audit's beginning", func() (err error) {
+		its, err = a.begin(ctx)
+		return err
+	})
+	if failed := a.reason(); err != nil && failed != nil {
+		err = failed
+	}
 	if err != nil {
 		a.inbox.Close()
 		a.writer.Event(join.Ended{Reason: err.Error(), Blocked: errors.Is(err, slot.ErrBlocked)})
@@ -79,6 +132,37 @@ func (a *Audit) Run(ctx context.Context) error {
 	}
 	defer its.close()
 	return its.run(ctx)
+}
+
+// End ends the audit for this reason. It doesn't wait.
+func (a *Audit) End(reason error) {
+	a.lock.Lock()
+	defer a.lock.Unlock()
+	if a.failed == nil {
+		a.failed = reason
+	}
+	switch {
+	case a.joiner != nil:
+		go a.joiner.End(reason)
+	case a.cancel != nil:
+		a.cancel()
+	}
+}
+
+// WantsRestart reports whether the parent asked for another audit while this one ended. It must be called after Run, once
+// Config.In has ended; then it waits for what was read of it.
+func (a *Audit) WantsRestart() bool {
+	a.reading.Wait()
+	a.lock.Lock()
+	defer a.lock.Unlock()
+	return a.joiner != nil && a.joiner.WantsRestart()
+}
+
+// reason returns what End was given first, or nil.
+func (a *Audit) reason() error {
+	a.lock.Lock()
+	defer a.lock.Unlock()
+	return a.failed
 }
 
 // running is an audit that has begun.
@@ -97,11 +181,6 @@ func (a *Audit) begin(ctx context.Context) (*running, error) {
 	if err != nil {
 		return nil, err
 	}
-	if !tables.HasFence() {
-		control.Close(ctx)
-		options := &a.config.Slot
-		return nil, fmt.Errorf("the table %s.%s doesn't exist (zanteyard prepare --create)", options.FenceSchema, options.FenceTable)
-	}
 	if a.config.Begins != nil {
 		a.config.Begins(control.Sees)
 	}
@@ -113,16 +192,20 @@ func (a *Audit) begin(ctx context.Context) (*running, error) {
 		its.close()
 		return nil, err
 	}
-	schema, why := control.Inspects(begin)
-	if schema != "" && its.reader.Plugin() != slot.Wal2json {
-		schema, why = "", "only wal2json tells where a commit's record is"
+	if err := control.Follow(begin, its.reader.Mark()); err != nil {
+		its.close()
+		return nil, err
+	}
+	why := control.Inspects(begin)
+	if why == "" && its.reader.Plugin() != slot.Wal2json {
+		why = "only wal2json tells where a commit's record is"
 	}
 	// The catalog has to be as new as the slot, so that no table created before it is reported as unknown.
 	if err := control.Load(begin); err != nil {
 		its.close()
 		return nil, err
 	}
-	its.joiner = join.New(a.config.Join, a.inbox, tables, control, schema != "", a.config.Meeter, a.writer)
+	its.joiner = join.New(a.config.Join, a.inbox, tables, control, why == "", a.config.Meeter, a.writer)
 	started, err := control.Started(begin)
 	if err != nil {
 		its.close()
@@ -130,7 +213,7 @@ func (a *Audit) begin(ctx context.Context) (*running, error) {
 	}
 	started.Slot, started.Plugin, started.Temporary = a.config.Slot.Name, string(its.reader.Plugin()), !a.config.Slot.Permanent
 	started.Subtransactions = "pg_walinspect"
-	if schema == "" {
+	if why != "" {
 		started.Subtransactions = "returning"
 		started.Warnings = append(started.Warnings, "subtransactions can't be looked up: "+why)
 	}
@@ -147,17 +230,29 @@ func (r *running) close() {
 func (r *running) run(ctx context.Context) error {
 	ctx, cancel := context.WithCancel(ctx)
 	defer cancel()
-	go func() {
+	r.audit.lock.Lock()
+	r.audit.joiner = r.joiner
+	failed := r.audit.failed
+	r.audit.lock.Unlock()
+	if failed != nil { // it came while the audit began
+		go r.joiner.End(failed)
+	}
+	guard.Go("the slot's reader", r.joiner.End, func() {
 		if err := r.reader.Read(ctx, r.joiner); err != nil && ctx.Err() == nil {
 			r.joiner.End(err)
 		}
-	}()
-	go func() {
+	})
+	r.audit.reading.Add(1)
+	guard.Go("the commands' reader", func(err error) {
+		r.audit.reading.Done()
+		r.joiner.End(err)
+	}, func() {
 		if err := feed.Read(r.audit.config.In, r.joiner); err != nil && ctx.Err() == nil {
 			r.joiner.End(fmt.Errorf("read the parent's commands: %w", err))
 		}
-	}()
-	go r.watch(ctx)
+		r.audit.reading.Done()
+	})
+	guard.Go("the slot's watch", r.joiner.End, func() { r.watch(ctx) })
 	return r.joiner.Run(ctx)
 }
 
@@ -172,6 +267,7 @@ func (r *running) watch(ctx context.Context) {
 		case <-ctx.Done():
 			return
 		case <-often.C:
+			guard.At("the tables left out")
 			r.tables.LeftOut(func(table, reason string, n uint64) {
 				its := [2]string{table, reason}
 				if n > counted[its] {
@@ -190,6 +286,7 @@ func (r *running) watch(ctx context.Context) {
 
 // health ends the audit before the slot makes the server keep too much of its log.
 func (r *running) health(ctx context.Context) error {
+	guard.At("the slot's health")
 	asking, cancel := context.WithTimeout(ctx, 10*time.Second)
 	defer cancel()
 	health, err := r.control.Health(asking, r.audit.config.Slot.Name)

@@ -20,8 +20,6 @@ var lockstep = flag.Int("lockstep", 400, "transactions that are committed in loc
 // Triggers pass the tag on; a cascade leaves nothing.
 const oracleSchema = `
 CREATE EXTENSION pg_walinspect;
-CREATE TABLE zanteyard_fence (id integer PRIMARY KEY CHECK (id = 0), n bigint NOT NULL);
-INSERT INTO zanteyard_fence VALUES (0, 0);
 CREATE TABLE t (id int PRIMARY KEY, tag text NOT NULL, long text);
 CREATE TABLE parent (id int PRIMARY KEY, tag text NOT NULL);
 CREATE TABLE child (id int PRIMARY KEY, parent int REFERENCES parent ON DELETE CASCADE, tag text NOT NULL);
@@ -73,6 +71,8 @@ type lockstepper struct {
 	alone    *client          // the only client that goes on
 	owned    map[string]*done // committed transactions by tag
 	oids     map[string]record.Relation
+	// identities are those of the tables' keys.
+	identities map[string]record.Identity
 
 	leaves        bool // reads of savepoints' versions are left out
 	left, counted int
@@ -97,6 +97,7 @@ type done struct {
 	wrote   map[cell]bool
 	commit  int
 	empties bool          // it ran a TRUNCATE
+	kept    map[cell]bool // the rows of that table that it had written before
 	upserts map[cell]bool // rows of the table that it empties and that it has written by their keys
 	given   map[cell]bool // the rows that were offered as its writes
 
@@ -157,6 +158,7 @@ func (l *lockstepper) begin(c *client) {
 	c.open = &done{
 		tag: fmt.Sprintf("%p.%d", c, c.tags), client: c, place: c.place, offered: c.number > 0, level: level.level,
 		reads: map[cell]map[string]bool{}, upserts: map[cell]bool{}, absent: map[cell]int{}, wrote: map[cell]bool{},
+		kept: map[cell]bool{},
 	}
 	c.its = record.Transaction{Connection: c.number, Place: c.place, Began: time.Now(), Level: level.level}
 	c.saved, c.left = false, l.r.Intn(5)
@@ -232,6 +234,7 @@ func (l *lockstepper) read(c *client, table, key, rest string) error {
 		parts := row[2 : len(row)-1]
 		c.its.Reads = append(c.its.Reads, record.Read{
 			Relation: record.Relation(oid), Key: record.Key(strings.Join(parts, "\x00")), Version: uint32(xmin),
+			Identity: l.identities[table],
 		})
 		at := cell{table, strings.Join(parts, ", ")}
 		if c.open.reads[at] == nil {
@@ -249,7 +252,8 @@ func (l *lockstepper) readOne(c *client, table string, id int) error {
 		return err
 	}
 	if len(c.its.Reads) == before {
-		c.its.Absent = append(c.its.Absent, record.Absence{Relation: l.oids[table], Key: record.Key(strconv.Itoa(id))})
+		c.its.Absent = append(c.its.Absent, record.Absence{Relation: l.oids[table], Key: record.Key(strconv.Itoa(id)),
+			Identity: l.identities[table]})
 		c.open.absent[cell{table, strconv.Itoa(id)}] = c.shows
 	}
 	return nil
@@ -314,6 +318,11 @@ func (l *lockstepper) statement(c *client) error {
 		return l.write(c, []string{"ROLLBACK TO a", "RELEASE a"}[l.r.Intn(2)], false)
 	default:
 		if l.r.Intn(12) == 0 {
+			if !c.open.empties {
+				for at := range c.open.upserts {
+					c.open.kept[at] = true
+				}
+			}
 			c.open.empties = true
 			l.alone = c // nobody could look at the table meanwhile
 			return l.write(c, "TRUNCATE whole", false)

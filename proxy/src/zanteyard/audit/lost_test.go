@@ -18,7 +18,7 @@ import (
 // start begins an audit of nothing, and returns its events as they arrive.
 func start(t *testing.T, s *server, options slot.Options) (a *Audit, events <-chan map[string]any, commands io.Writer, ended <-chan error) {
 	t.Helper()
-	options.Source, options.FenceSchema, options.FenceTable, options.Canonical = s.source(), "public", "zanteyard_fence", canonical
+	options.Source, options.Canonical = s.source(), canonical
 	commandsOut, commandsIn := io.Pipe()
 	feedOut, feedIn := io.Pipe()
 	a = New(Config{Slot: options, Meeter: nobody{}, In: commandsOut, Out: feedIn, Join: join.Options{Between: 10 * time.Millisecond}})
@@ -57,14 +57,13 @@ func await(t *testing.T, events <-chan map[string]any, event string) map[string]
 	}
 }
 
-const fenceTable = "CREATE TABLE zanteyard_fence (id integer PRIMARY KEY CHECK (id = 0), n bigint NOT NULL);" +
-	"INSERT INTO zanteyard_fence VALUES (0, 0); CREATE TABLE t (id int PRIMARY KEY); CREATE TABLE none (id int)"
+const someTables = "CREATE TABLE t (id int PRIMARY KEY); CREATE TABLE none (id int)"
 
 // A lost slot ends the audit with its reason; the sessions' later records are dropped.
 func TestLostSlot(t *testing.T) {
 	s := startServer(t)
 	conn := s.connect(t)
-	must(t, conn, fenceTable)
+	must(t, conn, someTables)
 	a, events, _, ended := start(t, s, slot.Options{})
 	await(t, events, "started")
 	await(t, events, `["open",64,4096,2]`)
@@ -82,7 +81,7 @@ func TestLostSlot(t *testing.T) {
 // A server that can't be audited, or doesn't exist, ends the audit with its reason, too.
 func TestNoAudit(t *testing.T) {
 	s := startServer(t, "wal_level=replica")
-	must(t, s.connect(t), fenceTable)
+	must(t, s.connect(t), someTables)
 	_, events, _, _ := start(t, s, slot.Options{})
 	if it := await(t, events, "ended"); !strings.Contains(it["reason"].(string), "wal_level") {
 		t.Errorf("the audit has ended: %v", it)
@@ -95,7 +94,7 @@ func TestNoAudit(t *testing.T) {
 func TestParent(t *testing.T) {
 	s := startServer(t)
 	conn := s.connect(t)
-	must(t, conn, fenceTable)
+	must(t, conn, someTables)
 	_, events, commands, _ := start(t, s, slot.Options{Name: "kept", Permanent: true})
 	if it := await(t, events, "started"); it["temporary"] != false || !strings.Contains(toText(it["warnings"]), "max_slot_wal_keep_size") {
 		t.Errorf("the audit begins with %v", it)

@@ -5,6 +5,7 @@ import (
 	"errors"
 	"fmt"
 	"sort"
+	"strings"
 	"testing"
 	"time"
 
@@ -29,7 +30,7 @@ func (h heard) next(t *testing.T) record.Commit {
 	for {
 		select {
 		case it := <-h.commits:
-			if len(it.Writes)+len(it.Emptied) > 0 || it.Fence {
+			if len(it.Writes)+len(it.Emptied) > 0 {
 				return it
 			}
 		case <-time.After(5 * time.Minute):
@@ -44,11 +45,28 @@ func TestSlot(t *testing.T) {
 	}
 }
 
+// describeOpen checks that a prepared transaction is described by its number, and by its name only if constants may be
+// shown.
+func describeOpen(t *testing.T, options slot.Options, number string) {
+	ctx := context.Background()
+	for _, redacts := range []bool{false, true} {
+		options.Redacts = redacts
+		control, _, err := slot.NewControl(ctx, options)
+		if err != nil {
+			t.Fatal(err)
+		}
+		said := control.Open(ctx)
+		control.Close(ctx)
+		if !strings.Contains(said, "the prepared transaction "+number+", ") || strings.Contains(said, "'p'") == redacts {
+			t.Errorf("with Redacts %v, an open transaction is described as %q", redacts, said)
+		}
+	}
+}
+
 func hearSlot(t *testing.T, plugin slot.Plugin) {
 	s := startServer(t, "max_prepared_transactions=10")
 	conn := s.connect(t)
-	must(t, conn, "CREATE TABLE zanteyard_fence (id integer PRIMARY KEY CHECK (id = 0), n bigint NOT NULL);"+
-		"INSERT INTO zanteyard_fence VALUES (0, 0); CREATE TABLE a (id int PRIMARY KEY, v text); CREATE TABLE b (id int PRIMARY KEY, v text);"+
+	must(t, conn, "CREATE TABLE a (id int PRIMARY KEY, v text); CREATE TABLE b (id int PRIMARY KEY, v text);"+
 		"CREATE TABLE none (id int); CREATE SCHEMA aside; CREATE TABLE aside.log (id int PRIMARY KEY);"+
 		"CREATE TABLE parts (id int PRIMARY KEY) PARTITION BY RANGE (id); CREATE TABLE aside.part PARTITION OF parts DEFAULT; CREATE EXTENSION pg_walinspect; CREATE TABLE full_row (id int PRIMARY KEY, v text);"+
 		"ALTER TABLE full_row REPLICA IDENTITY FULL")
@@ -58,7 +76,7 @@ func hearSlot(t *testing.T, plugin slot.Plugin) {
 	if err != nil {
 		t.Fatal(err)
 	}
-	options := slot.Options{Source: s.source(), Name: "names", Plugin: plugin, FenceSchema: "public", FenceTable: "zanteyard_fence",
+	options := slot.Options{Source: s.source(), Name: "names", Plugin: plugin,
 		Asked: asked, Canonical: canonical}
 	control, tables, err := slot.NewControl(ctx, options)
 	if err != nil {
@@ -104,6 +122,7 @@ func hearSlot(t *testing.T, plugin slot.Plugin) {
 
 	must(t, conn, "BEGIN; UPDATE a SET v = 'prepared'; PREPARE TRANSACTION 'p'; INSERT INTO none VALUES (1)")
 	number := must(t, conn, "SELECT transaction FROM pg_prepared_xacts")[0][0]
+	describeOpen(t, options, number)
 	if it := expect("COMMIT PREPARED 'p'", record.Write{Relation: a, Key: "2"}); fmt.Sprint(it.Number) != number {
 		t.Errorf("a prepared transaction is told with the number %d, and not %s", it.Number, number)
 	}
@@ -112,11 +131,6 @@ func hearSlot(t *testing.T, plugin slot.Plugin) {
 	must(t, conn, "TRUNCATE a")
 	if it := h.next(t); len(it.Emptied) != 1 || it.Emptied[0] != a {
 		t.Errorf("a TRUNCATE is told as %+v", it)
-	}
-	if number, err := control.Fence(ctx); err != nil {
-		t.Error(err)
-	} else if it := h.next(t); !it.Fence || it.Number != uint32(number) {
-		t.Errorf("fence %d is told as %+v", number, it)
 	}
 	if left := leftOut(tables); left["public.none: the table has no primary key"] != 1 {
 		t.Errorf("of tables without a key it was told %v", left)

@@ -12,6 +12,7 @@ import (
 	"testing"
 	"time"
 
+	"zanteyard/catalog"
 	"zanteyard/join"
 	"zanteyard/record"
 	"zanteyard/slot"
@@ -44,11 +45,8 @@ func (o *output) Event(it join.Event) {
 // nobody is a proxy without sessions.
 type nobody struct{}
 
-func (nobody) MeetAround(_ context.Context, between func(context.Context)) (int, time.Duration, error) {
-	return 0, 0, nil
-}
-func (nobody) Fence(context.Context, uint64) error { return nil }
-func (nobody) Busy() int                           { return 0 }
+func (nobody) Meet(_ context.Context, _ []uint64, moment func(time.Duration)) { moment(0) }
+func (nobody) Busy([]uint64) (underWay, idle int)                             { return 0, 0 }
 
 func canonical(typeOID uint32, text string) (string, bool) { return text, true }
 
@@ -77,8 +75,7 @@ func runLockstep(t *testing.T, s *server, seed int64, commits int, plugin slot.P
 	ctx, cancel := context.WithCancel(context.Background())
 	defer cancel()
 	options := slot.Options{
-		Source: s.source(), Name: fmt.Sprint("lockstep_", seed), FenceSchema: "public", FenceTable: "zanteyard_fence",
-		Canonical: canonical, Plugin: plugin,
+		Source: s.source(), Name: fmt.Sprint("lockstep_", seed), Canonical: canonical, Plugin: plugin,
 	}
 	control, tables, err := slot.NewControl(ctx, options)
 	if err != nil {
@@ -92,19 +89,20 @@ func runLockstep(t *testing.T, s *server, seed int64, commits int, plugin slot.P
 	if err != nil {
 		t.Fatal(err)
 	}
-	schema, _ := control.Inspects(ctx)
+	unseen := control.Inspects(ctx)
 	inbox := join.NewInbox(1 << 30)
 	out := &output{events: make(chan join.Event, 10)}
 	// A commit counts as somebody else's after a time in which no test could pause: the whole run is over by then.
 	joiner := join.New(join.Options{Every: 1 << 20, Within: time.Hour, Late: time.Hour, Stale: time.Hour}, inbox, tables, control,
-		schema != "" && plugin == slot.Wal2json, nobody{}, out)
+		unseen == "" && plugin == slot.Wal2json, nobody{}, out)
 	ended := make(chan error, 2)
 	go func() { ended <- reader.Read(ctx, joiner) }()
 	go func() { ended <- joiner.Run(ctx) }()
 	l := &lockstepper{
 		t: t, r: rand.New(rand.NewSource(seed)), sink: inbox, observer: s.connect(t), now: map[cell]string{}, first: map[cell]bool{},
 		history: map[cell][]step{}, owned: map[string]*done{}, oids: map[string]record.Relation{},
-		leaves: plugin != slot.Wal2json,
+		identities: map[string]record.Identity{},
+		leaves:     plugin != slot.Wal2json,
 	}
 	waitFor[join.Started](t, out)
 	for _, row := range must(t, l.observer, contents) {
@@ -114,6 +112,10 @@ func runLockstep(t *testing.T, s *server, seed int64, commits int, plugin slot.P
 	for _, row := range must(t, l.observer, "SELECT relname, oid FROM pg_class WHERE relkind IN ('r', 'p')") {
 		oid, _ := strconv.ParseUint(row[1], 10, 32)
 		l.oids[row[0]] = record.Relation(oid)
+	}
+	for _, row := range must(t, l.observer, "SELECT c.relname, "+catalog.IdentitySQL+
+		" FROM pg_class c JOIN pg_index i ON i.indrelid = c.oid AND i.indisprimary") {
+		l.identities[row[0]] = catalog.IdentityOf(row[1])
 	}
 	for _, number := range []uint64{1, 2, 3, 0} {
 		l.connect(s, number)
@@ -291,9 +293,9 @@ func (l *lockstepper) got(it *join.Description) (map[string]bool, map[cell]bool)
 // want is what has to be offered, according to the rows' tags and the order of the commits.
 func (l *lockstepper) want(it *done, names map[string]string) map[string]bool {
 	want := map[string]bool{}
-	add := func(at cell, upTo int) { // the last offered version among the first upTo ones
+	add := func(at cell, upTo int) { // the row's last offered version among the first upTo ones
 		from := "init"
-		for _, v := range l.history[at][:upTo] {
+		for _, v := range l.history[at][l.began(at, upTo):upTo] {
 			if name, offered := names[v.tag]; offered && !(v.deleted && l.emptied(at, l.owned[v.tag])) {
 				from = name
 			}
@@ -312,7 +314,12 @@ func (l *lockstepper) want(it *done, names map[string]string) map[string]bool {
 	}
 	for at := range it.wrote {
 		for i, v := range l.history[at] {
-			if v.tag == it.tag && !(v.deleted && l.emptied(at, it)) {
+			if v.tag != it.tag || v.deleted && l.emptied(at, it) {
+				continue
+			}
+			if l.began(at, i+1) == i {
+				want[fmt.Sprint(at, " from init")] = true
+			} else {
 				add(at, i)
 			}
 		}
@@ -326,9 +333,23 @@ func (l *lockstepper) want(it *done, names map[string]string) map[string]bool {
 		ownTruncate := at.table == "whole" && it.empties
 		if it.level != record.ReadCommitted && !it.wrote[at] && !isThere && !ownTruncate { // else it is left out
 			add(at, upTo)
+			want[fmt.Sprint(at, " from init")] = true // of the row that comes next
 		}
 	}
 	return want
+}
+
+// began returns where the row began that had the key last among the first upTo versions: its first version's place. What
+// is inserted after a deletion is another row.
+func (l *lockstepper) began(at cell, upTo int) int {
+	for i := upTo - 1; i > 0; i-- {
+		by := l.owned[l.history[at][i].tag]
+		again := at.table == "whole" && by.empties && by.upserts[at] && !by.kept[at] && !l.history[at][i].deleted
+		if l.history[at][i-1].deleted || again {
+			return i
+		}
+	}
+	return 0
 }
 
 // story lists the versions of the rows in a difference.

@@ -23,9 +23,7 @@ func TestPluginThatMayNotBeUsed(t *testing.T) {
 	}
 	ctx, cancel := context.WithCancel(context.Background())
 	defer cancel()
-	options := slot.Options{Source: s.source(), Name: "plugins", FenceSchema: "public", FenceTable: "zanteyard_fence",
-		Canonical: canonical}
-	must(t, conn, "CREATE TABLE zanteyard_fence (id integer PRIMARY KEY CHECK (id = 0), n bigint NOT NULL)")
+	options := slot.Options{Source: s.source(), Name: "plugins", Canonical: canonical}
 	control, tables, err := slot.NewControl(ctx, options)
 	if err != nil {
 		t.Fatal(err)

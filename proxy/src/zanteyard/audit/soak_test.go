@@ -17,6 +17,7 @@ import (
 
 	"github.com/jackc/pgconn"
 
+	"zanteyard/catalog"
 	"zanteyard/join"
 	"zanteyard/record"
 	"zanteyard/slot"
@@ -30,100 +31,49 @@ var (
 
 // crowd is clients in goroutines of their own, as sessions of a proxy would see them.
 type crowd struct {
-	t       *testing.T
-	sink    record.Sink
-	members []*member
-	lock    sync.Mutex
-	meeting *sync.WaitGroup // not nil: all are asked to meet
-	done    int
+	sink record.Sink
+	runs sync.RWMutex // held for reading while a transaction runs
+	lock sync.Mutex
+	done int
 }
 
-// member is one client. Between two transactions it runs the fences that are requested.
+// member is one client.
 type member struct {
 	conn   *pgconn.PgConn
 	number uint64
 	place  uint64
 	r      *rand.Rand
-	ask    chan chan struct{} // a fence is wanted; the channel that is sent is closed when all have run theirs
-	made   chan struct{}
 }
 
-func (m *member) fence(sink record.Sink) error {
+// Meet implements join.Meeter.
+func (c *crowd) Meet(_ context.Context, _ []uint64, moment func(time.Duration)) {
 	began := time.Now()
-	rows, err := rowsOf(m.conn, "UPDATE zanteyard_fence SET n = n + 1 WHERE id = 0 RETURNING pg_current_xact_id()")
-	if err != nil {
-		return err
-	}
-	number, _ := strconv.ParseUint(rows[0][0], 10, 64)
-	sink.Transaction(record.Transaction{
-		Connection: m.number, Place: m.place, Began: began, Ended: time.Now(), Number: number, Fence: true,
-		Level: record.ReadCommitted,
-	})
-	m.place++
-	return nil
+	c.runs.Lock()
+	defer c.runs.Unlock()
+	moment(time.Since(began))
 }
-
-// MeetAround implements join.Meeter.
-func (c *crowd) MeetAround(ctx context.Context, between func(context.Context)) (int, time.Duration, error) {
-	began := time.Now()
-	c.lock.Lock()
-	members := append([]*member(nil), c.members...)
-	c.lock.Unlock()
-	first := make(chan struct{})
-	for _, m := range members {
-		select {
-		case m.ask <- first:
-		case <-ctx.Done():
-			return 0, 0, ctx.Err()
-		}
-	}
-	for _, m := range members {
-		<-m.made
-	}
-	between(ctx)
-	close(first)
-	for _, m := range members {
-		<-m.made
-	}
-	return 2 * len(members), time.Since(began), nil
-}
-
-func (c *crowd) Fence(ctx context.Context, connection uint64) error { return nil }
 
 // Busy implements join.Meeter.
-func (c *crowd) Busy() int { return len(c.members) }
+func (c *crowd) Busy(connections []uint64) (underWay, idle int) { return len(connections), 0 }
 
 // run makes a client work until ctx ends.
-func (c *crowd) run(ctx context.Context, m *member, work func(*member) record.Transaction) error {
+func (c *crowd) run(ctx context.Context, m *member, work func(*member) record.Transaction) {
 	for ctx.Err() == nil {
-		select {
-		case all := <-m.ask:
-			if err := m.fence(c.sink); err != nil {
-				return err
-			}
-			m.made <- struct{}{}
-			<-all
-			if err := m.fence(c.sink); err != nil {
-				return err
-			}
-			m.made <- struct{}{}
-			continue
-		default:
-		}
+		c.runs.RLock()
 		it := work(m)
 		time.Sleep(time.Duration(m.r.Intn(8)) * time.Millisecond)
 		it.Connection, it.Place, it.Ended = m.number, m.place, time.Now()
 		m.place++
 		c.sink.Transaction(it)
+		c.runs.RUnlock()
 		c.lock.Lock()
 		c.done++
 		c.lock.Unlock()
 	}
-	return nil
 }
 
 // withdraw reads two rows and writes one of them, at this level.
-func withdraw(level string, its record.Level, keys int) func(*member) record.Transaction {
+func withdraw(level string, its record.Level, keys int, identity record.Identity) func(*member) record.Transaction {
 	return func(m *member) record.Transaction {
 		to := record.Transaction{Began: time.Now(), Level: its, Outcome: record.Aborted}
 		i, j := m.r.Intn(keys), m.r.Intn(keys)
@@ -133,7 +83,8 @@ func withdraw(level string, its record.Level, keys int) func(*member) record.Tra
 			for _, row := range rows {
 				xmin, _ := strconv.ParseUint(row[0], 10, 32)
 				oid, _ := strconv.ParseUint(row[1], 10, 32)
-				to.Reads = append(to.Reads, record.Read{Relation: record.Relation(oid), Key: record.Key(row[2]), Version: uint32(xmin)})
+				to.Reads = append(to.Reads, record.Read{Relation: record.Relation(oid), Key: record.Key(row[2]), Version: uint32(xmin),
+					Identity: identity})
 			}
 			rows, err = rowsOf(m.conn, fmt.Sprintf("UPDATE t SET tag = tag || 'x' WHERE id = %d; SELECT pg_current_xact_id()", i))
 		}
@@ -230,9 +181,11 @@ func TestSoak(t *testing.T) {
 		t.Skip("no auditor was given (-auditor)")
 	}
 	s := startServer(t)
-	must(t, s.connect(t), "CREATE TABLE zanteyard_fence (id integer PRIMARY KEY CHECK (id = 0), n bigint NOT NULL);"+
-		"INSERT INTO zanteyard_fence VALUES (0, 0); CREATE TABLE t (id int PRIMARY KEY, tag text NOT NULL);"+
+	conn := s.connect(t)
+	must(t, conn, "CREATE TABLE t (id int PRIMARY KEY, tag text NOT NULL);"+
 		"INSERT INTO t SELECT i, '' FROM generate_series(0, 999) i")
+	identity := catalog.IdentityOf(must(t, conn, "SELECT "+catalog.IdentitySQL+
+		" FROM pg_index i WHERE i.indisprimary AND i.indrelid = 't'::regclass")[0][0])
 	for _, one := range []struct {
 		name, level string
 		its         record.Level
@@ -245,13 +198,16 @@ func TestSoak(t *testing.T) {
 		{"lost updates", "READ COMMITTED", record.ReadCommitted, 10, false, "violated"},
 	} {
 		t.Run(one.name, func(t *testing.T) {
-			p, done := runSoak(t, s, withdraw(one.level, one.its, one.keys), one.beside)
+			p, done := runSoak(t, s, withdraw(one.level, one.its, one.keys, identity), one.beside)
 			t.Logf("%d transactions: verdicts %v, %d cuts, events %v, coverage %v", done, p.verdicts, p.cuts, p.events, p.coverage)
 			if p.verdicts[one.want] == 0 || p.verdicts["spent"] > 0 || one.want == "serial" && p.verdicts["violated"] > 0 {
 				t.Errorf("the verdicts are %v, and should be %s", p.verdicts, one.want)
 			}
 			if one.want == "serial" && p.cuts == 0 {
 				t.Error("there was no cut")
+			}
+			if reads := p.coverage["reads"].(map[string]any); reads["offered"].(float64) == 0 {
+				t.Errorf("no read was offered: %v", reads)
 			}
 		})
 	}
@@ -272,9 +228,9 @@ func runSoak(t *testing.T, s *server, work func(*member) record.Transaction, bes
 	replies.Buffer(nil, 16<<20)
 	commandsOut, commandsIn := io.Pipe()
 	feedOut, feedIn := io.Pipe()
-	c := &crowd{t: t}
+	c := &crowd{}
 	a := New(Config{
-		Slot: slot.Options{Source: s.source(), FenceSchema: "public", FenceTable: "zanteyard_fence", Canonical: canonical},
+		Slot: slot.Options{Source: s.source(), Canonical: canonical},
 		Join: join.Options{Every: 300, Between: 500 * time.Millisecond, Within: time.Second}, Meeter: c, In: commandsOut, Out: feedIn,
 	})
 	c.sink = a.Sink()
@@ -304,13 +260,9 @@ func runSoak(t *testing.T, s *server, work func(*member) record.Transaction, bes
 	working, stop := context.WithCancel(ctx)
 	var all sync.WaitGroup
 	start := func(number uint64, sink record.Sink) {
-		m := &member{conn: s.connect(t), number: number, r: rand.New(rand.NewSource(int64(number))), ask: make(chan chan struct{}),
-			made: make(chan struct{})}
+		m := &member{conn: s.connect(t), number: number, r: rand.New(rand.NewSource(int64(number)))}
 		if sink != nil {
 			sink.Connection(record.Connection{Number: number})
-			c.lock.Lock()
-			c.members = append(c.members, m)
-			c.lock.Unlock()
 		}
 		all.Add(1)
 		go func() {
@@ -321,15 +273,7 @@ func runSoak(t *testing.T, s *server, work func(*member) record.Transaction, bes
 				}
 				return
 			}
-			if err := c.run(ctx, m, func(m *member) record.Transaction {
-				if working.Err() != nil {
-					time.Sleep(time.Millisecond) // idle, but still there for the last meeting
-					return record.Transaction{Began: time.Now()}
-				}
-				return work(m)
-			}); err != nil && ctx.Err() == nil {
-				t.Error(err)
-			}
+			c.run(working, m, work)
 		}()
 	}
 	for number := uint64(1); number <= 8; number++ {

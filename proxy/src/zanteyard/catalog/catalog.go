@@ -9,10 +9,12 @@ import (
 	"fmt"
 
 	"zanteyard/keys"
+	"zanteyard/own"
+	"zanteyard/record"
 )
 
 // Query runs one statement that returns rows, with each value as text. No value is NULL.
-type Query func(sql string) ([][]string, error)
+type Query func(text own.Text) ([][]string, error)
 
 // Column is a column of a table. Type is the type by which package keys interprets its values: a domain's base type,
 // keys.Enum for every enumeration.
@@ -22,6 +24,7 @@ type Column struct {
 	Type   uint32
 	// PerValue is how many rows have the same value of the column, as the server estimates; 0 if it doesn't.
 	PerValue float64
+	Meaning
 }
 
 // Table is a relation that a FROM clause can name.
@@ -32,6 +35,7 @@ type Table struct {
 	Root         uint32 // the topmost partitioned table, or the table itself
 	Columns      []Column
 	Key          []Column // of the primary key, in its order
+	Identity     record.Identity
 	// Hidden says why the table's rows can't be identified by hidden columns with xmin and key; "" if they can.
 	Hidden string
 	// RowSecurity says that policies may hide rows from a role: then a missing row may still exist.
@@ -51,6 +55,7 @@ type Table struct {
 type system struct {
 	persistence, replica, method string
 	primary, identity            bool // there is a primary key; and its index is the replica identity
+	deferrable                   bool // the primary key is checked at the end of a transaction
 }
 
 // Partitioned says that rows are in partitions: RETURNING can't return the xmin of what INSERT or UPDATE wrote.
@@ -84,20 +89,26 @@ func (t *Table) Covered(columns map[int16]bool) bool {
 
 // Catalog is a snapshot of one database's definitions.
 type Catalog struct {
-	// Path is the search path by which unqualified names were resolved.
+	// Path is the search path by which unqualified names are resolved, which In sets. A catalog that was just loaded has
+	// none: the connection that loads it has another one than the application's.
 	Path []string
 	// Encoding is the server's encoding. The texts of a replication slot have it.
 	Encoding string
+
+	// Levels says that there is a function which may set the level that transactions begin at.
+	Levels bool
+	// Converts makes plans ask for texts in the server's encoding.
+	Converts bool
 
 	tables    map[uint32]*Table
 	names     map[string]map[string]*Table // by schema and name
 	sole      map[string]*Table            // by name, nil if several schemas have it
 	functions map[string]*functions
 	operators map[string]bool // names of operators whose functions aren't pure
+	elsewhere *elsewhere
 }
 
-// Load reads a database's definitions. The connection of `query` should have the search path that the application's
-// connections have.
+// Load reads a database's definitions.
 func Load(ctx context.Context, query Query) (*Catalog, error) {
 	c := &Catalog{
 		tables:    map[uint32]*Table{},
@@ -107,24 +118,28 @@ func Load(ctx context.Context, query Query) (*Catalog, error) {
 		operators: map[string]bool{},
 	}
 	types := types{}
+	meanings := newMeanings(c, types)
 	for _, part := range []struct {
 		what string
-		sql  string
+		text own.Text
 		take func(row []string) error
 	}{
-		{"the search path", pathSQL, c.takePath},
+		{"the encoding", encodingSQL, c.takeEncoding},
 		{"types", typesSQL, types.take},
 		{"tables", tablesSQL, c.takeTable},
 		{"columns", columnsSQL, func(row []string) error { return c.takeColumn(types, row) }},
-		{"indexes", indexesSQL, c.takeIndex},
+		{"labels", labelsSQL, meanings.takeLabel},
+		{"what columns mean", meaningsSQL, meanings.takeColumn},
+		{"indexes", indexesSQL, c.takeIndex}, // whose columns are copies
 		{"triggers", triggersSQL, c.takeTrigger},
 		{"functions", functionsSQL, c.takeFunction},
 		{"operators", operatorsSQL, c.takeOperator},
+		{"what has names of the server's own", elsewhereSQL, meanings.takeElsewhere},
 	} {
 		if err := ctx.Err(); err != nil {
 			return nil, err
 		}
-		rows, err := query(part.sql)
+		rows, err := query(part.text)
 		if err != nil {
 			return nil, fmt.Errorf("reading %s of the catalog: %w", part.what, err)
 		}
@@ -227,6 +242,8 @@ func (t *Table) reason() string {
 		return "it isn't stored as a heap"
 	case !t.system.primary:
 		return "no primary key"
+	case t.system.deferrable:
+		return Deferrable
 	case t.children > 0:
 		return "other tables inherit from it"
 	case t.Kind == 'r' && (t.system.replica == "n" || t.system.replica == "i" && !t.system.identity):

@@ -14,6 +14,7 @@ import (
 	"zanteyard/catalog"
 	"zanteyard/cluster"
 	"zanteyard/keys"
+	"zanteyard/own"
 )
 
 const schema = `
@@ -96,7 +97,7 @@ func open(t *testing.T, database string) *pgconn.PgConn {
 
 func run(t *testing.T, connection *pgconn.PgConn, sql string) [][]string {
 	t.Helper()
-	rows, err := cluster.Query(context.Background(), connection)(sql)
+	rows, err := cluster.Rows(context.Background(), connection, sql)
 	if err != nil {
 		t.Fatalf("%s: %v", sql, err)
 	}
@@ -107,6 +108,12 @@ func load(t *testing.T, connection *pgconn.PgConn) *catalog.Catalog {
 	t.Helper()
 	c, err := catalog.Load(context.Background(), cluster.Query(context.Background(), connection))
 	if err != nil {
+		t.Fatal(err)
+	}
+	if len(c.Path) != 0 {
+		t.Errorf("it has the search path %v", c.Path)
+	}
+	if c, err = c.In(run(t, connection, catalog.PathSQL)[0][0]); err != nil {
 		t.Fatal(err)
 	}
 	return c
@@ -222,16 +229,16 @@ func TestFunctions(t *testing.T) {
 
 func TestLoadFails(t *testing.T) {
 	lost := errors.New("lost")
-	_, err := catalog.Load(context.Background(), func(string) ([][]string, error) { return nil, lost })
+	_, err := catalog.Load(context.Background(), func(own.Text) ([][]string, error) { return nil, lost })
 	if !errors.Is(err, lost) {
 		t.Errorf("%v", err)
 	}
-	if _, err := catalog.Load(context.Background(), func(string) ([][]string, error) { return [][]string{{"1"}}, nil }); err == nil {
+	if _, err := catalog.Load(context.Background(), func(own.Text) ([][]string, error) { return [][]string{{"1"}}, nil }); err == nil {
 		t.Error("rows that aren't wide enough are taken")
 	}
 	ended, cancel := context.WithCancel(context.Background())
 	cancel()
-	if _, err := catalog.Load(ended, func(string) ([][]string, error) { return nil, nil }); !errors.Is(err, context.Canceled) {
+	if _, err := catalog.Load(ended, func(own.Text) ([][]string, error) { return nil, nil }); !errors.Is(err, context.Canceled) {
 		t.Errorf("%v", err)
 	}
 }

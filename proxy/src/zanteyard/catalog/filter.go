@@ -8,6 +8,10 @@ import (
 // NotAsked is the reason for a table that a Filter excludes.
 const NotAsked = "a table excluded by --tables"
 
+// Deferrable is the reason for a table whose primary key is deferrable: the server's log then has no keys of rows that
+// are deleted or get another key.
+const Deferrable = "its primary key is deferrable"
+
 // Filter says which tables to audit, by patterns of their names. The zero value includes all.
 type Filter struct{ patterns []pattern }
 

@@ -10,6 +10,7 @@ type Function struct {
 	Set       bool // it returns any number of rows
 	Reads     bool // it may read tables
 	Writes    bool // it may write
+	Made      bool // it isn't the server's own, and may do more than compute a value
 	Names     bool // it may change the meaning of names: SET search_path, SET ROLE, temporary tables
 }
 
@@ -24,7 +25,7 @@ type functions struct {
 func (c *Catalog) Function(schema, name string) Function {
 	found, ok := c.functions[name]
 	if !ok || schema == "pg_catalog" && !found.isOwn || schema != "" && schema != "pg_catalog" && !found.isOther {
-		return Function{Reads: true, Writes: true, Names: true, Set: true}
+		return Function{Reads: true, Writes: true, Names: true, Set: true, Made: true}
 	}
 	switch schema {
 	case "pg_catalog":
@@ -37,6 +38,7 @@ func (c *Catalog) Function(schema, name string) Function {
 			Reads:     found.own.Reads || found.other.Reads,
 			Writes:    found.own.Writes || found.other.Writes,
 			Names:     found.own.Names || found.other.Names,
+			Made:      found.other.Made,
 		}
 	}
 	return found.other
@@ -46,9 +48,10 @@ func (c *Catalog) Function(schema, name string) Function {
 func (c *Catalog) PureOperator(name string) bool { return !c.operators[name] }
 
 func (c *Catalog) takeFunction(row []string) error {
-	if err := width(row, 7); err != nil {
+	if err := width(row, 8); err != nil {
 		return err
 	}
+	c.Levels = c.Levels || row[7] == "true"
 	name, own := row[0], row[1] == "pg_catalog"
 	f := Function{Aggregate: row[2] == "true", Window: row[3] == "true", Set: row[4] == "true"}
 	pure := row[5] == "true"
@@ -57,7 +60,7 @@ func (c *Catalog) takeFunction(row []string) error {
 		f.Writes = !pure && !harmless(name) || f.Reads
 		f.Names = name == "set_config"
 	} else {
-		f.Reads, f.Writes, f.Names = !pure, !pure, row[6] == "true"
+		f.Reads, f.Writes, f.Made, f.Names = !pure, !pure, !pure, row[6] == "true"
 	}
 	all, ok := c.functions[name]
 	if !ok {
@@ -74,6 +77,7 @@ func (c *Catalog) takeFunction(row []string) error {
 	all.other.Reads = all.other.Reads || f.Reads
 	all.other.Writes = all.other.Writes || f.Writes
 	all.other.Names = all.other.Names || f.Names
+	all.other.Made = all.other.Made || f.Made
 	all.isOther = true
 	return nil
 }

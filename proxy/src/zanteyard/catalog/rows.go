@@ -1,11 +1,14 @@
 package catalog
 
 import (
+	"crypto/sha256"
+	"encoding/binary"
 	"fmt"
 	"strconv"
 	"strings"
 
 	"zanteyard/keys"
+	"zanteyard/record"
 )
 
 // types resolves domains to their base types.
@@ -68,15 +71,11 @@ func width(row []string, want int) error {
 	return nil
 }
 
-func (c *Catalog) takePath(row []string) error {
-	if err := width(row, 2); err != nil {
+func (c *Catalog) takeEncoding(row []string) error {
+	if err := width(row, 1); err != nil {
 		return err
 	}
-	if row[0] == "encoding" {
-		c.Encoding = row[1]
-		return nil
-	}
-	c.Path = append(c.Path, row[1])
+	c.Encoding = row[0]
 	return nil
 }
 
@@ -143,7 +142,7 @@ func (c *Catalog) takeColumn(known types, row []string) error {
 }
 
 func (c *Catalog) takeIndex(row []string) error {
-	if err := width(row, 6); err != nil {
+	if err := width(row, 8); err != nil {
 		return err
 	}
 	oid, err := number(row, 0)
@@ -174,6 +173,7 @@ func (c *Catalog) takeIndex(row []string) error {
 		return nil
 	}
 	t.system.primary, t.system.identity = true, row[2] == "true"
+	t.Identity, t.system.deferrable = IdentityOf(row[6]), row[7] != "true"
 	for _, at := range columns[:keyColumns] {
 		for _, column := range t.Columns {
 			if column.Number == at {
@@ -185,6 +185,12 @@ func (c *Catalog) takeIndex(row []string) error {
 		return fmt.Errorf("the primary key of %s.%s has unknown columns", t.Schema, t.Name)
 	}
 	return nil
+}
+
+// IdentityOf returns the identity that IdentitySQL's text stands for. It is never 0.
+func IdentityOf(text string) record.Identity {
+	sum := sha256.Sum256([]byte(text))
+	return record.Identity(binary.BigEndian.Uint64(sum[:]) | 1)
 }
 
 func (c *Catalog) takeTrigger(row []string) error {

@@ -126,6 +126,43 @@ func (c *Cluster) start(settings, hba []string) error {
 	return c.launch()
 }
 
+// Standby starts a server that follows this one, with a copy of what it has.
+func (c *Cluster) Standby() (*Cluster, error) {
+	s := &Cluster{bin: c.bin, cred: c.cred}
+	var err error
+	if s.Dir, err = os.MkdirTemp("", "zanteyard-standby"); err != nil {
+		return nil, err
+	}
+	if err := s.follow(c); err != nil {
+		s.Stop()
+		return nil, err
+	}
+	return s, nil
+}
+
+func (c *Cluster) follow(other *Cluster) error {
+	if c.cred != nil {
+		if err := os.Chown(c.Dir, int(c.cred.Uid), int(c.cred.Gid)); err != nil {
+			return err
+		}
+	}
+	if err := c.run("pg_basebackup", "-D", c.data(), "-d", other.DSN("postgres", "postgres"), "-R", "-X", "stream",
+		"-c", "fast", "--no-sync"); err != nil {
+		return err
+	}
+	listener, err := net.Listen("tcp", "127.0.0.1:0")
+	if err != nil {
+		return err
+	}
+	c.Port = listener.Addr().(*net.TCPAddr).Port
+	listener.Close()
+	lines := []string{"port=" + strconv.Itoa(c.Port), "unix_socket_directories='" + c.Dir + "'"}
+	if err := c.append("postgresql.conf", lines); err != nil {
+		return err
+	}
+	return c.launch()
+}
+
 // plugins is the setting that allows wal2json, if the server has that setting: 15.19 and later, and equally late
 // versions of other releases.
 func (c *Cluster) plugins() []string {

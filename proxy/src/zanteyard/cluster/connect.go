@@ -5,6 +5,8 @@ import (
 	"fmt"
 
 	"github.com/jackc/pgconn"
+
+	"zanteyard/own"
 )
 
 // DSN is a connection string for a user and a database, by the server's socket.
@@ -37,6 +39,6 @@ func Rows(ctx context.Context, conn *pgconn.PgConn, sql string) ([][]string, err
 }
 
 // Query returns a function for catalog.Load.
-func Query(ctx context.Context, conn *pgconn.PgConn) func(sql string) ([][]string, error) {
-	return func(sql string) ([][]string, error) { return Rows(ctx, conn, sql) }
+func Query(ctx context.Context, conn *pgconn.PgConn) func(own.Text) ([][]string, error) {
+	return func(text own.Text) ([][]string, error) { return own.Ask(ctx, conn, text) }
 }

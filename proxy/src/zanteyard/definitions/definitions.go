@@ -4,33 +4,48 @@ package definitions
 
 import (
 	"context"
-	"encoding/json"
-	"errors"
 	"fmt"
-	"strings"
+	"sync"
 	"sync/atomic"
 	"time"
 
 	"github.com/jackc/pgconn"
 
 	"zanteyard/catalog"
+	"zanteyard/own"
 	"zanteyard/plan"
 )
 
 // A change is detected by the rows of the tables that contain definitions and rights: how many there are, and which
-// transactions wrote them.
-var markText = "SELECT pg_catalog.concat_ws('|', " + strings.Join([]string{
-	newest("pg_class"), newest("pg_proc"), newest("pg_attribute WHERE attrelid >= 16384"), newest("pg_namespace"),
-	newest("pg_roles"), newest("pg_auth_members"),
-}, ", ") + ")"
+// transactions wrote them. Temporary tables don't count: each connection has its own, and shows which (package session).
+var markText = own.SQL("SELECT pg_catalog.concat_ws('|'" +
+	newest + "pg_catalog.pg_class WHERE relpersistence <> 't')" + newest + "pg_catalog.pg_proc)" +
+	newest + "pg_catalog.pg_attribute WHERE attrelid >= 16384 AND attrelid NOT IN" + temporary +
+	newest + "pg_catalog.pg_namespace WHERE nspname NOT LIKE 'pg\\_%temp\\_%')" +
+	newest + "pg_catalog.pg_auth_members)" + newest + "pg_catalog.pg_enum)" +
+	(newest + "pg_catalog.pg_index WHERE indrelid NOT IN" + temporary + newestMade) +
+	// Settings that begin to count change what transactions begin at.
+	", pg_catalog.pg_conf_load_time()" +
+	// A view, without an xmin: reading pg_authid needs a right.
+	", (SELECT pg_catalog.sum(pg_catalog.hashtext(r::pg_catalog.text)) FROM pg_catalog.pg_roles r))")
 
-func newest(table string) string {
-	if table == "pg_roles" { // a view, without an xmin: reading pg_authid needs a right
-		return "(SELECT pg_catalog.sum(pg_catalog.hashtext(r::pg_catalog.text)) FROM pg_catalog.pg_roles r)"
-	}
-	return "(SELECT pg_catalog.concat_ws(',', pg_catalog.count(*), " +
-		"pg_catalog.sum(xmin::pg_catalog.text::pg_catalog.int8)) FROM pg_catalog." + table + ")"
-}
+const (
+	newest = ", (SELECT pg_catalog.concat_ws(',', pg_catalog.count(*), " +
+		"pg_catalog.sum(xmin::pg_catalog.text::pg_catalog.int8)) FROM "
+	temporary = " (SELECT oid FROM pg_catalog.pg_class WHERE relpersistence = 't'))"
+	// newestMade is about what gives the server's own names another meaning.
+	newestMade = newest + "pg_catalog.pg_operator WHERE oid >= 16384)" + newest + "pg_catalog.pg_cast WHERE oid >= 16384)"
+)
+
+// How often to look, and to load.
+const (
+	leastPause = time.Second // between two loads, however many changes are reported; less if the regular time is less
+	part       = 100         // the regular looks take one in so many of a processor's time
+	compared   = 8           // the shortest of so many looks is what one takes: others have waited
+)
+
+// settings: names come as the server stores them.
+var settings = map[string]string{"client_encoding": "SQL_ASCII"}
 
 // Definitions is safe for use by several goroutines.
 type Definitions struct {
@@ -38,11 +53,22 @@ type Definitions struct {
 	log    func(string)
 	only   catalog.Filter
 	cache  atomic.Pointer[plan.Cache]
+
+	lock   sync.Mutex
+	loaded *catalog.Catalog // without a search path
+	path   string           // the application's search path; "" before the first connection has reported one
 	wake   chan struct{}
 	every  time.Duration
 
-	mark   string // used by Open, then only by Run
-	failed string // the last error that was logged
+	marked func() int64 // the audited server's mark (package own), 0 while there is none; nil: any server
+	shown  int64        // the mark that the connection was last seen to be at; for Run alone
+	mark   string       // used by Open, then only by Run
+	failed string       // the last error that was logged
+
+	took   []time.Duration // by the last looks for a change; for Run alone, as the next two
+	whole  time.Duration   // by the last look, and loading the catalog if it did
+	looked time.Time       // when it ended
+	loads  atomic.Uint64   // counts how often the catalog was loaded
 }
 
 // New makes definitions that aren't loaded yet: Run loads them.
@@ -53,10 +79,32 @@ func New(config *pgconn.Config, every time.Duration, log func(string)) *Definiti
 // Only hides all tables that the filter excludes. Call it before Run.
 func (d *Definitions) Only(filter catalog.Filter) { d.only = filter }
 
+// Follow makes the catalog be read from the server that has this mark. Call it before Run.
+func (d *Definitions) Follow(marked func() int64) { d.marked = marked }
+
+// here returns an error if the connection isn't to the audited server.
+func (d *Definitions) here(ctx context.Context, conn *pgconn.PgConn) error {
+	if d.marked == nil {
+		return nil
+	}
+	mark := d.marked()
+	if mark == 0 || mark == d.shown {
+		return nil
+	}
+	is, err := own.SeesMark(ctx, conn, mark)
+	if err == nil && !is {
+		err = own.ErrElsewhere
+	}
+	if err == nil {
+		d.shown = mark
+	}
+	return err
+}
+
 // Open loads the catalog of the database that the configuration names.
 func Open(ctx context.Context, config *pgconn.Config, every time.Duration, log func(string)) (*Definitions, error) {
 	d := New(config, every, log)
-	conn, err := pgconn.ConnectConfig(ctx, config)
+	conn, err := own.Connect(ctx, config, settings)
 	if err != nil {
 		return nil, fmt.Errorf("connecting to read the catalog: %w", err)
 	}
@@ -67,7 +115,11 @@ func Open(ctx context.Context, config *pgconn.Config, every time.Duration, log f
 // renew loads the catalog if it has changed. A change between reading the mark and the catalog is seen by the next
 // check.
 func (d *Definitions) renew(ctx context.Context, conn *pgconn.PgConn) error {
-	mark, err := one(ctx, conn, markText)
+	began := time.Now()
+	mark, err := own.One(ctx, conn, markText)
+	if d.took = append(d.took, time.Since(began)); len(d.took) > compared {
+		d.took = d.took[1:]
+	}
 	if err != nil || mark == d.mark {
 		return err
 	}
@@ -85,23 +137,46 @@ func (d *Definitions) PlanIn(path, text string) (*plan.Plan, plan.Tokens) {
 	return nil, plan.Tokens{}
 }
 
-// Own says whether a search path is the catalog's own.
+// Encoding returns the server's encoding; "" as long as nothing is loaded.
+func (d *Definitions) Encoding() string {
+	if cache := d.cache.Load(); cache != nil {
+		return cache.Catalog().Encoding
+	}
+	return ""
+}
+
+// guess is the search path by which names are resolved until the first connection has reported its own.
+const guess = `["public"]`
+
+// Own says whether a search path is the catalog's own, which is the first one that is asked for: that of a connection
+// of the application, since the audit's own connections have another one.
 func (d *Definitions) Own(path string) bool {
-	cache := d.cache.Load()
-	var names []string
-	if cache == nil || json.Unmarshal([]byte(path), &names) != nil {
-		return false
-	}
-	own := cache.Catalog().Path
-	if len(names) != len(own) {
-		return false
-	}
-	for i := range names {
-		if names[i] != own[i] {
-			return false
+	d.lock.Lock()
+	defer d.lock.Unlock()
+	if d.path == "" && d.loaded != nil {
+		d.path = path
+		if path != guess {
+			d.use()
 		}
 	}
-	return true
+	return path == d.path
+}
+
+// use makes plans be made by the catalog that was loaded last. Called with lock held.
+func (d *Definitions) use() {
+	path := d.path
+	if path == "" {
+		path = guess
+	}
+	c, err := d.loaded.In(path)
+	if err != nil {
+		c = d.loaded
+	}
+	if cache := d.cache.Load(); cache != nil {
+		cache.Use(c)
+	} else {
+		d.cache.Store(plan.NewCache(c))
+	}
 }
 
 // Generation increases whenever the catalog has been loaded again.
@@ -129,22 +204,67 @@ func (d *Definitions) Run(ctx context.Context, loaded func()) {
 			conn.Close(context.Background())
 		}
 	}()
-	tick := time.NewTicker(d.every)
-	defer tick.Stop()
 	for {
+		began := time.Now()
 		conn = d.look(ctx, conn)
+		d.looked = time.Now()
+		d.whole = d.looked.Sub(began)
 		if d.cache.Load() != nil && loaded != nil {
 			loaded()
 			loaded = nil
 		}
-		select {
-		case <-ctx.Done():
+		if !d.pause(ctx) {
 			return
-		case <-d.wake:
-			// A session is about to change something: the change is visible a little later.
-		case <-tick.C:
 		}
 	}
+}
+
+// pause waits until it is time for the next look: after the regular time, or sooner if a change was reported. A server
+// with very many tables takes long to look, so it is asked less often. It returns false once ctx has ended.
+func (d *Definitions) pause(ctx context.Context) bool {
+	regular, urgent := pauses(d.every, shortest(d.took), d.whole)
+	timer := time.NewTimer(regular)
+	defer timer.Stop()
+	select {
+	case <-ctx.Done():
+		return false
+	case <-timer.C:
+		return true
+	case <-d.wake: // a session is about to change something: the change is visible a little later
+	}
+	soon := time.NewTimer(time.Until(d.looked.Add(urgent)))
+	defer soon.Stop()
+	select {
+	case <-ctx.Done():
+		return false
+	case <-soon.C:
+		return true
+	}
+}
+
+func shortest(all []time.Duration) (least time.Duration) {
+	for i, one := range all {
+		if i == 0 || one < least {
+			least = one
+		}
+	}
+	return least
+}
+
+// pauses returns the time from one look to the next one: if nothing was reported, and if a change was. Looking for a
+// change takes so long, and the last look with all that it loaded.
+func pauses(every, took, whole time.Duration) (regular, urgent time.Duration) {
+	regular, urgent = every, leastPause
+	if urgent > every {
+		urgent = every
+	}
+	if by := part * took; by > regular {
+		regular = by
+	}
+	if whole > urgent {
+		urgent = whole
+	}
+	return regular, urgent
 }
 
 // look loads the catalog if it has changed. It returns the connection for the next check, nil if there is none.
@@ -153,7 +273,11 @@ func (d *Definitions) look(ctx context.Context, conn *pgconn.PgConn) *pgconn.PgC
 	defer cancel()
 	var err error
 	if conn == nil || conn.IsClosed() {
-		conn, err = pgconn.ConnectConfig(limited, d.config)
+		conn, err = own.Connect(limited, d.config, settings)
+		d.shown = 0
+	}
+	if err == nil {
+		err = d.here(limited, conn)
 	}
 	if err == nil {
 		err = d.renew(limited, conn)
@@ -173,47 +297,15 @@ func (d *Definitions) look(ctx context.Context, conn *pgconn.PgConn) *pgconn.PgC
 }
 
 func (d *Definitions) load(ctx context.Context, conn *pgconn.PgConn) error {
-	c, err := catalog.Load(ctx, func(sql string) ([][]string, error) { return query(ctx, conn, sql) })
+	c, err := catalog.Load(ctx, func(text own.Text) ([][]string, error) { return own.Ask(ctx, conn, text) })
 	if err != nil {
 		return err
 	}
 	c.Only(d.only)
-	if cache := d.cache.Load(); cache != nil {
-		cache.Use(c)
-	} else {
-		d.cache.Store(plan.NewCache(c))
-	}
+	d.loads.Add(1)
+	d.lock.Lock()
+	defer d.lock.Unlock()
+	d.loaded = c
+	d.use()
 	return nil
-}
-
-func one(ctx context.Context, conn *pgconn.PgConn, sql string) (string, error) {
-	rows, err := query(ctx, conn, sql)
-	if err != nil {
-		return "", err
-	}
-	if len(rows) != 1 || len(rows[0]) != 1 {
-		return "", errors.New("not one value was returned")
-	}
-	return rows[0][0], nil
-}
-
-func query(ctx context.Context, conn *pgconn.PgConn, sql string) ([][]string, error) {
-	results, err := conn.Exec(ctx, sql).ReadAll()
-	if err != nil {
-		return nil, err
-	}
-	var all [][]string
-	for _, result := range results {
-		if result.Err != nil {
-			return nil, result.Err
-		}
-		for _, row := range result.Rows {
-			texts := make([]string, len(row))
-			for i, v := range row {
-				texts[i] = string(v)
-			}
-			all = append(all, texts)
-		}
-	}
-	return all, nil
 }

@@ -3,6 +3,8 @@ package feed
 import (
 	"encoding/json"
 	"fmt"
+
+	"zanteyard/guard"
 )
 
 type command struct {
@@ -18,6 +20,7 @@ func obey(line []byte, to Commands) error {
 	if err := json.Unmarshal(line, &it); err != nil {
 		return fmt.Errorf("can't read a command: %w", err)
 	}
+	guard.At("the command " + it.Command)
 	switch it.Command {
 	case "cut":
 		to.Cut(it.Marks)

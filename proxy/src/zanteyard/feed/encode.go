@@ -30,6 +30,8 @@ func encode(it join.Event) ([]byte, error) {
 		return object("restarted", it.At, nil)
 	case join.Stopped:
 		return object("stopped", it.At, nil)
+	case join.Drained:
+		return object("drained", it.At, nil)
 	case join.Coverage:
 		return object("coverage", it.At, coverage(it))
 	case join.Transactions:
@@ -84,8 +86,8 @@ func coverage(it join.Coverage) map[string]any {
 		}
 	}
 	to := map[string]any{
-		"committed": it.Committed, "offered": it.Offered, "fences": it.Fences, "aborted": it.Aborted, "empty": it.Empty,
-		"folded": it.Folded,
+		"committed": it.Committed, "offered": it.Offered, "fences": it.Fences, "aborted": it.Aborted, "bare": it.Bare,
+		"partly": it.Partly, "folded": it.Folded,
 		"reads": map[string]any{"seen": it.Reads, "offered": it.ReadsOffered, "own": it.ReadsOwn, "before": it.ReadsBefore,
 			"folded": it.ReadsFolded, "left_out": it.ReadsLeft},
 		"writes": map[string]any{"seen": it.Writes, "offered": it.WritesOffered, "left_out": it.WritesLeft},
@@ -93,13 +95,43 @@ func coverage(it join.Coverage) map[string]any {
 		"connections": map[string]any{
 			"now": it.Connections, "audited": it.Audited, "waiting": it.Waiting, "ever": it.ConnectionsEver,
 		},
-		"sessions": map[string]any{"open": it.SessionsOpen, "closed": it.SessionsClosed},
-		"lag":      map[string]any{"bytes": it.LagBytes, "seconds": it.Lag.Seconds()},
-		"pending":  it.Pending, "remaining": it.Remaining, "rounds": it.Rounds, "keys": it.Rows,
+		"lag":     map[string]any{"bytes": it.LagBytes, "seconds": it.Lag.Seconds()},
+		"pending": it.Pending, "remaining": it.Remaining, "rounds": it.Rounds, "keys": it.Rows,
 		"statements_dropped": it.StatementsDropped,
+		"totals":             totals(&it.Totals),
 	}
 	if it.Remotes != nil {
 		to["remote"] = remotes(it.Remotes)
+	}
+	return to
+}
+
+func totals(it *join.Totals) map[string]any {
+	selects, read, transactions := total(&it.Selects), total(&it.RowsRead), total(&it.Transactions)
+	transactions["only_read"] = it.OnlyRead
+	selects["by_condition"], selects["found_no_row"] = it.Conditions, it.Empty
+	read["own"], read["from_before"], read["of_unchecked"] = it.Own, it.Before, it.OfUnchecked
+	return map[string]any{
+		"transactions": transactions, "selects": selects, "writes": total(&it.Writes),
+		"rows_read": read, "rows_written": total(&it.RowsWritten), "other_statements": it.Others,
+		"without_the_proxy": map[string]any{"transactions": it.Outside, "rows_written": it.OutsideRows},
+	}
+}
+
+func total(it *join.Total) map[string]any {
+	return map[string]any{
+		"all": it.All, "checked": it.Checked, "in_part": reasons(it.InPart), "not_checked": reasons(it.NotChecked),
+		"waiting": it.Waiting(), "rolled_back": it.RolledBack,
+	}
+}
+
+// reasons leaves out those that count nothing.
+func reasons(its map[string]uint64) map[string]uint64 {
+	to := map[string]uint64{}
+	for reason, n := range its {
+		if n > 0 {
+			to[reason] = n
+		}
 	}
 	return to
 }
@@ -147,9 +179,9 @@ func transaction(it *join.Description) map[string]any {
 		writes = []uint64{}
 	}
 	for field, value := range map[string]any{
-		"fence": it.Its.Fence, "connection": it.From.Number, "application_name": it.From.ApplicationName,
+		"fence": it.Fence, "connection": it.From.Number, "application_name": it.From.ApplicationName,
 		"address": it.From.Address, "user": it.From.User, "database": it.From.Database, "proxy": it.From.Proxy, "level": levels[it.Its.Level],
-		"began": seconds(it.Its.Began), "ended": seconds(it.Its.Ended), "xid": uint32(it.Its.Number),
+		"rolled_back": it.Its.OnlyRead, "began": seconds(it.Its.Began), "ended": seconds(it.Its.Ended), "xid": uint32(it.Its.Number),
 		"statements": statements, "statements_dropped": it.Dropped, "reads": reads, "read_by": by,
 		"writes": writes, "keys": rows,
 	} {
@@ -160,6 +192,9 @@ func transaction(it *join.Description) map[string]any {
 
 func statement(it record.Statement) map[string]any {
 	to := map[string]any{"text": it.Text, "parameters": it.Parameters, "at": seconds(it.At)}
+	if it.More > 0 {
+		to["more_parameters"] = it.More
+	}
 	if len(it.Unseen) > 0 {
 		reasons := make([]string, len(it.Unseen))
 		for i, one := range it.Unseen {

@@ -8,6 +8,7 @@ import (
 	"io"
 	"sync"
 
+	"zanteyard/guard"
 	"zanteyard/join"
 )
 
@@ -72,6 +73,7 @@ func (w *Writer) signal() {
 func (w *Writer) Run() error {
 	var spare []byte
 	for range w.wake {
+		guard.At("a piece of the feed")
 		w.lock.Lock()
 		text, closed := w.held, w.closed
 		w.held = spare[:0]
@@ -89,6 +91,20 @@ func (w *Writer) Run() error {
 		}
 	}
 	return nil
+}
+
+// Abandon writes a last event, after Run has panicked, and drops everything else.
+func (w *Writer) Abandon(last join.Event) {
+	w.lock.Lock()
+	w.closed, w.held = true, nil
+	w.lock.Unlock()
+	guard.Run("the feed's end", func() error {
+		text, err := encode(last)
+		if err == nil {
+			_, err = w.to.Write(append(append([]byte{'\n'}, text...), '\n')) // Run may have written half a line
+		}
+		return err
+	})
 }
 
 // Close makes Run end when everything is written. Anything later is dropped.

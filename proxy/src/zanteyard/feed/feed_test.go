@@ -126,7 +126,7 @@ func TestDescription(t *testing.T) {
 	}
 	want := `map[address:10.0.0.7:51234 application_name:shop began:0 connection:12 database: ended:0 fence:false ` +
 		`keys:[map[columns:[id kind] key:5 row:5, checking table:public.accounts]] known:true level:serializable number:17 proxy: read_by:[1 <nil>] reads:[[5 init] [7 2 11]] ` +
-		`session:3 statements:[map[at:0 comment:map[route:x] file:a.py line:41 parameters:<nil> ` +
+		`rolled_back:false session:3 statements:[map[at:0 comment:map[route:x] file:a.py line:41 parameters:<nil> ` +
 		`text:SELECT 1 /*file='a.py',line='41',route='x'*/ unseen:[an aggregate]] map[at:0 parameters:[5] text:SELECT $1]] ` +
 		`statements_dropped:0 user: writes:[5] xid:734]`
 	if len(got.Transactions) != 1 || fmt.Sprint(got.Transactions[0]) != want {

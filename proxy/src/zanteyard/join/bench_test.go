@@ -62,7 +62,7 @@ func (l *load) transaction() {
 	l.core.tell(it)
 	if l.next%50 == 0 {
 		if batch, wanted := l.core.wantsPlace(); wanted {
-			l.core.placed(batch, l.place, l.now)
+			l.core.placed(batch, Place{At: l.place}, l.now)
 		}
 		l.core.step(l.now)
 		l.core.flush()

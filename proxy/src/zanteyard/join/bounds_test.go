@@ -32,12 +32,11 @@ func TestMomentsAreBounded(t *testing.T) {
 	}
 }
 
-// A row is queued once for forgetting, however often it is written; the fences' row isn't.
+// A row is queued once for forgetting, however often it is written.
 func TestRowsWaitOnceToBeForgotten(t *testing.T) {
 	b := newBench(t, Options{Sessions: 1, Rows: 2})
 	b.commit(1001, "a")
 	b.commit(1002, "a", "b")
-	b.commitFence(1003)
 	b.commit(1004, "b", "a")
 	if n := b.core.rows.written.len(); n != 2 {
 		t.Errorf("%d wait", n)

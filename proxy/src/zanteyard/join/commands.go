@@ -30,8 +30,12 @@ func (j *Joiner) Stop() { j.command(func() { j.wanted, j.stopping = true, true }
 
 // Restart begins a new audit, which knows nothing of the one before.
 func (j *Joiner) Restart() {
+	j.restarts.Store(true)
 	j.command(func() { j.again = true })
 }
+
+// WantsRestart reports whether Restart was called, and the audit ended before it began anew.
+func (j *Joiner) WantsRestart() bool { return j.restarts.Load() }
 
 // Warn reports a warning to the people who run the audit.
 func (j *Joiner) Warn(text string) { j.command(func() { j.warn(text) }) }

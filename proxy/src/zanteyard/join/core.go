@@ -19,39 +19,44 @@ type core struct {
 	tables      Tables
 	out         func(line []byte) // takes a line for the auditor, without its newline; it copies what it keeps
 	began, now  time.Time
+	slotted     time.Time // what was committed before this may be missing in the slot
 	connections map[uint64]*connection
 	queue       []*connection // those without a session
 	sessions    []*session
-	database    string // the slot's; empty if any will do
-	held        []*entry
-	joining     []*connection // those that got a closed session and need a fence
+	database    string   // the slot's; empty if any will do
+	held        []*entry // whose outcome isn't known yet
 	moments     moments
-	opened      time.Time // when the last fence ended that is followed by a transaction of its moment's own time
-	closing     time.Time // when the first fence began that comes after one; since the last moment
-	entered     int       // connections since the last meeting began
-	reserve     int       // how many sessions without a connection stay open at this meeting
+	ended       time.Time // when the last one of the named transactions had ended
+	last        name      // the last fence
 
-	rows     *rows
-	writers  map[uint32]*writer // those that only the slot or only a session has reported
-	late     []*writer          // commits in the slot's order that may still turn out to be somebody else's
-	expected []expected
-	commits  uint64    // how many the slot has reported: the place of the last one
-	fenced   uint64    // the place of the last fence that is gone
-	fences   []*writer // offered fences that may remain
-	used     uint64    // count of transactions in lines
-	inspects bool      // subtransactions can be asked for
-	unsub    []*writer // commits whose subtransactions are still to be asked for
-	texts    int       // bytes of statements that are kept
-	base     uint32    // all transactions with lower numbers were over when the audit began
-	newest   uint64    // how far the newest number that the slot has reported is past the base
-	batch    uint64    // of what is reported now
-	batched  bool      // something was reported in it
-	asked    []batchAt // batches whose place in the log is known, and that the slot hasn't passed
-	passed   uint64    // the slot has passed this batch
-	progress uint64
-	since    int       // number of transactions named since the last meeting
-	oldest   time.Time // when the first of them was named
-	counts   counts
+	rows       *rows
+	writers    map[uint32]*writer // those that only the slot or only a session has reported
+	late       []*writer          // commits in the slot's order that may still turn out to be somebody else's
+	others     claims             // those that did
+	owed       map[uint32]string  // why writes of folded transactions that the slot hasn't reported yet are left out, by number
+	unnumbered []unnumbered
+	expected   []expected
+	commits    uint64    // how many the slot has reported: the place of the last one
+	fenced     uint64    // the place of the last fence that is gone
+	fences     []fence   // those that may remain
+	used       uint64    // count of transactions in lines
+	inspects   bool      // subtransactions can be asked for
+	unsub      []*writer // commits whose subtransactions are still to be asked for
+	texts      int       // bytes of statements that are kept
+	base       uint32    // all transactions with lower numbers were over when the audit began
+	newest     uint64    // how far the newest number that the slot has reported is past the base
+	batch      uint64    // of what is reported now
+	batched    bool      // something was reported in it
+	asked      []batchAt // batches whose place in the log is known, and that the slot hasn't passed
+	passed     uint64    // the slot has passed this batch
+	passes     []passes  // when it did, by commits
+	deduced    uint64    // what was reported up to this batch has told what it passed over
+	shows      *snapshot // the latest one
+	progress   uint64
+	since      int       // number of transactions named since the last meeting
+	oldest     time.Time // when the first of them was named
+	counts     counts
+	questions  *conditions
 }
 
 type batchAt struct {
@@ -69,8 +74,10 @@ func newCore(opt Options, tables Tables, base uint32, out func([]byte), now time
 		connections: map[uint64]*connection{},
 		rows:        newRows(opt.Rows),
 		writers:     map[uint32]*writer{},
+		last:        initial,
 		batch:       1,
 		counts:      newCounts(),
+		questions:   newConditions(opt.Conditions),
 	}
 	for i := 0; i < opt.Sessions; i++ {
 		c.sessions = append(c.sessions, &session{index: i, fenced: true})
@@ -115,45 +122,66 @@ func (c *core) commit(it record.Commit) {
 	}
 	delete(c.writers, it.Number)
 	if w.fate == folded {
+		c.counts.leaveWrites(c.owed[it.Number], uint64(len(w.writes())))
+		delete(c.owed, it.Number)
 		w.forgetWrites()
 	}
 }
 
 func (c *core) addVersions(w *writer, it record.Commit) {
-	if it.Fence {
-		w.fence = true
-		v := &version{writer: w, left: w.named && !w.fences}
-		c.rows.add(c.rows.fence, v)
-		if !v.left {
-			w.addWrite(write{c.rows.fence, v})
-		}
-		return // a fence does nothing else; if it does, that is left out
-	}
 	for _, relation := range it.Emptied {
 		c.rows.emptied(c.tables.Root(relation), w)
 	}
+	if it.Dropped > 0 {
+		c.rows.lose(w.seen) // some of them may have been inserted or deleted
+		c.counts.wrote(it.Dropped)
+		c.leaveOut(w, beyondKept, it.Dropped)
+	}
+	c.counts.wrote(it.Keyless)
+	c.leaveOut(w, keyless, it.Keyless)
+	w.lacks = it.Dropped > 0 || it.Keyless > 0
+	gaps := c.gaps(it)
+	var news []fresh
 	for _, one := range it.Writes {
-		r := c.rows.get(rowID{c.tables.Root(one.Relation), one.Key})
-		if last := r.last; last != nil && last.writer == w && !last.left {
-			last.deleted = one.Deleted // keys of two partitions have become one row's
+		id := rowID{c.tables.Root(one.Relation), one.Key}
+		if r := c.rows.by[id]; r != nil && r.last != nil && r.last.writer == w && !r.last.left {
+			r.last.deleted = one.Deleted // keys of two partitions have become one row's
+			c.questions.letGo(r.last)
 			continue
 		}
-		if c.opt.Snapshot && one.Inserted && r.last != nil {
-			r = c.rows.renew(r)
-		}
-		v := &version{writer: w, deleted: one.Deleted, left: len(w.writes()) >= mostOfEach}
+		c.counts.wrote(1)
+		r := c.rows.write(id, one.Inserted, w)
+		v := &version{writer: w, deleted: one.Deleted, left: len(w.writes()) >= mostOfEach, inserted: one.Inserted}
 		c.rows.add(r, v)
+		if !gaps {
+			c.questions.keep(v, one.New, one.Bytes)
+		}
+		news = append(news, fresh{r, v, one.Old})
 		if !v.left {
 			w.addWrite(write{r, v})
 		} else {
-			c.counts.leftWrites["more than 256 writes of one transaction"]++
+			c.leaveOut(w, tooManyWrites, 1)
+			w.lacks = true
 		}
 	}
-	c.counts.writes += uint64(len(it.Writes))
+	c.changes(news)
+}
+
+// leaveOut leaves out rows that a transaction wrote.
+func (c *core) leaveOut(w *writer, reason string, n uint64) {
+	if n == 0 {
+		return
+	}
+	c.counts.leaveWrites(reason, n)
+	if left := w.leftOut(); len(left) > 0 && left[len(left)-1].reason == reason {
+		left[len(left)-1].rows += n
+		return
+	}
+	w.needBeside().left = append(w.leftOut(), leftRows{reason, n})
 }
 
 // fold leaves out the writer's versions.
-func (c *core) fold(w *writer, reason string) {
+func (c *core) fold(w *writer) {
 	w.fate = folded
 	w.forgetWrites()
 	if w.place != 0 {
@@ -167,7 +195,7 @@ func (c *core) advance(place uint64) {
 		c.progress = place
 	}
 	for len(c.asked) > 0 && reached(c.progress, c.asked[0].place) {
-		c.passed = c.asked[0].batch
+		c.passTo(c.asked[0].batch)
 		c.asked = c.asked[1:]
 	}
 }
@@ -191,8 +219,12 @@ func (c *core) wantsPlace() (batch uint64, wanted bool) {
 }
 
 // placed records where the log stood when it was asked for a batch.
-func (c *core) placed(batch, place uint64, asked time.Time) {
-	c.asked = append(c.asked, batchAt{batch, place, asked})
+func (c *core) placed(batch uint64, place Place, asked time.Time) {
+	if its, ok := snapshotOf(place.Shows); ok {
+		c.shows = &its
+		c.show(its)
+	}
+	c.asked = append(c.asked, batchAt{batch, place.At, asked})
 	c.advance(c.progress)
 }
 
@@ -209,6 +241,7 @@ func (c *core) step(now time.Time) {
 	c.now = now
 	c.foldLate()
 	c.giveUpExpected()
+	c.deduce()
 	for moved := true; moved; {
 		moved = c.decideHeld()
 		for _, s := range c.sessions {
@@ -219,18 +252,14 @@ func (c *core) step(now time.Time) {
 
 // foldLate counts commits as somebody else's if no session has reported them for a while.
 func (c *core) foldLate() {
+	c.passUnnumbered()
 	for len(c.late) > 0 {
 		w := c.late[0]
 		if w.fate == undecided && !w.named {
 			if c.now.Sub(c.began)-w.seen < c.opt.Late {
 				return
 			}
-			reason := byOthers
-			if w.bare {
-				reason = withoutRows
-			}
-			c.counts.fold(reason)
-			c.fold(w, reason)
+			c.foldOther(w)
 		}
 		c.late[0] = nil
 		c.late = c.late[1:]
@@ -248,6 +277,7 @@ func (c *core) giveUpExpected() {
 	for len(c.expected) > 0 && c.expected[0].batch <= c.passed {
 		if w := c.expected[0].writer; w.place == 0 && c.writers[w.number] == w {
 			delete(c.writers, w.number)
+			delete(c.owed, w.number)
 		}
 		c.expected[0].writer = nil
 		c.expected = c.expected[1:]
@@ -261,14 +291,18 @@ func (c *core) forgetTable(relation record.Relation) {
 			delete(c.rows.by, id)
 		}
 	}
+	c.rows.lose(c.now.Sub(c.began))
+	c.questions.forgetTable(c.tables.Root(relation), c.commits)
 }
 
 // forget drops versions that were overwritten long ago, which nobody is expected to read any more.
 func (c *core) forget() {
 	before := c.now.Sub(c.began) - c.opt.Stale
-	c.rows.trim(func(v *version) bool {
+	old := func(v *version) bool {
 		return v.writer.fate != undecided && (v.writer.place <= c.fenced || v.writer.seen < before)
-	})
+	}
+	c.rows.trim(old)
+	c.forgetQuestions(old)
 	least := c.used
 	for _, s := range c.sessions {
 		if len(s.kept) > 0 && s.kept[0].used < least {

@@ -42,7 +42,7 @@ func TestStories(t *testing.T) {
 			b.tell(1, 0, record.Transaction{Number: 1001, Reads: []record.Read{read("b", 5), read("a", 1001)}})
 			b.tell(2, 0, record.Transaction{Reads: []record.Read{read("a", 1001)}})
 			b.settle()
-		}, []string{`["offer",0,0,[[[[1,"init"]],[]]]]`, `["offer",1,0,[[[[2,"init"]],[]]]]`}, byOthers},
+		}, []string{`["offer",0,0,[[[[1,"init"]],[]]]]`, `["offer",1,0,[[[[2,"init"]],[]]]]`}, tooLate},
 		{"a reader is told before its writer, and the slot tells both later", func(b *bench) {
 			b.connect(1, 2)
 			b.tell(2, 0, record.Transaction{Reads: []record.Read{read("a", 1001)}})
@@ -93,12 +93,12 @@ func TestStories(t *testing.T) {
 		{"rows that weren't there, by the snapshot", func(b *bench) {
 			b.connect(1, 2)
 			b.commit(1001, "-a", "b")
-			b.commit(1003, "a")
+			b.commit(1003, "+a")
 			b.tell(1, 0, record.Transaction{Number: 1001})
 			b.tell(2, 0, record.Transaction{Level: record.Serializable, Snapshot: "1001:1004:1003",
 				Absent: []record.Absence{absent("a"), absent("b"), absent("c")}})
 			b.settle()
-		}, []string{`["offer",0,0,[[[[1,"init"],[2,"init"]],[1,2]]]]`, `["offer",1,0,[[[[1,0,0],[3,"init"]],[]]]]`}, absentUnknown},
+		}, []string{`["offer",0,0,[[[[1,"init"],[2,"init"]],[1,2]]]]`, `["offer",1,0,[[[[1,0,0],[3,"init"],[4,"init"]],[]]]]`}, absentUnknown},
 		{"absent rows at read committed are left out", func(b *bench) {
 			b.connect(1)
 			b.tell(1, 0, record.Transaction{Level: record.ReadCommitted, Snapshot: "1001:1004:", Absent: []record.Absence{absent("a")}})
@@ -131,7 +131,7 @@ func TestStories(t *testing.T) {
 			b.commit(1001, "a")
 			b.tell(1, 0, record.Transaction{MayHaveWritten: true, Reads: []record.Read{read("a", 1001), read("b", 3)}})
 			b.settle()
-		}, []string{`["offer",0,0,[[[[1,"init"],[2,"init"]],[]]]]`}, byOthers},
+		}, []string{`["offer",0,0,[[[[1,"init"],[2,"init"]],[]]]]`}, noNumber},
 		{"what isn't in the slot wrote nothing", func(b *bench) {
 			b.connect(1)
 			b.tell(1, 0, record.Transaction{Number: 1001, Reads: []record.Read{read("a", 3)}})
@@ -147,10 +147,10 @@ func TestStories(t *testing.T) {
 			b.tell(1, 0, record.Transaction{Number: 1001})
 			b.tell(1, 1, record.Transaction{Number: 1003, Reads: []record.Read{read("a", 1001)}})
 			b.settle()
-			if n := b.core.counts.folded; n[withoutRows] != 1 || n[byOthers] != 0 {
-				b.t.Errorf("counted are %v", n)
+			if n := b.core.counts; n.bare != 1 || len(n.folded) != 0 {
+				b.t.Errorf("counted are %d and %v", n.bare, n.folded)
 			}
-		}, []string{`["offer",0,0,[[[[1,"init"]],[1]],[[[1,0,0]],[]]]]`}, withoutRows},
+		}, []string{`["offer",0,0,[[[[1,"init"]],[1]],[[[1,0,0]],[]]]]`}, ""},
 		{"a partition's row is its root's", func(b *bench) {
 			b.connect(1)
 			b.core.commit(record.Commit{Number: 1001, LSN: 200, Writes: []record.Write{{Relation: 10, Key: "a"}}})
@@ -166,17 +166,7 @@ func TestStories(t *testing.T) {
 			b.core.commit(record.Commit{Number: 1002, LSN: b.place, Emptied: []record.Relation{1}})
 			b.tell(1, 1, record.Transaction{Level: record.Serializable, Snapshot: "1003:1003:", Absent: []record.Absence{absent("a")}})
 			b.settle()
-		}, []string{`["offer",0,0,[[[[1,"init"]],[1]],[[[1,0,0]],[]]]]`}, byOthers},
-		{"an application that writes the fences' row does it as somebody else", func(b *bench) {
-			b.connect(1)
-			b.commitFence(1001)
-			b.tell(1, 0, record.Transaction{Number: 1001, Reads: []record.Read{read("a", 3)}})
-			b.tell(1, 1, record.Transaction{Number: 1002, Reads: []record.Read{read("a", 3)}})
-			b.commitFence(1002)
-			b.tell(1, 2, record.Transaction{Number: 1003, Fence: true})
-			b.commitFence(1003)
-			b.settle()
-		}, []string{`["offer",0,0,[[[[1,"init"]],[]],[[[1,"init"]],[]],[[[0,"init"]],[0]]]]`}, byOthers},
+		}, []string{`["offer",0,0,[[[[1,"init"]],[1]],[[[1,0,0],[2,"init"]],[]]]]`}, byOthers},
 	} {
 		t.Run(one.name, func(t *testing.T) {
 			b := newBench(t, Options{Late: time.Second})

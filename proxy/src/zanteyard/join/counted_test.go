@@ -79,7 +79,7 @@ func TestReadsOfVersionsThatArentOffered(t *testing.T) {
 // TestFencesAreCountedApart: a fence is offered, but neither its read nor its write counts as the application's.
 func TestFencesAreCountedApart(t *testing.T) {
 	c := newBench(t, Options{Sessions: 2}).core
-	c.counts.put(&entry{its: record.Transaction{Fence: true}}, &resolution{})
+	c.counts.put(&entry{fence: true}, &resolution{})
 	c.counts.put(&entry{its: record.Transaction{Reads: []record.Read{read("a", 5)}}}, &resolution{})
 	if n := c.counts; n.offered != 2 || n.fences != 1 || n.readsOffered != 1 {
 		t.Errorf("offered are %d, of them fences %d, with reads %d", n.offered, n.fences, n.readsOffered)
@@ -94,7 +94,7 @@ func TestWhatIsFoldedTakesNoRoom(t *testing.T) {
 	if w == nil || w.place == 0 {
 		t.Fatalf("the writer is %v", w)
 	}
-	b.core.fold(w, byOthers)
+	b.core.fold(w)
 	if its := b.core.writers[1001]; its != nil || w.fate != folded || len(w.writes()) != 0 {
 		t.Errorf("it is still there: %v", its)
 	}
@@ -104,9 +104,9 @@ func TestWhatIsFoldedTakesNoRoom(t *testing.T) {
 func TestFencesDontAskForMeetings(t *testing.T) {
 	b := newBench(t, Options{Sessions: 2})
 	b.connect(1)
-	b.tell(1, 0, record.Transaction{Fence: true, Number: 1001})
+	b.core.meet(b.now)
 	if b.core.since != 0 {
-		t.Errorf("after a fence it is %d", b.core.since)
+		t.Errorf("after fences it is %d", b.core.since)
 	}
 	b.tell(1, 1, record.Transaction{Reads: []record.Read{read("a", 5)}})
 	if b.core.since != 1 {

@@ -18,14 +18,12 @@ func (w *world) tellFar(it record.Transaction) {
 	}
 	it.Began, it.Ended = it.Began.Add(wrong), it.Ended.Add(wrong)
 	w.later2(func() {
-		if !w.trusted {
+		if w.fault != trusting {
 			it.After, it.Known = began, w.now
 		}
 		before := w.named()
 		w.core.tell(it)
-		if !it.Fence {
-			w.far += w.named() - before
-		}
+		w.far += w.named() - before
 	})
 }
 
@@ -42,14 +40,14 @@ func (w *world) named() uint64 {
 func TestElsewhereMakesUpNothing(t *testing.T) {
 	var offered, fences, handed, commits, far uint64
 	for seed := int64(0); seed < int64(*worlds); seed++ {
-		w := newWorld(t, seed, false)
+		w := newWorld(t, seed, "")
 		w.elsewhere = true
 		w.live1(12)
 		if path := w.model.cycle(false); path != nil {
 			t.Fatalf("seed %d: what was committed has an order, and what was offered hasn't:\n%s", seed, path)
 		}
 		n := w.core.counts
-		offered, fences, handed, commits = offered+n.offered, fences+n.fences, handed+n.handed, commits+uint64(w.commits)
+		offered, fences, handed, commits = offered+n.offered, fences+n.fences, handed+n.handed, commits+uint64(w.ids)
 		far += w.far
 	}
 	t.Logf("of %d transactions %d were offered, %d of them from elsewhere; handed on %d times", commits, offered-fences, far, handed)
@@ -61,8 +59,8 @@ func TestElsewhereMakesUpNothing(t *testing.T) {
 // If the other machine's clock is trusted, the test finds that to be wrong.
 func TestAnotherClock(t *testing.T) {
 	for seed := int64(0); seed < 20*int64(*worlds); seed++ {
-		w := newWorld(t, seed, false)
-		w.elsewhere, w.trusted = true, true
+		w := newWorld(t, seed, trusting)
+		w.elsewhere = true
 		w.live1(12)
 		if path := w.model.cycle(false); path != nil {
 			t.Logf("seed %d: %d transactions make a cycle", seed, len(path))

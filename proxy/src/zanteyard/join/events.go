@@ -20,7 +20,7 @@ type Started struct {
 	Warnings         []string
 }
 
-// Meeting reports that the sessions have met.
+// Meeting reports a quiet moment, for which clients were held that long, and how many fences were written for it.
 type Meeting struct {
 	At     time.Time
 	Fences int
@@ -46,11 +46,16 @@ type Restarted struct{ At time.Time }
 // Stopped reports that the last round was written.
 type Stopped struct{ At time.Time }
 
+// Drained reports that the proxy has no connection left, accepts none, and waits for the parent alone.
+type Drained struct{ At time.Time }
+
 // Coverage reports how much of what happened was offered, from the beginning of the audit.
 type Coverage struct {
 	At                                        time.Time
 	Committed, Offered, Fences                uint64
-	Aborted, Empty                            uint64
+	Aborted                                   uint64
+	Bare                                      uint64            // commits without a row that no client made
+	Partly                                    map[string]uint64 // of those offered: why they aren't checked in full
 	Folded                                    map[string]uint64
 	Reads, ReadsOffered, ReadsOwn             uint64
 	ReadsBefore                               uint64 // of the reads that are offered: of versions from before the audit
@@ -58,15 +63,17 @@ type Coverage struct {
 	ReadsLeft                                 map[string]uint64
 	Writes, WritesOffered                     uint64
 	WritesLeft                                map[string]uint64
+	Asks, AsksFollowed, Passed                uint64 // conditions that were asked by, and rows that they passed over
+	AsksLeft                                  map[string]uint64
 	Unseen                                    []Unseen
 	Connections, Audited, Waiting             int
 	ConnectionsEver                           uint64
-	SessionsOpen, SessionsClosed              int
 	LagBytes                                  uint64
 	Lag                                       time.Duration
 	Pending, Remaining, Rows                  int
 	Rounds, StatementsDropped, Lost, SubsLost uint64
 	Remotes                                   *Remotes // nil if no other proxies are expected
+	Totals                                    Totals
 }
 
 // Remotes reports the state of the proxies that feed the audit from other machines.
@@ -96,6 +103,7 @@ type Transactions struct {
 type Description struct {
 	Session, Number uint64
 	Known           bool
+	Fence           bool // nobody ran it
 	Its             record.Transaction
 	From            record.Connection
 	Reads           []KeyRead
@@ -117,6 +125,8 @@ type Row struct {
 	Key        uint64
 	Table, Row string
 	Columns    []string // the names of the key's columns, none if the table is gone
+	// Condition: the key is of a register, and says whether this holds of the row. Row is "" if no row has it yet.
+	Condition string
 }
 
 func (Started) event()      {}
@@ -125,6 +135,7 @@ func (Warning) event()      {}
 func (Ended) event()        {}
 func (Restarted) event()    {}
 func (Stopped) event()      {}
+func (Drained) event()      {}
 func (Coverage) event()     {}
 func (Transactions) event() {}
 
@@ -132,20 +143,23 @@ func (Transactions) event() {}
 func (j *Joiner) coverageEvent(isLast bool) Coverage {
 	c := j.core
 	n := &c.counts
-	unseen, gone, lost := j.inbox.counted(isLast)
+	unseen, gone, lost, totals := j.inbox.counted(isLast)
 	n.lost = lost
+	totals.add(&n.totals)
 	it := Coverage{
-		At: time.Now(), Committed: n.committed, Offered: n.offered, Fences: n.fences, Aborted: n.aborted, Empty: n.empty,
-		Folded: copyOf(n.folded), Reads: n.reads, ReadsOffered: n.readsOffered, ReadsOwn: n.own, ReadsBefore: n.before,
+		Totals: totals,
+		At:     time.Now(), Committed: n.committed, Offered: n.offered, Fences: n.fences, Aborted: n.aborted, Bare: n.bare,
+		Partly: copyOf(n.partly), Folded: copyOf(n.folded), Reads: n.reads, ReadsOffered: n.readsOffered, ReadsOwn: n.own, ReadsBefore: n.before,
 		ReadsFolded: n.readsFolded,
 		ReadsLeft:   copyOf(n.leftReads),
 		Writes:      n.writes, WritesOffered: n.writesOffered, WritesLeft: copyOf(n.leftWrites),
+		Asks: n.asks, AsksFollowed: n.asksFollowed, Passed: n.passed, AsksLeft: copyOf(n.leftAsks),
 		Unseen: unseen, Connections: len(c.connections), ConnectionsEver: n.ever,
 		Lag: c.lag(), Rows: len(c.rows.by), Rounds: n.rounds, StatementsDropped: n.dropped, Lost: n.lost, SubsLost: n.unread,
 		Remaining: c.remaining(),
 	}
 	if n.lost > 0 {
-		it.Folded["reported faster than they could be processed"] = n.lost
+		it.Folded[tooFast] = n.lost
 	}
 	for reason, n := range gone {
 		it.Folded[reason] = n
@@ -159,11 +173,6 @@ func (j *Joiner) coverageEvent(isLast bool) Coverage {
 		it.Pending += len(s.waiting)
 		if s.tenant != nil {
 			it.Audited++
-		}
-		if s.closed {
-			it.SessionsClosed++
-		} else {
-			it.SessionsOpen++
 		}
 	}
 	if len(c.asked) > 0 {
@@ -198,15 +207,14 @@ func (j *Joiner) describe(ids [][2]uint64) []Description {
 }
 
 func (c *core) describe(one *told, to *Description) {
-	to.Known, to.Its, to.From, to.Dropped = true, one.its, one.from, one.dropped
+	to.Known, to.Fence, to.Its, to.From, to.Dropped = true, one.fence, one.its, one.from, one.dropped
 	seen := map[uint64]bool{0: true}
 	words := func(r *row) {
 		if seen[r.number] {
 			return
 		}
 		seen[r.number] = true
-		table, text, columns := c.tables.Words(r.id.relation, r.id.key)
-		to.Rows = append(to.Rows, Row{r.number, table, text, columns})
+		to.Rows = append(to.Rows, c.words(r))
 	}
 	for _, it := range one.reads {
 		read := KeyRead{Key: it.row.number, Initial: it.from == initial, By: madeBy(one.its.Statements, int(it.at))}
@@ -222,10 +230,28 @@ func (c *core) describe(one *told, to *Description) {
 	}
 }
 
+// words says which row of which table a key stands for.
+func (c *core) words(r *row) Row {
+	it := Row{Key: r.number}
+	switch {
+	case r.as == nil:
+		it.Table, it.Row, it.Columns = c.tables.Words(r.id.relation, r.id.key)
+		return it
+	case r.as.on != nil:
+		it.Table, it.Row, it.Columns = c.tables.Words(r.as.on.id.relation, r.as.on.id.key)
+	default:
+		it.Table, _, it.Columns = c.tables.Words(r.as.of.relation, "")
+	}
+	if it.Condition = r.as.of.its.String(); c.opt.Shapes {
+		it.Condition = r.as.of.its.Shape()
+	}
+	return it
+}
+
 // madeBy returns the statement, counted from 1, that made this read (source.at), or 0 if none is known to have made it.
 func madeBy(statements []record.Statement, at int) int {
 	for i, one := range statements {
-		if one.From < at && at <= one.To || at < 0 && one.Absent == -at {
+		if one.From < at && at <= one.To || at < 0 && one.Absent == -at || at >= int(askAt) && one.Ask == at-int(askAt)+1 {
 			return i + 1
 		}
 	}

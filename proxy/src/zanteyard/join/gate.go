@@ -5,9 +5,16 @@ import "zanteyard/record"
 // gate holds back what the slot reports until it is known that tables' names still mean what the slot's reader took
 // them for: the slot names tables as they were called when they were written, and a reader learns of a renamed table
 // only afterwards. A write that may belong to another table is dropped, which folds it.
+//
+// What was verified at a place is: the names of the tables that were looked at, as the snapshot of that time shows them. A
+// commit isn't released before that snapshot shows it, and with it all that it saw: the server writes a commit to its log
+// before others can see it. Nor is it before all tables in it were looked at, since a table that the slot reports for the
+// first time may have been renamed before.
 type gate struct {
 	queue    []fromSlot
 	verified uint64 // names are known to have the same meaning up to this place
+	used     uint64 // so many tables were looked at
+	shows    snapshot
 	changed  map[record.Relation]change
 }
 
@@ -29,8 +36,8 @@ func (g *gate) verify(place Place, to *core) {
 		g.changed[relation] = change{place.Names, place.At}
 		to.forgetTable(relation)
 	}
-	if place.At > g.verified {
-		g.verified = place.At
+	if shows, ok := snapshotOf(place.Shows); ok && !place.Unsure && place.At >= g.verified {
+		g.verified, g.used, g.shows = place.At, place.Used, shows
 	}
 	g.release(to)
 }
@@ -48,13 +55,13 @@ func (g *gate) release(to *core) {
 			to.advance(it.place)
 			continue
 		}
-		if it.commit.LSN > g.verified {
+		if it.commit.LSN > g.verified || it.commit.Used > g.used || !g.shows.has(it.commit.Number) {
 			break
 		}
 		to.commit(g.sure(*it.commit))
 		to.advance(it.commit.LSN)
 	}
-	if n < len(g.queue) {
+	if n < len(g.queue) && g.queue[n].after(g.verified) {
 		to.advance(g.verified)
 	}
 	if n == len(g.queue) {
@@ -64,7 +71,7 @@ func (g *gate) release(to *core) {
 	g.queue = append(g.queue[:0], g.queue[n:]...)
 }
 
-// sure returns the commit without the writes of tables that may be others.
+// sure returns the commit without the writes of tables that may be others, which are counted.
 func (g *gate) sure(it record.Commit) record.Commit {
 	if len(g.changed) == 0 {
 		return it
@@ -73,8 +80,11 @@ func (g *gate) sure(it record.Commit) record.Commit {
 	for _, one := range it.Writes {
 		if by, is := g.changed[one.Relation]; !is || it.Names >= by.names && it.LSN > by.place {
 			kept = append(kept, one)
+		} else {
+			it.Gaps = append(it.Gaps, one.Relation)
 		}
 	}
+	it.Keyless += uint64(len(it.Writes) - len(kept))
 	it.Writes = kept
 	return it
 }

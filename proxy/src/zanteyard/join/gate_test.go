@@ -25,7 +25,7 @@ func TestRenamedTables(t *testing.T) {
 	if len(g.queue) != 2 {
 		t.Error("commits are let go before their names are verified")
 	}
-	g.verify(Place{At: 150, Names: 1}, b.core)
+	g.verify(Place{At: 150, Names: 1, Shows: all}, b.core)
 	if len(g.queue) != 1 || b.core.progress != 150 {
 		t.Errorf("%d wait, and the slot counts as being at %d", len(g.queue), b.core.progress)
 	}
@@ -33,8 +33,8 @@ func TestRenamedTables(t *testing.T) {
 	tell(2, 250, 2) // before the change, with the new ones
 	tell(2, 400, 2)
 	g.put(fromSlot{place: 450})
-	g.verify(Place{At: 350, Changed: []record.Relation{1, 2}, Names: 2}, b.core)
-	g.verify(Place{At: 500, Names: 2}, b.core)
+	g.verify(Place{At: 350, Changed: []record.Relation{1, 2}, Names: 2, Shows: all}, b.core)
+	g.verify(Place{At: 500, Names: 2, Shows: all}, b.core)
 	if len(g.queue) != 0 || b.core.progress != 450 {
 		t.Errorf("%d wait, and the slot counts as being at %d", len(g.queue), b.core.progress)
 	}
@@ -53,6 +53,37 @@ func TestRenamedTables(t *testing.T) {
 	}
 }
 
+// all is a snapshot that shows everything.
+const all = "1:100000:"
+
+// A commit waits until the place's snapshot shows it, and until all of its tables were looked at.
+func TestGateWaitsForWhatWasLookedAt(t *testing.T) {
+	for _, x := range []struct {
+		name  string
+		place Place
+		waits bool
+	}{
+		{"all", Place{At: 100, Shows: "1:2000:", Used: 3}, false},
+		{"before its end", Place{At: 99, Shows: "1:2000:", Used: 3}, true},
+		{"it isn't seen yet", Place{At: 100, Shows: "1001:2000:1001", Used: 3}, true},
+		{"nor is anything later", Place{At: 100, Shows: "1001:1001:", Used: 3}, true},
+		{"not all of its tables", Place{At: 100, Shows: "1:2000:", Used: 2}, true},
+		{"nothing was verified", Place{At: 100, Used: 3}, true},
+	} {
+		b := newBench(t, Options{})
+		var g gate
+		g.put(fromSlot{commit: &record.Commit{Number: 1001, LSN: 100, Used: 3}})
+		g.verify(x.place, b.core)
+		if g.waits() != x.waits {
+			t.Errorf("%s: it waits: %v", x.name, g.waits())
+		}
+		g.verify(Place{At: 200, Shows: all, Used: 3}, b.core)
+		if g.waits() {
+			t.Errorf("%s: it waits for ever", x.name)
+		}
+	}
+}
+
 func TestGateIsBounded(t *testing.T) {
 	b := newBench(t, Options{})
 	var g gate
@@ -65,7 +96,7 @@ func TestGateIsBounded(t *testing.T) {
 	if !g.isFull() {
 		t.Error("it takes any number")
 	}
-	g.verify(Place{At: mostHeld}, b.core)
+	g.verify(Place{At: mostHeld, Shows: all}, b.core)
 	if g.isFull() || g.waits() {
 		t.Error("what is verified waits")
 	}

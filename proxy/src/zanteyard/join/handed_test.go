@@ -11,22 +11,18 @@ import (
 func TestHowOftenSessionsAreHandedOn(t *testing.T) {
 	b := newBench(t, Options{Sessions: 1})
 	number := uint64(1000)
-	run := func(connection, place uint64, fence bool, want uint64) {
+	run := func(connection, place uint64, want uint64) {
 		t.Helper()
 		number++
-		if fence {
-			b.commitFence(uint32(number))
-		} else {
-			b.commit(uint32(number), "a")
-		}
-		b.tell(connection, place, record.Transaction{Number: number, Fence: fence})
+		b.commit(uint32(number), "a")
+		b.tell(connection, place, record.Transaction{Number: number})
 		if n := b.core.counts.handed; n != want {
 			t.Errorf("after %d transactions it is %d, and should be %d", number-1000, n, want)
 		}
 	}
 	quiet := func() {
 		b.later(time.Millisecond)
-		b.core.quiet()
+		b.quiet()
 		b.later(time.Millisecond)
 	}
 	end := func(connection uint64) {
@@ -34,22 +30,21 @@ func TestHowOftenSessionsAreHandedOn(t *testing.T) {
 		quiet()
 	}
 	b.connect(1)
-	run(1, 0, false, 0)
-	run(1, 1, true, 0)
-	quiet()
-	run(1, 2, false, 0)
+	run(1, 0, 0)
+	b.later(time.Millisecond).core.meet(b.now)
+	b.later(time.Millisecond)
+	run(1, 1, 0)
 	end(1)
 	b.connect(2)
-	run(2, 0, false, 1)
-	run(2, 1, false, 1)
+	run(2, 0, 1)
+	run(2, 1, 1)
 	end(2)
 	b.connect(3)
-	run(3, 0, true, 1)
 	end(3)
 	b.connect(4)
-	run(4, 0, false, 2)
+	run(4, 0, 2)
 	b.settle()
-	if n := len(b.model.sessions[0].its); n != 7 {
+	if n := len(b.model.sessions[0].its); n != 6 {
 		t.Errorf("%d are offered", n)
 	}
 }
@@ -77,7 +72,9 @@ func TestWhenAQuietMomentIsWorthwhile(t *testing.T) {
 	} {
 		b := newBench(t, Options{Sessions: 10, Between: 2 * time.Second})
 		for n, s := range b.core.sessions {
-			s.closed = n >= one.stale
+			if n >= one.stale {
+				s.tenant = &connection{}
+			}
 			s.last = b.now
 		}
 		b.core.moments.set(b.now)
@@ -92,7 +89,9 @@ func TestWhenAQuietMomentIsWorthwhile(t *testing.T) {
 		if n < 4 {
 			s.last = b.now
 		}
-		s.closed = n >= 9
+		if n >= 9 {
+			s.tenant = &connection{}
+		}
 	}
 	b.core.moments.set(b.now)
 	b.later(time.Minute)

@@ -2,6 +2,7 @@ package join
 
 import (
 	"flag"
+	"fmt"
 	"testing"
 	"time"
 
@@ -10,43 +11,46 @@ import (
 
 var worlds = flag.Int("worlds", 60, "random lives of a proxy over a store that is serializable, and keeps no order in time")
 
-// Sessions are handed from connection to connection, fences are made, late and slow, and meetings are missed: what the
-// application did has an order, and so has what was offered of it, with the sessions and the fences.
+// Sessions are handed from connection to connection, and fences are written that nobody ran, at moments that are met
+// badly: what the application did has an order, and so has what was offered of it, with the sessions and the fences.
 func TestHandingOnMakesUpNothing(t *testing.T) {
-	var offered, handed, fences, joins, commits uint64
+	var offered, handed, fences, cuts, commits uint64
 	for seed := int64(0); seed < int64(*worlds); seed++ {
-		w := newWorld(t, seed, false)
+		w := newWorld(t, seed, "")
 		w.live1(12)
 		if path := w.model.cycle(false); path != nil {
 			t.Fatalf("seed %d: what was committed has an order, and what was offered hasn't:\n%s", seed, path)
 		}
 		n := w.core.counts
 		offered, fences, handed = offered+n.offered, fences+n.fences, handed+n.handed
-		commits += uint64(w.commits)
-		for _, line := range w.lines {
-			if line[2] == 'j' {
-				joins++
-			}
-		}
+		commits, cuts = commits+uint64(w.ids), cuts+uint64(w.cuts)
 	}
-	t.Logf("of %d transactions %d were offered; %d fences, %d by which sessions came back; handed on %d times", commits,
-		offered-fences, fences, joins, handed)
-	if handed < uint64(*worlds) || joins < uint64(*worlds)/3 || offered-fences < commits/4 {
+	t.Logf("of %d transactions %d were offered; %d fences, %d cuts; handed on %d times", commits, offered-fences, fences, cuts,
+		handed)
+	if handed < uint64(*worlds) || cuts < uint64(*worlds) || offered-fences < commits/4 {
 		t.Error("that is too little to find anything")
 	}
 }
 
-// If sessions are handed on by the clock alone, as if nothing ran across a moment, the test finds that to be wrong.
-func TestHandingOnByTheClock(t *testing.T) {
-	for seed := int64(0); seed < int64(*worlds); seed++ {
-		w := newWorld(t, seed, true)
+// Each joiner that is made wrong on purpose is found to be wrong.
+func TestWrongJoiners(t *testing.T) {
+	for _, one := range []fault{byTheClock, spanning, late, early, wrongOrder, hasty} {
+		findWrong(t, one, false)
+	}
+}
+
+// findWrong fails unless a joiner with a fault makes a violation up.
+func findWrong(t *testing.T, wrong fault, snapshots bool) {
+	for seed := int64(0); seed < 20*int64(*worlds); seed++ {
+		w := newWorld(t, seed, wrong)
+		w.snapshot = snapshots
 		w.live1(12)
-		if path := w.model.cycle(false); path != nil {
-			t.Logf("seed %d: %d transactions make a cycle", seed, len(path))
+		if path := w.model.cycle(snapshots); path != nil {
+			t.Logf("%s: seed %d: a cycle of %d", wrong, seed, len(path))
 			return
 		}
 	}
-	t.Error("nothing was found")
+	t.Errorf("nothing was found, although %s", wrong)
 }
 
 // straddle is a history at repeatable read whose only order has connection 3 before connection 2, which had ended
@@ -87,21 +91,18 @@ func TestWhatGrantsTheOrderOfConnections(t *testing.T) {
 		offered  uint64
 	}{
 		{"each has a session of its own", 3, func(b *bench) { b.connect(3) }, true, 3},
-		{"each makes a fence, as it ends and as it begins", 3, func(b *bench) {
+		{"each has one, and a meeting comes between", 3, func(b *bench) {
 			b.connect(3)
-			for number := uint32(1002); number < 1004; number++ {
-				b.commitFence(number)
-				b.tell(uint64(number-1000), uint64(1003-number), record.Transaction{Number: uint64(number), Fence: true})
-			}
-		}, true, 4}, // what follows the second fence is folded
+			b.later(time.Millisecond).core.meet(b.now)
+			b.later(time.Millisecond)
+		}, true, 2 + 3}, // what ran across the meeting is folded
 		{"no session is handed on without a moment", 2, func(b *bench) {
 			b.core.enter(record.Connection{Number: 2, Ended: true})
 			b.connect(3)
 		}, true, 2},
 		{"a session is handed on at a moment", 2, func(b *bench) {
 			b.core.enter(record.Connection{Number: 2, Ended: true})
-			b.later(time.Millisecond)
-			b.core.quiet()
+			b.later(time.Millisecond).quiet()
 			b.connect(3)
 		}, true, 2},
 	} {
@@ -116,98 +117,116 @@ func TestWhatGrantsTheOrderOfConnections(t *testing.T) {
 	}
 }
 
-// Two fences at once: one of a connection that was busy just before, and one of a connection that goes on just after.
-// Whichever is reported first, the two transactions aren't both before the one and after the other.
-func TestFencesAtOnce(t *testing.T) {
-	for _, lateFence := range []bool{false, true} {
-		b := newBench(t, Options{Late: time.Second})
-		b.core.quiet()
-		b.later(time.Millisecond)
-		b.connect(1, 2)
-		b.commit(1001, "a")
-		b.tell(1, 0, record.Transaction{Number: 1001})
-		first, second := b.now, b.now
-		b.commitFence(1002)
-		b.commitFence(1003)
-		b.later(time.Millisecond)
-		tells := []func(){
-			func() { b.tell(1, 1, record.Transaction{Began: first, Ended: b.now, Number: 1002, Fence: true}) },
-			func() {
-				b.tell(2, 0, record.Transaction{Began: second, Ended: b.now, Number: 1003, Fence: true})
-				b.tell(2, 1, record.Transaction{Reads: []record.Read{read("b", 7)}})
-			},
+// The fences of a meeting, as lines: in each session after what it had, with one that comes after all the first ones
+// and before all the second ones. A session without anything has one.
+func TestFences(t *testing.T) {
+	b := newBench(t, Options{Sessions: 4})
+	b.connect(1, 2)
+	for connection := uint64(1); connection < 3; connection++ {
+		b.tell(connection, 0, record.Transaction{Reads: []record.Read{read("a", 7)}})
+	}
+	if n := b.later(time.Millisecond).core.meet(b.now); n != 5 {
+		t.Errorf("there are %d", n)
+	}
+	b.later(time.Millisecond)
+	b.tell(1, 1, record.Transaction{Reads: []record.Read{read("a", 7)}})
+	b.settle()
+	for i, want := range []string{
+		`["offer",0,0,[[[[1,"init"]],[]],[[[0,"init"]],[0]],[[[0,1,1]],[0]],[[[1,"init"]],[]]]]`,
+		`["offer",1,0,[[[[1,"init"]],[]],[[[0,0,1]],[0]]]]`,
+		`["offer",2,0,[[[[0,0,2]],[0]]]]`,
+		`["offer",3,0,[[[[0,2,0]],[0]]]]`,
+	} {
+		if got := b.lines[1+i]; got != want {
+			t.Errorf("offered %s, wanted %s", got, want)
 		}
-		if lateFence {
-			tells[0], tells[1] = tells[1], tells[0]
-		}
-		tells[0]()
-		tells[1]()
-		b.settle()
-		if n := b.core.counts; n.folded[acrossMoment] != 1 || n.offered != 3 {
-			t.Errorf("the fence late: %v: offered %d, folded %v", lateFence, n.offered, n.folded)
-		}
+	}
+	if marks, found := b.model.settled(); !found || fmt.Sprint(marks) != "[2 2 0 0]" {
+		t.Errorf("what can be forgotten is %v", marks)
+	}
+	if n := b.core.meet(b.now); n != 4 { // the next one's first fence is in the only session with something since
+		t.Errorf("at the next meeting there are %d", n)
+	}
+	if n := b.core.meet(b.now); n != 4 {
+		t.Errorf("at one with nothing since there are %d", n)
+	}
+	b.settle()
+	if marks, _ := b.model.settled(); fmt.Sprint(marks) != "[6 3 2 2]" {
+		t.Errorf("then what can be forgotten is %v", marks)
 	}
 }
 
-// A connection's fence is reported late, after the one that the audit's own connection made in its place, but was
-// written before it: the session doesn't take it for a later one. Reported in time, both are offered.
-func TestFenceToldLate(t *testing.T) {
-	for _, late := range []bool{false, true} {
-		b := newBench(t, Options{Sessions: 2, Late: time.Second})
-		b.connect(1)
-		b.commit(1001, "a")
-		b.tell(1, 0, record.Transaction{Number: 1001})
-		b.later(time.Millisecond)
-		b.core.quiet()
-		b.later(time.Millisecond)
-		its := record.Transaction{Began: b.now, Ended: b.later(time.Millisecond).now, Number: 1002, Fence: true}
-		b.commitFence(1002)
-		if !late {
-			b.tell(1, 1, its)
-		}
-		began := b.later(time.Millisecond).now
-		b.commitFence(1003)
-		b.core.spare(0, 1003, began, b.later(time.Millisecond).now)
-		if late {
-			b.tell(1, 1, its)
-		}
-		b.settle()
-		want := map[bool]uint64{false: 0, true: 1}[late]
-		if n := b.core.counts; n.folded[acrossMoment] != want || n.offered != 3-want || !b.model.explained() {
-			t.Errorf("late: %v: offered %d, folded %v\n%v", late, n.offered, n.folded, b.lines)
-		}
+// What had ended before a meeting's moment, and is reported after it, isn't offered: its session has the moment's
+// fences already. What was reported in time is, and so is what the connection does next.
+func TestReportedAfterTheFences(t *testing.T) {
+	b := newBench(t, Options{Sessions: 2, Late: time.Second})
+	b.connect(1)
+	began := b.now
+	b.tell(1, 0, record.Transaction{Reads: []record.Read{read("a", 7)}})
+	b.later(time.Millisecond)
+	it := record.Transaction{Began: began.Add(time.Millisecond), Ended: b.now, Reads: []record.Read{read("a", 7)}}
+	b.later(time.Millisecond).core.meet(b.now)
+	b.tell(1, 1, it)
+	b.later(time.Millisecond)
+	b.tell(1, 2, record.Transaction{Reads: []record.Read{read("a", 7)}})
+	b.settle()
+	if n := b.core.counts; n.offered-n.fences != 2 || n.folded[acrossMoment] != 1 {
+		t.Errorf("offered %d, folded %v", n.offered-n.fences, n.folded)
 	}
 }
 
-// A session's connection makes its fence late, while the audit's own connection makes one for it. Whichever is reported
-// first, the session has two of them only in the order in which they were written.
-func TestFencesOfOneSession(t *testing.T) {
-	for _, spareIsLate := range []bool{false, true} {
-		b := newBench(t, Options{Late: time.Second})
-		b.core.quiet()
+// A moment comes after the end of everything that is named, even if the clock was read before that was reported; and no
+// two moments are at one time.
+func TestMomentsComeAfterWhatIsNamed(t *testing.T) {
+	b := newBench(t, Options{Sessions: 2, Late: time.Second})
+	b.connect(1, 2)
+	read0 := []record.Read{read("a", 7)}
+	began, clock := b.now, b.later(time.Millisecond).now
+	ended := clock.Add(5 * time.Millisecond)
+	b.core.tell(record.Transaction{Connection: 1, Began: began, Ended: ended, Reads: read0})
+	b.core.meet(clock)
+	if at := b.core.moments.last(); !at.After(ended) {
+		t.Errorf("the moment is at %v, and something ends at %v", at, ended)
+	}
+	b.core.tell(record.Transaction{Connection: 2, Began: clock.Add(1), Ended: ended.Add(time.Millisecond), Reads: read0})
+	if n := b.core.counts.folded[acrossMoment]; n != 1 {
+		t.Errorf("%d of those that span it are folded", n)
+	}
+	first := b.core.moments.last()
+	b.core.quiet(first)
+	if !b.core.moments.last().After(first) {
+		t.Error("two moments are at one time")
+	}
+}
+
+// Without room for all of a moment's fences none is written, and a round comes all the same.
+func TestNoRoomForFences(t *testing.T) {
+	b := newBench(t, Options{Sessions: 2, Limit: 8})
+	b.connect(1, 2)
+	tell := func(place uint64) {
 		b.later(time.Millisecond)
-		b.connect(1)
-		b.commit(1001, "a")
-		b.tell(1, 0, record.Transaction{Number: 1001})
-		began := b.now
-		own, spare := uint32(1002), uint32(1003)
-		if spareIsLate {
-			own, spare = spare, own
+		for connection := uint64(1); connection < 3; connection++ {
+			b.tell(connection, place, record.Transaction{Reads: []record.Read{read("a", 7)}})
 		}
-		b.commitFence(1002)
-		b.commitFence(1003)
 		b.later(time.Millisecond)
-		ended := b.now
-		tells := []func(){
-			func() { b.core.spare(0, uint64(spare), began, ended) },
-			func() { b.tell(1, 1, record.Transaction{Began: began, Ended: ended, Number: uint64(own), Fence: true}) },
+	}
+	tell(0)
+	tell(1)
+	for i, want := range []int{3, 0} {
+		if n := b.core.meet(b.now); n != want {
+			t.Errorf("meeting %d has %d fences, wanted %d", i, n, want)
 		}
-		tells[0]()
-		tells[1]()
-		b.settle()
-		b.settle()
-		if !b.model.explained() {
-			t.Errorf("the spare is written last: %v: no order explains it\n%v", !spareIsLate, b.lines)
-		}
+		tell(uint64(2 + i))
+	}
+	b.settle()
+	if n := b.core.counts; n.offered != 7 || n.folded[noRoom] != 4 {
+		t.Errorf("offered %d, folded %v", n.offered, n.folded)
+	}
+	if !b.core.wantsMeeting(b.now.Add(-time.Hour)) {
+		t.Error("there is no room, and no meeting is wanted to make some")
+	}
+	marks, found := b.model.settled()
+	if !found || !b.core.cut(marks) || b.core.wantsMeeting(b.now.Add(-time.Hour)) {
+		t.Errorf("after a cut at %v there is still no room", marks)
 	}
 }

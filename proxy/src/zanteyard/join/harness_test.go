@@ -19,6 +19,15 @@ func (plainTables) Root(r record.Relation) record.Relation {
 	return r
 }
 
+func (plainTables) Use(record.Relation) {}
+
+// Same: a key's identity is 0 as long as nothing has changed.
+func (plainTables) Same(_ record.Relation, identity record.Identity) bool { return identity == 0 }
+
+func (plainTables) SameColumns(_ record.Relation, identity record.Identity) bool {
+	return identity == 0
+}
+
 func (plainTables) Words(r record.Relation, k record.Key) (string, string, []string) {
 	return fmt.Sprint("t", r), string(k), []string{"id"}
 }
@@ -29,6 +38,7 @@ type bench struct {
 	core  *core
 	now   time.Time
 	place uint64
+	shows string // what a snapshot shows now
 	model *model
 	lines []string
 }
@@ -36,7 +46,7 @@ type bench struct {
 const base = 1000 // transactions with lower numbers were over when the audit began
 
 func newBench(t testing.TB, opt Options) *bench {
-	b := &bench{t: t, now: time.Unix(1000, 0), place: 100}
+	b := &bench{t: t, now: time.Unix(1000, 0), place: 100, shows: "3:2000000000:"}
 	b.core = newCore(opt, plainTables{}, base, b.line, b.now)
 	b.core.open()
 	return b
@@ -71,11 +81,14 @@ func (b *bench) later(d time.Duration) *bench {
 }
 
 // commit makes the slot report a transaction. A key with a minus in front is deleted, one with a plus inserted.
-func (b *bench) commit(number uint32, keys ...string) {
+func (b *bench) commit(number uint32, keys ...string) { b.commitDropping(number, 0, keys...) }
+
+// commitDropping is commit of a transaction that wrote other rows, too, which the slot's reader didn't keep.
+func (b *bench) commitDropping(number uint32, dropped int, keys ...string) {
 	b.place += 100
-	it := record.Commit{Number: number, LSN: b.place, Start: b.place - 50}
+	it := record.Commit{Number: number, LSN: b.place, Start: b.place - 50, Dropped: uint64(dropped)}
 	for _, key := range keys {
-		one := record.Write{Relation: 1, Key: record.Key(key)}
+		one := record.Write{Relation: 1}
 		if key[0] == '+' {
 			key, one.Inserted = key[1:], true
 		}
@@ -89,11 +102,15 @@ func (b *bench) commit(number uint32, keys ...string) {
 	b.core.advance(it.LSN)
 }
 
-func (b *bench) commitFence(number uint32) {
+// empty makes the slot report a transaction that emptied the table.
+func (b *bench) empty(number uint32) {
 	b.place += 100
-	b.core.commit(record.Commit{Number: number, LSN: b.place, Fence: true})
+	b.core.commit(record.Commit{Number: number, LSN: b.place, Start: b.place - 50, Emptied: []record.Relation{1}})
 	b.core.advance(b.place)
 }
+
+// quiet makes now a quiet moment.
+func (b *bench) quiet() { b.core.quiet(b.now) }
 
 // tell makes a session report a transaction that was committed just now.
 func (b *bench) tell(connection, place uint64, it record.Transaction) {
@@ -112,7 +129,7 @@ func (b *bench) tell(connection, place uint64, it record.Transaction) {
 // pass makes the slot pass everything that was reported, and the joiner do what it can.
 func (b *bench) pass() {
 	if batch, wanted := b.core.wantsPlace(); wanted {
-		b.core.placed(batch, b.place, b.now)
+		b.core.placed(batch, Place{At: b.place, Shows: b.shows}, b.now)
 	}
 	b.core.advance(b.place)
 	b.core.step(b.now)

@@ -5,12 +5,13 @@ import (
 	"sync"
 	"time"
 
+	"zanteyard/guard"
 	"zanteyard/record"
 )
 
 // Inbox takes what a proxy's sessions report, and holds it until the joiner takes it out. It is bounded: whatever
-// arrives when it is full is dropped, which folds it. Connections aren't dropped, since they are few. Safe for use by
-// many goroutines.
+// arrives when it is full is dropped, which folds it. Connections and moments aren't dropped, since they are few. Safe
+// for use by many goroutines.
 type Inbox struct {
 	wake chan struct{} // it is half full
 	now  func() time.Time
@@ -22,13 +23,28 @@ type Inbox struct {
 	closed  bool
 	lost    uint64
 	gone    map[string]uint64 // by reason
+	totals  Totals            // of transactions that never reach the joiner
+	dropped int               // how many of those are among its
 	unseen  map[unseenKey]*Unseen
 	outside *Unseen // shapes beyond the limit
 }
 
+// message is one of these.
 type message struct {
 	connection  *record.Connection
 	transaction *record.Transaction
+	moment      *moment
+	dropped     *record.Transaction // without anything that takes room: there was none for more
+}
+
+// mostDropped is how many transactions for which there is no room may wait to be counted.
+const mostDropped = 1 << 16
+
+// moment is a meeting's quiet moment.
+type moment struct {
+	number uint64 // of the meeting
+	at     time.Time
+	held   time.Duration // how long clients were held for it
 }
 
 type unseenKey struct{ shape, reason string }
@@ -56,28 +72,66 @@ func (b *Inbox) Connection(it record.Connection) {
 
 // Transaction implements record.Sink.
 func (b *Inbox) Transaction(it record.Transaction) {
+	if it.Elsewhere {
+		b.lock.Lock()
+		defer b.lock.Unlock()
+		b.lose(otherServer, 1)
+		b.totals.told(&it)
+		b.totals.leave(&it, otherServer)
+		return
+	}
 	b.put(message{transaction: &it}, sizeOf(&it))
 }
 
+// Moment makes now the moment of a meeting: it comes after everything that was reported by now, and before what is
+// reported later.
+func (b *Inbox) Moment(number uint64, held time.Duration) {
+	b.put(message{moment: &moment{number: number, held: held}}, 0)
+}
+
 func (b *Inbox) put(it message, bytes int) {
-	b.lock.Lock()
-	switch {
-	case b.closed:
-	case bytes > 0 && b.bytes+bytes > b.most:
-		b.lost++
-	default:
-		b.its = append(b.its, it)
-		b.bytes += bytes
-	}
-	much := b.bytes > b.most/2
-	b.lock.Unlock()
-	if !much {
+	if !b.add(it, bytes) {
 		return // the joiner empties it at its next step, and would do nothing with it before
 	}
 	select {
 	case b.wake <- struct{}{}:
 	default:
 	}
+}
+
+// add adds a message, and reports whether there is much to be taken out now.
+func (b *Inbox) add(it message, bytes int) bool {
+	b.lock.Lock()
+	defer b.lock.Unlock()
+	guard.At("a report")
+	if it.moment != nil {
+		it.moment.at = b.now() // what was put in before had ended by then
+	}
+	switch {
+	case b.closed:
+	case bytes > 0 && b.bytes+bytes > b.most:
+		b.drop(it.transaction)
+	default:
+		b.its = append(b.its, it)
+		b.bytes += bytes
+	}
+	return b.bytes > b.most/2
+}
+
+// drop counts a transaction for which there is no room.
+func (b *Inbox) drop(it *record.Transaction) {
+	b.totals.told(it)
+	if it.Outcome == record.Aborted {
+		return
+	}
+	b.lost++
+	b.totals.leave(it, tooFast)
+	if it.Number == 0 && !it.MayHaveWritten || b.dropped >= mostDropped {
+		return
+	}
+	b.dropped++
+	b.its = append(b.its, message{dropped: &record.Transaction{Connection: it.Connection, Began: it.Began, Ended: it.Ended,
+		After: it.After, Known: it.Known, Number: it.Number, MayHaveWritten: it.MayHaveWritten, Defines: it.Defines}})
 }
 
 // sizeOf returns about how many bytes a transaction takes.
@@ -96,6 +150,7 @@ func (b *Inbox) Unseen(shape, reason string, reads bool) { b.UnseenMany(shape, r
 func (b *Inbox) UnseenMany(shape, reason string, reads bool, n uint64) {
 	b.lock.Lock()
 	defer b.lock.Unlock()
+	guard.At("a count")
 	key := unseenKey{shape, reason}
 	it := b.unseen[key]
 	switch {
@@ -112,10 +167,19 @@ func (b *Inbox) UnseenMany(shape, reason string, reads bool, n uint64) {
 	it.Count += n
 }
 
-// Lose counts transactions of proxies elsewhere that never arrive, by reason.
+// otherServer is the reason for transactions of connections that didn't show that they are to the audited server.
+const otherServer = "on a connection to another server than the audited one, or to a standby"
+
+// Lose counts transactions that are never offered, by reason.
 func (b *Inbox) Lose(reason string, n uint64) {
 	b.lock.Lock()
 	defer b.lock.Unlock()
+	b.lose(reason, n)
+	b.totals.Transactions.All += n
+	b.totals.Transactions.leave(reason, n)
+}
+
+func (b *Inbox) lose(reason string, n uint64) {
 	if b.gone == nil {
 		b.gone = map[string]uint64{}
 	}
@@ -126,7 +190,7 @@ func (b *Inbox) Lose(reason string, n uint64) {
 func (b *Inbox) take() (its []message, lost uint64) {
 	b.lock.Lock()
 	defer b.lock.Unlock()
-	its, b.its, b.bytes = b.its, make([]message, 0, len(b.its)), 0 // the next batch is likely to be about as large
+	its, b.its, b.bytes, b.dropped = b.its, make([]message, 0, len(b.its)), 0, 0 // the next batch is likely to be about as large
 	return its, b.lost
 }
 
@@ -134,12 +198,13 @@ func (b *Inbox) take() (its []message, lost uint64) {
 func (b *Inbox) Close() {
 	b.lock.Lock()
 	defer b.lock.Unlock()
-	b.its, b.bytes, b.closed = nil, 0, true
+	b.its, b.bytes, b.dropped, b.closed = nil, 0, 0, true
 }
 
 // counted returns what was counted for this audit: the shapes of what was left out, most frequent first, the losses by
-// reason, and how many transactions were dropped. With `isLast` all counts start again, for the next audit.
-func (b *Inbox) counted(isLast bool) (its []Unseen, gone map[string]uint64, lost uint64) {
+// reason, how many transactions were dropped, and the totals of those that never reach the joiner. With `isLast` all counts
+// start again, for the next audit.
+func (b *Inbox) counted(isLast bool) (its []Unseen, gone map[string]uint64, lost uint64, totals Totals) {
 	b.lock.Lock()
 	its = make([]Unseen, 0, len(b.unseen)+1)
 	for _, one := range b.unseen {
@@ -148,9 +213,9 @@ func (b *Inbox) counted(isLast bool) (its []Unseen, gone map[string]uint64, lost
 	if b.outside != nil {
 		its = append(its, *b.outside)
 	}
-	gone, lost = copyOf(b.gone), b.lost
+	gone, lost, totals = copyOf(b.gone), b.lost, b.totals.copied()
 	if isLast {
-		b.unseen, b.outside, b.gone, b.lost = map[unseenKey]*Unseen{}, nil, nil, 0
+		b.unseen, b.outside, b.gone, b.lost, b.totals = map[unseenKey]*Unseen{}, nil, nil, 0, Totals{}
 	}
 	b.lock.Unlock()
 	sort.Slice(its, func(i, j int) bool {
@@ -159,5 +224,5 @@ func (b *Inbox) counted(isLast bool) (its []Unseen, gone map[string]uint64, lost
 		}
 		return its[i].Shape+its[i].Reason < its[j].Shape+its[j].Reason
 	})
-	return its, gone, lost
+	return its, gone, lost, totals
 }

@@ -35,7 +35,7 @@ func TestInboxCountsAnew(t *testing.T) {
 	}
 	wanted := func(when string, isLast bool, shapes int, most, gone, lost uint64) {
 		t.Helper()
-		its, losses, dropped := b.counted(isLast)
+		its, losses, dropped, _ := b.counted(isLast)
 		if len(its) != shapes || shapes > 0 && its[0].Count != most || losses["gone"] != gone || dropped != lost {
 			t.Errorf("%s: %d shapes, the first %v; lost %v and %d", when, len(its), its, losses, dropped)
 		}

@@ -5,8 +5,10 @@ import (
 	"errors"
 	"fmt"
 	"sync"
+	"sync/atomic"
 	"time"
 
+	"zanteyard/guard"
 	"zanteyard/record"
 )
 
@@ -20,29 +22,32 @@ type Server interface {
 	Base(context.Context) (uint32, error)
 	// Subtransactions returns those of the commits whose records begin at these places, nil for one that can't be read.
 	Subtransactions(context.Context, []uint64) ([][]uint32, error)
-	// Fence makes a fence, and returns the transaction's number.
-	Fence(context.Context) (uint64, error)
 }
 
 // Place is a place in the server's log.
 type Place struct {
 	At uint64
+	// Shows is the text of a snapshot that was taken then, or "". Names are right in commits that it shows.
+	Shows string
 	// Changed has the tables whose name or key has changed since the last place. What is read from the slot from Names on
 	// (record.Commit) has them right, if it comes after this place.
 	Changed []record.Relation
 	Names   uint64
+	// Used is how many tables were looked at (record.Commit). Unsure: names may have changed once more since.
+	Used   uint64
+	Unsure bool
 }
 
-// Meeter makes the proxy's sessions make fences. The fences are reported to the sink before these calls return.
+// Meeter makes the proxy's sessions meet. Other connections than those that are named wait for nothing, and are waited
+// for by nobody. If a Meeter is wrong about what is under way, more is folded than necessary, and nothing else.
 type Meeter interface {
-	// MeetAround makes each session that is free in time make a fence, and a second one when all have made the first. In
-	// between it calls between. It returns how many were made, and how long it took.
-	MeetAround(ctx context.Context, between func(context.Context)) (fences int, took time.Duration, err error)
-	// Fence makes one connection make a fence.
-	Fence(ctx context.Context, connection uint64) error
-	// Busy returns about how many sessions have something of their clients' under way. If it is wrong, more is folded than
-	// necessary; a Meeter that can't know it returns a large number.
-	Busy() int
+	// Meet holds what would begin on these connections until what is under way on them has ended, or until a bound. Then it
+	// calls moment, with how long that took, and lets them go on. If ctx ends first, it lets them go on without a call.
+	// What had ended by then was reported to the sink before the call.
+	Meet(ctx context.Context, connections []uint64, moment func(held time.Duration))
+	// Busy returns about how many of these connections have something under way, and how many are idle in a transaction.
+	// A Meeter that can't know it returns a large number.
+	Busy(connections []uint64) (underWay, idle int)
 }
 
 // Output takes lines for the auditor, and events, in order. Its calls don't wait.
@@ -65,14 +70,18 @@ type Joiner struct {
 	done     chan struct{}
 	inspects bool
 	started  Started
+	made     time.Time
 
 	gate       gate
 	core       *core
 	meeting    meeting
-	last       time.Time // when the last meeting began
+	meetings   uint64    // how many have begun
+	last       time.Time // when the last one did
+	sought     time.Time // since when one is wanted for which nobody has to wait
 	wanted     bool      // a meeting is wanted at once
 	stopping   bool
 	again      bool // a new audit is wanted
+	restarts   atomic.Bool
 	failed     error
 	unanswered int  // number of rounds whose truncate wasn't answered by a cut
 	placing    bool // a question for the log's place is under way
@@ -93,6 +102,11 @@ type fromSlot struct {
 	place  uint64
 }
 
+// after reports whether the slot has reported everything before a place with this.
+func (f fromSlot) after(place uint64) bool {
+	return f.commit == nil && f.place > place || f.commit != nil && f.commit.LSN > place
+}
+
 // errEnded is returned to the slot's reader once the audit has ended.
 var errEnded = errors.New("the audit has ended")
 
@@ -101,7 +115,7 @@ func New(opt Options, inbox *Inbox, tables Tables, server Server, inspects bool,
 	return &Joiner{
 		opt: opt.withDefaults(), tables: tables, server: server, meeter: meeter, output: output, inbox: inbox,
 		told: make(chan fromSlot, 4096), replies: make(chan func(), 16), commands: make(chan func(), 16),
-		done: make(chan struct{}), inspects: inspects,
+		done: make(chan struct{}), inspects: inspects, made: time.Now(),
 	}
 }
 
@@ -142,11 +156,12 @@ func (j *Joiner) Start(it Started) { j.started = it }
 // Run audits until the context ends or something goes wrong: then it reports the reason as an event, and returns it.
 // The slot must have been made before, since everything that a snapshot taken now doesn't show has to come from it.
 func (j *Joiner) Run(ctx context.Context) error {
-	err := j.run(ctx)
+	err := guard.Run("the joiner", func() error { return j.run(ctx) })
 	close(j.done)
 	j.inbox.Close()
-	if j.core != nil {
+	if j.core != nil && !guard.IsFault(err) { // after a fault, nothing that it holds can be relied on
 		j.core.flush()
+		j.core.counts.totals.close(auditEnded)
 		j.output.Event(j.coverageEvent(false))
 	}
 	j.output.Event(Ended{Reason: err.Error()})
@@ -166,6 +181,8 @@ func (j *Joiner) run(ctx context.Context) error {
 		case <-ctx.Done():
 			return ctx.Err()
 		case it := <-j.slot():
+			guard.At("a commit")
+			j.core.now = time.Now() // when it is seen
 			j.gate.put(it)
 			for n := len(j.told); n > 0; n-- {
 				j.gate.put(<-j.told)
@@ -174,9 +191,11 @@ func (j *Joiner) run(ctx context.Context) error {
 		case <-j.inbox.wake:
 			j.empty()
 		case f := <-j.replies:
+			guard.At("an answer of the server")
 			j.core.now = time.Now()
 			f()
 		case f := <-j.commands:
+			guard.At("a command")
 			j.core.now = time.Now()
 			f()
 		case <-ticker.C:
@@ -195,10 +214,13 @@ func (j *Joiner) begin(ctx context.Context) error {
 	if err != nil {
 		return fmt.Errorf("begin the audit: %w", err)
 	}
-	connections := j.connections()
+	connections, before := j.connections(), j.core
 	j.core = newCore(j.opt, j.tables, base, j.output.Line, time.Now())
-	j.core.inspects, j.core.database = j.inspects, j.started.Database
-	j.meeting, j.last, j.unanswered = meeting{}, time.Now(), 0
+	j.core.inspects, j.core.database, j.core.slotted = j.inspects, j.started.Database, j.made
+	if before != nil {
+		j.core.inherit(before)
+	}
+	j.meeting, j.last, j.sought, j.unanswered = meeting{}, time.Now(), time.Time{}, 0
 	j.core.open()
 	for _, one := range connections {
 		j.core.enter(one)
@@ -230,21 +252,31 @@ func (j *Joiner) empty() {
 	its, lost := j.inbox.take()
 	j.core.now = time.Now()
 	for _, one := range its {
-		if one.connection != nil {
+		switch {
+		case one.connection != nil:
+			guard.At("a connection")
 			j.core.enter(*one.connection)
-		} else {
+		case one.transaction != nil:
+			guard.At("a transaction")
 			j.core.tell(*one.transaction)
+		case one.dropped != nil:
+			j.core.drop(one.dropped)
+		default:
+			j.moment(*one.moment)
 		}
 	}
 	j.core.counts.lost = lost
 }
 
 func (j *Joiner) tick(ctx context.Context) error {
+	guard.At("a step")
 	now := time.Now()
 	j.empty()
 	if j.again {
 		j.again = false
+		j.restarts.Store(false)
 		j.core.flush()
+		j.core.counts.totals.close(auditEnded)
 		j.output.Event(j.coverageEvent(true))
 		j.output.Event(Restarted{At: now})
 		if err := j.begin(ctx); err != nil {
@@ -256,13 +288,13 @@ func (j *Joiner) tick(ctx context.Context) error {
 		j.given = now
 		j.core.flush()
 	}
-	if j.core.wantsMoment(j.meeter.Busy) {
-		j.core.quiet()
+	if j.core.wantsMoment(j.busy) {
+		j.core.now = time.Now()
+		j.core.quiet(j.core.now)
 	}
 	j.askPlace(ctx, now)
 	j.askSubs(ctx)
 	j.meet(ctx, now)
-	j.letJoin(ctx)
 	if now.Sub(j.forgot) >= each {
 		j.forgot = now
 		j.core.forget()
@@ -282,6 +314,12 @@ func (j *Joiner) tick(ctx context.Context) error {
 		return fmt.Errorf("ask the server for its WAL position: %w", j.failure)
 	}
 	return nil
+}
+
+// busy returns about how many transactions a moment now would fold.
+func (j *Joiner) busy() int {
+	underWay, idle := j.meeter.Busy(j.core.audited())
+	return underWay + idle
 }
 
 // askPlace asks where the log stands, for everything reported up to now. The question takes more processor time than
@@ -316,38 +354,15 @@ func (j *Joiner) askPlace(ctx context.Context, now time.Time) {
 			j.failing = time.Time{}
 			j.gate.verify(place, j.core)
 			if wanted && core == j.core {
-				core.placed(batch, place.At, now)
+				core.placed(batch, place, now)
 			}
 		}
 	})
 }
 
-// do runs f in the joiner's loop for another goroutine, and waits for it. It returns false if that isn't possible any
-// more, because the audit is over or another one has begun.
-func (j *Joiner) do(of *core, f func()) bool {
-	did := make(chan bool, 1)
-	select {
-	case j.replies <- func() {
-		if of == j.core {
-			j.empty()
-			f()
-		}
-		did <- of == j.core
-	}:
-	case <-j.done:
-		return false
-	}
-	select {
-	case is := <-did:
-		return is
-	case <-j.done:
-		return false
-	}
-}
-
 // ask runs a question beside the joiner's loop, and the function that it returns in the loop.
 func (j *Joiner) ask(ctx context.Context, question func(context.Context) func()) {
-	go func() {
+	guard.Go("a question to the server", j.End, func() {
 		asking, cancel := context.WithTimeout(ctx, questions)
 		defer cancel()
 		answer := question(asking)
@@ -355,7 +370,7 @@ func (j *Joiner) ask(ctx context.Context, question func(context.Context) func())
 		case j.replies <- answer:
 		case <-j.done:
 		}
-	}()
+	})
 }
 
 func (j *Joiner) askSubs(ctx context.Context) {

@@ -4,6 +4,7 @@ import (
 	"context"
 	"errors"
 	"fmt"
+	"sort"
 	"strings"
 	"testing"
 	"time"
@@ -13,34 +14,24 @@ import (
 
 // often are options of an audit whose sessions meet as often as they can.
 var often = Options{
-	Sessions: 4, Reserve: 1, Every: 1, Between: 30 * time.Millisecond, Within: 30 * time.Millisecond, Late: time.Minute,
-	Stale: time.Hour, Idle: time.Hour,
+	Sessions: 4, Every: 1, Between: 30 * time.Millisecond, Within: 30 * time.Millisecond, Late: time.Minute, Stale: time.Hour,
+	Idle: time.Hour,
 }
 
-// Sessions meet: those without a connection get a fence made for them before the others, those that are busy between
-// the first fences and the second ones, and after these; each meeting is followed by a round and a cut, by which
-// everything is forgotten.
-func TestWhoMakesTheFences(t *testing.T) {
+// Each meeting is of the connections that have a session, and is followed by a round and a cut, by which everything is
+// forgotten but fences.
+func TestMeetings(t *testing.T) {
 	s := newStage(t, often)
-	s.connect(1, 2, 3)
+	s.connect(1, 2, 3, 4, 5)
 	for i := 0; i < 3; i++ {
 		s.update(1, "a")
 		s.update(2, "b")
 	}
 	s.update(3, "c")
+	s.leave(3) // its session is handed on
 	s.until("a first round", func() bool { return s.lined("truncate") > 0 })
-	s.lock.Lock()
-	s.busy[2], s.happens = true, nil
-	s.lock.Unlock()
 	s.update(2, "b")
-	s.update(3, "c")
-	s.leave(3)
-	s.until("a whole meeting", func() bool { return s.meetings("spare meet spare met spare") > 0 })
-	s.lock.Lock()
-	s.busy[2] = false
-	s.lock.Unlock()
-	s.update(1, "a")
-	s.until("that nothing is left but fences", func() bool {
+	s.until("a meeting of those with a session, and that nothing is left but fences", func() bool {
 		for _, one := range s.model.sessions {
 			for _, it := range one.its[one.mark:] {
 				if !it.isFence() {
@@ -48,66 +39,99 @@ func TestWhoMakesTheFences(t *testing.T) {
 				}
 			}
 		}
-		return s.lined("truncate") > 1
+		last := append([]uint64(nil), s.asked[len(s.asked)-1]...)
+		sort.Slice(last, func(i, j int) bool { return last[i] < last[j] })
+		return s.lined("truncate") > 1 && fmt.Sprint(last) == "[1 2 4 5]"
 	})
 	s.lock.Lock()
 	defer s.lock.Unlock()
 	if n := s.warnings(""); n > 0 {
 		t.Errorf("%d warnings: %v", n, s.events)
 	}
+	if first := fmt.Sprint(s.asked[0]); first != "[1 2 3 4]" && first != "[1 2 4]" && first != "[1 2 5 4]" {
+		t.Errorf("the first meeting is of %v", first)
+	}
+	moments := 0
+	for _, one := range s.events {
+		if it, is := one.(Meeting); is {
+			moments++
+			if it.Fences < 4 || it.Fences > 7 || it.Took != time.Millisecond {
+				t.Errorf("told: %+v", it)
+			}
+		}
+	}
+	if moments < s.lined("round") {
+		t.Errorf("%d rounds are of %d meetings", s.lined("round"), moments)
+	}
 }
 
-// A connection that gets a closed session is asked for the fence by which the session comes back.
-func TestClosedSessionsComeBack(t *testing.T) {
+// A meeting waits for a gap, but not for long: with something under way all the time it takes place, too.
+func TestMeetingsOfTheBusy(t *testing.T) {
 	s := newStage(t, often)
-	s.connect(1, 2, 3, 4)
-	for connection := uint64(1); connection <= 4; connection++ {
-		s.update(connection, "a")
-	}
-	s.until("a first round", func() bool { return s.lined("truncate") > 0 })
-	s.leave(2)
-	s.leave(3)
-	s.leave(4)
-	for i := 0; i < 20000 && s.count("close") == 0; i++ {
-		s.update(1, "a")
-		time.Sleep(time.Millisecond)
-	}
-	s.until("that sessions are closed", func() bool { return s.lined("close") > 0 })
-	for i := 0; i < 20000 && s.count("join") == 0; i++ {
-		number := uint64(5 + i)
-		s.connect(number)
-		s.update(1, "a")
-		time.Sleep(time.Millisecond)
-	}
-	s.until("a join", func() bool { return s.lined("join") > 0 && s.meetings("join") > 0 })
+	s.connect(1)
+	s.busy[1] = true
+	s.update(1, "a")
+	s.until("a round", func() bool { return s.lined("round") > 0 })
 }
 
-// A fence that can't be made is reported once a minute, and the sessions meet all the same; the cuts come back with the
-// server.
-func TestServerThatMakesNoFence(t *testing.T) {
-	s := newStage(t, often)
-	s.lock.Lock()
-	s.failing["spare"], s.failing["meet"] = errors.New("no room"), errors.New("somebody left")
-	s.lock.Unlock()
-	s.connect(1, 2)
-	s.update(2, "b")
-	s.leave(2)
-	for i := 0; i < 20000 && s.count("truncate") < 4; i++ {
-		s.update(1, "a")
-		time.Sleep(time.Millisecond)
+// gaps is a Meeter with something under way.
+type gaps struct{ underWay int }
+
+func (g gaps) Meet(context.Context, []uint64, func(time.Duration)) {}
+func (g gaps) Busy([]uint64) (underWay, idle int)                  { return g.underWay, 9 }
+
+// A meeting waits until nothing is under way, so that nobody is held for it; but not for long, and not if there is
+// little room. Who is idle in a transaction doesn't matter.
+func TestMeetingsWaitForAGap(t *testing.T) {
+	for _, one := range []struct {
+		underWay int
+		passed   time.Duration
+		short    bool
+		want     bool
+	}{
+		{0, 0, false, true},
+		{1, 0, false, false},
+		{1, seek - 1, false, false},
+		{1, seek, false, true},
+		{1, 0, true, true},
+	} {
+		b := newBench(t, Options{Sessions: 1, Limit: 16})
+		b.connect(1)
+		for place := uint64(0); one.short && place < 16; place++ {
+			b.tell(1, place, record.Transaction{Reads: []record.Read{read("a", 7)}})
+		}
+		j := &Joiner{core: b.core, meeter: gaps{one.underWay}, inbox: NewInbox(1000), wanted: true}
+		for _, at := range []time.Time{b.now, b.now.Add(one.passed)} {
+			j.meet(context.Background(), at)
+		}
+		if got := j.meeting.phase == together; got != one.want || j.wanted == got {
+			t.Errorf("%+v: it begins: %v", one, got)
+		}
+		if b.core.isShort() != one.short {
+			t.Errorf("%+v: there is little room: %v", one, b.core.isShort())
+		}
 	}
-	s.lock.Lock()
-	if a, b := s.warnings("no room"), s.warnings("somebody left"); a != 1 || b != 1 {
-		t.Errorf("told %d and %d times", a, b)
-	}
-	gone := s.model.remain()
-	delete(s.failing, "spare")
-	s.lock.Unlock()
-	s.until("a cut", func() bool {
-		go s.update(1, "a")
-		return s.model.remain() < gone
-	})
 }
+
+// A moment that was sought for an audit before this one, or twice, isn't noted.
+func TestMomentOfAnotherAudit(t *testing.T) {
+	b := newBench(t, Options{Sessions: 1})
+	events := 0
+	j := &Joiner{core: b.core, inbox: NewInbox(1000), meeting: meeting{phase: together, number: 7}, output: counting{&events}}
+	for _, number := range []uint64{6, 7, 7, 8} {
+		j.inbox.Moment(number, time.Millisecond)
+	}
+	j.empty()
+	if events != 1 || len(b.core.moments.its) != 1 || j.meeting.phase != settling {
+		t.Errorf("%d are noted, %d are told, the phase is %d", len(b.core.moments.its), events, j.meeting.phase)
+	}
+}
+
+// counting is an Output that counts events.
+type counting struct{ events *int }
+
+func (counting) Line([]byte)   {}
+func (c counting) Event(Event) { *c.events++ }
 
 // If a server doesn't say where its log is, what was reported waits until it does.
 func TestServerThatDoesntTellItsPlace(t *testing.T) {
@@ -119,13 +143,13 @@ func TestServerThatDoesntTellItsPlace(t *testing.T) {
 	s.update(1, "a")
 	s.until("that it is asked again", func() bool { return len(s.events) > 0 })
 	time.Sleep(3 * askPlace)
-	if s.count("offer") > 0 {
+	s.lock.Lock()
+	if s.applications() > 0 {
 		t.Error("something was offered whose writes may not have been told")
 	}
-	s.lock.Lock()
 	delete(s.failing, "place")
 	s.lock.Unlock()
-	s.until("an offer", func() bool { return s.lined("offer") > 0 })
+	s.until("an offer", func() bool { return s.applications() > 0 })
 }
 
 // Stop makes a last round and reports it; the audit goes on.
@@ -179,9 +203,7 @@ func TestRestart(t *testing.T) {
 	close(slow)
 	s.update(1, "b")
 	s.update(2, "a")
-	s.until("offers of the new one, and the meeting's end", func() bool {
-		return s.model.remain() > 1 && s.meetings("met") == 1
-	})
+	s.until("offers of the new one", func() bool { return s.model.remain() > 1 })
 	for i := 0; i < 20; i++ { // what the meeting still reports arrives within some steps
 		s.update(1, "b")
 		time.Sleep(step)
@@ -233,7 +255,7 @@ func TestEnd(t *testing.T) {
 // An audit that can't begin ends with that reason.
 func TestServerThatIsAwayAtFirst(t *testing.T) {
 	s := &stage{t: t, inbox: NewInbox(1000), failing: map[string]error{"base": errors.New("away")}}
-	err := New(often, s.inbox, plainTables{}, s, false, byStage{s}, s).Run(context.Background())
+	err := New(often, s.inbox, plainTables{}, s, false, s, s).Run(context.Background())
 	if err == nil || !strings.Contains(err.Error(), "begin the audit: away") {
 		t.Error(err)
 	}

@@ -9,7 +9,7 @@ import (
 )
 
 // settled is the model's cut: the last fence that everything else in the sessions comes before or after, by fences
-// alone, and that every open session has passed. It returns the sessions' marks, and whether there is such a fence.
+// alone, and that every session has passed. It returns the sessions' marks, and whether there is such a fence.
 func (m *model) settled() ([]uint64, bool) {
 	place := m.chain()
 	marks, found := make([]uint64, len(m.sessions)), false
@@ -58,10 +58,10 @@ func (m *model) chain() map[[2]int]int {
 }
 
 // front returns how many of a session's transactions come at or before the fence with this place in the chain. It
-// returns false if that isn't known of all, or the session is open and hasn't passed the fence.
+// returns false if that isn't known of all, or the session hasn't passed the fence.
 func (m *model) front(session, at int, place map[[2]int]int) (uint64, bool) {
 	s := m.sessions[session]
-	count, passed := 0, s.closed
+	count, passed := 0, false
 	known := len(s.its) == 0
 	for n, t := range s.its {
 		known = false
@@ -95,7 +95,6 @@ type life struct {
 	ever   uint64
 	cuts   int
 	missed int
-	held   bool // those that have come to a meeting are held
 	offers map[name][2]time.Time
 	whose  map[name]uint64
 }
@@ -114,12 +113,6 @@ func (l *life) connect() {
 func (l *life) commit(keys ...string) uint32 {
 	l.next++
 	l.bench.commit(l.next, keys...)
-	return l.next
-}
-
-func (l *life) fence() uint32 {
-	l.next++
-	l.bench.commitFence(l.next)
 	return l.next
 }
 
@@ -165,7 +158,7 @@ func (l *life) end(c *liveConnection) {
 	c.began = time.Time{}
 }
 
-// busy returns the connections in the middle of a transaction: a meeting doesn't hold them.
+// busy returns the connections in the middle of a transaction.
 func (l *life) busy() []*liveConnection {
 	var its []*liveConnection
 	for _, c := range l.live {
@@ -176,48 +169,17 @@ func (l *life) busy() []*liveConnection {
 	return its
 }
 
-func (l *life) own(c *liveConnection) {
-	l.tick()
-	began := l.now
-	number := l.fence()
-	l.tick()
-	l.tell(c.number, c.place, record.Transaction{Began: began, Ended: l.now, Number: uint64(number), Fence: true})
-	c.place++
-}
-
-func (l *life) spares(sessions []int) {
-	for _, s := range sessions {
-		l.tick()
-		began := l.now
-		number := l.fence()
-		if l.r.Intn(4) == 0 && !l.held { // meanwhile things go on
-			l.step()
-		} else if busy := l.busy(); len(busy) > 0 && l.r.Intn(2) == 0 {
-			l.end(busy[l.r.Intn(len(busy))])
-		}
-		l.tick()
-		l.core.spare(s, uint64(number), began, l.now)
-	}
-}
-
-// meet is a meeting, which a connection in the middle of a transaction misses.
+// meet is a meeting: what is under way ends, but for some of it, and nothing begins.
 func (l *life) meet() {
-	l.spares(l.core.meet())
-	var there []*liveConnection
-	for _, c := range l.live {
-		if c.began.IsZero() {
-			there = append(there, c)
-			l.own(c)
+	for _, c := range l.busy() {
+		if l.r.Intn(4) > 0 {
+			l.end(c)
 		}
 	}
-	l.held = true
-	l.spares(l.core.missing())
-	l.held = false
-	l.core.halfway()
-	for _, c := range there {
-		l.own(c)
+	l.tick()
+	if n := l.core.meet(l.now); n < 8 || n > 15 {
+		l.t.Errorf("8 sessions have %d fences", n)
 	}
-	l.spares(l.core.met())
 	upTo := l.core.numbers()
 	l.bench.settle()
 	if !l.core.isWritten(upTo) {
@@ -230,7 +192,6 @@ func (l *life) meet() {
 		}
 		l.t.FailNow()
 	}
-	l.core.closeVacant()
 	l.core.round()
 	marks, found := l.model.settled()
 	if found {
@@ -242,14 +203,6 @@ func (l *life) meet() {
 	if !l.core.cut(marks) {
 		l.t.Fatalf("the core doesn't take the marks %v", marks)
 	}
-	for _, c := range l.core.joining {
-		for _, mine := range l.live {
-			if mine.number == c.its.Number && mine.began.IsZero() {
-				l.own(mine)
-			}
-		}
-	}
-	l.core.joining = nil
 }
 
 // note records when each offered transaction ran, before a cut makes it forgotten.
@@ -258,7 +211,7 @@ func (l *life) note() {
 		for i, one := range s.kept {
 			id := named(s.index, s.mark+uint64(i))
 			l.offers[id] = [2]time.Time{one.its.Began, one.its.Ended}
-			if !one.its.Fence {
+			if !one.fence {
 				l.whose[id] = one.from.Number
 			}
 		}
@@ -266,11 +219,11 @@ func (l *life) note() {
 }
 
 // Whatever happens, the auditor accepts every line; each session's transactions follow one another in time, except
-// fences; and cuts come, so that few transactions remain.
+// fences; and each meeting leads to a cut that leaves nothing but fences.
 func TestLives(t *testing.T) {
 	for seed := int64(0); seed < 12; seed++ {
 		r := rand.New(rand.NewSource(seed))
-		l := &life{bench: newBench(t, Options{Sessions: 8, Limit: 600, Reserve: 2, Late: time.Second}), r: r, next: base,
+		l := &life{bench: newBench(t, Options{Sessions: 8, Limit: 600, Late: time.Second}), r: r, next: base,
 			offers: map[name][2]time.Time{}, whose: map[name]uint64{}}
 		for meetings := 0; meetings < 40; meetings++ {
 			for n := 0; n < 60; n++ {
@@ -292,7 +245,7 @@ func TestLives(t *testing.T) {
 				ended = l.offers[this][1]
 			}
 		}
-		if l.missed > 2 || l.core.remaining() > 200 {
+		if l.missed > 0 || l.core.remaining() > 8 {
 			t.Errorf("seed %d: %d cuts, %d missed, %d remain", seed, l.cuts, l.missed, l.core.remaining())
 		}
 		if l.ever > 12 && l.core.counts.offered < 300 {

@@ -28,7 +28,7 @@ func (c *core) write(s *session) bool {
 
 func (c *core) put(s *session, e *entry, to *resolution) {
 	c.used++
-	c.settle(to)
+	c.settle(e, to)
 	c.counts.put(e, to)
 	if s.count == 0 {
 		s.first = e.name.number()
@@ -41,9 +41,6 @@ func (c *core) put(s *session, e *entry, to *resolution) {
 	c.keep(s, e, to)
 	if e.writer != nil {
 		e.writer.forgetWrites()
-		if e.writer.fence {
-			c.fences = append(c.fences, e.writer)
-		}
 	}
 	if s.count == mostInLine {
 		c.writeOffer(s)
@@ -81,19 +78,12 @@ func appendRead(to []byte, one source) []byte {
 }
 
 // writeOffer writes the session's fragment.
-func (c *core) writeOffer(s *session) { c.writeFragment(s, "offer") }
-
-// writeJoin writes it as the one by which the session comes back.
-func (c *core) writeJoin(s *session) { c.writeFragment(s, "join") }
-
-func (c *core) writeFragment(s *session, command string) {
+func (c *core) writeOffer(s *session) {
 	if s.count == 0 {
 		return
 	}
 	line := make([]byte, 0, len(s.line)+40)
-	line = append(line, `["`...)
-	line = append(line, command...)
-	line = append(line, `",`...)
+	line = append(line, `["offer",`...)
 	line = strconv.AppendInt(line, int64(s.index), 10)
 	line = append(line, ',')
 	line = strconv.AppendUint(line, s.first, 10)
@@ -116,33 +106,28 @@ func (c *core) open() {
 	c.out([]byte(`["open",` + strconv.Itoa(len(c.sessions)) + `,` + strconv.Itoa(c.opt.Limit) + `,2]`))
 }
 
-// close ends a session, until a fence joins it again.
-func (c *core) close(s *session) {
-	c.writeOffer(s)
-	s.closed = true
-	c.out([]byte(`["close",` + strconv.Itoa(s.index) + `]`))
-}
-
 // round makes the auditor check everything that was offered, and forget what is settled.
 func (c *core) round() {
 	c.flush()
 	c.counts.rounds++
+	c.counts.totals.add(&c.counts.fresh)
+	c.counts.fresh = Totals{}
 	c.out([]byte(`["round",` + strconv.Itoa(c.opt.Budget) + `,0,1]`))
 	c.out([]byte(`["truncate"]`))
 }
 
 // keep stores what people may ask about a transaction, until it is gone.
 func (c *core) keep(s *session, e *entry, to *resolution) {
-	one := &told{its: e.its, reads: to.reads, writes: to.writes, used: c.used}
-	one.its.Reads, one.its.Absent, one.its.Versions = nil, nil, nil
+	one := &told{its: e.its, fence: e.fence, reads: to.reads, writes: to.writes, used: c.used, dropped: e.its.Dropped}
+	one.its.Reads, one.its.Absent, one.its.Versions, one.its.Did = nil, nil, nil, record.Did{}
 	if e.conn != nil {
 		one.from = e.conn.its
 	}
 	one.bytes = textsOf(e.its.Statements)
 	if c.texts+one.bytes > c.opt.Texts {
-		one.dropped, one.bytes, one.its.Statements = len(e.its.Statements), 0, nil
-		c.counts.dropped += uint64(one.dropped)
+		one.dropped, one.bytes, one.its.Statements = one.dropped+len(e.its.Statements), 0, nil
 	}
+	c.counts.dropped += uint64(one.dropped)
 	c.texts += one.bytes
 	s.kept = append(s.kept, one)
 }
@@ -177,11 +162,11 @@ func (c *core) cut(marks []uint64) bool {
 		s.kept, s.mark = s.kept[gone:], marks[i]
 	}
 	remain := c.fences[:0]
-	for _, w := range c.fences {
-		if w.name.number() >= c.sessions[w.name.session()].mark {
-			remain = append(remain, w)
-		} else if w.place > c.fenced {
-			c.fenced = w.place
+	for _, one := range c.fences {
+		if one.name.number() >= c.sessions[one.name.session()].mark {
+			remain = append(remain, one)
+		} else if one.place > c.fenced {
+			c.fenced = one.place
 		}
 	}
 	c.fences = remain

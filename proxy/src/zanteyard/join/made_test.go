@@ -24,8 +24,9 @@ func TestReadsByStatement(t *testing.T) {
 			read("b", 8), read("a", 9), read("c", 7)}},
 			[]KeyRead{{Key: 1, Initial: true, By: 2}, {Key: 2, Initial: true, By: 2}, {Key: 3, Initial: true, By: 4}}},
 		{"rows that weren't there", record.Transaction{Level: record.Serializable, Snapshot: "1100:1100:",
-			Absent: []record.Absence{absent("x"), absent("y"), absent("z")}, Reads: []record.Read{read("x", 7)}},
-			[]KeyRead{{Key: 1, Initial: true, By: 2}, {Key: 2, Initial: true, By: 5}, {Key: 3, Initial: true}}},
+			Absent: []record.Absence{absent("x"), absent("y"), absent("z")}, Reads: []record.Read{read("w", 7)}},
+			[]KeyRead{{Key: 1, Initial: true, By: 2}, {Key: 2, Initial: true, By: 3}, {Key: 3, Initial: true, By: 5},
+				{Key: 4, Initial: true}}},
 		{"a write's read", record.Transaction{Number: 1001, Reads: []record.Read{read("a", 7)}},
 			[]KeyRead{{Key: 1, Initial: true, By: 2}, {Key: 2, Initial: true}}},
 	} {

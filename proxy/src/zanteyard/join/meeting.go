@@ -1,116 +1,118 @@
 package join
 
 import (
-	"context"
 	"time"
+
+	"zanteyard/record"
 )
 
-// meet continues the meeting, or begins one when it is time.
-func (j *Joiner) meet(ctx context.Context, now time.Time) {
-	switch j.meeting.phase {
-	case apart:
-		// While a round isn't answered yet, another one would only wait behind it.
-		if j.wanted || j.core.wantsMeeting(j.last) && (j.unanswered == 0 || now.Sub(j.last) > patience) {
-			j.wanted, j.last = false, now
-			j.meeting = meeting{phase: together, isLast: j.stopping}
-			go j.together(ctx, j.core)
-		}
-	case settling:
-		if j.core.isWritten(j.meeting.upTo) || now.Sub(j.meeting.ended) > mostSettling {
-			j.endMeeting()
-		}
-	}
+// In a meeting the joiner finds a quiet moment (moments.go), and writes the moment's fences into the auditor's log:
+// transactions on a key of their own, which nobody ran. Each reads the one before it. A session's fences come after
+// everything that was offered in it before the moment, and before everything that is offered in it later. Each session
+// with something to be forgotten has one; at the last of these the auditor can forget; and each other session has one
+// after that. So everything from before the moment comes before that fence, and everything from after it comes after it
+// (docs/COLLECTORS.md, "Fences").
+
+type phase uint8
+
+const (
+	apart    phase = iota
+	together       // the moment is sought
+	settling       // what was reported before it is on its way into lines
+)
+
+type meeting struct {
+	phase  phase
+	number uint64
+	upTo   []uint64 // for each session, the numbers that have to be in lines before the round
+	noted  time.Time
+	isLast bool // it was requested by stop
 }
 
-// together makes the sessions meet, beside the joiner's loop.
-func (j *Joiner) together(ctx context.Context, core *core) {
-	var needs []int
-	if !j.do(core, func() { needs = core.meet() }) || !j.spare(ctx, core, needs) {
-		return
+// mostSettling is how long a round waits for what was reported before its meeting.
+const mostSettling = 5 * time.Second
+
+// room returns how many more transactions may be named.
+func (c *core) room() int { return c.opt.Limit - c.opt.fenceRoom() - c.remaining() }
+
+// isShort reports whether soon nothing more is taken.
+func (c *core) isShort() bool { return c.room() <= c.opt.Limit/8 }
+
+// wantsMeeting reports whether it is time for a meeting.
+func (c *core) wantsMeeting(last time.Time) bool {
+	passed := c.now.Sub(last)
+	switch {
+	case c.isShort():
+		return passed >= c.opt.Between/4
+	case c.since == 0:
+		return false
+	case c.since >= c.opt.Every, c.room() <= c.opt.Limit/2:
+		return passed >= c.opt.Between
 	}
-	meeting, cancel := context.WithTimeout(ctx, questions)
-	defer cancel()
-	fences, took, err := j.meeter.MeetAround(meeting, func(held context.Context) {
-		var needs []int
-		j.do(core, func() { needs = core.missing() })
-		j.spare(held, core, needs)
-		j.do(core, core.halfway)
-	})
-	if err != nil && ctx.Err() == nil {
-		j.warn("the sessions didn't meet: " + err.Error())
-	}
-	if !j.do(core, func() {
-		j.output.Event(Meeting{At: core.now, Fences: fences, Took: took})
-		needs = core.met()
-	}) || !j.spare(ctx, core, needs) {
-		return
-	}
-	j.do(core, func() { j.meeting.phase, j.meeting.ended, j.meeting.upTo = settling, core.now, core.numbers() })
+	return passed >= c.opt.Between && c.now.Sub(c.oldest) >= c.opt.Within
 }
 
-// spare makes fences for sessions, one after another. It returns false if the audit is over.
-func (j *Joiner) spare(ctx context.Context, core *core, sessions []int) bool {
-	for _, session := range sessions {
-		asking, cancel := context.WithTimeout(ctx, questions)
-		began := time.Now()
-		number, err := j.server.Fence(asking)
-		ended := time.Now()
-		cancel()
-		if err != nil {
-			if ctx.Err() == nil {
-				j.warn("the audit's own connection can't make a fence: " + err.Error())
-			}
-			break
+// fence is one that may remain.
+type fence struct {
+	name  name
+	place uint64 // of the last commit that the slot had reported at its moment
+}
+
+// meet makes this time a quiet moment, and writes its fences. It returns their number: none if there is no room for all
+// of them.
+func (c *core) meet(at time.Time) int {
+	c.quiet(at)
+	c.since = 0
+	var first []*session
+	for _, s := range c.sessions {
+		if !s.fenced {
+			first = append(first, s)
 		}
-		if !j.do(core, func() { core.spare(session, number, began, ended) }) {
+	}
+	if len(first) == 0 {
+		first = c.sessions[:1]
+	}
+	n := len(first) + len(c.sessions) - 1
+	if n > c.opt.Limit-c.remaining() {
+		return 0
+	}
+	for _, s := range first {
+		c.fence(s, c.moments.last())
+	}
+	for _, s := range c.sessions {
+		if s != first[len(first)-1] {
+			c.fence(s, c.moments.last())
+		}
+	}
+	return n
+}
+
+// fence writes a fence of a moment into a session, as the last one of all.
+func (c *core) fence(s *session, moment time.Time) {
+	e := &entry{its: record.Transaction{Began: moment, Ended: moment}, session: s, name: named(s.index, s.next), fence: true,
+		from: c.last}
+	s.next++
+	s.fence, s.fenced = moment, true
+	s.waiting = append(s.waiting, e)
+	c.last = e.name
+	c.fences = append(c.fences, fence{e.name, c.commits})
+}
+
+// numbers returns the sessions' next ones.
+func (c *core) numbers() []uint64 {
+	its := make([]uint64, len(c.sessions))
+	for i, s := range c.sessions {
+		its[i] = s.next
+	}
+	return its
+}
+
+// isWritten reports whether everything below these numbers is in lines.
+func (c *core) isWritten(numbers []uint64) bool {
+	for i, s := range c.sessions {
+		if s.written < numbers[i] {
 			return false
 		}
 	}
 	return true
-}
-
-// endMeeting makes the auditor check and forget.
-func (j *Joiner) endMeeting() {
-	j.core.flush()
-	j.core.closeVacant()
-	j.core.round()
-	j.unanswered++
-	isLast := j.meeting.isLast
-	j.meeting = meeting{}
-	if isLast {
-		j.stopping = false
-		j.output.Event(j.coverageEvent(false))
-		j.output.Event(Stopped{At: j.core.now})
-	}
-}
-
-// letJoin makes connections that got a closed session make the fence by which it comes back.
-func (j *Joiner) letJoin(ctx context.Context) {
-	for _, conn := range j.core.joining {
-		if !conn.joins || conn.ended {
-			continue
-		}
-		number := conn.its.Number
-		go func() {
-			asking, cancel := context.WithTimeout(ctx, questions)
-			defer cancel()
-			j.meeter.Fence(asking, number) // if that fails, the connection makes one at the next meeting
-		}()
-	}
-	j.core.joining = nil
-}
-
-// warn warns people, of the same thing at most once a minute.
-func (j *Joiner) warn(text string) {
-	now := time.Now()
-	j.warned.Lock()
-	defer j.warned.Unlock()
-	if at, is := j.warnings[text]; is && now.Sub(at) < time.Minute {
-		return
-	}
-	if len(j.warnings) > 100 || j.warnings == nil {
-		j.warnings = map[string]time.Time{}
-	}
-	j.warnings[text] = now
-	j.output.Event(Warning{At: now, Text: text})
 }

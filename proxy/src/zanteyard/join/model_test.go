@@ -10,9 +10,8 @@ type model struct {
 }
 
 type modelSession struct {
-	its    []modelTxn
-	mark   int
-	closed bool
+	its  []modelTxn
+	mark int
 }
 
 type modelTxn struct {
@@ -34,14 +33,8 @@ func (m *model) remain() int {
 
 func (m *model) take(it []any) string {
 	switch it[0] {
-	case "offer", "join":
-		return m.offer(it[0] == "join", int(it[1].(float64)), int(it[2].(float64)), it[3].([]any))
-	case "close":
-		s := &m.sessions[int(it[1].(float64))]
-		if s.closed {
-			return "Closed"
-		}
-		s.closed = true
+	case "offer":
+		return m.offer(int(it[1].(float64)), int(it[2].(float64)), it[3].([]any))
 	case "round":
 		m.rounds++
 	case "truncate":
@@ -51,15 +44,11 @@ func (m *model) take(it []any) string {
 	return ""
 }
 
-func (m *model) offer(joins bool, session, first int, its []any) string {
+func (m *model) offer(session, first int, its []any) string {
 	s := &m.sessions[session]
 	switch {
 	case len(its) == 0 || len(its) > 256:
 		return "TooLong"
-	case !joins && s.closed:
-		return "Closed"
-	case joins && !(s.closed && s.mark == len(s.its)):
-		return "BadSession"
 	case first != len(s.its):
 		return fmt.Sprintf("Gap or Repeat: %d, not %d", first, len(s.its))
 	case m.remain()+len(its) > m.limit:
@@ -70,44 +59,9 @@ func (m *model) offer(joins bool, session, first int, its []any) string {
 		if refusal != "" {
 			return refusal
 		}
-		if joins && i == 0 && !(t.isFence() && m.anchors(t.reads[0])) {
-			return "NotAnchored"
-		}
 		s.its = append(s.its, t)
 	}
-	s.closed = false
 	return ""
-}
-
-// anchors reports whether it is a fence that remains, or the last one that is gone.
-func (m *model) anchors(read [3]int64) bool {
-	if read[1] < 0 || int(read[2]) >= len(m.sessions[read[1]].its) {
-		return false
-	}
-	if !m.sessions[read[1]].its[read[2]].isFence() {
-		return false
-	}
-	return int(read[2]) >= m.sessions[read[1]].mark || m.lastGone() == [2]int64{read[1], read[2]}
-}
-
-// lastGone returns the gone fence that no other gone fence has read.
-func (m *model) lastGone() [2]int64 {
-	over := map[[2]int64]bool{}
-	for _, s := range m.sessions {
-		for _, t := range s.its[:s.mark] {
-			if t.isFence() {
-				over[[2]int64{t.reads[0][1], t.reads[0][2]}] = true
-			}
-		}
-	}
-	for i, s := range m.sessions {
-		for n, t := range s.its[:s.mark] {
-			if id := [2]int64{int64(i), int64(n)}; t.isFence() && !over[id] {
-				return id
-			}
-		}
-	}
-	return [2]int64{-1, -1}
 }
 
 func parse(it []any, session, number int) (modelTxn, string) {

@@ -7,8 +7,8 @@ import (
 	"zanteyard/record"
 )
 
-// Quiet moments. A quiet moment is one that no offered transaction spans: each ended before it or began after it, and a
-// transaction that spans one is folded. PostgreSQL's snapshots then put everything before the moment in front of
+// Quiet moments. A quiet moment is one that no offered transaction spans: each had ended before it, or began after it,
+// and a transaction that spans one is folded. PostgreSQL's snapshots then put everything before the moment in front of
 // everything after it: a transaction sees what had ended before it began, and nothing of what began after it had ended.
 // So an order that explains what was offered can be sorted by the moments and still explains it, and what the auditor
 // takes for granted across a moment makes up no violation (docs/FOLDING.md, "Sessions"). This is what allows a session
@@ -57,12 +57,17 @@ func (m *moments) spanned(began, ended time.Time) bool {
 	return m.between(began, ended) || m.forgot && began.Before(m.its[0])
 }
 
-// quiet makes now a quiet moment: whatever is running is folded when it ends.
-func (c *core) quiet() {
-	if c.moments.set(c.now) {
-		c.closing = time.Time{}
-		c.place()
+// quiet makes this time a quiet moment, and hands sessions on: whatever is running is folded when it ends. The clock
+// may have been read before the end of something that is named already, which would then span the moment unnoticed: the
+// moment is the first one after all of these ends.
+func (c *core) quiet(at time.Time) {
+	for _, before := range []time.Time{c.ended, c.moments.last()} {
+		if !at.After(before) {
+			at = before.Add(1)
+		}
 	}
+	c.moments.set(at)
+	c.place()
 }
 
 // leastBetween is the least time between quiet moments, other than those of meetings.
@@ -74,7 +79,7 @@ func (c *core) wantsMoment(busy func() int) bool {
 	stale, ready := 0, 0
 	for _, s := range c.sessions {
 		switch {
-		case s.tenant != nil || s.closed:
+		case s.tenant != nil:
 		case c.isReady(s):
 			ready++
 		default:
@@ -95,59 +100,25 @@ func (c *core) isReady(s *session) bool {
 	return s.last.IsZero() || c.moments.between(s.last, c.now)
 }
 
-// mayStand reports whether a transaction that isn't a fence may be offered next in the session. follows means that the
-// last one there is of the same connection. Only a quiet moment permits an order of connections, or of transactions
-// around a fence: it doesn't matter when the fence was made.
-//
-// Each fence belongs to a moment between what precedes and what follows it in its session, and the fences of an earlier
-// moment have to be written before those of a later one. A fence followed by something of its moment's own time
-// (c.opened) and one preceded by something of that time (c.closing) are told apart by when they ran.
+// mayStand reports whether a transaction may be offered next in the session. follows means that the last one there,
+// except fences, is of the same connection. Only a quiet moment permits an order of connections, or of a transaction
+// and a fence: what is reported so late that a fence of a later moment is in the session already can't be in front of
+// it any more.
 func (c *core) mayStand(s *session, it *record.Transaction, follows bool) bool {
 	began, ended := span(it)
 	switch {
-	case c.moments.spanned(began, ended):
+	case c.moments.spanned(began, ended), began.Before(s.fence):
 		return false
-	case s.fence.IsZero() && follows:
+	case follows, s.last.IsZero():
 		return true
-	case !s.last.IsZero() && !c.moments.between(s.last, began):
-		return false
-	case s.fence.IsZero():
-		return true
-	case began.Before(c.moments.last()), !c.closing.IsZero() && s.fence.After(c.closing):
-		return false
 	}
-	if s.fence.After(c.opened) {
-		c.opened = s.fence
-	}
-	return true
-}
-
-// mayFence reports whether a fence may be offered next in the session. It needn't have begun after what precedes it had
-// ended, if no moment is in between. But a fence that is reported late, after one that the audit's own connection made
-// in its place, may have been written before that one: of two connections' fences the second must have begun after the
-// first had ended.
-func (c *core) mayFence(s *session, it *record.Transaction, follows bool) bool {
-	began, _ := span(it)
-	switch {
-	case !follows && began.Before(s.fence):
-		return false
-	case s.last.IsZero() || c.moments.between(s.last, began):
-		return true
-	case c.moments.between(began, s.last), began.Before(c.opened):
-		return false
-	}
-	if !c.isReady(s) && (c.closing.IsZero() || began.Before(c.closing)) {
-		c.closing = began
-	}
-	return true
+	return c.moments.between(s.last, began)
 }
 
 // stood records what was named last in the session.
-func (s *session) stood(it *record.Transaction) {
-	_, ended := span(it)
-	if !it.Fence {
-		s.last, s.fence = ended, time.Time{}
-	} else if ended.After(s.fence) {
-		s.fence = ended
+func (c *core) stood(s *session, it *record.Transaction) {
+	_, s.last = span(it)
+	if s.last.After(c.ended) {
+		c.ended = s.last
 	}
 }

@@ -35,7 +35,17 @@ type source struct {
 	row  *row
 	from name
 	at   int32
+	is   found
 }
+
+// found says which version a read found.
+type found uint8
+
+const (
+	isOffered  found = iota
+	fromBefore       // written before the audit
+	notOffered       // by a transaction that isn't offered
+)
 
 // same reports whether the auditor is given the same for both.
 func (s source) same(o source) bool { return s.row == o.row && s.from == o.from }

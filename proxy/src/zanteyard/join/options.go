@@ -27,9 +27,14 @@ type Options struct {
 	Sample   float64       // the part of the connections that is audited: 0 to 1
 	Rows     int           // number of rows whose last versions are kept
 	Texts    int           // bytes of statements that are kept
-	Reserve  int           // number of sessions without a connection that are kept open for the next ones
 	Budget   int           // nodes of the search in a round
 	Snapshot bool          // the audit checks for snapshot isolation (docs/FOLDING.md)
+	Shapes   bool          // conditions are told without their constants
+	// Conditions is how many bytes of conditions, and as many of rows' values, are kept.
+	Conditions int
+	// Rollbacks makes transactions that only read count as committed, though their clients rolled them back
+	// (record.Transaction.OnlyRead).
+	Rollbacks bool
 }
 
 func (o Options) withDefaults() Options {
@@ -46,11 +51,12 @@ func (o Options) withDefaults() Options {
 			*at = otherwise
 		}
 	}
-	number(&o.Sessions, 1, 64, 64)
-	number(&o.Limit, 1, 4096, 4096)
+	number(&o.Limit, 4, 4096, 4096)
 	if o.Snapshot {
-		number(&o.Limit, 1, 2048, 2048) // each takes the room of two
+		number(&o.Limit, 4, 2048, 2048) // each takes the room of two
 	}
+	number(&o.Sessions, 1, 64, 64)
+	number(&o.Sessions, 1, 64, o.Limit/4) // so that fences take half of the room at most
 	every := 2560
 	if o.Snapshot {
 		every = 1280
@@ -58,8 +64,8 @@ func (o Options) withDefaults() Options {
 	number(&o.Every, 1, every, 1<<30)
 	number(&o.Rows, 1, 250_000, 1<<30)
 	number(&o.Texts, 1, 32<<20, 1<<40)
-	number(&o.Reserve, 1, 4, o.Sessions)
 	number(&o.Budget, 1, 65536, 1<<32)
+	number(&o.Conditions, 1, 32<<20, 1<<40)
 	duration(&o.Between, 2*time.Second)
 	duration(&o.Within, 5*time.Second)
 	duration(&o.Late, time.Second)
@@ -71,14 +77,14 @@ func (o Options) withDefaults() Options {
 	return o
 }
 
-// fenceRoom is how many of the limit's places are reserved for fences: a meeting has up to four for each session. A
+// fenceRoom is how many of the limit's places are reserved for fences: a meeting has up to two for each session. A
 // transaction that took the last place would prevent the cut that makes room.
-func (o Options) fenceRoom() int {
-	room := 4 * o.Sessions
-	if room > o.Limit/2 {
-		room = o.Limit / 2
-	}
-	return room
+func (o Options) fenceRoom() int { return 2 * o.Sessions }
+
+// Columns is what Tables has to know, too, for reads by conditions to be followed. Safe for use by many goroutines.
+type Columns interface {
+	// SameColumns reports whether all columns of this table still have this identity, as far as the last Place has shown.
+	SameColumns(record.Relation, record.Identity) bool
 }
 
 // Tables knows which table a partition belongs to, and how to describe a row to people. Safe for use by many
@@ -87,6 +93,11 @@ type Tables interface {
 	// Root returns the table whose primary key identifies the rows of this table: the topmost partitioned table that has
 	// one, or the table itself.
 	Root(record.Relation) record.Relation
+	// Use makes the next Place look at this table.
+	Use(record.Relation)
+	// Same reports whether a key of this table, or of the one that Root returns, has this identity still, as far as the
+	// last Place has shown.
+	Same(record.Relation, record.Identity) bool
 	// Words returns the table's name and the row's key in words, and the names of the key's columns.
 	Words(record.Relation, record.Key) (table, row string, columns []string)
 }

@@ -4,6 +4,7 @@ import (
 	"sort"
 	"strconv"
 	"strings"
+	"time"
 
 	"zanteyard/record"
 )
@@ -15,6 +16,7 @@ const mostOfEach = 256
 // Why a read of an offered transaction is left out.
 const (
 	versionUnknown = "its version is unknown"
+	keyChanged     = "its table's key has changed, or the table isn't known yet"
 	subUnknown     = "its version may be from a savepoint, which can't be looked up"
 	readOfItself   = "its version was written after the reader's own"
 	absentAtLevel  = "an absent row, read without a snapshot"
@@ -23,41 +25,83 @@ const (
 	tooMany        = "more than 256 reads of one transaction"
 )
 
+// Why a write of an offered transaction is left out.
+const (
+	tooManyWrites = "more than 256 writes of one transaction"
+	beyondKept    = "more than 65,536 rows of one transaction"
+	keyless       = "in a table without a key, or one that isn't audited"
+)
+
 // resolution is what a transaction is offered with.
 type resolution struct {
 	reads  []source
 	writes []*row
 	left   map[string]uint64
 	own    uint64
-	before uint64 // how many of the reads found a version that was written before the audit
-	folded uint64 // and how many one that isn't offered: they count as reads of the last offered one before it
+	before uint64  // how many of the offered reads found a version that was written before the audit
+	folded uint64  // and how many one that isn't offered: they count as reads of the last offered one before it
+	lost   []lost  // the reads that are left out
+	owned  []int32 // those of what the transaction itself had written
+	// How many rows were returned with those of before and of folded.
+	beforeRows, foldedRows uint64
+	// Conditions that are followed, rows that they passed over, and how many of the writes are versions of registers.
+	asks, passed uint64
+	marked       int
+	leftAsks     map[string]uint64
 }
 
-func (r *resolution) leave(reason string) {
+func (r *resolution) leaveAsk(reason string) {
+	if r.leftAsks == nil {
+		r.leftAsks = map[string]uint64{}
+	}
+	r.leftAsks[reason]++
+}
+
+// lost is a read that is left out: its place as in a source.
+type lost struct {
+	at     int32
+	reason string
+}
+
+func (r *resolution) leave(at int, reason string) {
 	if r.left == nil {
 		r.left = map[string]uint64{}
 	}
 	r.left[reason]++
+	r.lost = append(r.lost, lost{int32(at), reason})
+}
+
+func (r *resolution) isOwn(at int) {
+	r.own++
+	r.owned = append(r.owned, int32(at))
+}
+
+func (r *resolution) offersNothing() bool {
+	return len(r.reads) == 0 && len(r.writes) == 0 && r.own == 0
 }
 
 // resolve finds the sources of a transaction's reads. It returns false as long as the slot hasn't reported everything
 // that the transaction may have seen, or it isn't known yet whether one of these versions is offered.
 func (c *core) resolve(e *entry) (resolution, bool) {
 	var to resolution
+	if e.fence {
+		to.reads, to.writes = []source{{row: c.rows.fence, from: e.from}}, []*row{c.rows.fence}
+		return to, true
+	}
 	if e.batch > c.passed {
 		return to, false
 	}
 	if e.writer != nil && e.writer.place == 0 { // it wrote nothing that the slot reports
 		delete(c.writers, e.writer.number)
 		e.writer = nil
+		if e.its.Ended.Before(c.slotted) {
+			e.late = betweenAudits
+		}
 	}
 	if !c.resolveWrites(e, &to) {
 		return to, false
 	}
-	if e.its.Fence {
-		return to, true
-	}
-	return to, c.resolveReads(e, &to) && c.resolveAbsent(e, &to)
+	return to, c.resolveReads(e, &to) && c.resolveAbsent(e, &to) && c.resolveAsks(e, &to)
 }
 
 // resolveWrites makes each write a read of the version before it.
@@ -72,12 +116,11 @@ func (c *core) resolveWrites(e *entry, to *resolution) bool {
 		}
 		to.writes = append(to.writes, one.row)
 		if from == e.name {
-			to.leave(readOfItself) // it wrote the row twice: the slot has each row once
-			continue
+			continue // it wrote the row twice: the slot has each row once
 		}
 		to.reads = append(to.reads, source{row: one.row, from: from})
 	}
-	return true
+	return c.resolveMarks(e, to)
 }
 
 // resolveReads finds the version that each row's xmin names. Unknown ones are left out: rows of tables that the slot
@@ -86,100 +129,135 @@ func (c *core) resolveReads(e *entry, to *resolution) bool {
 	asks := false
 	for i, one := range e.its.Reads {
 		if e.its.Number != 0 && uint32(e.its.Number) == one.Version {
-			to.own++
+			to.isOwn(i + 1)
+			continue
+		}
+		if !c.tables.Same(one.Relation, one.Identity) {
+			to.leave(i+1, keyChanged)
 			continue
 		}
 		id := rowID{c.tables.Root(one.Relation), one.Key}
 		r := c.rows.by[id]
-		var v *version
-		if r != nil {
-			v = r.find(one.Version)
-		}
+		at, v := r.find(one.Version)
 		switch {
 		case v != nil && v.writer == e.writer:
-			to.own++
+			to.isOwn(i + 1)
 		case v != nil:
 			from, known := under(v)
 			if !known {
 				return false
 			}
-			if v.isFolded() {
-				to.folded++
-			}
-			c.add(e, to, id, r, from, i+1)
+			to.add(e, at, from, i+1, foundIn(v))
 		case c.isOld(one.Version):
-			c.add(e, to, id, r, initial, i+1)
-			to.before++
+			if at = c.rows.before(id); at == nil || c.missed(&e.its) {
+				to.leave(i+1, versionUnknown)
+				continue
+			}
+			to.add(e, at, initial, i+1, fromBefore)
 		case c.askSubs(r, one.Version):
 			asks = true
 		case !c.inspects && r.mayBeSub(one.Version):
-			to.leave(subUnknown)
+			to.leave(i+1, subUnknown)
 		default:
-			to.leave(versionUnknown)
+			to.leave(i+1, versionUnknown)
 		}
 	}
 	return !asks
 }
 
-// add adds a read, if its row is among those that are kept; a row that wasn't is kept from now on.
-func (c *core) add(e *entry, to *resolution, id rowID, r *row, from name, at int) {
-	if from == e.name {
-		to.leave(readOfItself)
-		return
+// foundIn returns what a read of a version found.
+func foundIn(v *version) found {
+	if v.isFolded() {
+		return notOffered
 	}
-	if r == nil {
-		r = c.rows.get(id)
-	}
-	to.reads = append(to.reads, source{r, from, int32(at)})
+	return isOffered
 }
 
-// resolveAbsent finds the versions that made rows absent: a snapshot says which transactions it shows, and the last of
-// these that wrote the row must have deleted it. At read committed each statement has its own snapshot, which isn't
-// known.
+// add adds a read.
+func (r *resolution) add(e *entry, of *row, from name, at int, is found) {
+	if from == e.name {
+		r.leave(at, readOfItself)
+		return
+	}
+	r.reads = append(r.reads, source{of, from, int32(at), is})
+}
+
+// visible is how long after the slot has reported a commit everybody who begins sees it. The server writes a commit to
+// its log, from which the slot has it, a moment before it shows it to others.
+const visible = 2 * time.Second
+
+// missed reports whether the transaction may have begun before an insertion or deletion that is forgotten: then a row
+// that it found, or didn't find, may have been another one than that which has the key now.
+func (c *core) missed(it *record.Transaction) bool {
+	began, _ := span(it)
+	return c.rows.lost > 0 && !began.After(c.began.Add(c.rows.lost+visible))
+}
+
+// resolveAbsent finds the versions that made rows absent. At read committed each statement has its own snapshot, which
+// isn't known.
 func (c *core) resolveAbsent(e *entry, to *resolution) bool {
 	if len(e.its.Absent) == 0 {
 		return true
 	}
 	shows, ok := snapshotOf(e.its.Snapshot)
 	if !ok || e.its.Level != record.RepeatableRead && e.its.Level != record.Serializable {
-		for range e.its.Absent {
-			to.leave(absentAtLevel)
+		for i := range e.its.Absent {
+			to.leave(-i-1, absentAtLevel)
 		}
 		return true
 	}
 	for i, one := range e.its.Absent {
+		if !c.tables.Same(one.Relation, one.Identity) {
+			to.leave(-i-1, keyChanged)
+			continue
+		}
 		id := rowID{c.tables.Root(one.Relation), one.Key}
-		r := c.rows.by[id]
-		if r != nil && r.wrote(e.writer) != nil {
-			to.leave(absentOwn)
+		if c.rows.by[id].wrote(e.writer) {
+			to.leave(-i-1, absentOwn)
 			continue
 		}
-		from, found := initial, r == nil
-		if r != nil {
-			v := r.last
-			for v != nil && !shows.has(v.writer.number) {
-				v = v.before
-			}
-			switch {
-			case v == nil && !r.trimmed:
-				found = true
-			case v != nil && v.deleted:
-				known := false
-				if from, known = under(v); !known {
-					return false
-				}
-				if v.isFolded() {
-					to.folded++
-				}
-				found = true
-			}
+		if !c.absence(e, to, id, shows, -i-1) {
+			return false
 		}
-		if !found {
-			to.leave(absentUnknown)
-			continue
-		}
-		c.add(e, to, id, r, from, -i-1)
 	}
+	return true
+}
+
+// absence resolves a read that found no row with this key. It has two sources: the deletion of the last row with the
+// key that the snapshot shows, if there was any, and the beginning of the next one, which it doesn't show. It returns
+// false as long as it isn't known whether the deletion is offered.
+func (c *core) absence(e *entry, to *resolution, id rowID, shows snapshot, at int) bool {
+	var last *version // that is shown
+	var next *row
+	gone := c.rows.by[id]
+	for gone != nil && last == nil {
+		last = gone.shown(shows)
+		switch {
+		case last != nil:
+		case !gone.born && gone.last == nil: // it was there before the audit, and what removed it isn't known
+			gone = nil
+		case !gone.born || gone.trimmed:
+			to.leave(at, absentUnknown)
+			return true
+		default:
+			next, gone = gone, gone.earlier
+		}
+	}
+	if last != nil && !last.deleted || last == nil && c.missed(&e.its) {
+		to.leave(at, absentUnknown)
+		return true
+	}
+	if last != nil {
+		from, known := under(last)
+		if !known {
+			return false
+		}
+		to.add(e, gone, from, at, foundIn(last))
+	}
+	if next == nil {
+		next = c.rows.awaited(id)
+	}
+	to.add(e, next, initial, at, isOffered)
 	return true
 }
 
@@ -231,15 +309,15 @@ const mostAsked = 16
 // askSubs makes the joiner ask for the subtransactions of the commits that the xmin may belong to: the row's versions
 // with a lower number. It reports whether one of them isn't answered yet.
 func (c *core) askSubs(r *row, xmin uint32) bool {
-	if r == nil || !c.inspects {
+	if !c.inspects {
 		return false
 	}
 	waits := false
 	candidates := 0
-	for v := r.last; v != nil && candidates < mostAsked; v = v.before {
+	r.first(func(v *version) bool {
 		w := v.writer
 		if w.start == 0 || int32(xmin-w.number) <= 0 {
-			continue
+			return false
 		}
 		candidates++
 		if w.subsAre == unasked {
@@ -247,22 +325,16 @@ func (c *core) askSubs(r *row, xmin uint32) bool {
 			c.unsub = append(c.unsub, w)
 		}
 		waits = waits || w.subsAre == asked
-	}
+		return candidates == mostAsked
+	})
 	return waits
 }
 
 // mayBeSub reports whether an unknown xmin may be a subtransaction of a transaction that wrote the row: its number is
 // greater than that one's.
 func (r *row) mayBeSub(xmin uint32) bool {
-	if r == nil {
-		return false
-	}
-	for v := r.last; v != nil; v = v.before {
-		if int32(xmin-v.writer.number) > 0 {
-			return true
-		}
-	}
-	return false
+	_, v := r.first(func(v *version) bool { return int32(xmin-v.writer.number) > 0 })
+	return v != nil
 }
 
 // answered records the subtransactions that were asked for, in the same order; none for those that couldn't be read.
@@ -275,17 +347,53 @@ func (c *core) answered(writers []*writer, subs [][]uint32) {
 	}
 }
 
-// settle sorts the reads, numbers their rows, and leaves out what is too much: reads of rows that are written come
-// first, since they say where the writes stand.
-func (c *core) settle(to *resolution) {
+// rowsOf returns how many rows were returned with a read.
+func (e *entry) rowsOf(at int32) uint64 {
+	if at <= 0 {
+		return 0
+	}
+	return e.its.Did.Weight(int(at) - 1)
+}
+
+// class says which reads are kept if there are too many: first those of rows that the transaction itself writes, since
+// they say where the writes stand, and then those of rows that somebody has written since the audit began.
+func (s source) class() int {
+	switch {
+	case s.at == 0:
+		return 0
+	case s.at < 0, s.row.last != nil, s.row.earlier != nil:
+		return 1
+	}
+	return 2
+}
+
+// settle sorts the reads, numbers their rows, and leaves out what is too much (class).
+func (c *core) settle(e *entry, to *resolution) {
 	if len(to.reads) > mostOfEach {
-		for range to.reads[mostOfEach:] {
-			to.leave(tooMany)
+		sort.SliceStable(to.reads, func(i, j int) bool { return to.reads[i].class() < to.reads[j].class() })
+		last := to.reads[mostOfEach-1].at
+		for _, one := range to.reads[mostOfEach:] {
+			switch {
+			case one.at >= askAt:
+				to.passed--
+				to.leaveAsk(tooMany)
+			case one.at != last || one.at == 0: // an absent row has two, one after the other
+				to.leave(int(one.at), tooMany)
+			}
+			last = one.at
 		}
 		to.reads = to.reads[:mostOfEach]
 	}
 	for _, one := range to.reads {
 		c.rows.number(one.row, c.used)
+		switch one.is {
+		case fromBefore:
+			to.before++
+			to.beforeRows += e.rowsOf(one.at)
+		case notOffered:
+			to.folded++
+			to.foldedRows += e.rowsOf(one.at)
+		}
 	}
 	for _, one := range to.writes {
 		c.rows.number(one, c.used)

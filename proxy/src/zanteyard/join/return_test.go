@@ -7,62 +7,6 @@ import (
 	"zanteyard/record"
 )
 
-// A closed session comes back by a fence that the slot reports, that was committed, and that is where a fence may be.
-// It doesn't come back by any other: then its next fence may do.
-func TestWhichFencesBringASessionBack(t *testing.T) {
-	for _, one := range []struct {
-		name   string
-		change func(c *core, s *session, e *entry)
-		is     bool
-	}{
-		{"a good one", func(*core, *session, *entry) {}, true},
-		{"one that the slot doesn't tell of", func(_ *core, _ *session, e *entry) {
-			e.writer = &writer{number: 1010, named: true, fences: true}
-		}, false},
-		{"one that is left out already", func(c *core, _ *session, e *entry) { c.fold(e.writer, noFence) }, false},
-		{"one that didn't write the fences' row", func(_ *core, _ *session, e *entry) { e.writer.fence = false }, false},
-		{"one whose outcome isn't known", func(_ *core, _ *session, e *entry) { e.its.Outcome = record.Unclear }, false},
-		{"while something of the session remains", func(_ *core, s *session, _ *entry) { s.mark = s.next - 1 }, false},
-		{"one that began before the session's last fence had ended", func(_ *core, s *session, e *entry) {
-			e.its.Began = s.fence.Add(-time.Millisecond)
-		}, false},
-		{"without room", func(c *core, _ *session, _ *entry) { c.opt.Limit = c.remaining() }, false},
-		{"with one number left", func(_ *core, s *session, _ *entry) { s.next, s.mark = lastNumber, lastNumber }, true},
-		{"with all numbers used up", func(_ *core, s *session, _ *entry) { s.next, s.mark = lastNumber+1, lastNumber+1 }, false},
-	} {
-		t.Run(one.name, func(t *testing.T) {
-			b := newBench(t, Options{Sessions: 2, Reserve: 1})
-			b.connect(1, 2)
-			for connection := uint64(1); connection <= 2; connection++ {
-				b.commitFence(uint32(1000 + connection))
-				b.tell(connection, 0, record.Transaction{Number: 1000 + connection, Fence: true})
-			}
-			b.settle()
-			s := b.core.sessions[1]
-			b.core.enter(record.Connection{Number: 2, Ended: true})
-			b.core.close(s)
-			s.mark = s.next // a cut has taken it
-			b.commitFence(1010)
-			w := b.core.writers[1010]
-			w.named, w.fences = true, true
-			b.later(time.Millisecond)
-			e := &entry{session: s, writer: w, joins: true,
-				its: record.Transaction{Number: 1010, Fence: true, Began: b.now, Ended: b.now}}
-			one.change(b.core, s, e)
-			b.core.out = func([]byte) {} // the auditor's model knows nothing of this cut
-			if !b.core.join(e) {
-				t.Fatal("it has to wait")
-			}
-			if s.closed == one.is {
-				t.Errorf("the session is closed: %v", s.closed)
-			}
-			if left := e.writer.fate == folded; left == one.is {
-				t.Errorf("the fence is left out: %v", left)
-			}
-		})
-	}
-}
-
 // All reported reads count, including absent rows, and those of transactions that aren't offered.
 func TestAllReadsAreCounted(t *testing.T) {
 	b := newBench(t, Options{Sessions: 1})
@@ -118,7 +62,7 @@ func TestUnclearOnesMayHaveEndedLate(t *testing.T) {
 		for _, moment := range []bool{false, true} {
 			b := newBench(t, Options{Sessions: 1, Late: time.Second})
 			b.connect(1)
-			b.core.quiet()
+			b.quiet()
 			b.later(time.Millisecond)
 			it := record.Transaction{Number: 1001, Outcome: record.Unclear, Began: b.now, Ended: b.now.Add(time.Millisecond)}
 			if far {
@@ -127,7 +71,7 @@ func TestUnclearOnesMayHaveEndedLate(t *testing.T) {
 			b.tell(1, 0, it)
 			b.later(time.Millisecond)
 			if moment {
-				b.core.quiet()
+				b.quiet()
 			}
 			b.commit(1001, "a")
 			b.later(time.Millisecond)
@@ -138,5 +82,74 @@ func TestUnclearOnesMayHaveEndedLate(t *testing.T) {
 					n.offered, n.folded, s.last, b.now)
 			}
 		}
+	}
+}
+
+// A commit is in the server's log before others see it. One whose connection was lost has ended only when a snapshot
+// shows it: until then a moment may come that it spans, after which somebody reads the version before it.
+func TestUnclearOnesEndWhenTheyAreSeen(t *testing.T) {
+	for _, one := range []struct {
+		name    string
+		shown   bool // before the moment
+		late    time.Duration
+		offered uint64 // without fences
+	}{
+		{"seen before the moment", true, 0, 2},
+		{"seen after it", false, 0, 1},
+		{"not seen for long", false, 2 * time.Second, 1},
+	} {
+		b := newBench(t, Options{Sessions: 2, Late: time.Second})
+		b.connect(1, 2)
+		b.shows = "1001:1002:1001"
+		b.commit(1001, "a")
+		b.tell(1, 0, record.Transaction{Number: 1001, Outcome: record.Unclear})
+		b.pass()
+		b.later(one.late)
+		b.pass()
+		if n := b.core.counts.folded[isUnclear]; b.core.counts.offered != 0 || n == 0 != (one.late == 0) {
+			t.Errorf("%s: %d are offered at once, folded %v", one.name, b.core.counts.offered, b.core.counts.folded)
+		}
+		if one.shown {
+			b.shows = "1002:1002:"
+			b.pass()
+		}
+		b.later(time.Millisecond).core.meet(b.now)
+		b.later(time.Millisecond)
+		version := uint32(7)
+		if one.shown {
+			version = 1001
+		}
+		b.tell(2, 0, record.Transaction{Reads: []record.Read{read("a", version)}})
+		b.shows = "1002:1002:"
+		b.settle()
+		b.settle()
+		n := b.core.counts
+		if !b.model.explained() || n.offered-n.fences != one.offered || len(b.core.held) > 0 {
+			t.Errorf("%s: offered %d, folded %v\n%v", one.name, n.offered-n.fences, n.folded, b.lines)
+		}
+	}
+}
+
+// One whose number isn't known either may be committed later, as in a second phase: its commit is nobody else's.
+func TestUnclearOnesMayBeCommittedLater(t *testing.T) {
+	b := newBench(t, Options{Sessions: 1, Late: time.Second})
+	b.connect(1)
+	b.tell(1, 0, record.Transaction{MayHaveWritten: true, Touched: true, Outcome: record.Unclear})
+	for i := 0; i < 4; i++ {
+		b.settle()
+	}
+	b.commit(1001, "a", "b")
+	b.settle()
+	its := b.totals()
+	if its.Outside != 0 || its.Transactions.NotChecked[isUnclear] != 1 || its.RowsWritten.NotChecked[noNumber] != 2 {
+		t.Errorf("%d are others', transactions %v, rows %v", its.Outside, its.Transactions.NotChecked, its.RowsWritten.NotChecked)
+	}
+	for i := 0; i < stillOpen; i++ {
+		b.settle()
+	}
+	b.commit(1002, "c")
+	b.settle()
+	if its = b.totals(); its.Outside != 1 || len(b.core.unnumbered) > 0 {
+		t.Errorf("%d are others', and %d are awaited", its.Outside, len(b.core.unnumbered))
 	}
 }

@@ -7,7 +7,7 @@ import (
 	"zanteyard/record"
 )
 
-// At the limit transactions are folded, but fences are still accepted, since a cut needs them.
+// At the limit transactions are folded, but there is room for a moment's fences, since a cut needs them.
 func TestLimit(t *testing.T) {
 	b := newBench(t, Options{Sessions: 2, Limit: 20})
 	b.connect(1)
@@ -15,27 +15,31 @@ func TestLimit(t *testing.T) {
 		b.commit(uint32(1001+n), "a")
 		b.tell(1, n, record.Transaction{Number: 1001 + n})
 	}
-	if n := b.core.counts.folded[noRoom]; n != 18 {
+	if n := b.core.counts.folded[noRoom]; n != 14 {
 		t.Errorf("%d are folded for want of room", n)
 	}
-	for n := uint64(30); n < 40; n++ {
-		b.commitFence(uint32(1001 + n))
-		b.tell(1, n, record.Transaction{Number: 1001 + n, Fence: true})
+	if n := b.core.meet(b.now); n != 2 {
+		t.Errorf("there are %d fences", n)
 	}
 	b.settle()
-	if got := len(b.model.sessions[0].its); got != 20 {
-		t.Errorf("%d were offered, and not as many as the limit allows", got)
+	marks, found := b.model.settled()
+	if !found || marks[0] != 17 || !b.core.cut(marks) {
+		t.Errorf("right marks are refused: %v", marks)
 	}
-	if !b.core.cut([]uint64{12, 0}) {
-		t.Error("right marks are refused")
-	}
-	b.core.quiet()
 	b.commit(1100, "a")
 	b.tell(1, 50, record.Transaction{Number: 1100})
-	b.model.sessions[0].mark = 12
 	b.settle()
-	if got := len(b.model.sessions[0].its); got != 21 {
+	if got := len(b.model.sessions[0].its); got != 18 {
 		t.Errorf("after a cut there are %d", got)
+	}
+}
+
+// An audit with a small limit has fewer sessions, so that their fences leave room for transactions.
+func TestSessionsOfASmallLimit(t *testing.T) {
+	for _, one := range []struct{ sessions, limit, want int }{{64, 4096, 64}, {64, 100, 25}, {3, 100, 3}, {0, 8, 2}, {9, 1, 9}} {
+		if got := (Options{Sessions: one.sessions, Limit: one.limit}).withDefaults().Sessions; got != one.want {
+			t.Errorf("%+v: %d sessions", one, got)
+		}
 	}
 }
 
@@ -83,11 +87,11 @@ func TestConnectionsBeyondTheSessions(t *testing.T) {
 	run(2, 0, 1002)
 	b.core.enter(record.Connection{Number: 1, Ended: true})
 	run(2, 1, 1003) // there is no quiet moment between this one and the first connection's
-	b.core.quiet()
+	b.quiet()
 	run(2, 2, 1006)
 	b.later(2 * time.Second)
 	b.core.reseat()
-	b.core.quiet()
+	b.quiet()
 	for number := uint64(10); number < 20; number++ { // they come and go, and wait for nothing
 		b.connect(number)
 		b.core.enter(record.Connection{Number: number, Ended: true})
@@ -103,6 +107,49 @@ func TestConnectionsBeyondTheSessions(t *testing.T) {
 	}
 	if n := b.core.counts.folded[noSession]; n != 3 {
 		t.Errorf("%d are folded for want of a session", n)
+	}
+}
+
+// Of many connections few work: these have the sessions, however many others have come first.
+func TestSessionsAreForConnectionsThatWork(t *testing.T) {
+	b := newBench(t, Options{Sessions: 20, Idle: time.Second})
+	for number := uint64(1); number <= 100; number++ {
+		b.connect(number)
+	}
+	places := map[uint64]uint64{}
+	number := uint32(1000)
+	work := func() {
+		for connection := uint64(5); connection <= 100; connection += 10 {
+			number++
+			b.commit(number, "a")
+			b.tell(connection, places[connection], record.Transaction{Number: uint64(number)})
+			places[connection]++
+		}
+	}
+	for second := 0; second < 3; second++ {
+		work()
+		b.later(600 * time.Millisecond)
+		b.core.reseat()
+		b.quiet()
+		b.core.place()
+	}
+	b.settle()
+	before := b.core.counts.folded[noSession]
+	for n := 0; n < 50; n++ {
+		work()
+	}
+	b.settle()
+	if n := b.core.counts.folded[noSession]; before == 0 || n != before {
+		t.Errorf("%d were left out for want of a session, %d of them before those that work had one", n, before)
+	}
+	seated := 0
+	for _, s := range b.core.sessions {
+		if s.tenant != nil && s.tenant.its.Number%10 == 5 {
+			seated++
+		}
+	}
+	if seated != 10 {
+		t.Errorf("%d connections that work have a session", seated)
 	}
 }
 
@@ -175,7 +222,7 @@ func TestInbox(t *testing.T) {
 		b.Connection(record.Connection{Number: uint64(n)})
 		b.Transaction(record.Transaction{Place: uint64(n)})
 	}
-	its, lost := b.take()
+	its, lost := b.take() // nothing is kept of those that are dropped: they have no number and wrote nothing
 	connections := 0
 	for _, one := range its {
 		if one.connection != nil {
@@ -189,7 +236,7 @@ func TestInbox(t *testing.T) {
 		b.Unseen(string(rune('a'+n%7))+string(rune(n)), "a reason", true)
 		b.Unseen("the same", "a reason", true)
 	}
-	shapes, _, _ := b.counted(false)
+	shapes, _, _, _ := b.counted(false)
 	total := uint64(0)
 	for _, one := range shapes {
 		total += one.Count

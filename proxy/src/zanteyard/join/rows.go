@@ -1,16 +1,22 @@
 package join
 
-import "zanteyard/record"
+import (
+	"time"
+
+	"zanteyard/record"
+)
 
 // rows has the rows whose versions are known, or that were read by a transaction which may remain.
 type rows struct {
-	by      map[rowID]*row
-	next    uint64 // the next key's number
+	by      map[rowID]*row // the row that has a key, or will have it
+	next    uint64         // the next key's number
 	most    int
 	written fifo   // rows that have versions, those known longest first
 	read    []*row // rows that had none when they were made
-	many    []*row // rows that have more than one version
-	fence   *row
+	many    []*row // rows that have more than one version, or a row before them
+	fence   *row   // which nobody writes: its key is 0
+	// lost is just after the slot reported the last insertion or deletion that is forgotten; 0 for none.
+	lost time.Duration
 }
 
 func newRows(most int) *rows {
@@ -41,19 +47,76 @@ func (r *rows) makeRoom() {
 	}
 }
 
-// drop forgets the row, unless it is another one by now.
+// drop forgets the row.
 func (r *rows) drop(old *row) {
-	if r.by[old.id] == old {
+	if at := r.by[old.id]; at == old {
 		delete(r.by, old.id)
+		if old.last != nil && (old.born || old.earlier != nil || old.last.deleted) {
+			r.lose(old.last.writer.seen)
+		}
+	} else {
+		for ; at != nil; at = at.earlier {
+			if at.earlier == old {
+				at.earlier, at.trimmed = nil, true
+			}
+		}
 	}
 }
 
-// renew puts another row under the same key: this one was deleted, or its table was emptied, and the key is inserted
-// again. The inserting transaction needn't see in its snapshot that the row is gone, so an insert isn't a read of what
-// precedes it.
-func (r *rows) renew(old *row) *row {
-	r.drop(old)
-	return r.get(old.id)
+// lose records that nobody knows any more which rows were inserted and deleted up to this time.
+func (r *rows) lose(until time.Duration) {
+	if until >= r.lost {
+		r.lost = until + 1
+	}
+}
+
+// succeed puts another row under the same key: this one is gone, and the key is, or will be, inserted again. The
+// inserting transaction needn't see in its snapshot that the row is gone, so an insert isn't a read of what precedes it.
+func (r *rows) succeed(old *row) *row {
+	it := &row{id: old.id, born: true, earlier: old, many: true}
+	r.by[it.id] = it
+	r.read, r.many = append(r.read, it), append(r.many, it)
+	return it
+}
+
+// write returns the row that a transaction wrote.
+func (r *rows) write(id rowID, inserted bool, w *writer) *row {
+	it := r.by[id]
+	switch {
+	case it == nil:
+		it = r.get(id)
+		it.born = inserted
+	case inserted && (it.last != nil || !it.born):
+		return r.succeed(it)
+	case !inserted && it.last != nil && it.last.deleted && it.last.writer != w: // what inserted it again isn't known
+		return r.succeed(it)
+	}
+	return it
+}
+
+// awaited returns the row that will have a key, if no row has it now.
+func (r *rows) awaited(id rowID) *row {
+	it := r.by[id]
+	switch {
+	case it == nil:
+		it = r.get(id)
+		it.born = true
+	case it.last != nil || !it.born:
+		return r.succeed(it)
+	}
+	return it
+}
+
+// before returns the row that had the key before the audit began, or nil if it isn't known.
+func (r *rows) before(id rowID) *row {
+	it := r.get(id)
+	for it.earlier != nil {
+		it = it.earlier
+	}
+	if it.born {
+		return nil
+	}
+	return it
 }
 
 // number numbers the row's key.
@@ -68,7 +131,7 @@ func (r *rows) number(it *row, used uint64) {
 // add appends a version to those of the row.
 func (r *rows) add(it *row, v *version) {
 	v.before, v.base, it.last = it.last, initial, v
-	if v.before == nil && it != r.fence {
+	if v.before == nil {
 		r.written.push(it)
 		r.makeRoom()
 	}
@@ -83,7 +146,7 @@ func (r *rows) trim(old func(*version) bool) {
 	kept := r.many[:0]
 	for _, it := range r.many {
 		it.trim(old)
-		if it.many = it.last != nil && it.last.before != nil; it.many {
+		if it.many = it.last != nil && it.last.before != nil || it.earlier != nil; it.many {
 			kept = append(kept, it)
 		}
 	}
@@ -99,6 +162,8 @@ func (r *rows) forgetRead(least uint64) {
 	for _, it := range r.read {
 		switch {
 		case it.last != nil: // it is among the written ones
+		case it.used < least && it.earlier != nil && r.by[it.id] == it:
+			r.by[it.id] = it.earlier
 		case it.used < least:
 			r.drop(it)
 		default:
@@ -111,7 +176,8 @@ func (r *rows) forgetRead(least uint64) {
 	r.read = kept
 }
 
-// emptied folds a version in which the row is absent into all known rows of the table.
+// emptied folds a version in which the row is absent into all known rows of the table. Of the others, what is inserted
+// after that is another row in any case.
 func (r *rows) emptied(relation record.Relation, w *writer) {
 	for id, it := range r.by {
 		if id.relation == relation && it.last != nil {

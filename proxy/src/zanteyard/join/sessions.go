@@ -14,16 +14,13 @@ type session struct {
 	next    uint64 // the number to give next
 	written uint64 // the numbers below it are in lines
 	mark    uint64 // the numbers below it are gone
-	closed  bool
 	tenant  *connection
 	last    time.Time // when the last one that is named in it, other than fences, had ended
-	fence   time.Time // when the last fence after that had ended
-	own     bool      // the last one in it is the tenant's
+	fence   time.Time // the moment of its last fence
+	own     bool      // the last one in it, other than fences, is the tenant's
 	had     uint64    // the connection whose transaction was named last
 	place   uint64    // of that in its connection
-	fences  int       // number of fences since the meeting began
-	half    int       // of these, the first ones
-	fenced  bool      // nothing comes after its last fence
+	fenced  bool      // nothing comes after its last fence, or it never had anything
 	waiting []*entry  // named, but not in a line yet
 	kept    []*told   // of numbers from mark on
 	line    []byte    // a fragment that is being built
@@ -34,22 +31,19 @@ type session struct {
 // remains returns how many of its transactions count towards the limit.
 func (s *session) remains() int { return int(s.next - s.mark) }
 
-// isGone reports whether nothing of it is left: it may come back by a join.
-func (s *session) isGone() bool { return s.mark == s.next }
-
 // connection is a client's connection.
 type connection struct {
 	its     record.Connection
 	session *session
-	joins   bool // its session is closed, and it waits for the fence by which the session comes back
 	ended   bool
 	active  time.Time
-	held    *entry // its outcome isn't known yet, or it is the fence of a join
+	held    *entry // its outcome isn't known yet
 }
 
 // told is what is kept about an offered transaction until it is gone.
 type told struct {
 	its     record.Transaction // without reads
+	fence   bool
 	from    record.Connection
 	reads   []source
 	writes  []*row
@@ -64,10 +58,14 @@ type entry struct {
 	conn    *connection
 	session *session
 	name    name
-	writer  *writer // nil if it wrote nothing that is offered
-	batch   uint64  // what it needs from the slot comes before this batch's place
-	asked   bool    // subtransactions were asked for because of it
-	joins   bool    // its session is closed, and comes back with it if it is a fence
+	writer  *writer     // nil if it wrote nothing that is offered
+	batch   uint64      // what it needs from the slot comes before this batch's place
+	asked   bool        // subtransactions were asked for because of it
+	late    string      // why its writes are left out, though its number is known, or ""
+	fence   bool        // nobody ran it
+	from    name        // if it is a fence, the one before it
+	asks    []*question // of its.Asks, nil for those that aren't followed
+	deduced bool        // what it passed over has told what rows were before
 }
 
 // enter records what a session reported of a connection.
@@ -91,7 +89,6 @@ func (c *core) enter(it record.Connection) {
 	if !c.sampled(it.Number) || c.isElsewhere(it) {
 		return
 	}
-	c.entered++
 	c.queue = append(c.queue, conn)
 	c.place()
 }
@@ -110,6 +107,17 @@ func (c *core) unqueue(conn *connection) {
 			return
 		}
 	}
+}
+
+// audited returns the connections with a session.
+func (c *core) audited() []uint64 {
+	its := make([]uint64, 0, len(c.sessions))
+	for _, s := range c.sessions {
+		if s.tenant != nil {
+			its = append(its, s.tenant.its.Number)
+		}
+	}
+	return its
 }
 
 // unaudited returns the connections without a session.
@@ -142,55 +150,71 @@ func (c *core) release(conn *connection) {
 	if s := conn.session; s != nil {
 		conn.session, s.tenant, s.own = nil, nil, false
 	}
-	conn.joins = false
 	c.place()
 }
 
-// place gives sessions to waiting connections, in order: open sessions first.
+// place gives sessions to waiting connections, in order: first to those that work.
 func (c *core) place() {
 	for len(c.queue) > 0 {
-		s, joins := c.vacant()
+		s := c.vacant()
 		if s == nil {
 			return
 		}
-		conn := c.queue[0]
-		conn.session, conn.joins, conn.active = s, joins, c.now
+		at := 0
+		for i, one := range c.queue {
+			if c.works(one) {
+				at = i
+				break
+			}
+		}
+		conn := c.queue[at]
+		conn.session, conn.active = s, c.now
 		s.tenant, s.own = conn, false
-		if joins {
-			c.joining = append(c.joining, conn)
-		}
-		c.queue[0] = nil
-		c.queue = c.queue[1:]
+		c.queue = append(c.queue[:at], c.queue[at+1:]...)
 	}
 }
 
-// vacant returns a session without a connection that may be handed on, and whether it has to join.
-func (c *core) vacant() (*session, bool) {
-	var closed *session
+// works reports whether a connection has had a transaction lately, or is new.
+func (c *core) works(conn *connection) bool { return c.now.Sub(conn.active) < c.opt.Idle }
+
+// vacant returns a session without a connection that may be handed on, or nil if there is none.
+func (c *core) vacant() *session {
 	for _, s := range c.sessions {
-		switch {
-		case s.tenant != nil:
-		case !s.closed && c.isReady(s):
-			return s, false
-		case closed == nil && s.closed && s.isGone():
-			closed = s
+		if s.tenant == nil && c.isReady(s) {
+			return s
 		}
 	}
-	return closed, true
+	return nil
 }
 
-// reseat takes the session from a connection that was idle for long, if another one waits.
+// reseat takes sessions from connections that were idle for long: as many as wait and work, or one for the first that
+// waits.
 func (c *core) reseat() {
 	if len(c.queue) == 0 {
 		return
 	}
-	for _, s := range c.sessions {
-		conn := s.tenant
-		if conn == nil || conn.held != nil || c.now.Sub(conn.active) < c.opt.Idle {
-			continue
+	wanted := 0
+	for _, conn := range c.queue {
+		if c.works(conn) {
+			wanted++
 		}
-		c.queue = append(c.queue, conn)
-		c.release(conn)
-		return
+	}
+	if wanted == 0 {
+		wanted = 1
+	}
+	for _, s := range c.sessions {
+		if s.tenant == nil { // at the next moment somebody has it
+			wanted--
+		}
+	}
+	for _, s := range c.sessions {
+		if wanted <= 0 {
+			return
+		}
+		if conn := s.tenant; conn != nil && conn.held == nil && !c.works(conn) {
+			c.queue = append(c.queue, conn)
+			c.release(conn)
+			wanted--
+		}
 	}
 }

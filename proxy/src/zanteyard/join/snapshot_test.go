@@ -3,7 +3,9 @@ package join
 import (
 	"fmt"
 	"math/rand"
+	"strings"
 	"testing"
+	"time"
 
 	"zanteyard/record"
 )
@@ -17,17 +19,6 @@ type events struct {
 	begun, over []bool
 	last        map[int]int // the last committed version of each key, as the transaction's place
 	tried       map[string]bool
-}
-
-func (p past) inserts(i, key int) bool {
-	before := -1
-	for _, v := range p.versions(key) {
-		if v == i {
-			break
-		}
-		before = v
-	}
-	return before < 0 || p.txns[before].deletes[key]
 }
 
 // keepsSnapshot reports whether PostgreSQL at repeatable read could have made this: by the definition, except that a
@@ -178,6 +169,8 @@ func snapshotPast(r *rand.Rand, spoils bool) past {
 	last := make([]int, p.keys)
 	for key := range last {
 		last[key] = -1
+		p.there = append(p.there, r.Intn(2) == 0)
+		deleted[[2]int{-1, key}] = !p.there[key]
 	}
 	began := make([]int, 4) // how many had committed when each connection's next one began
 	for n := 2 + r.Intn(5); len(p.txns) < n; {
@@ -200,7 +193,7 @@ func snapshotPast(r *rand.Rand, spoils bool) past {
 			if r.Intn(3) > 0 {
 				t.reads = append(t.reads, [2]int{key, seen(key)})
 			}
-			isGone := last[key] >= 0 && deleted[[2]int{last[key], key}]
+			isGone := deleted[[2]int{last[key], key}]
 			if r.Intn(2) == 0 && (isGone || seen(key) == last[key] || spoils && r.Intn(2) == 0) {
 				t.writes = append(t.writes, key)
 				t.deletes[key] = r.Intn(3) == 0
@@ -238,7 +231,7 @@ func TestFoldingMakesUpNoBrokenSnapshot(t *testing.T) {
 				if !b.model.explained() {
 					skewed++
 				}
-				if !fold(t, p, r, Options{}).model.keepsSnapshot() {
+				if !foldAs(t, p, r, Options{Snapshot: true}, true).model.keepsSnapshot() {
 					madeUp++
 				}
 			case offered:
@@ -248,20 +241,19 @@ func TestFoldingMakesUpNoBrokenSnapshot(t *testing.T) {
 			}
 		}
 	}
-	t.Logf("kept %d, of these not serializable %d; broken and found %d, broken and missed %d; made up if an insert were a "+
-		"read of what it comes behind %d", kept, skewed, broken, missed, madeUp)
+	t.Logf("kept %d, of these not serializable %d; broken and found %d, broken and missed %d; made up if an insertion were "+
+		"a read of the deletion before it %d", kept, skewed, broken, missed, madeUp)
 	if kept < *histories || broken < *histories/20 || skewed < *histories/20 || madeUp < *histories/20 {
 		t.Error("too few are of one kind")
 	}
 }
 
-// A row that is inserted again makes no violation, but would if its insert were a read of what precedes it.
+// A row that is inserted again makes no violation, but would if its insert were a read of what precedes it. The reader
+// of the row that was there before comes before its deletion, and of the place between both rows after that.
 func TestInsertedAgain(t *testing.T) {
-	for _, one := range []struct {
-		snapshot, want bool
-	}{{true, true}, {false, false}} {
-		b := newBench(t, Options{Snapshot: one.snapshot})
-		b.connect(1, 2)
+	for _, snapshot := range []bool{false, true} {
+		b := newBench(t, Options{Snapshot: snapshot})
+		b.connect(1, 2, 3)
 		began := b.now
 		b.commit(1001, "x", "+k")
 		b.tell(2, 0, transaction(1001))
@@ -271,12 +263,102 @@ func TestInsertedAgain(t *testing.T) {
 		late := transaction(1003)
 		late.Began, late.Reads = began, append(late.Reads, read("x", 7))
 		b.tell(1, 0, late)
+		b.tell(3, 0, record.Transaction{Reads: []record.Read{read("k", 1001)}})
 		b.settle()
-		if got := b.model.keepsSnapshot(); got != one.want {
-			t.Errorf("asked about snapshots: %v, and it keeps snapshot isolation: %v\n%v", one.snapshot, got, b.lines)
+		if !b.model.explained() || !b.model.keepsSnapshot() {
+			t.Errorf("asked about snapshots: %v, and it isn't explained:\n%v", snapshot, b.lines)
 		}
-		if n := len(b.model.sessions[0].its) + len(b.model.sessions[1].its); n != 3 {
-			t.Errorf("%d were offered:\n%v", n, b.lines)
+		b.tell(3, 1, record.Transaction{Level: record.RepeatableRead, Snapshot: "1003:1003:", Absent: []record.Absence{absent("k")}})
+		b.tell(3, 2, record.Transaction{Reads: []record.Read{read("k", 1003)}})
+		b.settle()
+		// Who found no row comes after the deletion and before the insertion. Now there is a cycle, which snapshots permit.
+		if b.model.explained() || !b.model.keepsSnapshot() {
+			t.Errorf("asked about snapshots: %v, and it is explained, or not by snapshots:\n%v", snapshot, b.lines)
+		}
+		want := `["offer",0,0,[[[[1,"init"],[2,"init"]],[1]]]] ` +
+			`["offer",1,0,[[[[2,"init"],[3,"init"]],[2,3]],[[[3,1,0]],[3]]]] ` +
+			`["offer",2,0,[[[[3,1,0]],[]]]] ["offer",2,1,[[[[1,"init"],[3,1,1]],[]],[[[1,0,0]],[]]]]`
+		if got := strings.Join(b.lines[1:], " "); got != want {
+			t.Errorf("offered %s\nand not %s", got, want)
+		}
+	}
+}
+
+// What is known of a key's earlier rows is forgotten with time, and to make room. From then on a read that may be of one
+// of them is left out, and no write is taken for one of theirs.
+func TestRowsBeforeAreForgotten(t *testing.T) {
+	old := record.Transaction{Began: time.Unix(990, 0), Reads: []record.Read{read("k", 7)}}
+	none := record.Transaction{Level: record.RepeatableRead, Snapshot: "1001:1001:", Absent: []record.Absence{absent("k")}}
+	for _, x := range []struct {
+		name  string
+		story func(b *bench)
+		want  string // the reads of the first connection's transaction
+	}{
+		{"of a row that was there before the audit, deleted and forgotten", func(b *bench) {
+			b.commit(1001, "-k")
+			b.commit(1002, "m", "n", "o")
+			b.tell(1, 0, old)
+		}, `[]`},
+		{"of the same, and the key has another row", func(b *bench) {
+			b.commit(1001, "-k")
+			b.commit(1002, "m", "n", "o")
+			b.commit(1003, "+k")
+			b.tell(1, 0, old)
+		}, `[]`},
+		{"of a row that was there before the audit, by one who began long after all that is forgotten", func(b *bench) {
+			b.commit(1001, "-m")
+			b.commit(1002, "n", "o", "p")
+			b.later(visible + time.Second)
+			b.tell(1, 0, record.Transaction{Reads: old.Reads})
+		}, `[[1,"init"]]`},
+		{"of a row of which the deletion isn't known", func(b *bench) {
+			b.tell(2, 0, record.Transaction{Reads: old.Reads})
+			b.settle()
+			b.commit(1001, "+k") // after a TRUNCATE, say
+			b.tell(1, 0, old)
+		}, `[[1,"init"]]`}, // it is still the one that the first reader found
+		{"of an earlier row, whose successor has an old version", func(b *bench) {
+			b.commit(1001, "-k")
+			b.commit(1002, "+k")
+			b.settle()
+			b.later(30 * time.Second)
+			b.core.forget()
+			b.tell(1, 0, record.Transaction{Level: record.RepeatableRead, Snapshot: "1001:1001:", Reads: old.Reads, Absent: none.Absent})
+		}, `[]`},
+		{"of no row, before an unknown number of others", func(b *bench) {
+			b.commit(1001, "+k")
+			b.commit(1002, "m", "n", "o")
+			b.tell(1, 0, none)
+		}, `[]`},
+		{"of no row, after a deletion", func(b *bench) {
+			b.commit(1001, "-k")
+			b.tell(2, 0, transaction(1001))
+			b.tell(1, 0, record.Transaction{Level: record.RepeatableRead, Snapshot: "1002:1002:", Absent: none.Absent})
+		}, `[[1,1,0],[2,"init"]]`},
+		{"of a table whose rows were forgotten", func(b *bench) {
+			b.commit(1001, "-k")
+			b.core.forgetTable(1)
+			b.tell(1, 0, old)
+		}, `[]`},
+		{"of a row that may be among those of which too many were written", func(b *bench) {
+			b.commitDropping(1001, 1)
+			b.tell(1, 0, old)
+		}, `[]`},
+		{"of a row that was updated after an insertion that isn't known", func(b *bench) {
+			b.commit(1001, "-k")
+			b.commitDropping(1002, 1)
+			b.commit(1003, "k")
+			b.tell(2, 0, transaction(1001))
+			b.tell(1, 0, transaction(1003))
+		}, `[[1,"init"]]`},
+	} {
+		b := newBench(t, Options{Late: time.Second, Rows: 3})
+		b.later(time.Second)
+		b.connect(1, 2)
+		x.story(b)
+		b.settle()
+		if text := strings.Join(b.lines, " "); !strings.Contains(text, `["offer",0,0,[[`+x.want+`,[`) {
+			t.Errorf("%s: offered %s", x.name, text)
 		}
 	}
 }
@@ -288,9 +370,9 @@ func transaction(number uint64) record.Transaction {
 // Sessions are handed on and fences made as in TestHandingOnMakesUpNothing, over a store that keeps only snapshot
 // isolation: what was offered keeps it too, with the sessions and the fences.
 func TestHandingOnMakesUpNoBrokenSnapshot(t *testing.T) {
-	var handed, joins, skewed uint64
+	var handed, cuts, skewed uint64
 	for seed := int64(0); seed < int64(*worlds); seed++ {
-		w := newWorld(t, seed, false)
+		w := newWorld(t, seed, "")
 		w.snapshot = true
 		w.live1(12)
 		if path := w.model.cycle(true); path != nil {
@@ -300,28 +382,17 @@ func TestHandingOnMakesUpNoBrokenSnapshot(t *testing.T) {
 			skewed++
 		}
 		handed += w.core.counts.handed
-		for _, line := range w.lines {
-			if line[2] == 'j' {
-				joins++
-			}
-		}
+		cuts += uint64(w.cuts)
 	}
-	t.Logf("handed on %d times, %d came back; %d of %d lives aren't serializable", handed, joins, skewed, *worlds)
-	if handed < uint64(*worlds) || joins < uint64(*worlds)/3 || skewed < uint64(*worlds)/2 {
+	t.Logf("handed on %d times, %d cuts; %d of %d lives aren't serializable", handed, cuts, skewed, *worlds)
+	if handed < uint64(*worlds) || cuts < uint64(*worlds) || skewed < uint64(*worlds)/2 {
 		t.Error("that is too little to find anything")
 	}
 }
 
-// Sessions that are handed on by the clock alone break what the store keeps.
-func TestHandingSnapshotsOnByTheClock(t *testing.T) {
-	for seed := int64(0); seed < int64(*worlds); seed++ {
-		w := newWorld(t, seed, true)
-		w.snapshot = true
-		w.live1(12)
-		if path := w.model.cycle(true); path != nil {
-			t.Logf("seed %d: %d begins and commits make a cycle", seed, len(path))
-			return
-		}
+// Each joiner that is made wrong on purpose breaks what the store keeps.
+func TestWrongJoinersOfSnapshots(t *testing.T) {
+	for _, one := range []fault{byTheClock, spanning, late, early, wrongOrder, hasty} {
+		findWrong(t, one, true)
 	}
-	t.Error("nothing was found")
 }

@@ -26,13 +26,13 @@ type stage struct {
 	rows    map[string]uint32 // who wrote the last version
 	places  map[uint64]uint64 // the place of each connection's next transaction
 	open    []uint64
-	busy    map[uint64]bool // they don't come to meetings
-	happens []string        // what was asked of the server and the sessions, in order
+	busy    map[uint64]bool // they have something under way
+	asked   [][]uint64      // the connections of each meeting
 	model   *model
 	lines   []string
 	events  []Event
 	held    bool          // the auditor doesn't answer
-	slow    chan struct{} // if not nil, the first question when sessions meet waits for it
+	slow    chan struct{} // if not nil, the first meeting waits for it
 	failing map[string]error
 }
 
@@ -41,7 +41,7 @@ func newStage(t testing.TB, opt Options) *stage {
 		t: t, inbox: NewInbox(1 << 20), ended: make(chan error, 1), at: 100, number: base, rows: map[string]uint32{},
 		places: map[uint64]uint64{}, busy: map[uint64]bool{}, failing: map[string]error{},
 	}
-	s.joiner = New(opt, s.inbox, plainTables{}, s, false, byStage{s}, s)
+	s.joiner = New(opt, s.inbox, plainTables{}, s, false, s, s)
 	var ctx context.Context
 	ctx, s.cancel = context.WithCancel(context.Background())
 	go func() { s.ended <- s.joiner.Run(ctx) }()
@@ -49,17 +49,12 @@ func newStage(t testing.TB, opt Options) *stage {
 	return s
 }
 
-func (s *stage) happened(what string) error {
-	s.happens = append(s.happens, what)
-	return s.failing[what]
-}
-
 // Place implements Server.
 func (s *stage) Place(context.Context) (Place, error) {
 	s.lock.Lock()
 	defer s.lock.Unlock()
 	s.joiner.Advance(s.at)
-	return Place{At: s.at}, s.failing["place"]
+	return Place{At: s.at, Shows: all}, s.failing["place"]
 }
 
 // Base implements Server.
@@ -74,21 +69,11 @@ func (s *stage) Subtransactions(_ context.Context, places []uint64) ([][]uint32,
 	return make([][]uint32, len(places)), nil
 }
 
-// Fence implements Server.
-func (s *stage) Fence(context.Context) (uint64, error) {
-	s.lock.Lock()
-	defer s.lock.Unlock()
-	if err := s.happened("spare"); err != nil {
-		return 0, err
-	}
-	return uint64(s.commit(nil, true)), nil
-}
-
 // commit makes the server commit a transaction that writes these rows, and the slot report it. The lock is held.
-func (s *stage) commit(rows []string, fence bool) uint32 {
+func (s *stage) commit(rows ...string) uint32 {
 	s.number++
 	s.at += 100
-	it := record.Commit{Number: s.number, LSN: s.at, Start: s.at - 50, Fence: fence}
+	it := record.Commit{Number: s.number, LSN: s.at, Start: s.at - 50}
 	for _, row := range rows {
 		it.Writes = append(it.Writes, record.Write{Relation: 1, Key: record.Key(row)})
 		s.rows[row] = s.number
@@ -129,7 +114,7 @@ func (s *stage) update(connection uint64, row string) {
 	if seen == 0 {
 		seen = 7
 	}
-	number := s.commit([]string{row}, false)
+	number := s.commit(row)
 	s.tell(connection, record.Transaction{Began: began, Number: uint64(number), Reads: []record.Read{read(row, seen)}})
 }
 
@@ -139,48 +124,32 @@ func (s *stage) tell(connection uint64, it record.Transaction) {
 	s.inbox.Transaction(it)
 }
 
-func (s *stage) fences() (n int) {
-	for _, one := range s.open {
-		if s.busy[one] {
-			continue
-		}
-		began := time.Now()
-		s.tell(one, record.Transaction{Began: began, Number: uint64(s.commit(nil, true)), Fence: true})
-		n++
-	}
-	return n
-}
-
-// MeetAround implements Meeter.
-func (s *stage) MeetAround(ctx context.Context, between func(context.Context)) (int, time.Duration, error) {
+// Meet implements Meeter.
+func (s *stage) Meet(_ context.Context, connections []uint64, moment func(time.Duration)) {
 	s.lock.Lock()
 	slow := s.slow
 	s.slow = nil
+	s.asked = append(s.asked, connections)
 	s.lock.Unlock()
 	if slow != nil {
 		<-slow
 	}
 	s.lock.Lock()
-	err := s.happened("meet")
-	n := s.fences()
-	s.lock.Unlock()
-	between(ctx)
-	s.lock.Lock()
 	defer s.lock.Unlock()
-	s.happened("met")
-	return n + s.fences(), time.Millisecond, err
-}
-
-// fenceOf makes a connection make a fence that the joiner asked it for.
-func (s *stage) fenceOf(connection uint64) {
-	s.lock.Lock()
-	defer s.lock.Unlock()
-	s.happened("join")
-	s.tell(connection, record.Transaction{Began: time.Now(), Number: uint64(s.commit(nil, true)), Fence: true})
+	moment(time.Millisecond)
 }
 
 // Busy implements Meeter.
-func (s *stage) Busy() int { return 0 }
+func (s *stage) Busy(connections []uint64) (underWay, idle int) {
+	s.lock.Lock()
+	defer s.lock.Unlock()
+	for _, number := range connections {
+		if s.busy[number] {
+			underWay++
+		}
+	}
+	return underWay, 0
+}
 
 // Line implements Output: the auditor takes the lines, and reports at once what can be forgotten.
 func (s *stage) Line(text []byte) {
@@ -223,7 +192,7 @@ func (s *stage) until(what string, is func() bool) {
 			return
 		}
 		if time.Now().After(end) {
-			s.t.Fatalf("%s doesn't come: %v\n%s", what, s.happens, strings.Join(s.lines, "\n"))
+			s.t.Fatalf("%s doesn't come\n%s", what, strings.Join(s.lines, "\n"))
 		}
 		time.Sleep(time.Millisecond)
 	}
@@ -247,28 +216,20 @@ func (s *stage) warnings(part string) (n int) {
 	return n
 }
 
-// byStage gives the joiner the stage's sessions, whose own Fence has another form than the server's.
-type byStage struct{ *stage }
-
-func (s byStage) Fence(_ context.Context, connection uint64) error {
-	s.fenceOf(connection)
-	return nil
-}
-
-// meetings counts the meetings around which these things happened, in this order.
-func (s *stage) meetings(want string) (n int) {
-	var its []string
-	for _, one := range s.happens {
-		if k := len(its); k > 0 && its[k-1] == one {
-			continue
-		}
-		its = append(its, one)
-	}
-	return strings.Count(strings.Join(its, " "), want)
-}
-
 func (s *stage) count(word string) int {
 	s.lock.Lock()
 	defer s.lock.Unlock()
 	return s.lined(word)
+}
+
+// applications returns how many transactions were offered, without fences.
+func (s *stage) applications() (n int) {
+	for _, one := range s.model.sessions {
+		for _, it := range one.its {
+			if !it.isFence() {
+				n++
+			}
+		}
+	}
+	return n
 }

@@ -1,42 +1,41 @@
 package join
 
-import (
-	"time"
-
-	"zanteyard/record"
-)
+import "zanteyard/record"
 
 // Why a transaction isn't offered, or its writes aren't.
 const (
-	byOthers     = "committed without the proxy, or reported too late"
-	withoutRows  = "without a row in the replication slot, such as the server's own ANALYZE"
+	byOthers     = "committed without the proxy"
 	noConnection = "unknown connection"
 	noSession    = "its connection has no session"
-	noFence      = "its session was waiting for a fence"
+	isHeld       = "the outcome of the one before it on its connection was unknown"
 	acrossMoment = "it ran during a meeting, or while sessions changed hands"
 	noRoom       = "the auditor's limit was reached"
 	isUnclear    = "its outcome is unknown"
 	elsewhere    = "its connection uses another database"
 	sampledOut   = "its connection isn't in the sample"
 	itAborted    = "it aborted"
-	notKept      = "a transaction read more than is kept (counted once)"
-	noNumber     = "its transaction number is unknown"
+	notKept      = "more reads of one transaction than are kept"
 )
 
 // tell handles a transaction that has ended.
 func (c *core) tell(it record.Transaction) {
-	c.counts.reads += readsOf(&it)
-	if it.Incomplete {
-		c.counts.leftReads[notKept]++
+	if it.OnlyRead && c.opt.Rollbacks {
+		it.Outcome = record.Committed
 	}
+	c.counts.reads += readsOf(&it) + uint64(it.Beyond)
+	c.counts.totals.told(&it)
+	c.counts.asks += uint64(len(it.Asks))
 	conn := c.connections[it.Connection]
 	if conn != nil {
 		conn.active = c.now
 	}
+	if it.Outcome != record.Aborted && (conn == nil || !c.isElsewhere(conn.its)) {
+		c.await(&it)
+	}
 	switch {
 	case it.Outcome == record.Aborted:
 		c.counts.aborted++
-		c.counts.leftReads[itAborted] += readsOf(&it)
+		c.counts.leaveReads(itAborted, readsOf(&it)+uint64(it.Beyond))
 	case conn == nil:
 		c.leave(it, noConnection)
 	case conn.session == nil && c.isElsewhere(conn.its):
@@ -46,13 +45,11 @@ func (c *core) tell(it record.Transaction) {
 	case conn.session == nil || it.Unsent > 0:
 		c.leave(it, noSession)
 	case conn.held != nil:
-		c.leave(it, noFence)
+		c.leave(it, isHeld)
 	case it.Outcome == record.Unclear && it.Number == 0:
 		c.leave(it, isUnclear)
 	case isEmpty(it):
-		c.counts.empty++
-	case conn.joins && !it.Fence:
-		c.leave(it, noFence)
+		c.leave(it, whyEmpty(&it))
 	default:
 		c.take(it, conn)
 	}
@@ -60,7 +57,7 @@ func (c *core) tell(it record.Transaction) {
 
 // isEmpty reports whether a transaction has nothing to offer. Such a transaction takes no number.
 func isEmpty(it record.Transaction) bool {
-	return it.Number == 0 && !it.MayHaveWritten && len(it.Reads) == 0 && len(it.Absent) == 0
+	return it.Number == 0 && len(it.Reads) == 0 && len(it.Absent) == 0 && len(it.Asks) == 0
 }
 
 // readsOf returns how many rows it read, including absent ones.
@@ -70,10 +67,9 @@ func readsOf(it *record.Transaction) uint64 {
 
 // leave folds a whole transaction.
 func (c *core) leave(it record.Transaction, reason string) {
-	c.counts.fold(reason)
-	c.counts.leftReads[reason] += readsOf(&it)
-	if it.Number == 0 {
-		return // nobody reports what it may have written, which is folded as somebody else's
+	c.leaveRest(&it, reason)
+	if it.Number == 0 || c.unclaim(it.Number, reason) != "" {
+		return // what it may have written without a number is found by foldOther
 	}
 	w := c.writer(it)
 	if w.fate == undecided {
@@ -81,13 +77,31 @@ func (c *core) leave(it record.Transaction, reason string) {
 	}
 }
 
+// leaveRest counts a transaction that is left out, and its reads.
+func (c *core) leaveRest(it *record.Transaction, reason string) {
+	own := ownReads(it)
+	c.counts.fold(reason)
+	c.counts.totals.leave(it, reason)
+	c.counts.own += own
+	c.counts.leaveReads(reason, readsOf(it)+uint64(it.Beyond)-own)
+}
+
 func (c *core) leaveWriter(w *writer, reason string) {
-	c.counts.leftWrites[reason] += uint64(len(w.writes()))
-	c.fold(w, reason)
+	c.counts.leaveWrites(reason, uint64(len(w.writes())))
+	c.fold(w)
 	if w.place == 0 {
-		c.expected = append(c.expected, expected{c.batch, w})
-		c.batched = true
+		c.owe(w, reason)
 	}
+}
+
+// owe makes a transaction's writes be counted once the slot reports them.
+func (c *core) owe(w *writer, reason string) {
+	if c.owed == nil {
+		c.owed = map[uint32]string{}
+	}
+	c.owed[w.number] = reason
+	c.expected = append(c.expected, expected{c.batch, w})
+	c.batched = true
 }
 
 // writer returns the one with the transaction's number.
@@ -98,7 +112,7 @@ func (c *core) writer(it record.Transaction) *writer {
 		w = &writer{number: number}
 		c.writers[number] = w
 	}
-	w.named, w.fences = true, it.Fence
+	w.named = true
 	for _, sub := range it.Versions {
 		if sub != number && !w.is(sub) {
 			w.addSubs(sub)
@@ -109,53 +123,40 @@ func (c *core) writer(it record.Transaction) *writer {
 
 // take offers a transaction of a connection that has a session, unless it can't stand there.
 func (c *core) take(it record.Transaction, conn *connection) {
-	s := conn.session
-	e := &entry{its: it, conn: conn, session: s, batch: c.batch}
+	e := &entry{its: it, conn: conn, session: conn.session, batch: c.batch}
 	c.batched = true
-	if conn.joins || it.Outcome == record.Unclear {
-		if !it.Fence && it.Outcome != record.Unclear {
-			c.leave(it, noFence)
-			return
-		}
-		if it.Number == 0 {
-			c.leave(it, noNumber)
-			return
-		}
-		conn.held, e.joins = e, conn.joins
-		c.hold(e)
+	for _, one := range it.Reads {
+		c.tables.Use(one.Relation)
+	}
+	for _, one := range it.Absent {
+		c.tables.Use(one.Relation)
+	}
+	c.takeAsks(e)
+	if it.Outcome == record.Unclear { // the slot will say
+		conn.held, e.writer = e, c.writer(it)
+		c.held = append(c.held, e)
 		return
 	}
 	c.name(e)
 }
 
-// hold makes the transaction wait for the slot.
-func (c *core) hold(e *entry) {
-	e.writer = c.writer(e.its)
-	c.held = append(c.held, e)
-}
-
 // name numbers the transaction, if it may follow the previous one in its session, and if there is room.
 func (c *core) name(e *entry) {
 	s, it := e.session, e.its
-	follows := s.own && e.conn != nil && s.tenant == e.conn && it.Place > s.place
+	follows := s.own && s.tenant == e.conn && it.Place > s.place
 	switch {
-	case it.Fence && it.Number == 0:
-		c.leave(it, noNumber)
-		return
-	case !c.hasRoom(it.Fence):
+	case c.room() <= 0:
 		c.leave(it, noRoom)
 		return
-	case !it.Fence && !c.mayStand(s, &it, follows), it.Fence && !c.mayFence(s, &it, follows):
+	case !c.mayStand(s, &it, follows):
 		c.leave(it, acrossMoment)
 		return
 	}
 	if it.Number != 0 {
-		switch w := c.writer(it); {
-		case w.fate != undecided: // it came too late
-		case w.fence && !it.Fence: // the application wrote the fences' row
-			c.leaveWriter(w, byOthers)
-			e.writer = nil
-		default:
+		if e.late = c.unclaim(it.Number, tooLate); e.late != "" && len(it.Reads) == 0 && len(it.Absent) == 0 && len(it.Asks) == 0 {
+			c.leaveRest(&it, e.late)
+			return
+		} else if w := c.writer(it); e.late == "" && w.fate == undecided {
 			e.writer = w
 		}
 	}
@@ -163,41 +164,28 @@ func (c *core) name(e *entry) {
 	s.next++
 	if e.writer != nil {
 		e.writer.fate, e.writer.name = offered, e.name
+		_, ended := span(&it)
+		e.writer.over = ended.Sub(c.began)
 		if e.writer.place != 0 {
 			delete(c.writers, e.writer.number)
 		}
 	}
-	if !it.Fence && !s.last.IsZero() && !follows && e.conn != nil && s.had != e.conn.its.Number {
+	if !s.last.IsZero() && !follows && s.had != e.conn.its.Number {
 		c.counts.handed++
 	}
-	if e.conn != nil {
-		s.had = e.conn.its.Number
-	}
-	s.own, s.place = e.conn != nil && s.tenant == e.conn, it.Place
-	s.stood(&it)
-	s.fenced = it.Fence
-	if it.Fence {
-		s.fences++
-	}
+	s.had = e.conn.its.Number
+	s.own, s.place = s.tenant == e.conn, it.Place
+	c.stood(s, &it)
+	s.fenced = false
 	if c.since == 0 {
 		c.oldest = c.now
 	}
-	if !it.Fence {
-		c.since++
-	}
+	c.since++
 	s.waiting = append(s.waiting, e)
 }
 
-// hasRoom reports whether one more may be named: whatever is named is offered, and whatever is offered remains until a
+// remaining returns how many transactions count towards the limit: whatever is named is offered, and remains until a
 // cut.
-func (c *core) hasRoom(fence bool) bool {
-	room := c.opt.Limit - c.remaining()
-	if !fence {
-		room -= c.opt.fenceRoom()
-	}
-	return room > 0
-}
-
 func (c *core) remaining() int {
 	n := 0
 	for _, s := range c.sessions {
@@ -206,37 +194,19 @@ func (c *core) remaining() int {
 	return n
 }
 
-// spare records a fence that the audit's own connection made for a session, because its connection has ended or
-// couldn't make one, or because it is closed and connections are expected.
-func (c *core) spare(session int, number uint64, began, ended time.Time) {
-	s := c.sessions[session]
-	it := record.Transaction{Began: began, Ended: ended, Level: record.ReadCommitted, Number: number, Fence: true}
-	c.batched = true
-	e := &entry{its: it, session: s, batch: c.batch, joins: s.closed}
-	if e.joins {
-		c.hold(e)
-		return
-	}
-	c.name(e)
-}
-
-// decideHeld names what was held back: a transaction whose connection didn't learn whether it was committed, once the
-// slot reports it, and the fence of a join, once the fence before it is in a line. It reports whether there was any.
+// decideHeld names what was held back: transactions whose connection didn't learn whether they were committed, once the
+// slot reports that. It reports whether there was any.
 func (c *core) decideHeld() bool {
 	kept := c.held[:0]
 	for _, e := range c.held {
-		if e.batch > c.passed || e.joins && e.its.Fence && !c.join(e) {
+		if e.batch > c.passed || !c.isOver(e.writer) {
 			kept = append(kept, e)
 			continue
 		}
-		if e.its.Outcome == record.Unclear {
-			c.decideUnclear(e)
-		}
-		if conn := e.conn; conn != nil {
-			conn.held = nil
-			if conn.ended {
-				c.release(conn)
-			}
+		c.decideUnclear(e)
+		e.conn.held = nil
+		if e.conn.ended {
+			c.release(e.conn)
 		}
 	}
 	for i := len(kept); i < len(c.held); i++ {
@@ -247,12 +217,30 @@ func (c *core) decideHeld() bool {
 	return moved
 }
 
-// decideUnclear offers a transaction whose connection was lost, if the slot has reported it by now. It may have been
-// committed at any time until now: nothing that began before is offered after it.
+// isOver reports whether a transaction that the slot may have reported isn't running any more. Its commit is in the log
+// before others see it, for example until a standby has it: until then it hasn't ended. One for which that takes long is
+// folded.
+func (c *core) isOver(w *writer) bool {
+	switch {
+	case w.place == 0 || w.fate != undecided || c.shows != nil && c.shows.has(w.number):
+		return true
+	case c.now.Sub(c.began)-w.seen >= c.opt.Late:
+		c.leaveWriter(w, isUnclear)
+		return true
+	}
+	c.batched = true // another snapshot is wanted
+	return false
+}
+
+// decideUnclear offers a transaction whose connection was lost, if the slot has reported it by now. It may have ended at
+// any time until now: nothing that began before is offered after it.
 func (c *core) decideUnclear(e *entry) {
 	w := e.writer
-	if w.place == 0 || w.fate != undecided || e.joins || e.its.Fence {
-		c.counts.fold(isUnclear)
+	if w.place == 0 || w.fate != undecided {
+		c.leaveRest(&e.its, isUnclear)
+		if w.place == 0 && c.unclaim(uint64(w.number), isUnclear) != "" {
+			return
+		}
 		if w.fate == undecided {
 			c.leaveWriter(w, isUnclear)
 		}
@@ -264,35 +252,4 @@ func (c *core) decideUnclear(e *entry) {
 	}
 	c.name(e)
 	e.session.own = false
-}
-
-// join brings a closed session back with its fence. It returns false as long as that has to wait.
-func (c *core) join(e *entry) bool {
-	w, s := e.writer, e.session
-	if w.place == 0 || w.fate != undecided || !w.fence || e.its.Outcome != record.Committed ||
-		s.closed && !s.isGone() || !c.mayFence(s, &e.its, false) || !c.hasRoom(true) || s.next > lastNumber {
-		if w.fate == undecided {
-			c.leaveWriter(w, noFence)
-		}
-		return true // its next fence may do
-	}
-	from, known := w.writes()[0].version.predecessor()
-	if !known || from != initial && c.sessions[from.session()].written <= from.number() {
-		return false
-	}
-	if from == initial { // no fence of this audit comes before it
-		c.leaveWriter(w, noFence)
-		return true
-	}
-	if s.tenant != nil {
-		s.tenant.joins = false
-	}
-	c.name(e)
-	if s.closed {
-		c.flush()
-		s.closed = false
-		c.write(s)
-		c.writeJoin(s)
-	}
-	return true
 }

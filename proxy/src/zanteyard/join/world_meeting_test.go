@@ -1,44 +1,6 @@
 package join
 
-import "zanteyard/record"
-
-// fence makes a connection begin a fence, and end it if nothing comes between.
-func (w *world) fence(c *worldConn, slow int) {
-	w.tick()
-	f := &worldFence{conn: c, began: w.now}
-	c.fencing = true
-	if w.r.Intn(slow) == 0 {
-		if w.r.Intn(2) == 0 {
-			w.commitFence(f)
-		}
-		w.fences = append(w.fences, f)
-		return
-	}
-	w.fenced(f)
-}
-
-func (w *world) commitFence(f *worldFence) {
-	w.next++
-	f.number = 1_000_000 + w.next
-	w.bench.commitFence(f.number)
-}
-
-func (w *world) fenced(f *worldFence) {
-	if f.number == 0 {
-		w.commitFence(f)
-	}
-	f.conn.fencing = false
-	w.told(f.conn, record.Transaction{Began: f.began, Number: uint64(f.number), Fence: true})
-}
-
-// slow ends fences that were under way.
-func (w *world) slow() {
-	its := w.fences
-	w.fences = nil
-	for _, f := range its {
-		w.fenced(f)
-	}
-}
+import "time"
 
 // some lets a few things happen.
 func (w *world) some(most int) {
@@ -47,97 +9,72 @@ func (w *world) some(most int) {
 	}
 }
 
-func (w *world) spares(sessions []int) {
-	for _, s := range sessions {
-		w.tick()
-		began := w.now
-		w.some(2)
-		w.idleFence()
-		w.next++
-		number := 1_000_000 + w.next
-		w.bench.commitFence(number)
-		w.idleFence()
-		w.some(2)
-		w.tick()
-		w.tellAll()
-		w.core.spare(s, uint64(number), began, w.now)
-	}
-}
-
-// idleFence sometimes makes a connection that was busy when the meeting began make its fence: in addition to the spare
-// one that the audit's own connection makes in its place.
-func (w *world) idleFence() {
-	for _, c := range w.live {
-		if c.open == nil && !c.fencing && !c.held && w.r.Intn(4) == 0 {
-			w.fence(c, 2)
-			return
-		}
-	}
-}
-
-// meet is a meeting that may go wrong in many ways: some sessions don't come, some aren't held for long enough, and
-// some fences are slow.
+// meet is a meeting that may go wrong in many ways: some connections aren't held, or not for long enough; some of what
+// is under way goes on after the moment; some of what had ended before is reported after it.
 func (w *world) meet() {
-	w.tellAll()
-	w.spares(w.core.meet())
-	var there []*worldConn
 	for _, c := range w.live {
-		if c.open == nil && !c.fencing {
-			there = append(there, c)
-			c.held = true
-		}
+		c.held = w.fault != early && w.r.Intn(8) > 0 // what is held can't show that fault
 	}
-	for _, c := range there {
-		w.some(1)
-		w.fence(c, 8)
-		if w.r.Intn(4) == 0 {
-			w.slow()
-			w.some(8)
-		}
-	}
-	w.tellAll()
-	w.spares(w.core.missing())
-	for _, c := range there {
-		if w.r.Intn(10) == 0 {
+	w.some(20)
+	for _, c := range w.live {
+		if w.r.Intn(20) == 0 {
 			c.held = false // its client was held for long enough
 		}
 	}
-	w.some(2)
+	w.some(4)
+	if w.r.Intn(3) > 0 {
+		w.tellAll()
+	}
 	w.tick()
-	w.tellAll()
-	w.core.halfway()
+	w.moment()
 	w.some(2)
-	for _, c := range there {
-		c.held = c.held && c.fencing
-	}
-	w.slow()
-	for _, c := range there {
-		if c.open == nil && !c.fencing && w.r.Intn(10) > 0 {
-			w.fence(c, 8)
-		}
+	for _, c := range w.live {
 		c.held = false
-		w.some(1)
 	}
-	w.tellAll()
-	w.spares(w.core.met())
-	w.slow()
+	w.some(8)
 	w.tellAll()
 	w.bench.settle()
-	w.core.closeVacant()
 	w.core.round()
-	marks, _ := w.model.settled()
+	marks, found := w.model.settled()
+	if found {
+		w.cuts++
+	}
 	w.core.cut(marks)
-	w.join()
 }
 
-// join makes connections make the fences by which closed sessions come back.
-func (w *world) join() {
-	for _, conn := range w.core.joining {
-		for _, c := range w.live {
-			if c.number == conn.its.Number && c.open == nil && !c.fencing {
-				w.fence(c, 2)
-			}
+// moment notes a meeting's moment, and writes its fences, unless the joiner is made wrong on purpose.
+func (w *world) moment() {
+	switch w.fault {
+	case early:
+		w.core.ended = time.Time{}
+		w.core.meet(w.now.Add(-20 * time.Millisecond))
+	case wrongOrder:
+		w.inWrongOrder()
+	default:
+		w.core.meet(w.now)
+	}
+}
+
+// inWrongOrder writes some sessions' fences of a moment only after the others' of the next one, and holds back until
+// then what is reported in these sessions.
+func (w *world) inWrongOrder() {
+	last := w.core.moments.last()
+	w.quiet()
+	was := w.delayed
+	w.delayed = map[*session][]func(){}
+	for _, s := range w.core.sessions {
+		switch {
+		case was[s] != nil:
+		case s.tenant != nil && w.r.Intn(3) == 0:
+			w.delayed[s] = []func(){func() {}}
+		default:
+			w.core.fence(s, w.core.moments.last())
 		}
 	}
-	w.core.joining = nil
+	for s, tells := range was {
+		w.core.fence(s, last)
+		for _, tell := range tells {
+			tell()
+		}
+	}
 }

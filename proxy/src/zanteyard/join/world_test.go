@@ -1,6 +1,7 @@
 package join
 
 import (
+	"fmt"
 	"math/rand"
 	"testing"
 	"time"
@@ -10,8 +11,7 @@ import (
 
 // world is a store of rows and versions with PostgreSQL's snapshots, at read committed and repeatable read, and what a
 // proxy's connections do to it. It commits a transaction only if some serial order still explains everything that was
-// committed, with each connection's own order kept, but no other: orders in time aren't kept. The fences aren't among
-// the transactions.
+// committed, with each connection's own order kept, but no other: orders in time aren't kept.
 type world struct {
 	*bench
 	r    *rand.Rand
@@ -20,29 +20,49 @@ type world struct {
 
 	versions map[string][]worldVersion
 	locks    map[string]*worldTxn
-	commits  int
+	ids      int // of committed transactions, in the order of their records in the log
+	commits  int // how many others see
+	unseen   []unseenCommit
+	cuts     int
 	after    map[int]map[int]bool // for each begin and commit, those that must come later
 	readers  map[string]map[int][]int
 	live     []*worldConn
 	most     int      // connections at a time
 	untold   []func() // what sessions have seen and not yet reported to the joiner
-	fences   []*worldFence
-	points   bool // the fault: a session is handed on by the clock alone
-	snapshot bool // the store keeps snapshot isolation, and no more
+	fault    fault
+	delayed  map[*session][]func() // if the fault is wrongOrder: their fences of the last moment come after those of the next
+	snapshot bool                  // the store keeps snapshot isolation, and no more
 	aborted  int
-	// elsewhere: connections with an even number are those of another machine's proxy (elsewhere_test.go). trusted: the
-	// fault that its clock is trusted.
-	elsewhere, trusted bool
-	far                uint64 // transactions from there that were offered
+	// elsewhere: connections with an even number are those of another machine's proxy (elsewhere_test.go).
+	elsewhere bool
+	far       uint64 // transactions from there that were offered
 }
 
-type worldVersion struct{ by, at int } // the writer's place in the order of commits
+// fault is what a joiner made wrong on purpose does.
+type fault string
+
+const (
+	byTheClock = "sessions are handed on by the clock alone"
+	spanning   = "transactions that span a moment are offered"
+	late       = "what is reported after a moment's fences is offered although it had ended before"
+	early      = "a moment is noted before all answers from before it came"
+	wrongOrder = "a fence of a moment is written after the fences of the next one"
+	trusting   = "another machine's clock is trusted"
+	hasty      = "a transaction has ended when its commit is in the log"
+)
+
+type worldVersion struct{ by, at int } // the writer, and its place in the order in which others see commits
+
+// unseenCommit is in the log, and nobody sees it yet.
+type unseenCommit struct {
+	its *worldTxn
+	id  int
+}
 
 type worldConn struct {
 	number, place uint64
 	last          int // its last committed transaction, 0 for none
 	open          *worldTxn
-	fencing       bool
 	held          bool
 }
 
@@ -56,17 +76,10 @@ type worldTxn struct {
 	writes   map[string]bool
 }
 
-// worldFence is a fence under way. If it has a number, the server has committed it already.
-type worldFence struct {
-	conn   *worldConn
-	began  time.Time
-	number uint32
-}
-
-func newWorld(t testing.TB, seed int64, points bool) *world {
+func newWorld(t testing.TB, seed int64, wrong fault) *world {
 	w := &world{
-		bench: newBench(t, Options{Sessions: 6, Limit: 900, Reserve: 1, Late: time.Second, Stale: time.Hour, Idle: 40 * time.Millisecond}),
-		r:     rand.New(rand.NewSource(seed)), next: base, points: points,
+		bench: newBench(t, Options{Sessions: 6, Limit: 900, Late: time.Second, Stale: time.Hour, Idle: 40 * time.Millisecond}),
+		r:     rand.New(rand.NewSource(seed)), next: base, fault: wrong,
 		versions: map[string][]worldVersion{}, locks: map[string]*worldTxn{}, after: map[int]map[int]bool{},
 		readers: map[string]map[int][]int{},
 	}
@@ -94,7 +107,7 @@ func (w *world) step() {
 	}
 	c := w.live[w.r.Intn(len(w.live))]
 	switch {
-	case c.held || c.fencing:
+	case c.held && c.open == nil:
 	case c.open == nil && (w.r.Intn(8) == 0 || len(w.live) > w.most):
 		w.leave(c)
 	case c.open == nil:
@@ -108,8 +121,11 @@ func (w *world) step() {
 	default:
 		w.statement(c.open)
 	}
-	if w.points {
-		w.core.quiet()
+	if w.fault == byTheClock {
+		w.quiet()
+	}
+	if w.r.Intn(40) == 0 {
+		w.seeAll()
 	}
 	if w.r.Intn(5) == 0 {
 		w.pass()
@@ -204,6 +220,8 @@ func (w *world) around(t *worldTxn) (before, behind map[int]bool) {
 			committed(w.versions[key][i].by)
 			if i+1 < len(w.versions[key]) {
 				behind[w.commit2(w.versions[key][i+1].by)] = true
+			} else if id := w.overwrites(key); id > 0 {
+				behind[w.commit2(id)] = true
 			}
 		}
 	}
@@ -233,13 +251,11 @@ func (w *world) overwritten(t *worldTxn) map[int]bool {
 func (w *world) end(c *worldConn) {
 	t := c.open
 	c.open = nil
-	for key := range t.writes {
-		delete(w.locks, key)
-	}
 	before, behind := w.around(t)
 	seen := map[int]bool{}
 	for next := range behind {
 		if w.reaches(next, before, seen) {
+			w.unlock(t)
 			w.aborted++
 			return
 		}
@@ -255,17 +271,71 @@ func (w *world) end(c *worldConn) {
 		}
 	}
 	w.committed(t, &it, before, behind)
-	if w.r.Intn(30) == 0 {
-		it.Outcome = record.Unclear
-		w.leave(c)
+	its := unseenCommit{t, w.ids}
+	if w.r.Intn(30) > 0 {
+		w.see(its)
+		w.told(c, it)
+		return
 	}
+	it.Outcome = record.Unclear
 	w.told(c, it)
+	w.leave(c)
+	w.unseen = append(w.unseen, its)
+	w.shown()
 }
 
-// committed gives the transaction its place. Its number is derived from its place, so fences have other numbers.
-func (w *world) committed(t *worldTxn, it *record.Transaction, before, behind map[int]bool) {
+func (w *world) unlock(t *worldTxn) {
+	for key := range t.writes {
+		delete(w.locks, key)
+	}
+}
+
+// overwrites returns who overwrites a row, and isn't seen yet; 0 for nobody.
+func (w *world) overwrites(key string) int {
+	for _, one := range w.unseen {
+		if one.its.writes[key] {
+			return one.id
+		}
+	}
+	return 0
+}
+
+// see lets others see a commit.
+func (w *world) see(it unseenCommit) {
 	w.commits++
-	id := w.commits
+	for key := range it.its.writes {
+		w.versions[key] = append(w.versions[key], worldVersion{it.id, w.commits})
+	}
+	w.unlock(it.its)
+}
+
+// seeAll lets others see all commits.
+func (w *world) seeAll() {
+	for _, one := range w.unseen {
+		w.see(one)
+	}
+	w.unseen = nil
+	w.shown()
+}
+
+// shown makes the server's snapshots show what others see.
+func (w *world) shown() {
+	w.shows = "3:2000000000:"
+	for i, one := range w.unseen {
+		if w.fault == hasty {
+			return
+		}
+		if i > 0 {
+			w.shows += ","
+		}
+		w.shows += fmt.Sprint(base + one.id)
+	}
+}
+
+// committed puts the transaction's commit into the log. Its number is derived from its place there.
+func (w *world) committed(t *worldTxn, it *record.Transaction, before, behind map[int]bool) {
+	w.ids++
+	id := w.ids
 	begin, commit := w.begin(id), w.commit2(id)
 	overwritten := w.overwritten(t)
 	for one := range before {
@@ -295,7 +365,6 @@ func (w *world) committed(t *worldTxn, it *record.Transaction, before, behind ma
 	var keys []string
 	for key := range t.writes {
 		keys = append(keys, key)
-		w.versions[key] = append(w.versions[key], worldVersion{id, id})
 	}
 	w.bench.commit(uint32(it.Number), keys...)
 }
@@ -303,38 +372,53 @@ func (w *world) committed(t *worldTxn, it *record.Transaction, before, behind ma
 func (w *world) told(c *worldConn, it record.Transaction) {
 	w.tick()
 	it.Ended = w.now
-	if w.points {
-		it.Began = it.Ended
-	}
 	it.Connection, it.Place = c.number, c.place
 	c.place++
 	if w.elsewhere && c.number%2 == 0 {
 		w.tellFar(it)
 		return
 	}
-	w.later2(func() { w.core.tell(it) })
+	tell := func() { w.tell(it) }
+	if conn := w.core.connections[c.number]; conn != nil && w.delayed[conn.session] != nil {
+		w.delayed[conn.session] = append(w.delayed[conn.session], tell)
+		return
+	}
+	w.later2(tell)
 }
 
+// tell reports a transaction to the joiner, which may be made wrong on purpose.
+func (w *world) tell(it record.Transaction) {
+	conn := w.core.connections[it.Connection]
+	switch {
+	case w.fault == byTheClock, w.fault == spanning:
+		it.Began = it.Ended
+	case w.fault == late && conn != nil && conn.session != nil && it.Ended.Before(conn.session.fence):
+		s := conn.session
+		moment := s.fence
+		s.fence = time.Time{}
+		w.core.tell(it)
+		s.fence = moment
+		return
+	}
+	w.core.tell(it)
+}
+
+// live1 lets the proxy live, and its sessions meet some times.
 func (w *world) live1(meetings int) {
 	for ; meetings > 0; meetings-- {
 		w.most = 2 + w.r.Intn(8)
 		for n := 0; n < 150; n++ {
 			w.step()
-			if w.r.Intn(12) == 0 {
-				w.join()
-			}
 			switch w.r.Intn(120) {
-			case 0:
-				w.slow()
-			case 1, 2:
-				w.core.quiet()
-			case 3:
+			case 0, 1:
+				w.quiet()
+			case 2:
 				w.core.reseat()
 			}
 		}
 		w.meet()
 	}
-	w.slow()
+	w.seeAll()
 	w.tellAll()
 	w.bench.settle()
 	w.bench.settle()

@@ -80,7 +80,7 @@ func SlotSettings() map[string]string {
 		"TimeZone":           "UTC",
 		"bytea_output":       "hex",
 		"extra_float_digits": "3",
-		"client_encoding":    "UTF8",
+		"client_encoding":    "SQL_ASCII", // names and texts come as the server stores them, as in the slot
 	}
 }
 
@@ -108,28 +108,42 @@ func Askable(typeOID uint32) bool {
 
 // Expression returns the SQL for a hidden column that contains a key column's value, with one type whatever ALTER TABLE
 // makes of the column: otherwise the server would refuse a statement that was prepared before. It is the value's text
-// or, if that depends on the session's settings, the type's binary form, as bytea.
-func Expression(typeOID uint32, column string) string {
+// or, if that depends on the session's settings, the type's binary form, as bytea. If it converts, texts are bytea too, in
+// the server's encoding.
+func Expression(typeOID uint32, column string, converts bool) string {
 	if send := sendFunction(typeOID); send != "" {
 		return "pg_catalog." + send + "(" + column + ")"
 	}
+	text := column + "::pg_catalog.text"
 	if typeOID == Enum { // the type's owner may have defined a cast
-		return "pg_catalog.concat(" + column + ")"
+		text = "pg_catalog.concat(" + column + ")"
 	}
-	return column + "::text"
+	if converts && IsText(typeOID) {
+		return "pg_catalog.convert_to(" + text + ", pg_catalog.getdatabaseencoding())"
+	}
+	return text
+}
+
+// IsText reports whether a type's canonical text may have characters beyond ASCII.
+func IsText(typeOID uint32) bool {
+	switch typeOID {
+	case Text, Varchar, Name, Bpchar, Enum:
+		return true
+	}
+	return false
 }
 
 // ExpressionType returns the type of Expression's column.
-func ExpressionType(typeOID uint32) uint32 {
-	if sendFunction(typeOID) != "" {
+func ExpressionType(typeOID uint32, converts bool) uint32 {
+	if sendFunction(typeOID) != "" || converts && IsText(typeOID) {
 		return Bytea
 	}
 	return Text
 }
 
 // FromHidden returns the canonical text of a value of Expression's column.
-func FromHidden(typeOID uint32, value []byte, binary bool) (string, bool) {
-	if sendFunction(typeOID) == "" {
+func FromHidden(typeOID uint32, value []byte, binary, converts bool) (string, bool) {
+	if ExpressionType(typeOID, converts) == Text {
 		return fromText(typeOID, value)
 	}
 	if !binary {

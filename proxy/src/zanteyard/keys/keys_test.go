@@ -147,7 +147,7 @@ func table(k kind) string { return "of_" + strings.NewReplacer("(", "_", ")", ""
 func fromServer(t *testing.T, connection *pgconn.PgConn, k kind, n int) string {
 	t.Helper()
 	found := map[string]string{}
-	sql := fmt.Sprintf("SELECT v, %s FROM %s x WHERE n = %d", keys.Expression(k.oid, `x."v"`), table(k), n)
+	sql := fmt.Sprintf("SELECT v, %s FROM %s x WHERE n = %d", keys.Expression(k.oid, `x."v"`, false), table(k), n)
 	for i, session := range sessions {
 		run(t, connection, session)
 		for _, format := range []int16{0, 1} {
@@ -157,7 +157,7 @@ func fromServer(t *testing.T, connection *pgconn.PgConn, k kind, n int) string {
 			}
 			way := fmt.Sprintf("session %d, format %d", i, format)
 			row := result.Rows[0]
-			if canonical, ok := keys.FromHidden(k.oid, row[1], format == 1); ok {
+			if canonical, ok := keys.FromHidden(k.oid, row[1], format == 1, false); ok {
 				found[canonical] = way
 			} else {
 				t.Errorf("%s: the hidden value %q has no text in %s", k.name, row[1], way)

@@ -14,6 +14,8 @@ import (
 	"syscall"
 	"time"
 	"unsafe"
+
+	"zanteyard/guard"
 )
 
 // Loops are the threads. There is one until Share asks for more.
@@ -102,7 +104,11 @@ func start(l *Loops) (*loop, error) {
 		return nil, fmt.Errorf("epoll: %w", err)
 	}
 	one := &loop{loops: l, epoll: epoll, conns: map[uint64]*Conn{}}
-	go one.run()
+	go func() {
+		for { // a panic in what it calls must not leave its other connections without a loop
+			guard.Do("a loop", func(error) {}, one.run)
+		}
+	}()
 	return one, nil
 }
 

@@ -1,37 +1,36 @@
-// Package meeting makes the sessions of a proxy meet: each makes a fence, which is a transaction of the proxy on a row
-// reserved for that; when all have made theirs, each makes a second one. Nothing of a client runs between the two
-// fences of its session. So everything done before the meeting comes before the last of the first fences, and
-// everything done later comes after it: up to there the auditor may forget.
+// Package meeting finds moments at which nothing is under way on some of a proxy's connections. It holds what would
+// begin until what is under way has ended, for a bounded time. Nothing is sent to the server for that.
 package meeting
 
 import (
 	"context"
-	"errors"
-	"fmt"
 	"sync"
 	"time"
 )
 
-// Member is a session that can be held between two messages of its client, and can make fences then.
+// State is what a client is doing.
+type State uint8
+
+const (
+	// Quiet means that nothing is under way: what the client sends next begins a transaction.
+	Quiet State = iota
+	// Idle means that a transaction is open, and that everything was answered: only the client knows when it goes on.
+	Idle
+	// UnderWay means that the client waits for an answer.
+	UnderWay
+)
+
+// Member is a session that can be held between two transactions of its client.
 type Member interface {
 	Number() uint64
-	// Hold makes the client's next messages wait once it has nothing under way; Release ends that.
-	Hold()
-	// Fence makes a fence as soon as the client has nothing under way; done is called once, by any goroutine, and must not
-	// wait.
-	Fence(done func(number uint64, err error))
-	// Try makes the fence that is due, if possible now.
-	Try()
+	// State returns what the client is doing.
+	State() State
+	// Hold makes what the client begins from now on wait, and returns what it is doing. If that is UnderWay, ended is called
+	// once when nothing is under way any more, even if the connection ends. It is called by any goroutine, and doesn't wait.
+	Hold(ended func()) State
+	// Release lets the client go on. After it ended isn't called any more.
 	Release()
-	// Busy reports whether the client has anything under way.
-	Busy() bool
 }
-
-// Errors of Meet. A meeting that failed did no harm: the fences that were made are transactions like others.
-var (
-	ErrBusy    = errors.New("meeting: a session stayed in a transaction for too long")
-	ErrUnknown = errors.New("meeting: no such connection")
-)
 
 // Room knows the present sessions. Safe for use by many goroutines.
 type Room struct {
@@ -43,7 +42,7 @@ type Room struct {
 	members map[uint64]Member
 }
 
-// NewRoom makes a room whose meetings hold clients for at most the bound.
+// NewRoom makes a room whose meetings wait for what is under way for at most the bound.
 func NewRoom(bound time.Duration) *Room {
 	return &Room{bound: bound, members: map[uint64]Member{}}
 }
@@ -62,153 +61,63 @@ func (r *Room) Leave(m Member) {
 	delete(r.members, m.Number())
 }
 
-func (r *Room) all() []Member {
+// those returns the present ones among these connections.
+func (r *Room) those(connections []uint64) []Member {
 	r.lock.Lock()
 	defer r.lock.Unlock()
-	all := make([]Member, 0, len(r.members))
-	for _, m := range r.members {
-		all = append(all, m)
+	those := make([]Member, 0, len(connections))
+	for _, number := range connections {
+		if m := r.members[number]; m != nil {
+			those = append(those, m)
+		}
 	}
-	return all
+	return those
 }
 
-func (r *Room) one(connection uint64) Member {
-	r.lock.Lock()
-	defer r.lock.Unlock()
-	return r.members[connection]
-}
-
-// made is the outcome of one fence.
-type made struct {
-	member Member
-	err    error
-}
-
-// Meet makes all sessions meet. It returns how many fences were made and how long it took. Sessions that end in the
-// meantime don't count. If a session is busy for too long, Meet fails.
-func (r *Room) Meet(ctx context.Context) (fences int, took time.Duration, err error) {
-	return r.meet(ctx, nil)
-}
-
-// MeetAround makes the sessions meet without those that are busy for half of the bound. Between the first fences and
-// the second ones, while those that have come are held, it calls between, in which fences can be made for the others.
-// It calls it even if none has come.
-func (r *Room) MeetAround(ctx context.Context, between func(context.Context)) (
-	fences int, took time.Duration, err error) {
-	return r.meet(ctx, between)
-}
-
-func (r *Room) meet(ctx context.Context, between func(context.Context)) (fences int, took time.Duration, err error) {
+// Meet holds these connections until what is under way on them has ended, or until the bound. Then it calls moment,
+// with how long it took, and releases them. Nobody waits for a connection that is idle in a transaction at first, nor
+// for one that isn't named. If ctx ends first, moment isn't called.
+func (r *Room) Meet(ctx context.Context, connections []uint64, moment func(held time.Duration)) {
 	r.meets.Lock()
 	defer r.meets.Unlock()
 	began := time.Now()
-	ctx, cancel := context.WithTimeout(ctx, r.bound)
-	defer cancel()
-	members := r.all()
-	for _, m := range members {
-		m.Hold()
-	}
+	those := r.those(connections)
 	defer func() {
-		for _, m := range members {
+		for _, m := range those {
 			m.Release()
 		}
 	}()
-	first, end := ctx, func() {}
-	if between != nil {
-		first, end = context.WithTimeout(ctx, r.bound/2)
-	}
-	there, fences, err := r.fences(first, members, false)
-	end()
-	if between != nil {
-		between(ctx)
-	} else if err != nil {
-		return fences, time.Since(began), err
-	}
-	for _, m := range members {
-		if !contains(there, m) {
-			m.Release() // the session has ended, or is busy
+	ended, left := make(chan struct{}, len(those)), 0
+	for _, m := range those {
+		if m.Hold(func() { ended <- struct{}{} }) == UnderWay {
+			left++
 		}
 	}
-	members = there
-	_, n, err := r.fences(ctx, members, true)
-	if between != nil && errors.Is(err, ErrBusy) {
-		err = nil // the audit's own connection makes a fence for those that didn't
-	}
-	return fences + n, time.Since(began), err
-}
-
-func contains(all []Member, m Member) bool {
-	for _, x := range all {
-		if x == m {
-			return true
-		}
-	}
-	return false
-}
-
-// fences makes each member make one fence. It returns those that are still there.
-func (r *Room) fences(ctx context.Context, members []Member, release bool) (there []Member, n int, err error) {
-	results := make(chan made, len(members))
-	for _, m := range members {
-		m := m
-		m.Fence(func(_ uint64, err error) { results <- made{m, err} })
-	}
-	retry := time.NewTicker(time.Millisecond)
-	defer retry.Stop()
-	for left := len(members); left > 0; {
+	timer := time.NewTimer(r.bound)
+	defer timer.Stop()
+	for left > 0 && ctx.Err() == nil {
 		select {
-		case result := <-results:
+		case <-ended:
 			left--
-			switch {
-			case result.err == nil:
-				n++
-				there = append(there, result.member)
-			case r.one(result.member.Number()) == nil:
-				// the connection has ended
-			case err == nil:
-				err = fmt.Errorf("connection %d: %w", result.member.Number(), result.err)
-			}
-			if release {
-				result.member.Release()
-			}
-		case <-retry.C:
-			for _, m := range members {
-				m.Try()
-			}
+		case <-timer.C:
+			left = 0
 		case <-ctx.Done():
-			if err == nil {
-				err = ErrBusy
-			}
-			return there, n, err
 		}
 	}
-	return there, n, err
+	if ctx.Err() == nil {
+		moment(time.Since(began))
+	}
 }
 
-// Busy returns how many sessions have something of their clients' under way.
-func (r *Room) Busy() int {
-	n := 0
-	for _, m := range r.all() {
-		if m.Busy() {
-			n++
+// Busy returns on how many of these connections something is under way, and how many are idle in a transaction.
+func (r *Room) Busy(connections []uint64) (underWay, idle int) {
+	for _, m := range r.those(connections) {
+		switch m.State() {
+		case UnderWay:
+			underWay++
+		case Idle:
+			idle++
 		}
 	}
-	return n
-}
-
-// Fence makes one session make a fence, by which it joins an audit that is already running. It waits until the session
-// has nothing under way, or until ctx ends; the client is held for the bound at most.
-func (r *Room) Fence(ctx context.Context, connection uint64) error {
-	r.meets.Lock()
-	defer r.meets.Unlock()
-	m := r.one(connection)
-	if m == nil {
-		return ErrUnknown
-	}
-	ctx, cancel := context.WithTimeout(ctx, r.bound)
-	defer cancel()
-	m.Hold()
-	defer m.Release()
-	_, _, err := r.fences(ctx, []Member{m}, true)
-	return err
+	return underWay, idle
 }

@@ -85,17 +85,34 @@ func (s *cached) in(path string) *cached {
 	if found, ok := s.paths[path]; ok {
 		return found
 	}
-	view, err := s.catalog.In(path)
+	view, err := s.view(path)
 	if err != nil || len(s.paths) >= mostPaths {
 		return s
 	}
-	if strings.Join(view.Path, "\x00") == strings.Join(s.catalog.Path, "\x00") {
+	if !view.Converts && strings.Join(view.Path, "\x00") == strings.Join(s.catalog.Path, "\x00") {
 		s.paths[path] = s
 		return s
 	}
 	made := &cached{catalog: view, generation: s.generation, unknown: s.unknown, entries: pathEntries, bytes: pathBytes}
 	s.paths[path] = made
 	return made
+}
+
+// Converting precedes the search path of a connection whose texts the server converts.
+const Converting = "~"
+
+func (s *cached) view(path string) (*catalog.Catalog, error) {
+	rest := strings.TrimPrefix(path, Converting)
+	view, err := s.catalog, error(nil)
+	if rest != "" {
+		view, err = s.catalog.In(rest)
+	}
+	if err == nil && rest != path {
+		its := *view
+		its.Converts = true
+		view = &its
+	}
+	return view, err
 }
 
 // Generation counts the catalogs that the cache was given.
@@ -108,8 +125,8 @@ func (c *Cache) Catalog() *catalog.Catalog { return c.state.Load().catalog }
 // understood has a plan that leaves it unchanged.
 func (c *Cache) Plan(text string) (*Plan, Tokens) { return c.lookUp(c.state.Load(), text) }
 
-// PlanIn is Plan for a connection with another search path than the one the catalog was loaded with, as catalog.PathSQL
-// reports it there. For "" it is Plan.
+// PlanIn is Plan for a connection with another search path than the catalog's, as catalog.PathSQL reports it there,
+// with Converting before it if the server converts the connection's texts. For "" it is Plan.
 func (c *Cache) PlanIn(path, text string) (*Plan, Tokens) {
 	state := c.state.Load()
 	if path != "" {
@@ -121,8 +138,20 @@ func (c *Cache) PlanIn(path, text string) (*Plan, Tokens) {
 func (c *Cache) lookUp(state *cached, text string) (*Plan, Tokens) {
 	s := c.scanners.Get().(*scanner)
 	defer c.giveBack(s)
-	if !s.scan(text) {
-		return state.unknown, Tokens{at: nowhere}
+	p := c.find(state, s, text, false)
+	if p.apart {
+		p = c.find(state, s, text, true)
+	}
+	if p == state.unknown {
+		return p, Tokens{at: nowhere}
+	}
+	return c.locate(state, p, text, s.tokens)
+}
+
+// find returns a text's plan, and its tokens in the scanner.
+func (c *Cache) find(state *cached, s *scanner, text string, apart bool) *Plan {
+	if s.apart = apart; !s.scan(text) {
+		return state.unknown
 	}
 	home := &state.shards[maphash.Bytes(c.seed, s.key)%shards]
 	p := home.find(state, s.key)
@@ -130,7 +159,7 @@ func (c *Cache) lookUp(state *cached, text string) (*Plan, Tokens) {
 		p = c.make(state, s)
 		home.keep(state, string(s.key), p)
 	}
-	return c.locate(state, p, text, s.tokens)
+	return p
 }
 
 func (c *Cache) giveBack(s *scanner) {
@@ -164,6 +193,9 @@ func (h *shard) keep(state *cached, key string, p *Plan) {
 
 // locate finds a plan's places in a text.
 func (c *Cache) locate(state *cached, p *Plan, text string, list []token) (*Plan, Tokens) {
+	if p.custom != nil && p.setsCustom(text, list) {
+		p = p.custom
+	}
 	for _, at := range p.positions {
 		if !within(text, list, at) {
 			p = p.misplaced

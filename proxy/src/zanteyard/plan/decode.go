@@ -57,7 +57,7 @@ func (s *Source) decode(group [][]byte, binary bool) (record.Read, error) {
 		if value == nil {
 			return record.Read{}, fmt.Errorf("a key column of relation %d is NULL", relation)
 		}
-		canonical, ok := keys.FromHidden(typeOID, value, binary)
+		canonical, ok := keys.FromHidden(typeOID, value, binary, s.Converts)
 		switch {
 		case !ok:
 			return record.Read{}, fmt.Errorf("a key column of relation %d of type %d can't be read", relation, typeOID)
@@ -67,7 +67,9 @@ func (s *Source) decode(group [][]byte, binary bool) (record.Read, error) {
 			key += "\x00" + canonical
 		}
 	}
-	return record.Read{Relation: record.Relation(relation), Key: record.Key(key), Version: version}, nil
+	return record.Read{
+		Relation: record.Relation(relation), Key: record.Key(key), Version: version, Identity: s.Identity,
+	}, nil
 }
 
 // Number returns the transaction's number from a row's hidden columns, if the plan asks for it.

@@ -33,6 +33,7 @@ type item struct {
 	sampled  bool
 	optional int // the join that the server may leave out if nothing else uses the table, or 0 if it may not
 	natural  bool
+	converts bool // the connection's texts are in another encoding than the server's
 }
 
 // read reads a statement's FROM clause and what the rest of the statement mentions.
@@ -117,7 +118,7 @@ func (f *fromClause) table(r node, at place, sampled bool) {
 	switch {
 	case r.has("catalogname"):
 		reason = "a table name with a database name"
-	case !ok && (schema == "pg_catalog" || schema == "information_schema" || schema == "" && strings.HasPrefix(name, "pg_")):
+	case !ok && isServers(schema, name):
 		return // the server's own tables have no versions that are audited
 	case ok && t.Kind == 'S':
 		return // nor do sequences
@@ -132,13 +133,14 @@ func (f *fromClause) table(r node, at place, sampled bool) {
 		f.plan.leaveOut(reason)
 		return
 	}
-	f.found = append(f.found, newItem(r, t, at, sampled))
+	f.found = append(f.found, f.maker.newItem(r, t, at, sampled))
 }
 
-func newItem(r node, t *catalog.Table, at place, sampled bool) *item {
+func (m *maker) newItem(r node, t *catalog.Table, at place, sampled bool) *item {
 	it := &item{
 		table: t, name: r.text("relname"), written: quote(r.text("relname")), nullable: at.nullable,
 		only: !r.flag("inh"), sampled: sampled, optional: at.optional, natural: at.natural,
+		converts: m.catalog.Converts,
 	}
 	if schema := r.text("schemaname"); schema != "" {
 		it.written = quote(schema) + "." + it.written
@@ -198,7 +200,7 @@ func (it *item) write(out *strings.Builder) {
 	table := quote(it.name)
 	out.WriteString(", " + table + ".xmin AS " + alias + ", " + table + ".tableoid AS " + alias)
 	for _, column := range it.table.Key {
-		out.WriteString(", " + keys.Expression(column.Type, table+"."+quote(column.Name)) + " AS " + alias)
+		out.WriteString(", " + keys.Expression(column.Type, table+"."+quote(column.Name), it.converts) + " AS " + alias)
 	}
 }
 
@@ -207,7 +209,10 @@ func (it *item) source() Source {
 	for i, column := range it.table.Key {
 		types[i] = column.Type
 	}
-	return Source{Relation: record.Relation(it.table.OID), Types: types, Nullable: it.nullable}
+	return Source{
+		Relation: record.Relation(it.table.OID), Identity: it.table.Identity, Converts: it.converts, Types: types,
+		Nullable: it.nullable,
+	}
 }
 
 func (it *item) relation() relation {

@@ -24,9 +24,10 @@ func (m *maker) plan(stmt statement) *Plan {
 	case "DiscardStmt":
 		switch body.text("target") {
 		case "DISCARD_ALL":
-			p.Kind, p.ChangesNames = DiscardAll, true
+			p.Kind, p.ChangesNames, p.MayCommit = DiscardAll, true, true
+			p.Resets = User | Settings | Level | Temporary
 		case "DISCARD_TEMP":
-			p.Kind, p.ChangesNames = Definition, true
+			p.Kind, p.ChangesNames, p.Resets = TemporaryDefinition, true, Temporary
 		}
 	case "DeallocateStmt":
 		p.Kind, p.Name = Deallocate, body.text("name")
@@ -52,25 +53,49 @@ func (m *maker) plan(stmt statement) *Plan {
 // other handles statements that the proxy never changes.
 func (m *maker) other(p *Plan, name string, body node) {
 	switch name {
-	case "VariableShowStmt", "LockStmt", "NotifyStmt", "ListenStmt", "UnlistenStmt", "CheckPointStmt", "VacuumStmt",
-		"ConstraintsSetStmt", "ClusterStmt", "ReindexStmt":
+	case "VariableShowStmt", "LockStmt", "NotifyStmt", "ListenStmt", "UnlistenStmt", "CheckPointStmt", "ConstraintsSetStmt":
+	case "VacuumStmt", "ClusterStmt", "ReindexStmt":
+		p.MayCommit = true
 	case "ExplainStmt":
 		m.explain(p, body)
 	case "TruncateStmt":
 		p.Kind, p.MayWriteUnseen = Write, true
 	case "CallStmt":
-		p.MayWriteUnseen = true
+		p.MayWriteUnseen, p.MayCommit = true, true
 		p.leaveOut("a procedure")
 		m.calls(p, node{"FuncCall": body["funccall"]})
 	case "DoStmt":
-		p.MayWriteUnseen, p.ChangesNames = true, true
+		p.MayWriteUnseen, p.ChangesNames, p.MayCommit = true, true, true
 		p.leaveOut("DO")
 	default:
-		p.Kind, p.MayWriteUnseen, p.ChangesNames = Definition, true, true
+		p.Kind, p.MayWriteUnseen, p.ChangesNames, p.MayCommit = Definition, true, true, true
 		if name == "CreateTableAsStmt" {
 			p.leaveOut("a table created from a query")
 		}
+		if m.makesTemporary(name, body) {
+			p.Kind = TemporaryDefinition
+		}
 	}
+}
+
+// makesTemporary reports whether a statement makes a temporary table, and nothing else: no table that others see gets a
+// child, and no function runs that may do more.
+func (m *maker) makesTemporary(name string, body node) bool {
+	var relation node
+	switch name {
+	case "CreateStmt":
+		if body.has("inhRelations") {
+			return false
+		}
+		relation = body.node("relation")
+	case "CreateTableAsStmt":
+		does := &Plan{}
+		if m.calls(does, body); does.MayWriteUnseen || does.ChangesNames || does.MayLevel || writesWithin(body) {
+			return false
+		}
+		relation = body.node("into").node("rel")
+	}
+	return relation.text("relpersistence") == "t"
 }
 
 // explain: EXPLAIN runs its query only with ANALYZE.
@@ -145,13 +170,30 @@ func setting(p *Plan, body node) {
 	switch name := strings.ToLower(body.text("name")); name {
 	case "transaction":
 		p.Level = levelOf(body.list("args"))
+	case "session characteristics":
+		p.DefaultLevel = levelOf(body.list("args"))
+		p.SetsDefault = p.DefaultLevel != record.UnknownLevel
+	case "transaction_isolation":
+		p.SetsLevel = true
+	case "default_transaction_isolation":
+		switch {
+		case body.flag("is_local"): // it ends before another transaction begins
+		case body.text("kind") == "VAR_SET_VALUE":
+			p.SetsDefault = true
+		default: // to what it is then has to be asked
+			p.Kind, p.ChangesNames = Set, true
+		}
 	case "transaction snapshot":
 		p.TakesSnapshot = true
-	case "search_path", "role", "session_authorization":
+	case "search_path", "role", "session_authorization", "client_encoding":
 		p.Kind, p.ChangesNames = Set, true
+		if kind := body.text("kind"); name == "session_authorization" && !body.flag("is_local") &&
+			(kind == "VAR_RESET" || kind == "VAR_SET_DEFAULT") {
+			p.Resets = User
+		}
 	default:
 		if body.text("kind") == "VAR_RESET_ALL" {
-			p.Kind, p.ChangesNames = Set, true
+			p.Kind, p.ChangesNames, p.Resets = Set, true, Settings|Level
 		}
 	}
 }
@@ -203,6 +245,9 @@ func writesWithin(value any) bool {
 	return found
 }
 
+// aFunctionReads is why something that isn't in a statement's text may be unseen.
+const aFunctionReads = "what a function reads"
+
 // calls checks what a statement's functions and operators may do.
 func (m *maker) calls(p *Plan, value any) {
 	visit(value, func(kind string, body node) bool {
@@ -218,20 +263,66 @@ func (m *maker) calls(p *Plan, value any) {
 			}
 			f := m.catalog.Function(schema, name[len(name)-1])
 			if f.Reads {
-				p.leaveOut("what a function reads")
+				p.leaveOut(aFunctionReads)
 			}
 			p.MayWriteUnseen = p.MayWriteUnseen || f.Writes
 			p.ChangesNames = p.ChangesNames || f.Names
+			if name[len(name)-1] == "set_config" && !f.Made {
+				m.configs = append(m.configs, m.nameOf(body))
+			} else {
+				m.renames = m.renames || f.Names
+			}
+			p.MayLevel = p.MayLevel || m.catalog.Levels && f.Made
 			if name[len(name)-1] == "set_config" && p.Kind == Select {
 				p.Kind = Set
 			}
 		case "A_Expr":
 			name := names(body.list("name"))
 			if len(name) > 0 && !m.catalog.PureOperator(name[len(name)-1]) {
-				p.leaveOut("what a function reads")
+				p.leaveOut(aFunctionReads)
 				p.MayWriteUnseen = true
 			}
 		}
 		return true
 	})
+}
+
+// nameOf returns the token of the constant that is a call's first argument, or nowhere.
+func (m *maker) nameOf(call node) int {
+	args := call.list("args")
+	if len(args) == 0 {
+		return nowhere
+	}
+	kind, body := only(args[0])
+	if kind != "A_Const" {
+		return nowhere
+	}
+	return m.tokenAt(body.number("location"))
+}
+
+// customs makes the plan for the same text with other constants: a setting whose name has a dot is an extension's, or
+// the application's own, and changes nothing that names refer to.
+func (m *maker) customs(p *Plan) {
+	if p.Kind != Set || len(m.configs) == 0 || m.renames {
+		return
+	}
+	for _, at := range m.configs {
+		if at < 0 || m.tokens[at].kind != stringToken {
+			return
+		}
+	}
+	its := *p
+	its.Kind, its.ChangesNames = Select, false
+	p.custom, p.configs = &its, m.configs
+}
+
+// setsCustom reports whether all names that set_config sets have a dot.
+func (p *Plan) setsCustom(text string, tokens []token) bool {
+	for _, at := range p.configs {
+		name, ok := constant(text[tokens[at].start:tokens[at].end], false)
+		if at+1 < len(tokens) && tokens[at+1].kind == stringToken || !ok || !strings.Contains(string(name), ".") {
+			return false
+		}
+	}
+	return true
 }

@@ -6,15 +6,17 @@ import (
 	"testing"
 
 	"zanteyard/catalog"
+	"zanteyard/own"
 	"zanteyard/record"
 )
 
 // none is a catalog without tables.
 func none(t testing.TB) *catalog.Catalog {
 	t.Helper()
-	c, err := catalog.Load(ctx(), func(sql string) ([][]string, error) {
+	c, err := catalog.Load(ctx(), func(text own.Text) ([][]string, error) {
+		sql := text.String()
 		if strings.Contains(sql, "pg_proc p JOIN") && strings.Contains(sql, "provolatile") && strings.Contains(sql, "prokind") {
-			return [][]string{{"set_config", "pg_catalog", "false", "false", "false", "false", "false"}}, nil
+			return [][]string{{"set_config", "pg_catalog", "false", "false", "false", "false", "false", "false"}}, nil
 		}
 		return nil, nil
 	})
@@ -56,36 +58,41 @@ func TestKinds(t *testing.T) {
 		"SET TRANSACTION ISOLATION LEVEL REPEATABLE READ":        "Other repeatable",
 		"SELECT set_config('search_path', 'a', false)":           "Set names",
 		"SELECT pg_catalog.set_config('search_path', 'a', true)": "Set names",
-		"DISCARD ALL":                            "DiscardAll names",
-		"DEALLOCATE ALL":                         "DiscardAll",
-		"DEALLOCATE PREPARE Joe":                 "Deallocate joe",
-		"DISCARD PLANS":                          "Other",
-		"DISCARD TEMP":                           "Definition names",
-		"CREATE TABLE x (a int)":                 "Definition writes names",
-		"ALTER TABLE x ADD COLUMN b int":         "Definition writes names",
-		"GRANT SELECT ON x TO y":                 "Definition writes names",
-		"CREATE TABLE x AS SELECT 1":             "Definition writes names",
-		"DECLARE c CURSOR FOR SELECT 1":          "Declare c(Select)",
-		"PREPARE p (int) AS SELECT $1":           "Prepare p(Select)",
-		"PREPARE p AS INSERT INTO x VALUES ($1)": "Prepare p(Write writes)",
-		"EXECUTE p (1)":                          "Execute p",
-		"FETCH 10 FROM c":                        "Fetch c",
-		"MOVE c":                                 "Fetch c",
-		"CLOSE c":                                "CloseCursor c",
-		"CLOSE ALL":                              "CloseCursor all",
-		"COPY x FROM STDIN":                      "Copy writes",
-		"COPY x TO STDOUT":                       "Copy",
-		"TRUNCATE x":                             "Write writes",
-		"LOCK x":                                 "Other",
-		"EXPLAIN SELECT 1":                       "Other",
-		"EXPLAIN ANALYZE DELETE FROM x":          "Other writes",
-		"CALL x()":                               "Other writes names",
-		"DO 'x'":                                 "Other writes names",
-		"SHOW x":                                 "Other",
-		"BEGIN; SELECT 1; COMMIT":                "Several[Begin,Select,Commit]",
-		"SELECT FROM FROM":                       "Other writes names unknown",
-		"SELECT 'open":                           "Other writes names unknown",
-		"SELECT " + strings.Repeat("(", 5000):    "Other writes names unknown",
+		"DISCARD ALL":                                   "DiscardAll names",
+		"DEALLOCATE ALL":                                "DiscardAll",
+		"DEALLOCATE PREPARE Joe":                        "Deallocate joe",
+		"DISCARD PLANS":                                 "Other",
+		"DISCARD TEMP":                                  "TemporaryDefinition names",
+		"CREATE TABLE x (a int)":                        "Definition writes names",
+		"CREATE TEMP TABLE x (a int)":                   "TemporaryDefinition writes names",
+		"CREATE TEMP TABLE x AS SELECT 1":               "TemporaryDefinition writes names",
+		"CREATE TEMP TABLE x AS SELECT y()":             "Definition writes names",
+		"CREATE TEMP TABLE x () INHERITS (y)":           "Definition writes names",
+		"DROP TABLE x":                                  "Definition writes names",
+		"ALTER TABLE x ADD COLUMN b int":                "Definition writes names",
+		"GRANT SELECT ON x TO y":                        "Definition writes names",
+		"CREATE TABLE x AS SELECT 1":                    "Definition writes names",
+		"DECLARE c CURSOR FOR SELECT 1":                 "Declare c(Select)",
+		"PREPARE p (int) AS SELECT $1":                  "Prepare p(Select)",
+		"PREPARE p AS INSERT INTO x VALUES ($1)":        "Prepare p(Write writes)",
+		"EXECUTE p (1)":                                 "Execute p",
+		"FETCH 10 FROM c":                               "Fetch c",
+		"MOVE c":                                        "Fetch c",
+		"CLOSE c":                                       "CloseCursor c",
+		"CLOSE ALL":                                     "CloseCursor all",
+		"COPY x FROM STDIN":                             "Copy writes",
+		"COPY x TO STDOUT":                              "Copy",
+		"TRUNCATE x":                                    "Write writes",
+		"LOCK x":                                        "Other",
+		"EXPLAIN SELECT 1":                              "Other",
+		"EXPLAIN ANALYZE DELETE FROM x":                 "Other writes",
+		"CALL x()":                                      "Other writes names",
+		"DO 'x'":                                        "Other writes names",
+		"SHOW x":                                        "Other",
+		"BEGIN; SELECT 1; COMMIT":                       "Several[Begin,Select,Commit]",
+		"SELECT FROM FROM":                              "Other writes names unknown",
+		"SELECT 'open":                                  "Other writes names unknown",
+		"SELECT " + strings.Repeat("(", 5000):           "Other writes names unknown",
 		"SELECT '" + strings.Repeat("x", 300000) + "'":  "Select",
 		"SELECT '" + strings.Repeat("x", maxText) + "'": "Other writes names unknown",
 	} {
@@ -101,7 +108,7 @@ func TestKinds(t *testing.T) {
 
 func kind(p *Plan) string {
 	kinds := []string{"Other", "Select", "Write", "Begin", "Commit", "Rollback", "PrepareTransaction", "Savepoint",
-		"RollbackTo", "Release", "Set", "DiscardAll", "Definition", "Declare", "Fetch", "CloseCursor", "Prepare", "Execute",
+		"RollbackTo", "Release", "Set", "DiscardAll", "Definition", "TemporaryDefinition", "Declare", "Fetch", "CloseCursor", "Prepare", "Execute",
 		"Deallocate", "Copy", "Several", "Empty"}
 	text := kinds[p.Kind]
 	if p.Kind == Several {

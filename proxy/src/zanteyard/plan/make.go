@@ -17,7 +17,9 @@ type maker struct {
 	offsets []int // of the tokens in the joined text
 	depths  []int // how many parentheses each is in; a parenthesis itself counts as outside
 	shape   string
-	many    bool // VALUES has more rows than are to be returned
+	many    bool  // VALUES has more rows than are to be returned
+	configs []int // the tokens of the names that set_config sets, nowhere for one that is no constant
+	renames bool  // something else may change what names mean
 }
 
 func newMaker(c *catalog.Catalog, s *scanner) *maker {
@@ -90,8 +92,10 @@ func (c *Cache) make(state *cached, s *scanner) *Plan {
 	stmts, err := m.parse()
 	var p *Plan
 	switch {
+	case err != nil && s.popped: // some lists of constants have a length that matters, as NULLIF's
+		p = &Plan{apart: true}
 	case err != nil:
-		p = &Plan{Kind: Other, Shape: m.shape, Unknown: true, MayWriteUnseen: true, ChangesNames: true}
+		p = &Plan{Kind: Other, Shape: m.shape, Unknown: true, MayWriteUnseen: true, MayCommit: true, ChangesNames: true}
 		p.leaveOut("it can't be parsed")
 	case len(stmts) == 0:
 		p = &Plan{Kind: Empty}
@@ -99,14 +103,35 @@ func (c *Cache) make(state *cached, s *scanner) *Plan {
 		p = c.several(state, m, stmts)
 	default:
 		p = m.plan(stmts[0])
+		m.customs(p)
 	}
 	p.stamp(state.generation)
+	p.Beyond = m.beyond() || !isASCII(p.insertion.text)
 	return p
+}
+
+// beyond reports whether the statement's text has characters beyond ASCII, except in constants and comments.
+func (m *maker) beyond() bool {
+	for i, t := range m.tokens {
+		if t.kind != stringToken && !isASCII(m.word(i)) {
+			return true
+		}
+	}
+	return false
+}
+
+func isASCII(text string) bool {
+	for i := 0; i < len(text); i++ {
+		if text[i] >= 0x80 {
+			return false
+		}
+	}
+	return true
 }
 
 func (p *Plan) stamp(generation uint64) {
 	p.Generation = generation
-	for _, part := range []*Plan{p.Inner, p.misplaced} {
+	for _, part := range []*Plan{p.Inner, p.misplaced, p.custom} {
 		if part != nil {
 			part.stamp(generation)
 		}
@@ -117,7 +142,7 @@ func (p *Plan) stamp(generation uint64) {
 func unknownPlan(generation uint64) *Plan {
 	p := &Plan{
 		Shape: "(a very long or incomplete statement)", Generation: generation,
-		Unknown: true, MayWriteUnseen: true, ChangesNames: true,
+		Unknown: true, MayWriteUnseen: true, MayCommit: true, ChangesNames: true,
 	}
 	p.leaveOut("a very long or incomplete statement")
 	return p
@@ -153,9 +178,10 @@ func (m *maker) shorten() string {
 	const most = 200
 	var out strings.Builder
 	glued := true
+	value := values{}
 	for i, t := range m.tokens {
 		word := m.word(i)
-		if t.kind == stringToken || t.kind == numberToken {
+		if value.is(i, t.kind, word) {
 			word = "?"
 		}
 		closes := t.kind == symbolToken && strings.Contains(",);].::", word)

@@ -34,6 +34,16 @@ func parse(text string) ([]node, error) {
 	return tree.Stmts, nil
 }
 
+// Parse returns the statements of a text, each as one node of the parse tree: {"SelectStmt": {..}}.
+func Parse(text string) ([]map[string]any, error) {
+	stmts, err := parse(text)
+	all := make([]map[string]any, len(stmts))
+	for i, stmt := range stmts {
+		all[i] = stmt.node("stmt")
+	}
+	return all, err
+}
+
 // asNode converts a value as encoding/json returns it.
 func asNode(value any) node {
 	switch v := value.(type) {

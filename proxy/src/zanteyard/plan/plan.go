@@ -3,8 +3,9 @@
 // statement's text without constants and comments, and on the catalog; it isn't used on a connection before it has been
 // tried there (Trial).
 //
-// Texts are assumed to be UTF-8 with standard_conforming_strings on. A session with another client_encoding (except
-// SQL_ASCII), or with that setting off, must send its statements unchanged.
+// Texts are read with standard_conforming_strings on, in an encoding that uses ASCII's bytes for nothing else. A session
+// for which that isn't so must send its statements unchanged, and one whose encoding isn't the server's those with names
+// beyond ASCII (Beyond).
 package plan
 
 import (
@@ -30,8 +31,10 @@ const (
 	Set        // SET, RESET, set_config of something that names and rights depend on. It may be undone at the end of the transaction
 	DiscardAll // DISCARD ALL, DEALLOCATE ALL: the proxy's own statements are gone too
 	Definition // DDL and anything else that may change what names mean
-	Declare    // DECLARE CURSOR: Inner is the plan of its query
-	Fetch      // FETCH, MOVE: Name is the cursor's
+	// TemporaryDefinition is DDL that changes temporary objects alone: what names mean on its own connection.
+	TemporaryDefinition
+	Declare // DECLARE CURSOR: Inner is the plan of its query
+	Fetch   // FETCH, MOVE: Name is the cursor's
 	CloseCursor
 	Prepare // SQL's PREPARE: Inner is the plan of its statement
 	Execute // SQL's EXECUTE: Name is the statement's
@@ -41,12 +44,25 @@ const (
 	Empty
 )
 
+// Parts are what decides, besides the definitions, what names mean on a connection and what its transactions may do.
+type Parts uint8
+
+// The parts.
+const (
+	User      Parts = 1 << iota // and its role
+	Settings                    // the search path and row_security
+	Level                       // that transactions begin at
+	Temporary                   // objects
+)
+
 // Source is a table for whose rows' versions a plan asks: a group of hidden columns, which are xmin, tableoid and then
 // the key's columns in the order of the primary key. They come as text or bytea (package keys), so that a prepared
 // statement survives a change of their types.
 type Source struct {
 	Relation record.Relation
-	Types    []uint32 // types of the key's columns in the table, as package catalog resolves them
+	Identity record.Identity // of the table's key
+	Converts bool            // texts come in the server's encoding, as bytea
+	Types    []uint32        // types of the key's columns in the table, as package catalog resolves them
 	// Nullable means that an outer join may leave the whole group NULL: then no row was read.
 	Nullable bool
 }
@@ -74,16 +90,35 @@ type Plan struct {
 	// MayWriteUnseen means that the statement may write without returning a number: a function, COPY, MERGE, a view, an
 	// UPDATE of any number of rows.
 	MayWriteUnseen bool
+	// MayCommit means that the statement may end the transaction that it runs in, and begin others, unless that is a block:
+	// a procedure, DO, VACUUM and the like.
+	MayCommit bool
+	// MayLevel means that transactions may begin at another level afterwards, because of a function.
+	MayLevel bool
 	// ChangesNames means, for any kind, that names and rights may have another meaning afterwards.
 	ChangesNames bool
+	// Resets are the parts of a connection's state that the statement sets to what they were when the connection began, and
+	// all that it does to names and rights.
+	Resets Parts
+	// Beyond means that names in the statement, or in what is added to it, have characters beyond ASCII. They are in the
+	// server's encoding.
+	Beyond bool
 	// Unknown means that the text couldn't be parsed, or was too long: it may be any number of statements of any kind.
 	Unknown bool
 	// Unseen are the reasons why reads or writes of the statement are left out.
 	Unseen []record.Unseen
 	// Asked means that the statement asks for one row of Sources[0] by its whole primary key, which AskedKey returns.
 	Asked bool
+	// ByKey means that a SELECT asks for the rows of one table by its whole primary key, whatever else it asks.
+	ByKey bool
 	// Level is what BEGIN or SET TRANSACTION sets; UnknownLevel if they leave it unchanged.
 	Level record.Level
+	// SetsLevel means that the transaction's level is set by name, to a value in the text.
+	SetsLevel bool
+	// SetsDefault means that the level is set that later transactions begin at: to DefaultLevel or, if that is
+	// UnknownLevel, to a value in the text.
+	SetsDefault  bool
+	DefaultLevel record.Level
 	// TakesSnapshot means SET TRANSACTION SNAPSHOT: from then on the transaction reads from an older snapshot.
 	TakesSnapshot bool
 	Chain         bool   // COMMIT or ROLLBACK begins the next transaction at once
@@ -98,6 +133,9 @@ type Plan struct {
 	asked     []askedPart
 	positions []position
 	misplaced *Plan // the same without an insertion, for texts whose positions forbid it
+	custom    *Plan // the same for texts in which set_config sets nothing but settings that names don't depend on
+	configs   []int // the tokens of their names
+	apart     bool  // its text's lists mustn't be collapsed: another key has its plan
 	sample    string
 	relations []relation
 	ranges    []tokenRange // of Parts
@@ -152,10 +190,34 @@ func (p *Plan) HiddenTypes() []uint32 {
 	for _, s := range p.Sources {
 		types = append(types, xid, oid)
 		for _, typeOID := range s.Types {
-			types = append(types, keys.ExpressionType(typeOID))
+			types = append(types, keys.ExpressionType(typeOID, s.Converts))
 		}
 	}
 	return types
+}
+
+// Converts reports whether all keys' texts come in the server's encoding, or none of them is a text.
+func (p *Plan) Converts() bool {
+	for _, s := range p.Sources {
+		if !s.Converts && s.hasText() {
+			return false
+		}
+	}
+	return true
+}
+
+func (s Source) hasText() bool {
+	for _, typeOID := range s.Types {
+		if keys.IsText(typeOID) {
+			return true
+		}
+	}
+	return false
+}
+
+// Touches reports whether the statement may read or write a table.
+func (p *Plan) Touches() bool {
+	return p.Kind == Write || p.Kind == Copy || p.MayWriteUnseen || len(p.Sources) > 0 || len(p.Unseen) > 0
 }
 
 // leaveOut counts reads that the plan doesn't see, each reason once.

@@ -28,7 +28,11 @@ func (m *maker) query(stmt statement, name string, body node, start int) *Plan {
 	switch name {
 	case "SelectStmt":
 		field = "targetList"
+		p.ByKey = m.byKey(body)
 		m.selects(p, body, start, stmt.to)
+		if p.Kind == Select && !m.readsTables(body) {
+			p.ofNoTable()
+		}
 	case "InsertStmt":
 		m.inserts(p, body, stmt.to)
 	case "UpdateStmt":
@@ -104,7 +108,7 @@ func (m *maker) place(p *Plan) int {
 func (p *Plan) without(reason string) *Plan {
 	bare := &Plan{
 		Kind: p.Kind, Shape: p.Shape, ChangesNames: p.ChangesNames, Unseen: append(p.Unseen[:0:0], p.Unseen...),
-		MayWriteUnseen: p.MayWriteUnseen || p.Kind == Write,
+		MayWriteUnseen: p.MayWriteUnseen || p.Kind == Write, ByKey: p.ByKey,
 	}
 	bare.leaveOut(reason)
 	return bare

@@ -7,6 +7,9 @@ func TestRedacted(t *testing.T) {
 		"SELECT qty FROM stock WHERE id = 8 AND name='it''s' -- 5":     "SELECT qty FROM stock WHERE id = ? AND name=?",
 		`UPDATE "t 1" SET a=E'x\'y', b=$1, c = $$5$$ /* b='secret' */`: `UPDATE "t 1" SET a=?, b=$1, c = ?`,
 		"SELECT -1.5e3, B'01', U&'d\\0061'":                            "SELECT -?, ?, ?",
+		"SET a.b TO secret, 'secret'":                                  "SET a.b TO ?, ?",
+		"alter role r set a.b = secret":                                "alter role r set a.b = ?",
+		"UPDATE t SET a = b":                                           "UPDATE t SET a = b",
 		"":                                                             "",
 		"SELECT 'unfinished":                                           "(a very long or incomplete statement)",
 	} {

@@ -41,6 +41,8 @@ type scanner struct {
 	list   listState
 	values valuesState
 	depth  int
+	apart  bool // lists aren't collapsed
+	popped bool // one was
 }
 
 // Classes of bytes.
@@ -74,9 +76,12 @@ var classes = func() (table [256]uint8) {
 // be planned.
 func (s *scanner) scan(text string) bool {
 	s.text, s.tokens, s.key = text, s.tokens[:0], s.key[:0]
-	s.list, s.values, s.depth = noList, valuesState{}, 0
+	s.list, s.values, s.depth, s.popped = noList, valuesState{}, 0, false
 	if len(text) > maxText {
 		return false
+	}
+	if s.apart {
+		s.key = append(s.key, 0) // no other key begins with this
 	}
 	for at := 0; at < len(text); {
 		c := text[at]
@@ -297,14 +302,14 @@ func (s *scanner) push(start, end int, kind tokenKind) bool {
 			s.depth--
 		}
 	}
-	if s.list != noList || symbol == '(' || symbol == '[' {
+	if !s.apart && (s.list != noList || symbol == '(' || symbol == '[') {
 		s.collapseList(start, end, kind, symbol)
 	}
 	switch {
 	case kind == wordToken && end-start == len("values") && s.text[start]|0x20 == 'v' &&
 		strings.EqualFold(s.text[start:end], "values"):
 		s.values = valuesState{active: true, depth: s.depth, start: -1, previous: -1, many: s.values.many}
-	case s.values.active:
+	case s.values.active && !s.apart:
 		s.collapseRows(symbol)
 	}
 	return s.depth <= maxDepth
@@ -312,6 +317,7 @@ func (s *scanner) push(start, end int, kind tokenKind) bool {
 
 // pop removes the last tokens: they count as part of the one before them.
 func (s *scanner) pop(count int) {
+	s.popped = true
 	keep := len(s.tokens) - count
 	s.tokens[keep-1].last = s.tokens[len(s.tokens)-1].last
 	s.key = s.key[:s.tokens[keep].key]

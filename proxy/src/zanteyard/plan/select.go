@@ -185,6 +185,24 @@ func (m *maker) asks(p *Plan, body node, found []*item, f *fromClause) {
 	p.Asked, p.asked = true, asked
 }
 
+// byKey reports whether a SELECT reads one table, by its whole key.
+func (m *maker) byKey(body node) bool {
+	from := body.list("fromClause")
+	if len(from) != 1 {
+		return false
+	}
+	kind, r := only(from[0])
+	if kind != "RangeVar" {
+		return false
+	}
+	t, ok := m.catalog.Find(r.text("schemaname"), r.text("relname"))
+	if !ok || len(t.Key) == 0 {
+		return false
+	}
+	values, _ := wholeKey(body["whereClause"], m.newItem(r, t, place{}, false), true)
+	return values != nil
+}
+
 func (m *maker) setReturning(value any) bool {
 	found := false
 	visit(value, func(kind string, body node) bool {

@@ -76,6 +76,9 @@ func load(t testing.TB, connection *pgconn.PgConn) *catalog.Catalog {
 	if err != nil {
 		t.Fatal(err)
 	}
+	if c, err = c.In(string(run(t, connection, catalog.PathSQL)[0].Rows[0][0])); err != nil {
+		t.Fatal(err)
+	}
 	return c
 }
 

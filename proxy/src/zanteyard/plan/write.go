@@ -69,7 +69,7 @@ func (m *maker) target(p *Plan, r node) *item {
 		p.MayWriteUnseen = true
 		return nil
 	}
-	return newItem(r, t, place{}, false)
+	return m.newItem(r, t, place{}, false)
 }
 
 // mayReturn reports whether RETURNING may be added or extended. With row security it isn't added, since it would make
@@ -78,6 +78,7 @@ func (m *maker) mayReturn(p *Plan, body node, target *item, few bool) bool {
 	own := body.has("returningList")
 	if target.table.Triggers {
 		p.MayWriteUnseen = true // even if no row is returned
+		p.MayLevel = p.MayLevel || m.catalog.Levels
 	}
 	if !own && (!few || target.table.RowSecurity) {
 		p.MayWriteUnseen = true

@@ -29,6 +29,9 @@ const (
 // Relation names a table or a partition by its object identifier in the database's catalog.
 type Relation uint32
 
+// NoRelation stands for a table that isn't known.
+const NoRelation Relation = 0
+
 // Key is a row's primary key as one canonical text: each column's value in the form that keys.Canonical returns for its
 // type, with NUL bytes between columns. Two keys are of the same row exactly if their texts are equal.
 type Key string
@@ -37,24 +40,55 @@ type Key string
 type Read struct {
 	Relation Relation // the row's tableoid: of the leaf partition, if the table is partitioned
 	Key      Key
-	Version  uint32 // the row's xmin: 32 bits of the number of the transaction or subtransaction that wrote it
+	Version  uint32   // the row's xmin: 32 bits of the number of the transaction or subtransaction that wrote it
+	Identity Identity // of the key, as it was taken for
 }
+
+// Identity says what the values of a table's key mean: two are equal only if the key's index, its columns, their types
+// and the labels of enumerations are the same, and none of them has changed in between.
+type Identity uint64
 
 // Absence is a whole primary key that a statement asked for and didn't find, in the transaction's snapshot.
 type Absence struct {
 	Relation Relation // the table that the statement names
 	Key      Key
+	Identity Identity
+}
+
+// Condition is what a statement asked a table for, with its constants. Package condition makes it.
+type Condition interface {
+	Table() Relation // the table that the statement names
+	Key() string     // equal for the same table and the same condition, and for no others
+	String() string  // in the application's words
+	Shape() string   // the same without constants
+	Size() int       // about how many bytes it takes
+}
+
+// Row has the values of a row's columns: a *condition.Row, or nil if they aren't known.
+type Row interface{}
+
+// Ask is a condition by which a statement asked for rows of a table. It got each row of which the condition holds in
+// its snapshot, and passed the others over.
+type Ask struct {
+	Condition Condition
+	Identity  Identity  // of the table's key
+	Columns   Identity  // of its columns
+	Found     []Key     // the rows that it got
+	From      time.Time // at read committed: its snapshot is no older than this
+	Wrote     bool      // the transaction may have written before
 }
 
 // Statement is one statement of a transaction, for readers of an explanation.
 type Statement struct {
 	Text       string
 	Parameters []string // as text, if the policy allows them, otherwise nil
+	More       int      // how many further parameters it had: only the first ones are kept
 	At         time.Time
 	Unseen     []Unseen // what the proxy couldn't see of it
 	// From and To delimit those of the transaction's Reads that it made, except reads that an earlier statement made too.
 	From, To int
 	Absent   int // which of the transaction's Absent it asked for, counted from 1; 0 for none
+	Ask      int // and which of its Asks
 }
 
 // Unseen counts reads or writes that were left out: by shape of statement, with a reason in a few words.
@@ -85,18 +119,28 @@ type Transaction struct {
 	Snapshot string
 	Reads    []Read // in the order of the answers, each once
 	Absent   []Absence
-	// Incomplete means that reads were dropped because there were more than the limit.
-	Incomplete bool
+	Asks     []Ask
+	// Beyond is how many reads were dropped because there were more than the limit.
+	Beyond int
+	// Touched means that a statement of it may have read or written a table, and Partly that something of it wasn't seen.
+	Touched, Partly bool
+	// Defines means that it has a definition, whose commit may have no row.
+	Defines bool
+	// OnlyRead means that its client rolled it back although none of its statements had failed, that it had written nothing,
+	// and that it ran at a level below serializable: what it read is as good as if it had been committed.
+	OnlyRead bool
 	// After and Known bound when a transaction of another machine's proxy ran, by the joiner's clock: it began after the
 	// first (the zero time if that isn't known), and had ended by the second. Known is zero for the joiner's own proxy,
 	// whose clock is the joiner's.
 	After, Known time.Time
 	// Unsent is how many reads another machine's proxy left out because the connection isn't audited: nothing of the
 	// transaction is offered.
-	Unsent int
-	// Fence is set for the proxy's own transactions on the fence table. They have no statement.
-	Fence      bool
+	Unsent     int
+	Did        Did
 	Statements []Statement
+	Dropped    int // how many further statements it had: their texts would have taken too much room
+	// Elsewhere means that the connection didn't show that it is to the audited server: nothing else is told.
+	Elsewhere bool
 }
 
 // Connection is reported when a connection begins, and again, with Ended set, when it ends. Its last transaction was
@@ -116,6 +160,8 @@ type Write struct {
 	Key      Key
 	Deleted  bool // the row is absent afterwards
 	Inserted bool // it was absent when the transaction first wrote it
+	New, Old Row  // the row afterwards and before, as far as the log has them
+	Bytes    int  // about how many bytes New takes
 }
 
 // Commit is a committed transaction, as the replication slot reports it, in commit order.
@@ -126,10 +172,14 @@ type Commit struct {
 	At      time.Time
 	Subs    []uint32   // its subtransactions, if they could be learned
 	Writes  []Write    // each row once; the first change decides Inserted, the last one Deleted
-	Fence   bool       // it wrote the fence table's row
 	Emptied []Relation // tables that it truncated
 	Names   uint64     // how often tables' names had changed their meaning when it was read
 	Bare    bool       // the slot reported no row in it, not even of a table without a key
+	Used    uint64     // how many tables had been reported when it was read
+	Dropped uint64     // how many rows beyond those in Writes it wrote: more than are kept of one transaction
+	Keyless uint64     // how many changes of rows whose key isn't known, as in a table without one, or that isn't audited
+	// Gaps are the audited tables in which it changed rows that aren't in Writes; NoRelation stands for any table.
+	Gaps []Relation
 }
 
 // Sink takes what the sessions of a proxy report. Its calls wait no longer than it takes to append to a buffer: if a

@@ -8,6 +8,7 @@ import (
 	"sync"
 	"time"
 
+	"zanteyard/guard"
 	"zanteyard/join"
 	"zanteyard/record"
 )
@@ -37,7 +38,7 @@ type Hub struct {
 	out     chan fromHub
 
 	lock     sync.Mutex
-	changed  chan struct{} // closed, and replaced, when a proxy has answered or is gone
+	changed  chan struct{} // closed, and replaced, when a proxy holds its clients or is gone
 	who      identity
 	mark     int64 // 0 while there is none
 	proxies  map[string]*attached
@@ -66,8 +67,7 @@ type attached struct {
 	dropped     uint64
 	heard       time.Time
 	connections map[uint64]uint64 // ours, by theirs
-	first       uint64            // the last meeting for which it has made its first fences
-	met         met
+	holds       uint64            // the last meeting for which it has held its clients
 }
 
 type remote struct{ epoch, connection uint64 }
@@ -85,19 +85,29 @@ func NewHub(options Options, sink Sink, running func() bool) (*Hub, error) {
 		out: make(chan fromHub, 256), changed: make(chan struct{}), proxies: map[string]*attached{}, of: map[uint64]remote{}}, nil
 }
 
-// Run receives messages until ctx ends.
-func (h *Hub) Run(ctx context.Context) {
+// Run receives messages until ctx ends. If something in it panics, it returns that.
+func (h *Hub) Run(ctx context.Context) (failed error) {
+	ctx, cancel := context.WithCancel(ctx)
+	defer cancel()
+	var once sync.Once
+	fail := func(err error) {
+		once.Do(func() { failed = err })
+		cancel()
+	}
 	var all sync.WaitGroup
 	for _, one := range []func(context.Context){h.write, h.look, h.keepMark} {
 		one := one
 		all.Add(1)
 		go func() {
 			defer all.Done()
-			one(ctx)
+			guard.Do("what speaks to proxies elsewhere", fail, func() { one(ctx) })
 		}()
 	}
-	stream(ctx, &h.options, h.options.proxies(), h.take, func(err error) { h.reached(ctx, err) })
+	guard.Do("what hears proxies elsewhere", fail, func() {
+		stream(ctx, &h.options, h.options.proxies(), h.take, func(err error) { h.reached(ctx, err) })
+	})
 	all.Wait()
+	return failed
 }
 
 // reached records whether Redis can be reached.
@@ -125,25 +135,30 @@ func (h *Hub) take(l *link, its []entry) {
 		return // another watch reads them, and makes Redis forget them
 	}
 	for _, one := range its {
-		var m toHub
-		err := h.options.open(upwards, one.text, one.signature, &m)
-		h.lock.Lock()
-		switch {
-		case err != nil:
-			h.refused++
-			h.logs.say("refused messages: " + err.Error())
-		case m.Run != h.run: // for an earlier watch
-		case m.Hello != nil:
-			h.greet(&m, now)
-		default:
-			h.one(&m, now)
-		}
-		h.lock.Unlock()
+		h.takeOne(one, now)
 	}
 	if _, err := l.do(0, "XTRIM", h.options.proxies(), "MINID", behind(its[len(its)-1].id)); err != nil {
 		h.lock.Lock()
 		h.logs.say("Redis can't drop what was read (it needs version 6.2): " + err.Error())
 		h.lock.Unlock()
+	}
+}
+
+func (h *Hub) takeOne(one entry, now time.Time) {
+	guard.At("a message from a proxy elsewhere")
+	var m toHub
+	err := h.options.open(upwards, one.text, one.signature, &m)
+	h.lock.Lock()
+	defer h.lock.Unlock()
+	switch {
+	case err != nil:
+		h.refused++
+		h.logs.say("refused messages: " + err.Error())
+	case m.Run != h.run: // for an earlier watch
+	case m.Hello != nil:
+		h.greet(&m, now)
+	default:
+		h.one(&m, now)
 	}
 }
 
@@ -174,7 +189,7 @@ func (h *Hub) greet(m *toHub, now time.Time) {
 	h.drop(a, m.Dropped)
 	h.epochs++
 	a.name, a.try, a.epoch, a.next, a.heard = its.Name, its.Try, h.epochs, 0, now
-	a.connections, a.first, a.met = map[uint64]uint64{}, 0, met{}
+	a.connections, a.holds = map[uint64]uint64{}, 0
 	reply.Epoch = a.epoch
 	h.say(fromHub{Answer: &reply})
 	h.options.Log("the proxy " + a.name + " feeds this audit")
@@ -189,8 +204,6 @@ func (h *Hub) refuses(its *hello) string {
 		return fmt.Sprintf("it serves the database %s, but the audit is of %s", its.Database, h.who.database)
 	case its.System != "" && h.who.system != "" && its.System != h.who.system:
 		return fmt.Sprintf("its server (%s) isn't the audit's (%s)", its.System, h.who.system)
-	case its.Fence != h.options.Fence:
-		return fmt.Sprintf("its fence table is %s, but the audit's is %s", its.Fence, h.options.Fence)
 	}
 	return ""
 }
@@ -238,11 +251,8 @@ func (h *Hub) item(a *attached, it *item, now time.Time) {
 		h.sink.Transaction(its)
 	case it.Unseen != nil:
 		h.sink.UnseenMany(it.Unseen.Shape, it.Unseen.Reason, it.Unseen.Reads, it.Unseen.Count)
-	case it.First != 0:
-		a.first = it.First
-		h.signal()
-	case it.Met != nil:
-		a.met = *it.Met
+	case it.Held != 0:
+		a.holds = it.Held
 		h.signal()
 	}
 }

@@ -42,7 +42,7 @@ func (s *heard) Unseen(string, string, bool)             {}
 func (s *heard) UnseenMany(string, string, bool, uint64) {}
 func (s *heard) Lose(reason string, n uint64)            { s.lost[reason] += n }
 func someOptions() Options {
-	return Options{Audit: "shop", Key: []byte("0123456789abcdef"), Fence: "f", Log: func(string) {}}
+	return Options{Audit: "shop", Key: []byte("0123456789abcdef"), Bound: 50 * time.Millisecond, Log: func(string) {}}
 }
 
 func newTestHub(t testing.TB, to Sink) *Hub {
@@ -58,7 +58,7 @@ func newTestHub(t testing.TB, to Sink) *Hub {
 
 func someHello(h *Hub, proxy string, try uint64) *toHub {
 	return &toHub{Run: h.run, Proxy: proxy, Hello: &hello{Protocol: protocol, Try: try, Name: proxy, Database: "shop",
-		System: "1", Fence: "f"}}
+		System: "1"}}
 }
 
 // sealed returns a message as Redis has it.
@@ -106,11 +106,10 @@ func TestSigned(t *testing.T) {
 // TestRefuses: a proxy of another server or database than the audit's gets no attachment.
 func TestRefuses(t *testing.T) {
 	for name, change := range map[string]func(*hello){
-		"":                func(*hello) {},
-		"version 2":       func(it *hello) { it.Protocol = 2 },
-		"the databas":     func(it *hello) { it.Database = "till" },
-		"its server":      func(it *hello) { it.System = "2" },
-		"its fence table": func(it *hello) { it.Fence = "g" },
+		"":            func(*hello) {},
+		"version 1":   func(it *hello) { it.Protocol = 1 },
+		"the databas": func(it *hello) { it.Database = "till" },
+		"its server":  func(it *hello) { it.System = "2" },
 	} {
 		h := newTestHub(t, newHeard())
 		m := someHello(h, "p", 1)
@@ -246,56 +245,149 @@ func TestBounds(t *testing.T) {
 	}
 }
 
-// someRoom is a room of sessions that make a fixed number of fences.
-type someRoom struct{ bound time.Duration }
+// someRoom is a room on whose connections nothing is under way.
+type someRoom struct{ met chan []uint64 }
 
-func (r someRoom) MeetAround(ctx context.Context, between func(context.Context)) (int, time.Duration, error) {
-	began := time.Now()
-	ctx, cancel := context.WithTimeout(ctx, r.bound)
-	defer cancel()
-	between(ctx)
-	return 3, time.Since(began), nil
+func (r someRoom) Meet(_ context.Context, connections []uint64, moment func(time.Duration)) {
+	if r.met != nil {
+		r.met <- connections
+	}
+	moment(0)
 }
 
-func (someRoom) Fence(context.Context, uint64) error { return nil }
+func (someRoom) Busy([]uint64) (underWay, idle int) { return 3, 4 }
 
-// TestMeeting: a proxy elsewhere that doesn't answer delays nobody, here or there, for longer than the bound.
-func TestMeeting(t *testing.T) {
-	const bound, busy = 100 * time.Millisecond, time.Minute // the second one is for a machine that is
-	h := newTestHub(t, newHeard())
-	h.greet(someHello(h, "p", 1), time.Now())
-	h.greet(someHello(h, "q", 1), time.Now())
-	m := NewMeeter(someRoom{bound}, h, bound)
-	post, err := NewPost(someOptions(), "q", 1<<20, someRoom{bound})
-	if err != nil {
+// pair is a hub with a proxy elsewhere, and a second one that never answers; each has two connections.
+func pair(t *testing.T) (m *Meeter, h *Hub, p *Post, met chan []uint64) {
+	t.Helper()
+	h = newTestHub(t, newHeard())
+	met = make(chan []uint64, 1)
+	var err error
+	if p, err = NewPost(someOptions(), "p", 1<<20, someRoom{met}); err != nil {
 		t.Fatal(err)
 	}
-	post.epoch = 2
-	began := time.Now()
-	done := make(chan time.Duration, 1)
+	h.greet(someHello(h, p.id, 1), time.Now())
+	p.attach((<-h.out).Answer)
+	p.run = h.run
+	h.greet(someHello(h, "q", 1), time.Now())
+	<-h.out
+	p.Connection(record.Connection{Number: 1})
+	p.Connection(record.Connection{Number: 2})
+	pass(h, p)
+	h.one(&toHub{Run: h.run, Proxy: "q", Epoch: 2, Items: []item{{Connection: &record.Connection{Number: 1}},
+		{Connection: &record.Connection{Number: 2}}}}, time.Now())
+	return NewMeeter(someRoom{}, h), h, p, met
+}
+
+// pass passes on what the proxy sends.
+func pass(h *Hub, p *Post) {
+	for m, _ := p.message(false); m != nil; m, _ = p.message(false) {
+		h.lock.Lock()
+		h.one(m, time.Now())
+		h.lock.Unlock()
+	}
+}
+
+// TestMeeting: the proxies that have connections to be held hold these; the moment comes when they have answered, and
+// what they have reported before that was passed on by then; they let go after it.
+func TestMeeting(t *testing.T) {
+	m, h, p, met := pair(t)
+	ctx := context.Background()
+	moments, over := make(chan bool, 1), make(chan bool)
+	to := h.sink.(*heard)
 	go func() {
-		second := make(chan struct{}) // never comes
-		post.meet(context.Background(), 1, second)
-		done <- time.Since(began)
+		m.Meet(ctx, []uint64{7, firstConnection + 1}, func(time.Duration) {
+			h.lock.Lock()
+			defer h.lock.Unlock()
+			moments <- len(to.its) == 1
+		})
+		close(over)
 	}()
-	fences, took, err := m.MeetAround(context.Background(), func(context.Context) {
-		if passed := time.Since(began); passed > bound+busy {
-			t.Errorf("the sessions here are held for %v before it goes on", passed)
+	hold := <-h.out
+	if its := hold.Hold; its == nil || len(its.Connections) != 1 || fmt.Sprint(its.Connections[1]) != "[2]" {
+		t.Fatalf("it says %+v", hold)
+	}
+	p.Transaction(record.Transaction{Connection: 2, Number: 5})
+	p.one(ctx, &hold, true)
+	if those := <-met; fmt.Sprint(those) != "[2]" {
+		t.Errorf("elsewhere %v are held", those)
+	}
+	for {
+		p.lock.Lock()
+		holds := len(p.items) > 1
+		p.lock.Unlock()
+		if holds {
+			break
+		}
+		time.Sleep(time.Millisecond)
+	}
+	select {
+	case <-moments:
+		t.Fatal("the moment came before the answer")
+	default:
+	}
+	pass(h, p)
+	if !<-moments {
+		t.Errorf("by the moment %d transactions were passed on", len(to.its))
+	}
+	<-over
+	last := <-h.out
+	if last.Go != hold.Hold.Meeting || last.Tick < hold.Tick {
+		t.Errorf("then it says %+v", last)
+	}
+	going := p.going
+	p.one(ctx, &last, true)
+	<-going
+}
+
+// TestNoAnswer: a proxy elsewhere that doesn't answer keeps nothing from going on, here or there.
+func TestNoAnswer(t *testing.T) {
+	m, h, p, met := pair(t)
+	ctx := context.Background()
+	moments := 0
+	m.Meet(ctx, []uint64{firstConnection + 2}, func(held time.Duration) { // q's
+		if moments++; held < answering*h.options.Bound {
+			t.Errorf("it waited for an answer for %v", held)
 		}
 	})
-	if err != nil || fences != 3 || took > 2*bound+busy {
-		t.Errorf("%d fences in %v (%v)", fences, took, err)
+	if <-h.out; (<-h.out).Go == 0 || moments != 1 {
+		t.Errorf("%d moments", moments)
 	}
-	if took := <-done; took > bound+busy {
-		t.Errorf("the sessions elsewhere are held for %v", took)
+	going := make(chan struct{}) // never closed
+	began := time.Now()
+	done := make(chan bool)
+	go func() {
+		p.meet(ctx, 1, []uint64{1}, going)
+		close(done)
+	}()
+	<-met
+	<-done
+	if passed := time.Since(began); passed < holding*p.options.Bound {
+		t.Errorf("elsewhere it was over after %v", passed)
 	}
-	if len(post.items) != 2 || post.items[0].First != 1 || *post.items[1].Met != (met{1, 3}) {
-		t.Errorf("it tells %+v", post.items)
-	}
-	h.one(&toHub{Run: h.run, Proxy: "p", Epoch: 1, Number: 0, Items: []item{{First: 2}, {Met: &met{2, 5}}}}, time.Now())
+	gone, cancel := context.WithCancel(ctx)
+	cancel()
+	p.options.Bound = time.Hour
+	go func() { <-met }()
+	p.meet(gone, 2, []uint64{1}, going) // returns
+	h.lock.Lock()
 	h.end(h.proxies["q"], "")
-	if fences, took, err = m.MeetAround(context.Background(), func(context.Context) {}); err != nil || fences != 8 || took > bound+busy {
-		t.Errorf("with an answer, %d fences in %v (%v)", fences, took, err)
+	h.lock.Unlock()
+	h.options.Bound = time.Hour
+	m.Meet(ctx, []uint64{7, firstConnection + 2}, func(time.Duration) { moments++ }) // nobody is asked
+	if moments != 2 || len(h.out) != 0 {
+		t.Errorf("%d moments", moments)
+	}
+}
+
+// TestBusyElsewhere: of connections elsewhere nobody knows what they are doing.
+func TestBusyElsewhere(t *testing.T) {
+	m := NewMeeter(someRoom{}, newTestHub(t, newHeard()))
+	if underWay, idle := m.Busy([]uint64{1, 2}); underWay != 3 || idle != 4 {
+		t.Errorf("here %d are under way, %d idle", underWay, idle)
+	}
+	if underWay, _ := m.Busy([]uint64{1, firstConnection}); underWay < 1<<20 {
+		t.Errorf("with one elsewhere %d are under way", underWay)
 	}
 }
 
@@ -317,7 +409,7 @@ func TestRoom(t *testing.T) {
 	p.redacts = true
 	p.Transaction(record.Transaction{Statements: []record.Statement{{Text: "SELECT 'x' /*file='a.py'*/", Parameters: []string{"y"}}}})
 	m, _ = p.message(false)
-	want := record.Statement{Text: "SELECT ? /*file='a.py'*/"}
+	want := record.Statement{Text: "SELECT ?"}
 	if its := m.Items[0].Transaction.Its.Statements[0]; !reflect.DeepEqual(its, want) {
 		t.Errorf("it sends %+v", its)
 	}
@@ -331,7 +423,7 @@ func TestUnaudited(t *testing.T) {
 	}
 	to := newHeard()
 	h := newTestHub(t, to)
-	m := NewMeeter(someRoom{}, h, time.Second)
+	m := NewMeeter(someRoom{}, h)
 	h.greet(someHello(h, "p", 1), time.Now())
 	h.one(&toHub{Run: h.run, Proxy: "p", Epoch: 1, Items: []item{{Connection: &record.Connection{Number: 1}},
 		{Connection: &record.Connection{Number: 2}}}}, time.Now())

@@ -2,18 +2,15 @@ package remote
 
 import (
 	"context"
-	"crypto/rand"
-	"encoding/binary"
 	"fmt"
 	"time"
 
 	"github.com/jackc/pgconn"
 
-	"zanteyard/slot"
+	"zanteyard/own"
 )
 
-// The mark is an advisory lock with a random number, which the hub holds in the audit's database. Whoever sees it is
-// connected to the same database of the same server: a standby, a copy or another database doesn't have it.
+// The hub holds a mark of its own (package own) in the audit's database.
 
 // server is a connection for questions, made again if it is lost. For one goroutine.
 type server struct {
@@ -21,27 +18,22 @@ type server struct {
 	conn   *pgconn.PgConn
 }
 
-func (s *server) ask(ctx context.Context, sql string) ([]string, error) {
+func (s *server) ask(ctx context.Context, text own.Text) ([]string, error) {
 	ctx, cancel := context.WithTimeout(ctx, patience)
 	defer cancel()
 	if s.conn == nil || s.conn.IsClosed() {
-		conn, err := pgconn.ConnectConfig(ctx, s.config)
+		conn, err := own.Connect(ctx, s.config, nil)
 		if err != nil {
 			return nil, fmt.Errorf("connect to the server: %w", err)
 		}
 		s.conn = conn
 	}
-	results, err := s.conn.Exec(ctx, sql).ReadAll()
-	if err != nil {
-		return nil, err
-	}
+	rows, err := own.Ask(ctx, s.conn, text)
 	var texts []string
-	for _, row := range results[len(results)-1].Rows {
-		for _, value := range row {
-			texts = append(texts, string(value))
-		}
+	for _, row := range rows {
+		texts = append(texts, row...)
 	}
-	return texts, nil
+	return texts, err
 }
 
 func (s *server) close() {
@@ -57,12 +49,12 @@ func (s *server) close() {
 type identity struct{ database, system string }
 
 func (s *server) identity(ctx context.Context) (identity, error) {
-	texts, err := s.ask(ctx, "SELECT pg_catalog.current_database()")
+	texts, err := s.ask(ctx, own.SQL("SELECT pg_catalog.current_database()"))
 	if err != nil || len(texts) != 1 {
 		return identity{}, fmt.Errorf("identify the server: %w", err)
 	}
 	its := identity{database: texts[0]}
-	if texts, err = s.ask(ctx, "SELECT system_identifier FROM pg_catalog.pg_control_system()"); err == nil && len(texts) == 1 {
+	if texts, err = s.ask(ctx, own.SQL("SELECT system_identifier FROM pg_catalog.pg_control_system()")); err == nil && len(texts) == 1 {
 		its.system = texts[0] // a role without the right to ask relies on the mark alone
 	}
 	return its, nil
@@ -70,17 +62,16 @@ func (s *server) identity(ctx context.Context) (identity, error) {
 
 // setMark takes a lock.
 func (s *server) setMark(ctx context.Context) (int64, error) {
-	var drawn [8]byte
-	if _, err := rand.Read(drawn[:]); err != nil {
+	if _, err := s.ask(ctx, own.SQL("SELECT 1")); err != nil { // connects, if need be
 		return 0, err
 	}
-	number := int64(binary.BigEndian.Uint64(drawn[:])>>1) | 1
-	_, err := s.ask(ctx, fmt.Sprintf("SELECT pg_catalog.pg_advisory_lock(%d)", number))
-	return number, err
+	ctx, cancel := context.WithTimeout(ctx, patience)
+	defer cancel()
+	return own.SetMark(ctx, s.conn)
 }
 
 // sees reports whether the lock is there.
 func (s *server) sees(ctx context.Context, mark int64) (bool, error) {
-	texts, err := s.ask(ctx, slot.LockSQL(mark))
+	texts, err := s.ask(ctx, own.MarkSQL(mark))
 	return err == nil && len(texts) == 1 && texts[0] == "1", err
 }

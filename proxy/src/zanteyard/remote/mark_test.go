@@ -11,6 +11,7 @@ import (
 	"github.com/jackc/pgconn"
 
 	"zanteyard/cluster"
+	"zanteyard/own"
 )
 
 // TestMark: a connection sees the audit's lock only if it is to the same database of the same server.
@@ -34,7 +35,7 @@ func TestMark(t *testing.T) {
 	}
 	ctx := context.Background()
 	audit, same, other := to("postgres", "postgres"), to("postgres", "little"), to("template1", "postgres")
-	if _, err := audit.ask(ctx, "CREATE ROLE little LOGIN"); err != nil {
+	if _, err := audit.ask(ctx, own.SQL("CREATE ROLE little LOGIN")); err != nil {
 		t.Fatal(err)
 	}
 	mark, err := audit.setMark(ctx)

@@ -10,48 +10,35 @@ import (
 
 // Meeter makes the sessions of this proxy and those of proxies elsewhere meet at once. It implements join.Meeter.
 type Meeter struct {
-	room  Room
-	hub   *Hub
-	bound time.Duration
+	room Room
+	hub  *Hub
 }
 
-// NewMeeter makes one from the room of this proxy's own sessions and that room's bound.
-func NewMeeter(room Room, hub *Hub, bound time.Duration) *Meeter {
-	return &Meeter{room: room, hub: hub, bound: bound}
-}
+// NewMeeter makes one from the room of this proxy's own sessions.
+func NewMeeter(room Room, hub *Hub) *Meeter { return &Meeter{room: room, hub: hub} }
 
-// MeetAround implements join.Meeter. Proxies elsewhere that haven't made their first fences after three quarters of the
-// bound take no part. Each holds its clients for its own bound at most.
-func (m *Meeter) MeetAround(ctx context.Context, between func(context.Context)) (fences int, took time.Duration, err error) {
+// How many bounds a meeting waits for the answers of proxies elsewhere, and how many these wait for the end of the
+// meeting after their own.
+const (
+	answering = 4
+	holding   = 6
+)
+
+// Longest returns for how long a proxy elsewhere holds a client, if a meeting waits this long for what is under way.
+func Longest(bound time.Duration) time.Duration { return (1 + holding) * bound }
+
+// Meet implements join.Meeter. Proxies elsewhere hold their clients first, then this one does. Those that don't answer
+// in time delay nobody: what ran there at the moment is reported after it.
+func (m *Meeter) Meet(ctx context.Context, connections []uint64, moment func(held time.Duration)) {
 	began := time.Now()
-	meeting, those := m.hub.hold()
-	if len(those) == 0 {
-		return m.room.MeetAround(ctx, between)
-	}
-	fences, _, err = m.room.MeetAround(ctx, func(held context.Context) {
-		waiting, cancel := context.WithDeadline(held, began.Add(m.bound*3/4))
-		m.hub.await(waiting, those, func(a *attached) bool { return a.first >= meeting })
+	meeting, those := m.hub.hold(connections)
+	if len(those) > 0 {
+		waiting, cancel := context.WithTimeout(ctx, answering*m.hub.options.Bound)
+		m.hub.await(waiting, those, meeting)
 		cancel()
-		between(held)
-		m.hub.second(meeting)
-	})
-	waiting, cancel := context.WithDeadline(ctx, began.Add(2*m.bound))
-	defer cancel()
-	m.hub.await(waiting, those, func(a *attached) bool { return a.met.Meeting >= meeting })
-	return fences + m.hub.fencesOf(those, meeting), time.Since(began), err
-}
-
-// Fence implements join.Meeter. It doesn't wait for a connection elsewhere: its fence is reported like any transaction.
-func (m *Meeter) Fence(ctx context.Context, connection uint64) error {
-	if connection < firstConnection {
-		return m.room.Fence(ctx, connection)
+		defer m.hub.goOn(meeting)
 	}
-	m.hub.lock.Lock()
-	defer m.hub.lock.Unlock()
-	if its, is := m.hub.of[connection]; is {
-		m.hub.say(fromHub{Fence: &order{its.epoch, its.connection}})
-	}
-	return nil
+	m.room.Meet(ctx, connections, func(time.Duration) { moment(time.Since(began)) })
 }
 
 // Unaudited reports which connections have no session of the auditor, ours and others'.
@@ -73,19 +60,14 @@ func (m *Meeter) Unaudited(connections []uint64) {
 // Remotes returns the state of the other proxies, for the joiner's coverage.
 func (m *Meeter) Remotes() join.Remotes { return m.hub.Remotes() }
 
-// Busy returns about how many sessions have something under way: nobody knows that of proxies elsewhere.
-func (m *Meeter) Busy() int {
-	m.hub.lock.Lock()
-	defer m.hub.lock.Unlock()
-	for _, a := range m.hub.proxies {
-		if a.epoch != 0 {
-			return math.MaxInt32
+// Busy returns about how many connections have something under way: nobody knows that of proxies elsewhere.
+func (m *Meeter) Busy(connections []uint64) (underWay, idle int) {
+	for _, number := range connections {
+		if number >= firstConnection {
+			return math.MaxInt32, 0
 		}
 	}
-	if local, is := m.room.(interface{ Busy() int }); is {
-		return local.Busy()
-	}
-	return 0
+	return m.room.Busy(connections)
 }
 
 // participant is a proxy in a meeting: one that attaches again meanwhile takes no part.
@@ -94,36 +76,42 @@ type participant struct {
 	epoch uint64
 }
 
-// hold begins a meeting of the proxies elsewhere that are present.
-func (h *Hub) hold() (meeting uint64, those []participant) {
+// hold begins a meeting of those proxies elsewhere that have some of these connections.
+func (h *Hub) hold(connections []uint64) (meeting uint64, those []participant) {
 	h.lock.Lock()
 	defer h.lock.Unlock()
+	its := map[uint64][]uint64{}
+	for _, number := range connections {
+		if one, is := h.of[number]; is {
+			its[one.epoch] = append(its[one.epoch], one.connection)
+		}
+	}
 	for _, a := range h.proxies {
-		if a.epoch != 0 && h.down == "" {
+		if len(its[a.epoch]) > 0 && h.down == "" {
 			those = append(those, participant{a, a.epoch})
 		}
 	}
 	if len(those) > 0 {
 		h.meetings++
-		h.say(fromHub{Hold: h.meetings})
+		h.say(fromHub{Hold: &order{h.meetings, its}})
 	}
 	return h.meetings, those
 }
 
-// second makes proxies make their second fences. Whatever begins there afterwards begins after this moment.
-func (h *Hub) second(meeting uint64) {
+// goOn lets the clients of proxies elsewhere go on. Whatever begins there afterwards begins after this moment.
+func (h *Hub) goOn(meeting uint64) {
 	h.lock.Lock()
 	defer h.lock.Unlock()
-	h.say(fromHub{Second: meeting})
+	h.say(fromHub{Go: meeting})
 }
 
-// await waits until all that are still present have come this far.
-func (h *Hub) await(ctx context.Context, those []participant, so func(*attached) bool) {
+// await waits until all that are still present hold their clients.
+func (h *Hub) await(ctx context.Context, those []participant, meeting uint64) {
 	for {
 		h.lock.Lock()
 		left := 0
 		for _, one := range those {
-			if one.its.epoch == one.epoch && !so(one.its) {
+			if one.its.epoch == one.epoch && one.its.holds < meeting {
 				left++
 			}
 		}
@@ -138,16 +126,4 @@ func (h *Hub) await(ctx context.Context, those []participant, so func(*attached)
 			return
 		}
 	}
-}
-
-func (h *Hub) fencesOf(those []participant, meeting uint64) int {
-	h.lock.Lock()
-	defer h.lock.Unlock()
-	n := 0
-	for _, one := range those {
-		if one.its.epoch == one.epoch && one.its.met.Meeting == meeting {
-			n += one.its.met.Fences
-		}
-	}
-	return n
 }

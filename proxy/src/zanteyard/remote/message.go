@@ -23,9 +23,9 @@ type toHub struct {
 
 // hello asks for an attachment.
 type hello struct {
-	Protocol                      int
-	Try                           uint64 // rises
-	Name, Database, System, Fence string
+	Protocol               int
+	Try                    uint64 // rises
+	Name, Database, System string
 }
 
 // item is one thing that a proxy reports.
@@ -33,8 +33,7 @@ type item struct {
 	Connection  *record.Connection
 	Transaction *transaction
 	Unseen      *unseen
-	First       uint64 // the meeting for which the first fences are made
-	Met         *met
+	Held        uint64 // the meeting for which clients are held: all that had ended was reported before
 }
 
 type transaction struct {
@@ -48,11 +47,6 @@ type unseen struct {
 	Count         uint64
 }
 
-type met struct {
-	Meeting uint64
-	Fences  int
-}
-
 // fromHub is what the watch sends to all proxies.
 type fromHub struct {
 	Run    string
@@ -60,11 +54,10 @@ type fromHub struct {
 	Tick   int64  // nanoseconds of the watch's clock since its start, when this was made
 	Idle   bool   // there is no audit for now
 	Bye    bool   // the watch ends
-	Hold   uint64 // a meeting begins
-	Second uint64 // it goes on with its second fences
+	Hold   *order // a meeting begins
+	Go     uint64 // the moment of this one is over
 	Answer *answer
 	Gone   uint64 // this attachment has ended
-	Fence  *order
 	// Unaudited are the connections of each attachment that have no session: their reads and statements need not be sent.
 	Unaudited map[uint64][]uint64
 }
@@ -79,8 +72,11 @@ type answer struct {
 	Refused string // why there is no attachment
 }
 
-// order makes a connection make a fence.
-type order struct{ Epoch, Connection uint64 }
+// order makes these connections of each attachment meet.
+type order struct {
+	Meeting     uint64
+	Connections map[uint64][]uint64
+}
 
 // Directions, so that nobody can send messages of one side back to it.
 const (

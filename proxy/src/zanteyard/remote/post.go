@@ -8,15 +8,15 @@ import (
 	"sync/atomic"
 	"time"
 
-	"zanteyard/feed"
+	"zanteyard/guard"
 	"zanteyard/plan"
 	"zanteyard/record"
 )
 
-// Room makes the sessions of this proxy make fences (package meeting).
+// Room makes the sessions of this proxy meet (package meeting).
 type Room interface {
-	MeetAround(ctx context.Context, between func(context.Context)) (fences int, took time.Duration, err error)
-	Fence(ctx context.Context, connection uint64) error
+	Meet(ctx context.Context, connections []uint64, moment func(held time.Duration))
+	Busy(connections []uint64) (underWay, idle int)
 }
 
 // Post sends what this proxy's sessions report to the watch elsewhere. It implements record.Sink. While no watch is
@@ -29,7 +29,8 @@ type Post struct {
 	held    int // bytes that may wait
 	logs    complaints
 	wake    chan struct{}
-	takes   atomic.Bool // reports are accepted: there is an attachment, and an audit
+	takes   atomic.Bool  // reports are accepted: there is an attachment, and an audit
+	shown   atomic.Int64 // mark, for sessions; 0 without an attachment
 
 	lock    sync.Mutex
 	live    map[uint64]record.Connection
@@ -41,6 +42,7 @@ type Post struct {
 	tried   time.Time
 	epoch   uint64 // of the attachment, 0 without one
 	redacts bool
+	hides   bool            // rows' keys too, as the audit itself does
 	beyond  map[uint64]bool // connections that aren't audited
 	next    uint64          // number of the next message
 	sent    uint64          // transactions in messages
@@ -52,7 +54,8 @@ type Post struct {
 	mark    int64
 	looked  time.Time // when it was last seen
 	meeting uint64    // the last one that began
-	second  chan struct{}
+	going   chan struct{}
+	fail    func(error) // ends Run because of a fault
 }
 
 // NewPost makes one. The name is for people. Up to `held` bytes of reports wait for Redis.
@@ -67,6 +70,9 @@ func NewPost(options Options, name string, held int, room Room) (*Post, error) {
 
 // Auditing reports whether a watch accepts reports.
 func (p *Post) Auditing() bool { return p.takes.Load() }
+
+// Mark is the number of the lock by which the audited server is known, 0 without an attachment.
+func (p *Post) Mark() int64 { return p.shown.Load() }
 
 // Connection implements record.Sink.
 func (p *Post) Connection(it record.Connection) {
@@ -88,10 +94,10 @@ func (p *Post) Transaction(it record.Transaction) {
 	case p.epoch == 0:
 		return
 	case p.beyond[it.Connection] && len(it.Reads)+len(it.Absent) > 0:
-		it.Unsent = len(it.Reads) + len(it.Absent)
+		it.Unsent, it.Did = len(it.Reads)+len(it.Absent), it.Did.Alone(len(it.Reads))
 		it.Reads, it.Absent, it.Statements, it.Snapshot = nil, nil, nil, ""
 	case p.redacts:
-		redact(&it)
+		p.redact(&it)
 	}
 	size := sizeOf(&it)
 	switch {
@@ -114,11 +120,15 @@ func (p *Post) Unseen(shape, reason string, reads bool) {
 	p.unseen[key]++
 }
 
-// redact removes the constants and parameters of statements.
-func redact(it *record.Transaction) {
+// redact removes the constants, parameters and comments of statements. If the audit itself redacts, it also hides the
+// keys of rows: the audit then does so with those in the server's log.
+func (p *Post) redact(it *record.Transaction) {
+	if p.hides {
+		p.options.HideKeys(it)
+	}
 	its := make([]record.Statement, len(it.Statements))
 	for i, one := range it.Statements {
-		one.Text, one.Parameters = plan.Redacted(one.Text)+feed.Origin(one.Text), nil
+		one.Text, one.Parameters = plan.Redacted(one.Text), nil
 		its[i] = one
 	}
 	it.Statements = its
@@ -157,23 +167,36 @@ func (p *Post) put(it item, bytes int) {
 	}
 }
 
-// Run talks with the watch until ctx ends.
-func (p *Post) Run(ctx context.Context) {
+// Run talks with the watch until ctx ends. If something in it panics, it returns that.
+func (p *Post) Run(ctx context.Context) (failed error) {
+	ctx, cancel := context.WithCancel(ctx)
+	defer cancel()
+	var once sync.Once
+	fail := func(err error) {
+		once.Do(func() { failed = err })
+		cancel()
+	}
+	p.lock.Lock()
+	p.fail = fail
+	p.lock.Unlock()
 	var all sync.WaitGroup
 	for _, one := range []func(context.Context){p.send, p.look} {
 		one := one
 		all.Add(1)
 		go func() {
 			defer all.Done()
-			one(ctx)
+			guard.Do("what speaks to the audit", fail, func() { one(ctx) })
 		}()
 	}
-	stream(ctx, &p.options, p.options.watch(), func(_ *link, its []entry) { p.take(ctx, its) }, func(err error) {
-		if err != nil && ctx.Err() == nil {
-			p.say("Redis: " + err.Error())
-		}
+	guard.Do("what hears the audit", fail, func() {
+		stream(ctx, &p.options, p.options.watch(), func(_ *link, its []entry) { p.take(ctx, its) }, func(err error) {
+			if err != nil && ctx.Err() == nil {
+				p.say("Redis: " + err.Error())
+			}
+		})
 	})
 	all.Wait()
+	return failed
 }
 
 func (p *Post) say(text string) {
@@ -205,6 +228,7 @@ func (p *Post) take(ctx context.Context, its []entry) {
 }
 
 func (p *Post) one(ctx context.Context, m *fromHub, isNew bool) {
+	guard.At("a message from the audit")
 	now := time.Now()
 	p.lock.Lock()
 	defer p.lock.Unlock()
@@ -233,18 +257,15 @@ func (p *Post) one(ctx context.Context, m *fromHub, isNew bool) {
 		p.detach()
 	case m.Answer != nil && m.Answer.Proxy == p.id && m.Answer.Try == p.try && p.epoch == 0:
 		p.answered(m.Answer)
-	case m.Fence != nil && m.Fence.Epoch == p.epoch && p.epoch != 0 && isNew:
-		go func(connection uint64) {
-			fencing, cancel := context.WithTimeout(ctx, patience)
-			defer cancel()
-			p.room.Fence(fencing, connection) // if that fails, the connection makes one at the next meeting
-		}(m.Fence.Connection)
-	case m.Hold > p.meeting && p.epoch != 0 && isNew:
-		p.meeting, p.second = m.Hold, make(chan struct{})
-		go p.meet(ctx, m.Hold, p.second)
-	case m.Second != 0 && m.Second == p.meeting && p.second != nil:
-		close(p.second)
-		p.second = nil
+	case m.Hold != nil && m.Hold.Meeting > p.meeting && p.epoch != 0 && isNew:
+		p.meeting, p.going = m.Hold.Meeting, make(chan struct{})
+		if its := m.Hold.Connections[p.epoch]; len(its) > 0 {
+			meeting, going := m.Hold.Meeting, p.going
+			guard.Go("a meeting", p.fail, func() { p.meet(ctx, meeting, its, going) })
+		}
+	case m.Go != 0 && m.Go == p.meeting && p.going != nil:
+		close(p.going)
+		p.going = nil
 	}
 }
 
@@ -265,6 +286,7 @@ func (p *Post) detach() {
 	}
 	p.epoch, p.wanted, p.meeting = 0, nil, 0
 	p.takes.Store(false)
+	p.shown.Store(0)
 	for _, it := range p.items {
 		if it.Transaction != nil {
 			p.dropped++
@@ -277,8 +299,9 @@ func (p *Post) detach() {
 
 // attach begins one: all existing connections are reported first. Called with lock held.
 func (p *Post) attach(it *answer) {
+	p.shown.Store(it.Mark)
 	p.takes.Store(true)
-	p.redacts = p.options.Redacts || it.Redacts
+	p.redacts, p.hides = p.options.Redacts || it.Redacts, it.Redacts
 	p.epoch, p.mark, p.looked, p.next, p.wanted = it.Epoch, it.Mark, time.Now(), 0, nil
 	p.items, p.bytes, p.beyond = nil, 0, nil
 	for _, one := range p.live {
@@ -352,7 +375,7 @@ func (p *Post) greet(ctx context.Context, s *server, l *link, run string) error 
 	p.try++
 	p.tried = time.Now()
 	m := toHub{Run: run, Proxy: p.id, Sent: p.sent, Dropped: p.dropped, Hello: &hello{Protocol: protocol, Try: p.try,
-		Name: p.name, Database: who.database, System: who.system, Fence: p.options.Fence}}
+		Name: p.name, Database: who.database, System: who.system}}
 	p.lock.Unlock()
 	text, err := encode(m)
 	if err != nil {
@@ -446,21 +469,19 @@ func (p *Post) deliver(ctx context.Context, l *link, m *toHub) {
 	}
 }
 
-// meet makes the sessions here meet. Clients are held for the room's own bound at most, whatever the watch says.
-func (p *Post) meet(ctx context.Context, meeting uint64, second <-chan struct{}) {
-	ctx, cancel := context.WithTimeout(ctx, patience)
-	defer cancel()
-	fences, _, err := p.room.MeetAround(ctx, func(held context.Context) {
-		p.tell(item{First: meeting})
+// meet holds connections, says so once nothing is under way on them, and lets them go on when the watch has its moment.
+// If that isn't heard, they go on by themselves.
+func (p *Post) meet(ctx context.Context, meeting uint64, connections []uint64, going <-chan struct{}) {
+	p.room.Meet(ctx, connections, func(time.Duration) {
+		p.tell(item{Held: meeting})
+		timer := time.NewTimer(holding * p.options.Bound)
+		defer timer.Stop()
 		select {
-		case <-second:
-		case <-held.Done():
+		case <-going:
+		case <-timer.C:
+		case <-ctx.Done():
 		}
 	})
-	if err != nil && ctx.Err() == nil {
-		p.say("the sessions didn't meet: " + err.Error())
-	}
-	p.tell(item{Met: &met{meeting, fences}})
 }
 
 func (p *Post) tell(it item) {

@@ -1,6 +1,6 @@
 // Package remote lets several proxies feed one audit. A proxy beside another application server sends what its sessions
 // report over a Redis stream (Post); beside the joiner it is passed on as if the sessions were here (Hub). Another
-// stream has what the joiner asks of proxies: to meet, and to make fences.
+// stream has what the joiner asks of proxies: to meet.
 //
 // Correctness doesn't depend on Redis, nor on the clocks of two machines. Each message is numbered, and signed with a
 // key that the proxies share. A message that is lost, repeated or out of order leaves transactions out, which folds
@@ -21,7 +21,7 @@ import (
 )
 
 const (
-	protocol  = 1
+	protocol  = 2
 	every     = 20 * time.Millisecond // between two ticks, while proxies are attached
 	seldom    = 250 * time.Millisecond
 	again     = time.Second          // between two hellos
@@ -42,7 +42,8 @@ type Options struct {
 	Audit  string // the audit's name: audits of different names don't meet
 	Key    []byte // the key that messages are signed with
 	Server *pgconn.Config
-	Fence  string // the fences' table
+	// Bound is how long a meeting waits for what is under way.
+	Bound time.Duration
 	// Redacts means that statements are sent without their constants and parameters. If the hub has it, all proxies do so.
 	Redacts bool
 	Log     func(string)

@@ -17,17 +17,22 @@ import (
 type target struct {
 	network, address string
 	tls              *tls.Config // nil: none
+	connect          pgconn.DialFunc
 }
 
 // targets returns the ways to reach the server that a connection string describes, the preferred one first, as in
 // libpq: for sslmode=prefer, which is the default, TLS without checking the certificate, then none; for allow the other
-// way round.
+// way round. The string's own client certificate isn't used: it is for the audit's own connections.
 func targets(config *pgconn.Config) []target {
 	network, address := pgconn.NetworkAddress(config.Host, config.Port)
-	all := []target{{network, address, config.TLSConfig}}
+	connect := config.DialFunc
+	if connect == nil {
+		connect = (&net.Dialer{}).DialContext
+	}
+	all := []target{{network, address, forClients(config.TLSConfig), connect}}
 	for _, f := range config.Fallbacks {
 		network, address := pgconn.NetworkAddress(f.Host, f.Port)
-		all = append(all, target{network, address, f.TLSConfig})
+		all = append(all, target{network, address, forClients(f.TLSConfig), connect})
 	}
 	return all
 }
@@ -50,8 +55,7 @@ func (s *Server) dial(ctx context.Context) (net.Conn, error) {
 }
 
 func (t target) dial(ctx context.Context) (net.Conn, error) {
-	var dialer net.Dialer
-	c, err := dialer.DialContext(ctx, t.network, t.address)
+	c, err := t.connect(ctx, t.network, t.address)
 	if err != nil {
 		return nil, err
 	}

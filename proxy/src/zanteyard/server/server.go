@@ -14,6 +14,7 @@ import (
 	"github.com/jackc/pgconn"
 	"github.com/jackc/pgproto3/v2"
 
+	"zanteyard/guard"
 	"zanteyard/loop"
 	"zanteyard/meeting"
 	"zanteyard/record"
@@ -24,13 +25,21 @@ import (
 type Options struct {
 	Server    *pgconn.Config // where the server is, and how to reach it
 	ClientTLS *tls.Config    // for clients' connections; nil: none
-	Database  string         // the database to audit; connections to others are passed on without looking
-	Session   *session.Options
-	Room      *meeting.Room
-	Loops     *loop.Loops // they serve connections without TLS; nil: none
-	Log       func(string)
+	// RequireTLS refuses clients without TLS, except those by a Unix socket.
+	RequireTLS bool
+	// TrustClients lets clients in whom the server asks for no credential.
+	TrustClients bool
+	Database     string // the database to audit; connections to others are passed on without looking
+	Session      *session.Options
+	Room         *meeting.Room
+	Loops        *loop.Loops // they serve connections without TLS; nil: none
+	Log          func(string)
 	// Patience is how long a client may take for its startup, and the proxy to reach the server.
 	Patience time.Duration
+	// Draining is how long transactions may go on after Drain.
+	Draining time.Duration
+	// Most is how many clients are served at a time; 0: as many as there are.
+	Most int
 }
 
 // Server accepts clients' connections.
@@ -39,10 +48,14 @@ type Server struct {
 	targets []target
 	numbers atomic.Uint64
 
-	lock  sync.Mutex
-	conns map[net.Conn]io.Closer
-	ended bool
-	all   sync.WaitGroup
+	lock     sync.Mutex
+	conns    map[net.Conn]io.Closer
+	sessions map[*session.Session]bool
+	served   int // clients whose startup message was accepted
+	listener net.Listener
+	draining bool
+	ended    bool
+	all      sync.WaitGroup
 }
 
 // New makes a server.
@@ -50,11 +63,15 @@ func New(options Options) *Server {
 	if options.Patience == 0 {
 		options.Patience = time.Minute
 	}
-	return &Server{options: options, targets: targets(options.Server), conns: map[net.Conn]io.Closer{}}
+	return &Server{options: options, targets: targets(options.Server), conns: map[net.Conn]io.Closer{},
+		sessions: map[*session.Session]bool{}}
 }
 
-// Serve accepts connections until the listener is closed or ctx ends, then ends the existing ones.
+// Serve accepts connections until the listener is closed, Drain is called or ctx ends, then ends the existing ones.
 func (s *Server) Serve(ctx context.Context, listener net.Listener) error {
+	if !s.listens(listener) {
+		return nil
+	}
 	stop := make(chan struct{})
 	defer close(stop)
 	go func() {
@@ -65,9 +82,13 @@ func (s *Server) Serve(ctx context.Context, listener net.Listener) error {
 		listener.Close()
 	}()
 	err := s.accept(ctx, listener)
+	drains := s.drains()
+	if drains {
+		s.await(ctx)
+	}
 	s.end()
 	s.all.Wait()
-	if ctx.Err() != nil {
+	if drains || ctx.Err() != nil {
 		return nil
 	}
 	return err
@@ -81,7 +102,7 @@ func (s *Server) accept(ctx context.Context, listener net.Listener) error {
 		case err == nil:
 			delay = 0
 			if s.enter(c) {
-				go s.serve(ctx, c)
+				go s.guarded(ctx, c)
 			}
 		case errors.As(err, &temporary) && temporary.Timeout() || isFull(err):
 			delay = 2*delay + 5*time.Millisecond // too many open files: the next one may have room
@@ -100,11 +121,12 @@ func (s *Server) accept(ctx context.Context, listener net.Listener) error {
 	}
 }
 
-// enter adds a connection to the existing ones. If the server has ended, it closes the connection.
+// enter adds a connection to the existing ones. It closes the connection if the server has ended, or if so many are
+// beginning that nobody could be meant by all of them.
 func (s *Server) enter(c net.Conn) bool {
 	s.lock.Lock()
 	defer s.lock.Unlock()
-	if s.ended {
+	if s.ended || s.options.Most > 0 && len(s.conns) >= 2*s.options.Most+mostBeginning {
 		c.Close()
 		return false
 	}
@@ -130,15 +152,19 @@ func (s *Server) end() {
 	}
 }
 
+// guarded serves a connection. A panic ends that connection alone.
+func (s *Server) guarded(ctx context.Context, raw net.Conn) {
+	defer s.leave(raw)
+	guard.Do("a connection's beginning", func(err error) { s.options.Log(err.Error() + ": " + guard.Stack(err)) },
+		func() { s.serve(ctx, raw) })
+}
+
 // serve handles one connection, from its first byte to its last.
 func (s *Server) serve(ctx context.Context, raw net.Conn) {
-	defer s.leave(raw)
 	raw.SetDeadline(time.Now().Add(s.options.Patience))
 	client, first, err := s.greet(raw)
 	if err != nil {
-		if !errors.Is(err, io.EOF) && !errors.Is(err, net.ErrClosed) {
-			s.options.Log("a client at " + raw.RemoteAddr().String() + ": " + err.Error())
-		}
+		s.complain(raw, err)
 		return
 	}
 	dialing, cancel := context.WithTimeout(ctx, s.options.Patience)
@@ -147,6 +173,15 @@ func (s *Server) serve(ctx context.Context, raw net.Conn) {
 		s.cancel(dialing, first)
 		return
 	}
+	if s.lacksTLS(raw, client) {
+		s.complain(raw, errNeedTLS)
+		return
+	}
+	if !s.admit() {
+		client.Write(s.tooMany())
+		return
+	}
+	defer s.dismiss()
 	server, err := s.dial(dialing)
 	if err != nil {
 		s.options.Log("no connection to the server: " + err.Error())
@@ -155,11 +190,24 @@ func (s *Server) serve(ctx context.Context, raw net.Conn) {
 		return
 	}
 	defer server.Close()
+	server.SetDeadline(time.Now().Add(s.options.Patience))
 	if _, err := server.Write(first); err != nil {
 		return
 	}
+	if err := s.credential(client, server); err != nil {
+		s.complain(raw, err)
+		return
+	}
+	server.SetDeadline(time.Time{})
 	raw.SetDeadline(time.Time{})
 	s.session(raw, client, server, first.startup())
+}
+
+// complain logs why a client isn't served. That it went away, or that the server refused it, is no concern of ours.
+func (s *Server) complain(raw net.Conn, err error) {
+	if !errors.Is(err, io.EOF) && !errors.Is(err, net.ErrClosed) && !errors.Is(err, errRefused) {
+		s.options.Log("a client at " + raw.RemoteAddr().String() + ": " + err.Error())
+	}
 }
 
 // session passes messages on until a connection ends.
@@ -171,6 +219,8 @@ func (s *Server) session(raw, client, server net.Conn, start startup) {
 		from, to = s.loops(raw, server)
 	}
 	n := session.New(s.numbers.Add(1), from, to, s.options.Session)
+	s.beginsSession(n)
+	defer s.endsSession(n)
 	if blind {
 		n.Blind()
 	} else {

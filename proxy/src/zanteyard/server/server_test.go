@@ -140,9 +140,9 @@ func proxy(t *testing.T, target string, change func(*Options)) (int, *counted) {
 	if err != nil {
 		t.Fatal(err)
 	}
-	options := Options{Server: config, Database: "postgres", Room: meeting.NewRoom(time.Second), Loops: its,
+	options := Options{Server: config, Database: "postgres", TrustClients: true, Room: meeting.NewRoom(time.Second), Loops: its,
 		Log: func(s string) { t.Log(s) },
-		Session: &session.Options{Sink: sink, ReadLimit: 100, Fence: session.NewFence("public.zanteyard_fence", 100),
+		Session: &session.Options{Sink: sink, ReadLimit: 100,
 			Auditing: func() bool { return false }, Generation: func() uint64 { return 0 }, Defined: func() {},
 			Log: func(s string) { t.Log(s) }, Bound: time.Second}}
 	if change != nil {

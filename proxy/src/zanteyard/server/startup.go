@@ -24,6 +24,37 @@ const longestStartup = 10000
 
 var errStartup = errors.New("server: not a PostgreSQL startup message")
 
+var errDirect = errors.New("a client begins with TLS at once (sslnegotiation=direct), and the proxy has no certificate " +
+	"for clients: give --tls-cert and --tls-key, or let the client connect with sslnegotiation=postgres")
+
+var errNoProtocol = errors.New("a client that begins with TLS at once has to name the protocol postgresql (ALPN)")
+
+// alert is TLS's alert for a handshake that can't succeed: a client that begins with TLS understands nothing else.
+var alert = []byte{21, 3, 1, 0, 2, 2, 40}
+
+// protocol is PostgreSQL's name for TLS that begins without a question.
+const protocol = "postgresql"
+
+// begun is a connection of which some bytes were read already.
+type begun struct {
+	net.Conn
+	first []byte
+}
+
+func (c *begun) Read(p []byte) (int, error) {
+	if len(c.first) == 0 {
+		return c.Conn.Read(p)
+	}
+	n := copy(p, c.first)
+	c.first = c.first[n:]
+	return n, nil
+}
+
+// direct is the beginning of a client's TLS.
+type direct struct{ head []byte }
+
+func (d *direct) Error() string { return errDirect.Error() }
+
 // packet is a message without a type, which a connection begins with: a startup message, or a request for something
 // else.
 type packet []byte
@@ -35,6 +66,9 @@ func readPacket(from io.Reader) (packet, error) {
 	head := make([]byte, 8)
 	if _, err := io.ReadFull(from, head); err != nil {
 		return nil, err
+	}
+	if head[0] == 22 && head[1] == 3 { // a handshake of TLS
+		return nil, &direct{head}
 	}
 	n := int(binary.BigEndian.Uint32(head))
 	if n < 8 || n > longestStartup {
@@ -98,6 +132,12 @@ func (s *Server) greet(client net.Conn) (net.Conn, packet, error) {
 	secure := false
 	for {
 		p, err := readPacket(client)
+		if begins, is := err.(*direct); is && !secure {
+			if client, err = s.directly(client, begins); err == nil {
+				secure = true
+				continue
+			}
+		}
 		if err != nil {
 			return client, nil, err
 		}
@@ -125,4 +165,22 @@ func (s *Server) greet(client net.Conn) (net.Conn, packet, error) {
 			return client, p, nil
 		}
 	}
+}
+
+// directly ends the TLS of a client that began with it at once.
+func (s *Server) directly(client net.Conn, its *direct) (net.Conn, error) {
+	if s.options.ClientTLS == nil {
+		client.Write(alert)
+		return client, errDirect
+	}
+	config := s.options.ClientTLS.Clone()
+	config.NextProtos = []string{protocol}
+	secure := tls.Server(&begun{client, its.head}, config)
+	if err := secure.Handshake(); err != nil {
+		return client, fmt.Errorf("TLS with a client: %w", err)
+	}
+	if secure.ConnectionState().NegotiatedProtocol != protocol {
+		return client, errNoProtocol
+	}
+	return secure, nil
 }

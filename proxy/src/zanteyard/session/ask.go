@@ -6,7 +6,6 @@ import (
 	"strings"
 
 	"zanteyard/plan"
-	"zanteyard/record"
 	"zanteyard/wire"
 )
 
@@ -27,7 +26,14 @@ func (s *Session) ask(o *output, p *plan.Plan) {
 		s.trust.wanted = true
 		return
 	}
-	o.buf = append(append(o.own(), askRun...), syncMessage...)
+	to := o.own()
+	if !s.trust.prepared {
+		to = append(append(to, closeAsk...), askPrepare...)
+		s.queue.step('C', nil)
+		s.queue.step('P', nil)
+		s.trust.prepared = true
+	}
+	o.buf = append(append(to, askRun...), syncMessage...)
 	s.queue.again(expectation{kind: askRow})
 	s.queue.push(expectation{kind: askEnd, message: 'S'})
 }
@@ -40,9 +46,6 @@ func (s *Session) askFailed(m []byte) {
 	s.trust.doubtful()
 }
 
-// settingOf returns the level that a setting's text names.
-func settingOf(v []byte) record.Level { return levelNamed(string(v)) }
-
 // mentions reports whether a text contains a word, ignoring case.
 func mentions(text, word string) bool {
 	return strings.Contains(strings.ToLower(text), word)
@@ -52,15 +55,20 @@ func twinName(n int) string { return prefix + strconv.Itoa(n) }
 
 const (
 	mostText      = 8 << 10
-	mostParameter = 256
+	mostParameter = 256 // bytes of one
+	mostOfThem    = 32  // parameters of a statement
 	mostAgain     = 64 << 10
 )
 
-// texts returns parameters as texts, long ones shortened. Binary ones are in hexadecimal, unless their type is a whole
-// number.
-func texts(b *wire.Bind, types []byte) []string {
-	all := make([]string, len(b.Parameters))
-	for i, v := range b.Parameters {
+// texts returns the first parameters as texts, long ones shortened, and how many there are beyond those. Binary ones are
+// in hexadecimal, unless their type is a whole number.
+func texts(b *wire.Bind, types []byte) (all []string, more int) {
+	those := b.Parameters
+	if len(those) > mostOfThem {
+		those, more = those[:mostOfThem], len(those)-mostOfThem
+	}
+	all = make([]string, len(those))
+	for i, v := range those {
 		isBinary := false
 		switch len(b.Formats) / 2 {
 		case 0:
@@ -75,7 +83,7 @@ func texts(b *wire.Bind, types []byte) []string {
 		}
 		all[i] = textOf(v, isBinary, kind)
 	}
-	return all
+	return all, more
 }
 
 func textOf(v []byte, isBinary bool, kind int) string {

@@ -8,6 +8,7 @@ import (
 	"github.com/jackc/pgproto3/v2"
 
 	"zanteyard/definitions"
+	"zanteyard/meeting"
 )
 
 // TestChanges: something that a plan needs is changed by others between its trial and its use, and the proxy isn't
@@ -87,7 +88,7 @@ func TestChangesBeforeSync(t *testing.T) {
 	sql(t, "ALTER TABLE r DROP COLUMN id")
 	p.conn.SetDeadline(time.Now().Add(5 * time.Minute))
 	p.do(messages('E', &pgproto3.Parse{Query: "SELECT v FROM r WHERE true"}, &pgproto3.Query{String: "SELECT 1"}))
-	if !p.session.Busy() {
+	if p.session.State() == meeting.Quiet {
 		t.Error("the server waits for a Sync, and the session takes it for idle")
 	}
 	p.do(messages('Z', &pgproto3.Sync{}))
@@ -143,7 +144,7 @@ func TestCancelOfTheQuestion(t *testing.T) {
 		// The question is made to fail by dropping its statement.
 		p.query("DO $$BEGIN EXECUTE 'DEALLOCATE \"zanteyard.ask\"'; END$$")
 		p.session.state.Lock()
-		p.session.trust.doubt, p.session.trust.asks = false, true
+		p.session.trust.doubt, p.session.trust.asks, p.session.trust.prepared = false, true, true
 		p.session.state.Unlock()
 		got := p.do(commit)
 		if len(got) != 2 || got[0][0] != 'E' || string(got[1]) != "Z\x00\x00\x00\x05I" {

@@ -37,9 +37,9 @@ func (s *Session) fromClient(o *output, batch []byte) []byte {
 			s.open, s.skipping = false, false
 		case 'F':
 			o.pass(at, end)
-			s.trust.doubtful()
+			s.trust.changed()
 			s.begin()
-			s.queue.push(expectation{message: 'F', on: opaque})
+			s.queue.push(expectation{message: 'F', on: called})
 		case 'c', 'f':
 			o.pass(at, end)
 			if !s.queue.empty() {
@@ -62,8 +62,12 @@ func (s *Session) fromClient(o *output, batch []byte) []byte {
 // never is a value that trust.plans never has.
 const never = ^uint64(0)
 
-// opaque stands for a statement that wasn't looked at.
-var opaque = &statement{}
+// What stands for a statement that wasn't looked at.
+var (
+	opaque  = &statement{unseen: "a statement that isn't known: it was prepared before a DISCARD ALL that failed, or not at all"}
+	called  = &statement{unseen: "a function that is called by a message of its own"}
+	tooLong = &statement{unseen: "too long to be looked at"}
+)
 
 // look makes a statement from a text.
 func (s *Session) look(name string, text []byte) *statement {
@@ -75,7 +79,7 @@ func (s *Session) look(name string, text []byte) *statement {
 		return st // it may be run after an audit has begun
 	}
 	st.looked = s.trust.plans
-	st.plan, st.tokens = s.options.Plans.PlanIn(s.trust.path, st.text)
+	st.plan, st.tokens = s.options.Plans.PlanIn(s.where(), st.text)
 	if st.plan != nil {
 		st.use = s.trust.of(st.plan)
 	}
@@ -84,7 +88,7 @@ func (s *Session) look(name string, text []byte) *statement {
 
 // looking reports whether statements are looked at.
 func (s *Session) looking() bool {
-	return s.plain && s.options.Auditing()
+	return s.plain && s.options.Auditing() && s.mark() != 0
 }
 
 // fresh looks up a statement's plan again if the catalog or the search path has changed since.
@@ -93,7 +97,7 @@ func (s *Session) fresh(st *statement) {
 		return
 	}
 	st.looked = s.trust.plans
-	p, tokens := s.options.Plans.PlanIn(s.trust.path, st.text)
+	p, tokens := s.options.Plans.PlanIn(s.where(), st.text)
 	if p == st.plan {
 		return
 	}
@@ -108,7 +112,8 @@ func (s *Session) fresh(st *statement) {
 
 // usable reports whether a statement may be rewritten now.
 func (s *Session) usable(st *statement) bool {
-	return st.use != nil && s.looking() && rewritable(st) && !s.replay.plain && s.trust.usable(st.use, st)
+	return st.use != nil && s.looking() && rewritable(st) && !s.replay.plain && s.understands(st.plan) &&
+		s.trust.usable(st.use, st)
 }
 
 // rewritable excludes cursors that return their rows outside their own transaction, or in another format than was asked
@@ -148,6 +153,7 @@ func (s *Session) query(o *output, m []byte, start, end int) {
 		}
 		if st.plan.Asked && s.wantsAbsent() {
 			st.asked.key, st.asked.known = st.plan.AskedKey(st.text, st.tokens, nil, nil, nil)
+			st.asked.known = st.asked.known && s.askable(st.asked.key)
 		}
 	} else {
 		o.pass(start, end)
@@ -162,8 +168,8 @@ func (s *Session) query(o *output, m []byte, start, end int) {
 // transaction.
 func (s *Session) wantsAbsent() bool {
 	level := s.tx.Level
-	if level == record.UnknownLevel {
-		level = s.level
+	if !s.tx.started && level == record.UnknownLevel {
+		level = s.begins()
 	}
 	return level != record.ReadCommitted && s.status == 'T'
 }
@@ -195,7 +201,7 @@ func (s *Session) parse(o *output, m []byte, start, end int) {
 		}
 	} else {
 		s.replay.valid = false // an error doesn't undo it
-		if st.use != nil && rewritable(st) {
+		if st.use != nil && rewritable(st) && s.understands(st.plan) {
 			s.trust.usable(st.use, st) // to be tried, since it is likely to be run again
 		}
 		o.pass(start, end)
@@ -257,8 +263,8 @@ func (s *Session) bind(o *output, m []byte, start, end int) {
 	default:
 		o.pass(start, end)
 	}
-	if s.options.Policy.Parameters && st.plan != nil {
-		p.parameters = texts(b, st.types)
+	if s.options.Policy.Parameters && !s.options.Policy.Redacts && st.plan != nil {
+		p.parameters, p.more = texts(b, st.types)
 	}
 	s.bindTo(p)
 }
@@ -287,6 +293,7 @@ func (s *Session) bindHidden(o *output, b *wire.Bind, st *statement, p *portal) 
 	o.buf = b.Append(o.own(), name, p.hidden)
 	if st.plan.Asked && s.wantsAbsent() {
 		p.asked.key, p.asked.known = st.plan.AskedKey(st.text, st.tokens, b.Parameters, s.formats(b), declared(st.types))
+		p.asked.known = p.asked.known && s.askable(p.asked.key)
 	}
 }
 
@@ -385,7 +392,7 @@ func (s *Session) execute(o *output, m []byte, start, end int) {
 	}
 	if e.on == nil {
 		e.on = opaque
-		s.trust.doubtful()
+		s.trust.changed()
 	}
 	if e.hides != nil && e.hides.AddsReturning && len(m) >= wire.Header+5 {
 		// The client's statement returned no rows, so its limit meant nothing; now that it returns rows, the limit would mean

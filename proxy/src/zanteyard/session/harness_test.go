@@ -34,10 +34,10 @@ var (
 )
 
 const schema = `
-CREATE TABLE zanteyard_fence (id int PRIMARY KEY, n bigint); INSERT INTO zanteyard_fence VALUES (0, 0);
 CREATE TABLE t (id int PRIMARY KEY, v int, w text);
 CREATE TABLE u (a int, b text, v int, PRIMARY KEY (a, b));
 CREATE TABLE big (id bigint PRIMARY KEY, body text);
+CREATE TABLE beyond ("é" int PRIMARY KEY, v int); INSERT INTO beyond VALUES (1, 1);
 CREATE TABLE keyless (a int, b int);
 CREATE TABLE part (id int PRIMARY KEY, v int) PARTITION BY RANGE (id);
 CREATE TABLE part_low PARTITION OF part FOR VALUES FROM (0) TO (100);
@@ -51,6 +51,8 @@ CREATE FUNCTION bump(i int) RETURNS int LANGUAGE plpgsql AS $$BEGIN UPDATE t SET
 CREATE FUNCTION loud(i int) RETURNS int LANGUAGE plpgsql AS $$BEGIN RAISE NOTICE 'loud %', i; RETURN i; END$$;
 CREATE PROCEDURE twice(i int) LANGUAGE plpgsql AS $$BEGIN UPDATE t SET v = v +
 	1 WHERE id = i; COMMIT; UPDATE t SET v = v + 1 WHERE id = i; END$$;
+CREATE PROCEDURE once(i int) LANGUAGE plpgsql AS $$BEGIN UPDATE t SET v = v +
+	1 WHERE id = i; END$$;
 CREATE ROLE limited LOGIN;
 GRANT SELECT (v) ON t TO limited;
 GRANT SELECT, UPDATE ON u TO limited;
@@ -182,6 +184,13 @@ func (s *told) take() []record.Transaction {
 	return all
 }
 
+// forget forgets what was left out.
+func (s *told) forget() {
+	s.lock.Lock()
+	defer s.lock.Unlock()
+	s.unseen = nil
+}
+
 func (s *told) left(part string) bool {
 	s.lock.Lock()
 	defer s.lock.Unlock()
@@ -217,8 +226,8 @@ func through(t testing.TB, user string, change func(*Options)) *proxied {
 	t.Helper()
 	p := &proxied{sink: &told{}, ended: make(chan error, 1)}
 	options := &Options{
-		Plans: definitions_, Sink: p.sink, Policy: Policy{true, true}, ReadLimit: 10000,
-		Fence: NewFence("public.zanteyard_fence", 1000), Auditing: func() bool { return true },
+		Plans: definitions_, Sink: p.sink, Policy: Policy{true, true, false}, ReadLimit: 10000,
+		Auditing:   func() bool { return true },
 		Generation: definitions_.Generation, Defined: func() {}, Log: func(s string) { t.Log(s) },
 		Bound: time.Minute, Shared: shared_,
 	}

@@ -1,13 +1,12 @@
 package session
 
 import (
-	"errors"
 	"strconv"
 	"sync"
 	"time"
 
 	"zanteyard/loop"
-	"zanteyard/record"
+	"zanteyard/meeting"
 )
 
 // idle reports whether the server has answered everything and no transaction is open, not even one that a Sync would
@@ -19,26 +18,42 @@ func (s *Session) idle() bool {
 
 // between reports whether the client has nothing under way, though the proxy may have.
 func (s *Session) between() bool {
-	if s.status != 'I' || s.open || s.partial || s.replay.running || s.copying || s.blind.Load() {
-		return false
+	return s.status == 'I' && !s.open && !s.blind.Load() && !s.owes()
+}
+
+// owes reports whether the server owes the client an answer, or has only a part of what the client sends.
+func (s *Session) owes() bool {
+	if s.partial || s.replay.running || s.copying {
+		return true
 	}
 	for i := s.queue.head; i < len(s.queue.list); i++ {
 		if e := &s.queue.list[i]; e.kind == clients && e.message != 'c' || e.kind == askEnd {
-			return false
+			return true
 		}
 	}
-	return true
+	return false
 }
 
-// Busy reports whether the client has anything under way.
-func (s *Session) Busy() bool {
+// State implements meeting.Member.
+func (s *Session) State() meeting.State {
 	s.state.Lock()
 	defer s.state.Unlock()
-	return s.status != 0 && !s.between()
+	return s.does()
 }
 
-// rest uses an idle moment: for a fence that is due, otherwise for trials. If somebody is just writing the client's
-// messages, then they use the moment, if it still is one.
+// does is State, called with state locked.
+func (s *Session) does() meeting.State {
+	switch {
+	case s.status == 0 || s.blind.Load() || s.between():
+		return meeting.Quiet
+	case s.owes():
+		return meeting.UnderWay
+	}
+	return meeting.Idle
+}
+
+// rest uses an idle moment for trials. If somebody is just writing the client's messages, then they use the moment, if it
+// still is one.
 func (s *Session) rest() {
 	for again := true; again; again = s.missed.Load() {
 		if !s.writes.TryLock() {
@@ -83,8 +98,8 @@ func (s *Session) useIdle() []byte {
 	defer s.state.Unlock()
 	switch {
 	case !s.idle():
-	case s.due():
-		return s.fence()
+	case s.draining.Load():
+		return s.leave()
 	case s.trust.work() && s.looking():
 		return s.try(nil)
 	}
@@ -93,129 +108,67 @@ func (s *Session) useIdle() []byte {
 
 // hold is a meeting's hold on a session.
 type hold struct {
-	due      func(number uint64, err error) // not nil: a fence is due, and this is called with its result
+	ended    func() // not nil: something is under way, and this is to be called when it has ended
 	released chan struct{}
 	once     sync.Once
+	over     bool // it has lasted for long enough
 }
 
 func (h *hold) release() { h.once.Do(func() { close(h.released) }) }
 
-// Hold makes the client's next messages wait until Release, once the client has nothing under way, but for the bound at
-// most.
-func (s *Session) Hold() {
-	s.hold.Store(&hold{released: make(chan struct{})})
+// end reports that nothing is under way any more. Called with state locked.
+func (h *hold) end() {
+	if h.ended != nil {
+		h.ended()
+		h.ended = nil
+	}
 }
 
-// Release lets the client go on.
+// Hold implements meeting.Member. What the client begins waits until Release, but for the bound at most. All that has
+// begun before is under way, since it was recorded with state locked.
+func (s *Session) Hold(ended func()) meeting.State {
+	s.state.Lock()
+	defer s.state.Unlock()
+	h := &hold{released: make(chan struct{})}
+	s.hold.Store(h)
+	state := s.does()
+	if state == meeting.UnderWay {
+		h.ended = ended
+	}
+	return state
+}
+
+// Release implements meeting.Member.
 func (s *Session) Release() {
+	s.state.Lock()
+	defer s.state.Unlock()
 	if h := s.hold.Swap(nil); h != nil {
 		h.release()
-		s.state.Lock()
-		h.due = nil
-		s.state.Unlock()
 	}
 }
 
-// ErrNoFence means that a session can't make fences.
-var ErrNoFence = errors.New("session: it can't make a fence")
-
-// Fence makes a fence as soon as the session has nothing under way. It returns at once; done is called with the number
-// of the fence's transaction, or with an error. After Release a fence isn't begun any more, and done isn't called. Must
-// be called while the session is held.
-func (s *Session) Fence(done func(number uint64, err error)) {
-	h := s.hold.Load()
-	if h == nil || s.options.Fence == nil {
-		done(0, ErrNoFence)
-		return
+// holds returns the hold for which what the client begins now has to wait, or nil. Called with state locked.
+func (s *Session) holds() *hold {
+	if h := s.hold.Load(); h != nil && !h.over && s.between() {
+		return h
 	}
-	s.state.Lock()
-	h.due = done
-	s.state.Unlock()
-	s.Try()
+	return nil
 }
 
-// Try makes the fence that is due, if it can be made now.
-func (s *Session) Try() {
-	s.state.Lock()
-	now := s.due() && s.idle()
-	s.state.Unlock()
-	if now {
-		s.rest()
-	}
-}
-
-// due reports whether a fence is to be made. Called with state locked.
-func (s *Session) due() bool {
-	h := s.hold.Load()
-	return h != nil && h.due != nil
-}
-
-// fence returns a fence's messages. Called with writes and state locked.
-func (s *Session) fence() []byte {
-	h := s.hold.Load()
-	s.fenced, h.due = h.due, nil
-	f := s.options.Fence
-	f.expected(&s.queue)
-	s.tx.Fence = true
-	s.tx.Began = clock()
-	return append(append([]byte(nil), f.first...), f.second...)
-}
-
-// fenceDone handles the end of a fence.
-func (s *Session) fenceDone() {
-	done, n, bad := s.fenced, s.tx.Number, s.tx.failed || s.tx.Number == 0
-	s.fenced = nil
-	s.tx.Level = record.ReadCommitted
-	if bad {
-		s.finish(record.Aborted)
-	} else {
-		s.finish(record.Committed)
-	}
-	if done == nil {
-		return
-	}
-	if bad {
-		done(n, errFence)
-	} else {
-		done(n, nil)
-	}
-}
-
-var (
-	errFence = errors.New("session: a fence failed: the fence table or a right on it is missing, or its row was locked")
-	errGone  = errors.New("session: the connection ended")
-)
-
-// fenceLost reports to whoever waits for a fence that there will be none.
-func (s *Session) fenceLost() {
-	if s.fenced != nil {
-		s.fenced(0, errGone)
-		s.fenced = nil
-	}
-	if h := s.hold.Load(); h != nil && h.due != nil {
-		h.due(0, errGone)
-		h.due = nil
-	}
-}
-
-// wait holds what the client has sent, if the client has nothing under way. Called with writes locked. No fence begins
-// without that lock, so whatever isn't held comes before the session's first fence.
+// wait waits until the hold is released, for the bound at most. Called with writes and state locked, it unlocks both
+// meanwhile, so that the proxy's own statements don't wait.
 func (s *Session) wait(h *hold) {
-	s.state.Lock()
-	between := s.between()
 	s.state.Unlock()
-	if !between {
-		return
-	}
 	s.writes.Unlock()
-	defer s.writes.Lock()
-	s.Try()
 	timer := time.NewTimer(s.options.Bound)
 	defer timer.Stop()
 	select {
 	case <-h.released:
 	case <-timer.C:
 	}
+	s.writes.Lock()
+	s.state.Lock()
+	h.over = true
 }
 
 func itoa(n uint64) string { return strconv.FormatUint(n, 10) }

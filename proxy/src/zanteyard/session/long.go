@@ -17,14 +17,13 @@ func (s *Session) long(begin []byte) []byte {
 	case 'Q':
 		s.begin()
 		s.before(nil)
-		s.queue.push(expectation{message: 'Q', on: opaque, undo: undoStatement, previous: s.names.statements[""]})
+		s.queue.push(expectation{message: 'Q', on: tooLong, undo: undoStatement, previous: s.names.statements[""]})
 		s.names.setStatement("", nil)
 		s.open = false
-		s.options.Sink.Unseen("a statement of more than a megabyte", "too long to be looked at", true)
 	case 'P':
 		s.begin()
 		name, _, _ := wire.Text(begin[wire.Header:])
-		st := &statement{name: string(name)}
+		st := &statement{name: string(name), unseen: tooLong.unseen}
 		s.queue.push(expectation{message: 'P', on: st, name: st.name, undo: undoStatement,
 			previous: s.names.statements[st.name], cleared: st.name == ""})
 		s.names.setStatement(st.name, st)
@@ -39,8 +38,8 @@ func (s *Session) long(begin []byte) []byte {
 		s.bindTo(&portal{name: string(portalName), on: st})
 	case 'F':
 		s.begin()
-		s.trust.doubtful()
-		s.queue.push(expectation{message: 'F', on: opaque})
+		s.trust.changed()
+		s.queue.push(expectation{message: 'F', on: called})
 	}
 	o.pass(0, len(begin))
 	return o.all()

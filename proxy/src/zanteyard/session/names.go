@@ -1,7 +1,10 @@
 package session
 
 import (
+	"bytes"
+
 	"zanteyard/plan"
+	"zanteyard/wire"
 )
 
 // statement is a statement that a client prepared, or a text that it sent as a Query.
@@ -26,6 +29,7 @@ type statement struct {
 	twinOf *plan.Plan
 	twinIn uint64
 	looked uint64 // trust.plans when the plan was made
+	unseen string // why it wasn't looked at
 }
 
 // kind returns what the statement does, as far as is known.
@@ -46,6 +50,8 @@ type portal struct {
 	binary     bool
 	asked      asked
 	parameters []string
+	more       int // parameters beyond those
+	counted    bool
 }
 
 // names records what the names of a connection stand for. Changes that the server didn't get to are undone
@@ -56,12 +62,24 @@ type names struct {
 	// cursors has the cursors that DECLARE made with a rewritten query, prepared the statements of SQL's PREPARE.
 	cursors  map[string]*plan.Plan
 	prepared map[string]*statement
-	twins    int // made so far
+	// unread says of other cursors why their rows aren't seen; "" if they are of no table.
+	unread map[string]string
+	twins  int // made so far
+}
+
+// mostUnread is how many cursors that aren't rewritten are known by name.
+const mostUnread = 256
+
+func (n *names) unseen(cursor, reason string) {
+	if len(n.unread) >= mostUnread {
+		n.unread = map[string]string{}
+	}
+	n.unread[cursor] = reason
 }
 
 func newNames() names {
 	return names{map[string]*statement{}, map[string]*portal{}, map[string]*plan.Plan{},
-		map[string]*statement{}, 0}
+		map[string]*statement{}, map[string]string{}, 0}
 }
 
 func (n *names) setStatement(name string, s *statement) {
@@ -115,4 +133,28 @@ func (n *names) discarded() {
 			delete(n.statements, k)
 		}
 	}
+}
+
+// renamed is an error with the client's own name of a statement in place of its twin's.
+func (s *Session) renamed(e *expectation, m []byte) []byte {
+	st := e.on
+	if e.at != nil {
+		st = e.at.on
+	}
+	if st == nil {
+		return m
+	}
+	twin, name := st.twin, st.name
+	if st.kind() == plan.Execute {
+		if of := s.names.prepared[st.plan.Name]; of != nil {
+			twin, name = of.twin, st.plan.Name
+		}
+	}
+	own := []byte(`"` + twin + `"`)
+	if twin == "" || !bytes.Contains(m, own) {
+		return m
+	}
+	body := bytes.ReplaceAll(m[wire.Header:], own, []byte(`"`+name+`"`))
+	to := wire.Begin(nil, m[0])
+	return wire.End(append(to, body...), 0)
 }

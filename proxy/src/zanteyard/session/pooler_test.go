@@ -8,7 +8,7 @@ import (
 )
 
 // TestPoolerBehind: with a pooler between proxy and server, each transaction may reach another backend, where nothing
-// of the proxy's is prepared. So nothing is rewritten or asked there; fences are made all the same.
+// of the proxy's is prepared. So nothing is rewritten or asked there.
 func TestPoolerBehind(t *testing.T) {
 	needServer(t)
 	for _, mode := range []string{"session", "transaction"} {

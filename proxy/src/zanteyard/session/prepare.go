@@ -5,6 +5,7 @@ import (
 	"strings"
 	"unicode/utf8"
 
+	"zanteyard/own"
 	"zanteyard/plan"
 	"zanteyard/wire"
 )
@@ -20,7 +21,7 @@ func (s *Session) executes(o *output, st *statement, e *expectation) bool {
 		return false
 	}
 	e.use = of.use
-	if of.use == nil || !s.looking() || s.replay.plain || !s.trust.usable(of.use, of) {
+	if of.use == nil || !s.looking() || !s.understands(of.plan) || s.replay.plain || !s.trust.usable(of.use, of) {
 		return false
 	}
 	from, to, ok := nameIn(st.text, "execute")
@@ -32,7 +33,7 @@ func (s *Session) executes(o *output, st *statement, e *expectation) bool {
 			return false
 		}
 	}
-	name := quoted(of.twin)
+	name := own.Name{of.twin}.String()
 	st.renamed = utf8.RuneCountInString(name) - utf8.RuneCountInString(st.text[from:to])
 	st.renamedAt = utf8.RuneCountInString(st.text[:from])
 	text := st.text[:from] + name + st.text[to:]
@@ -54,8 +55,8 @@ func (s *Session) prepares(o *output, of *statement) bool {
 	}
 	s.names.twins++
 	of.twin, of.twinIn = "zanteyard_"+strconv.Itoa(s.names.twins), s.trust.generation
-	text := rewritten[:from] + quoted(of.twin) + rewritten[to:]
-	o.buf = append(append(o.own(), once(prepareName, text)...), syncMessage...)
+	text := rewritten[:from] + own.Name{of.twin}.String() + rewritten[to:]
+	o.buf = append(append(o.own(), once(prepareName, own.Planned(text))...), syncMessage...)
 	s.queue.once(expectation{kind: silent})
 	s.queue.push(expectation{kind: prepareEnd, message: 'S', on: of})
 	return true
@@ -132,7 +133,7 @@ func (s *Session) madeBySQL(p *plan.Plan, of *statement) {
 		of = &statement{plan: p}
 	}
 	s.names.prepared[p.Name] = of
-	if of.use != nil && s.looking() {
+	if of.use != nil && s.looking() && s.understands(of.plan) {
 		s.trust.usable(of.use, of)
 	}
 }

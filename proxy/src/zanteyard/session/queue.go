@@ -18,9 +18,6 @@ const (
 	privilegeRow
 	trialColumns
 	trialEnd
-	fenceRow
-	fenceHalf
-	fenceEnd
 	reparse    // the original text of an unnamed statement, whose failure goes to the client
 	twin       // a statement's rewritten twin, just before the client's Bind
 	prepareEnd // the Sync after the twin of a statement of SQL's PREPARE
@@ -40,7 +37,10 @@ type expectation struct {
 	part    int  // which of several statements is being answered
 	pieces  []piece
 	rows    int        // rows of the statement that is being answered
+	loose   int        // of these, how many have no version
 	from    int        // number of reads before its first row
+	levels  uint64     // what trust.levels counted when it was sent
+	doubts  uint64     // and trust.doubts
 	sent    time.Time  // when the client's message was sent, or the one before it
 	hides   *plan.Plan // the plan that added the hidden columns
 	on      *statement
@@ -68,13 +68,15 @@ type queue struct {
 	list []expectation
 	head int
 	sent time.Time // when the client's messages that are added now were sent
+	// levels and doubts are what trust counts now.
+	levels, doubts *uint64
 }
 
 func (q *queue) empty() bool { return q.head == len(q.list) }
 func (q *queue) size() int   { return len(q.list) - q.head }
 
 func (q *queue) push(e expectation) {
-	e.sent = q.sent
+	e.sent, e.levels, e.doubts = q.sent, *q.levels, *q.doubts
 	q.list = append(q.list, e)
 }
 

@@ -77,7 +77,12 @@ func TestRecords(t *testing.T) {
 		{"a row that isn't there", []string{"BEGIN ISOLATION LEVEL SERIALIZABLE", "SELECT v FROM t WHERE id = 1000",
 			"SELECT v FROM u WHERE a = 1 AND b = 'none'", "COMMIT"},
 			[]want{{level: ser, absent: []string{"1000", "1\x00none"}, snapshot: true}}},
-		{"a row that isn't there, at read committed", []string{"BEGIN", "SELECT v FROM t WHERE id = 1000", "COMMIT"}, nil},
+		{"a row that isn't there, at read committed", []string{"BEGIN", "SELECT v FROM t WHERE id = 1000", "COMMIT"},
+			[]want{{level: rc}}},
+		{"a row that isn't there, by a condition", []string{"SELECT v FROM t WHERE v = -1"}, []want{{level: rc}}},
+		{"an aggregate", []string{"SELECT count(*) FROM t"}, []want{{}}},
+		{"an update of no row", []string{"UPDATE t SET v = 1 WHERE id = 1000"}, []want{{level: rc}}},
+		{"an error alone", []string{"SELECT 1 / (v - v) FROM t"}, []want{{level: rc, outcome: record.Aborted}}},
 		{"chains", []string{"BEGIN", "UPDATE t SET v = 1 WHERE id = 1", "COMMIT AND CHAIN", "SELECT v FROM t WHERE id = 2",
 			"ROLLBACK"},
 			[]want{{wrote: true, level: rc, versions: 1}, {reads: []string{"2"}, level: rc, outcome: record.Aborted}}},
@@ -100,7 +105,7 @@ func TestRecords(t *testing.T) {
 			"ROLLBACK PREPARED 'p'"},
 			[]want{{wrote: true, level: rc, outcome: record.Unclear}}},
 		{"DELETE", []string{"DELETE FROM t WHERE id = 20"}, []want{{reads: []string{"20"}, wrote: true, level: rc}}},
-		{"COPY", []string{"BEGIN", "COPY (SELECT 1) TO STDOUT", "COMMIT"}, nil},
+		{"COPY", []string{"BEGIN", "COPY (SELECT 1) TO STDOUT", "COMMIT"}, []want{{level: rc}}},
 		{"nothing of a table", []string{"SELECT 1", "BEGIN", "COMMIT", "SET application_name TO 'x'"}, nil},
 	} {
 		x := x
@@ -178,7 +183,7 @@ func TestReadLimit(t *testing.T) {
 	p.warm("SELECT v, w FROM t")
 	p.query("SELECT v, w FROM t")
 	got := p.sink.take()
-	if len(got) != 1 || len(got[0].Reads) != 18 || !got[0].Incomplete {
+	if len(got) != 1 || len(got[0].Reads) != 18 || got[0].Beyond == 0 {
 		t.Errorf("told: %+v", got)
 	}
 }
@@ -191,9 +196,9 @@ func TestPolicy(t *testing.T) {
 		text   bool
 		values []string
 	}{
-		{Policy{true, true}, true, []string{"3"}},
-		{Policy{true, false}, true, nil},
-		{Policy{false, true}, false, nil},
+		{Policy{true, true, false}, true, []string{"3"}},
+		{Policy{true, false, false}, true, nil},
+		{Policy{false, true, false}, false, nil},
 	} {
 		sql(t, fill)
 		p := through(t, "postgres", func(o *Options) { o.Policy = x.policy })
@@ -362,9 +367,17 @@ func TestCursorsThatArentSeen(t *testing.T) {
 			p.query(text)
 		}
 		p.settle()
-		got := p.sink.take()
-		if len(got) != 1 || len(got[0].Reads) != 0 || got[0].Number == 0 {
-			t.Errorf("%s: told %+v", kind, got)
+		got, rows := p.sink.take(), uint64(0)
+		for _, it := range got {
+			_, _, more := it.Did.Sum(len(it.Reads))
+			rows += more
+		}
+		want, wantRows := 1, uint64(1)
+		if strings.HasSuffix(kind, "HOLD") { // FETCH has a transaction of its own after COMMIT
+			want, wantRows = 2, 3
+		}
+		if len(got) != want || rows != wantRows || len(got[0].Reads) != 0 || got[0].Number == 0 {
+			t.Errorf("%s: %d rows of %d, told %+v", kind, rows, wantRows, got)
 		}
 		if !p.sink.left("a cursor WITH HOLD or BINARY") {
 			t.Errorf("%s: that it was left out isn't told: %q", kind, p.sink.unseen)

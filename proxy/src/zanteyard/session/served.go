@@ -1,6 +1,8 @@
 package session
 
 import (
+	"io"
+
 	"zanteyard/loop"
 	"zanteyard/wire"
 )
@@ -59,6 +61,7 @@ func (s *Session) served(client, server *loop.Conn) error {
 		case err = <-forth.ended:
 			s.sendEnds(err)
 		case backErr = <-back.ended:
+			s.sayGoodbye()
 			client.Close()
 			server.Close()
 		}
@@ -134,6 +137,10 @@ func (d *direction) forth(batch []byte, more int) (left func() error, err error)
 	s := d.session
 	if more > 0 || len(batch) > mostNow || s.greeting.Load() != nil || !s.writes.TryLock() {
 		return d.sendLater(batch, more), nil
+	}
+	if s.left.Load() {
+		s.writes.Unlock()
+		return nil, io.EOF
 	}
 	out, ok := s.lookedNow(batch)
 	if !ok {

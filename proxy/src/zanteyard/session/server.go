@@ -63,6 +63,10 @@ func (s *Session) answer(o *output, m []byte, start, end int) {
 	case 'E':
 		s.failed(o, e, m, start, end, pass)
 		return
+	case 'V': // what a function call returned
+		if e.message == 'F' {
+			s.ran(e, nil)
+		}
 	case 'Z':
 		if e = s.synced(); e != nil && len(m) > wire.Header {
 			s.ready(o, e, m, start, end)
@@ -92,11 +96,6 @@ func (s *Session) synced() *expectation {
 // unasked handles messages that come unasked: parameters, notifications, notices between transactions.
 func (s *Session) unasked(o *output, m []byte, start, end int) {
 	switch m[0] {
-	case 'R':
-		if b := withoutBinding(m); b != nil {
-			o.buf = append(o.own(), b...)
-			return
-		}
 	case 'S':
 		s.parameter(m)
 	case 'K':
@@ -123,14 +122,14 @@ func (s *Session) parameter(m []byte) {
 	}
 	switch string(name) {
 	case "client_encoding":
-		s.encoding = plain(string(value))
+		s.setEncoding(string(value))
 	case "standard_conforming_strings":
 		s.standard = string(value) == "on"
 	case "application_name", "TimeZone", "DateStyle", "IntervalStyle":
 		return
 	default:
 		if s.status != 0 {
-			s.trust.doubtful()
+			s.trust.changed()
 		}
 	}
 	s.plain = s.encoding && s.standard
@@ -209,7 +208,7 @@ func (s *Session) row(o *output, e *expectation, m []byte, start, end int, pass 
 		return
 	}
 	p := e.hides
-	s.hidden(p, values, e.binary)
+	s.hidden(e, values)
 	if !p.AddsReturning && pass {
 		o.pass(start, start+wire.CutRow(m, columns, visible))
 		s.replay.given = true
@@ -217,22 +216,30 @@ func (s *Session) row(o *output, e *expectation, m []byte, start, end int, pass 
 }
 
 // hidden takes the hidden columns of a row.
-func (s *Session) hidden(p *plan.Plan, values [][]byte, isBinary bool) {
-	if n, ok := p.Number(values, isBinary); ok {
+func (s *Session) hidden(e *expectation, values [][]byte) {
+	p, isBinary := e.hides, e.binary
+	if n, ok := p.Number(values, isBinary); ok && !s.tx.parted {
 		s.tx.Number = n
+	} else if ok {
+		s.tx.MayHaveWritten = true
 	}
-	if n, ok := p.Version(values, isBinary); ok {
+	if n, ok := p.Version(values, isBinary); ok && !s.tx.parted {
 		s.tx.version(n)
 	}
 	reads, err := p.AppendReads(s.reads[:0], values, isBinary)
 	s.reads = reads
-	if s.tx.borrows {
-		s.options.Sink.Unseen(p.Shape, borrowed, true)
+	reads = s.comparable(p, reads)
+	counts := p.Kind == plan.Select && len(p.Unseen) == 0
+	if reason := s.tx.unreported(); reason != "" && len(reads) > 0 {
+		s.notSeen(p.Shape, reason, true)
 	} else {
-		s.tx.read(reads, s.options.ReadLimit)
+		s.tx.read(reads, s.options.ReadLimit, counts)
+		if counts && reason == "" && len(reads) == 0 {
+			e.loose++
+		}
 	}
 	if err != nil {
-		s.options.Sink.Unseen(p.Shape, "hidden columns that can't be read", true)
+		s.notSeen(p.Shape, "hidden columns that can't be read", true)
 	}
 }
 
@@ -251,19 +258,18 @@ func (s *Session) ownRow(e *expectation, m []byte) {
 	case askRow:
 		s.takeAsk(values)
 	case signatureRow:
-		if s.trial != nil && n == 4 {
+		if s.trial != nil && n == 5 {
 			if string(values[3]) != strconv.Itoa(s.backend) {
 				// What was prepared here may be missing when the next statement runs.
 				s.trust.pooled, s.trust.broken, s.trial.failed = true, true, true
 			}
 			s.trial.path = string(values[2])
 			s.trial.signature = append(make([]byte, 0, len(values[0])), values[0]...)
-			s.level = settingOf(values[1])
+			s.trial.level = levelNamed(string(values[1]))
+			s.trial.here = len(values[4]) == 1 && values[4][0] == 't'
 		}
 	case privilegeRow:
 		e.use.allowed = len(values[0]) == 1 && (values[0][0] == 't' || values[0][0] == 1)
-	case fenceRow:
-		s.tx.Number = number(values[0])
 	}
 }
 
@@ -276,11 +282,12 @@ func (s *Session) complete(e *expectation, m []byte) {
 			tag, _, _ := wire.Text(m[wire.Header:])
 			s.ran(e, tag)
 		case 's': // its Execute had a row limit
+			s.suspended(e)
 			if s.note(e) != nil {
 				s.tx.paused = e.at
 			}
 		}
-		e.rows = 0
+		e.rows, e.loose = 0, 0
 	}
 	if e.message == 'E' {
 		s.queue.pop()
@@ -297,7 +304,11 @@ func (s *Session) failed(o *output, e *expectation, m []byte, start, end int, pa
 	s.tx.failed = true
 	switch e.kind {
 	case clients, reparse, twin:
+		s.tx.erred = true
 		pass = len(s.failure) == 0 && !s.again(e, m)
+		if p := e.current(); pass && p != nil && p.Touches() {
+			s.tx.Touched = true
+		}
 		s.replay.skip = 0
 	case askRow, silent:
 		if !s.ownFailed(m) && s.trial != nil {
@@ -311,9 +322,13 @@ func (s *Session) failed(o *output, e *expectation, m []byte, start, end int, pa
 		}
 	}
 	if pass {
-		if e.altered() {
-			o.buf = wire.AppendMoved(o.own(), m, e.moved())
-		} else {
+		text := s.renamed(e, m)
+		switch {
+		case e.altered():
+			o.buf = wire.AppendMoved(o.own(), text, e.moved())
+		case len(text) != len(m):
+			o.buf = append(o.own(), text...)
+		default:
 			o.pass(start, end)
 		}
 	}
@@ -381,6 +396,7 @@ func (s *Session) ready(o *output, e *expectation, m []byte, start, end int) {
 			s.ended()
 		} else if s.status == 'T' {
 			s.tx.failed = false // it was rolled back to a savepoint
+			s.tx.block = true
 		}
 		o.pass(start, end)
 	case askEnd, prepareEnd:
@@ -390,9 +406,6 @@ func (s *Session) ready(o *output, e *expectation, m []byte, start, end int) {
 		}
 	case trialEnd:
 		s.tryEnd()
-	case fenceHalf:
-	case fenceEnd:
-		s.fenceDone()
 	}
 }
 

@@ -26,7 +26,10 @@ import (
 // stands for the catalog's own. The plan is nil if there is no catalog.
 type Planner interface {
 	PlanIn(path, text string) (*plan.Plan, plan.Tokens)
-	// Own reports whether a search path is the catalog's own.
+	// Encoding returns the server's encoding, "" if there is no catalog.
+	Encoding() string
+	// Own reports whether a connection's search path is the catalog's own. The first connection that asks decides which
+	// that is.
 	Own(path string) bool
 }
 
@@ -34,6 +37,7 @@ type Planner interface {
 type Policy struct {
 	Statements bool // their texts
 	Parameters bool // and the parameters of prepared ones
+	Redacts    bool // of the texts only keywords and identifiers
 }
 
 // Options are the same for all sessions of a proxy. Its functions may be called by many goroutines at once.
@@ -42,13 +46,15 @@ type Options struct {
 	Sink       record.Sink
 	Policy     Policy
 	ReadLimit  int           // how many reads of a transaction are kept
-	Fence      *Fence        // nil: no fences
 	Auditing   func() bool   // whether statements are looked at
 	Generation func() uint64 // the catalog's generation, which rises with each change
 	Defined    func()        // a session is about to change a definition
 	Log        func(string)  // for the people who run the proxy
 	Bound      time.Duration // how long a meeting holds a client's messages
 	Shared     *Shared       // nil: each connection tries its plans itself
+	// Mark is the number of the lock by which the audited server is known, 0 while there is none. It changes with each
+	// audit. nil: every server is the audited one.
+	Mark func() int64
 }
 
 // Session is one connection. Its methods are safe for use by several goroutines.
@@ -70,6 +76,8 @@ type Session struct {
 	hold  atomic.Pointer[hold]
 	// missed: an idle moment couldn't be used, because writes was held.
 	missed atomic.Bool
+	// draining: the session ends at its next idle moment. left: it has told the server so; set with writes locked.
+	draining, left atomic.Bool
 	// greeting is set while the connection's signature is asked for, before its client may begin.
 	greeting atomic.Pointer[chan struct{}]
 
@@ -85,10 +93,11 @@ type Session struct {
 	copying  bool
 	replay   replay
 	failure  []byte // the error that the client gets in place of the answer to its COMMIT
+	charset  string // the client's encoding, as the server reports it
 	encoding bool   // texts can be looked at: the client's encoding and settings allow it
 	standard bool
 	plain    bool
-	level    record.Level // the level that transactions begin at, if known
+	level    level // that transactions begin at
 	names    names
 	trust    trust
 	trial    *trial
@@ -96,7 +105,6 @@ type Session struct {
 	place    uint64
 	defines  bool // the transaction changes definitions
 	now      time.Time
-	fenced   func(number uint64, err error)
 	toClient output
 	columns  []wire.Column
 	ends     []int
@@ -114,9 +122,11 @@ func New(number uint64, client, server Conn, options *Options) *Session {
 	s := &Session{number: number, options: options, client: client, server: server, names: newNames()}
 	s.waiting.L = &s.state
 	s.encoding, s.standard, s.plain = true, true, true
+	s.queue.levels, s.queue.doubts = &s.trust.levels, &s.trust.doubts
 	s.trust.uses, s.trust.shared = map[*plan.Plan]*use{}, options.Shared
 	s.trust.doubtful()
-	s.trust.generation = 1
+	s.trust.generation, s.trust.back, s.trust.fresh = 1, plan.Settings|plan.Level, true
+	s.follow()
 	return s
 }
 
@@ -138,6 +148,7 @@ func (s *Session) Run() error {
 	ended := make(chan error, 1)
 	go func() {
 		err := s.guarded(s.back)
+		s.sayGoodbye()
 		s.client.Close()
 		s.server.Close()
 		ended <- err
@@ -191,8 +202,8 @@ func (s *Session) over() {
 	}
 	s.now = clock()
 	s.finish(outcome)
-	s.fenceLost()
 	if h := s.hold.Load(); h != nil {
+		h.end()
 		h.release()
 	}
 }
@@ -220,11 +231,12 @@ func (s *Session) send(in *wire.Reader, batch []byte, more int) error {
 		s.waitGreeting(*greeting)
 	}
 	s.writes.Lock()
-	if h := s.hold.Load(); h != nil {
-		s.wait(h)
+	out, err := s.looked(batch, more)
+	if err != nil {
+		s.writes.Unlock()
+		return err
 	}
-	out := s.looked(batch, more)
-	_, err := s.server.Write(out)
+	_, err = s.server.Write(out)
 	s.written()
 	for err == nil && more > 0 {
 		var part []byte
@@ -249,14 +261,24 @@ func (s *Session) written() {
 	}
 }
 
-// looked says what is sent for a batch of messages. Called with writes locked.
-func (s *Session) looked(batch []byte, more int) []byte {
+// looked says what is sent for a batch of messages, or that the session has left the server. It waits for a replay, and
+// while a meeting holds the client. Called with writes locked.
+func (s *Session) looked(batch []byte, more int) ([]byte, error) {
 	s.state.Lock()
 	defer s.state.Unlock()
-	for s.replay.running {
-		s.waiting.Wait()
+	for {
+		h := s.holds()
+		switch {
+		case s.left.Load():
+			return nil, io.EOF
+		case s.replay.running:
+			s.waiting.Wait()
+		case h != nil:
+			s.wait(h)
+		default:
+			return s.lookAt(batch, more), nil
+		}
 	}
-	return s.lookAt(batch, more)
 }
 
 // lookedNow is looked without waiting. ok is false if it would have to wait: for a replay, for a meeting, or for
@@ -266,7 +288,7 @@ func (s *Session) lookedNow(batch []byte) (out []byte, ok bool) {
 		return nil, false
 	}
 	defer s.state.Unlock()
-	if s.replay.running || s.hold.Load() != nil && s.between() {
+	if s.replay.running || s.holds() != nil {
 		return nil, false
 	}
 	return s.lookAt(batch, 0), true
@@ -281,6 +303,7 @@ func (s *Session) lookAt(batch []byte, more int) []byte {
 		s.early = s.early || batch[0] != 'p'
 		return batch
 	}
+	s.follow()
 	if g := s.options.Generation(); g != s.trust.catalog {
 		s.trust.catalog = g
 		s.trust.planAnew()
@@ -365,7 +388,10 @@ func (s *Session) answers(batch []byte) (out []byte, again, rest bool) {
 	}
 	out = s.fromServer(batch)
 	s.queue.copied()
-	return out, s.replay.due, s.idle() && (s.trust.work() || s.due())
+	if h := s.hold.Load(); h != nil && s.between() {
+		h.end()
+	}
+	return out, s.replay.due, s.idle() && (s.trust.work() || s.draining.Load())
 }
 
 // backLong passes on a long message from the server.

@@ -1,16 +1,13 @@
 package session
 
-import (
-	"strings"
-
-	"zanteyard/plan"
-)
+import "zanteyard/plan"
 
 // before handles a statement that is about to be sent: whatever it may change isn't relied on from here on, whether or
 // not it succeeds.
 func (s *Session) before(p *plan.Plan) {
+	t := &s.trust
 	if p == nil {
-		s.trust.doubtful()
+		t.changed()
 		return
 	}
 	switch p.Kind {
@@ -18,30 +15,31 @@ func (s *Session) before(p *plan.Plan) {
 		for _, part := range p.Parts {
 			s.before(part)
 		}
+		return
 	case plan.Definition:
-		s.trust.forget()
+		t.forget()
 		s.defines = true
 	case plan.DiscardAll:
 		s.names.discarded()
-		s.trust.forget()
+		t.discarded()
 	case plan.Deallocate:
 		s.deallocated(p.Name)
 	case plan.Begin:
-		s.trust.wanted = true
+		t.wanted = true
+	}
+	if p.Resets != 0 {
+		s.reset(p.Resets)
+		return
+	}
+	if p.MayLevel || p.SetsDefault {
+		t.back &^= plan.Level
+	}
+	if p.MayLevel {
+		t.unsureLevel()
 	}
 	if p.ChangesNames || p.Unknown || p.Kind == plan.Set {
-		s.trust.doubtful()
+		t.changed()
 	}
-}
-
-// plain reports whether an encoding uses ASCII's bytes only for ASCII's characters, so that PostgreSQL's parser and the
-// lexer read texts correctly. Texts in other encodings aren't looked at.
-func plain(encoding string) bool {
-	switch strings.ToUpper(encoding) {
-	case "SJIS", "SHIFT_JIS_2004", "BIG5", "GBK", "UHC", "GB18030", "JOHAB":
-		return false
-	}
-	return true
 }
 
 // deallocated forgets a statement that SQL's DEALLOCATE names. Its twin is closed at an idle moment.

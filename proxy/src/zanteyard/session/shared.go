@@ -115,6 +115,7 @@ func (s *Shared) knows(catalog uint64) bool {
 // A client that sends something before it may begin is left alone.
 func (s *Session) greet() {
 	catalog := s.options.Generation()
+	s.follow()
 	if s.early || !s.looking() || !s.options.Shared.knows(catalog) {
 		return
 	}

@@ -11,17 +11,23 @@ import (
 const (
 	fewReads       = 16 // up to this many are compared one by one
 	mostStatements = 256
-	mostVersions   = 4096 // the transaction's own number and those of its subtransactions
+	mostKept       = 1 << 20 // bytes of a transaction's statements and their parameters
+	mostVersions   = 4096    // the transaction's own number and those of its subtransactions
 )
 
-// borrowed is the reason why a read is left out.
-const borrowed = "read in another transaction's snapshot"
+// Why a read is left out.
+const (
+	borrowed  = "read in another transaction's snapshot"
+	afterPart = "read after a statement that may have committed, before the server said so"
+	whatRuns  = "what EXECUTE runs"
+)
 
 // transaction is what is known of the transaction that is running.
 type transaction struct {
 	record.Transaction
-	seen    map[record.Read]struct{}
-	wrote   bool // by a statement that didn't report the number
+	seen    map[record.Read]int32 // at which place in Reads each is, once there are more than a few
+	kept    int                   // bytes of its statements
+	wrote   bool                  // by a statement that didn't report the number
 	failed  bool
 	leaving bool // COMMIT or PREPARE TRANSACTION was sent
 	asked   bool // the answer to the ask arrived, and nothing has run since
@@ -30,6 +36,26 @@ type transaction struct {
 	// isn't kept.
 	borrows bool
 	paused  *portal // of the last statement in Statements, if some of its rows are still to come
+	started bool    // a statement of it has run
+	sets    level   // what later transactions begin at, if it is committed
+	resets  plan.Parts
+	doubts  uint64 // what trust counted when the last of these resets was sent
+	block   bool   // it is a block for certain: no statement in it but COMMIT or ROLLBACK ends it
+	// parted means that a statement has run which may have committed what precedes it, in a pipeline, where the server
+	// says whether it has only at the end. What follows is left out until then.
+	parted bool
+	erred  bool // one of its statements failed
+}
+
+// unreported returns why a read can't be reported, or "".
+func (t *transaction) unreported() string {
+	switch {
+	case t.borrows:
+		return borrowed
+	case t.parted:
+		return afterPart
+	}
+	return ""
 }
 
 // asked is what a SELECT by one whole key asked for.
@@ -38,48 +64,58 @@ type asked struct {
 	known bool
 }
 
-// empty reports whether nothing in the transaction concerns an audit.
+// empty reports whether nothing in the transaction concerns an audit: no statement of it touched a table.
 func (t *transaction) empty() bool {
-	return len(t.Reads) == 0 && t.Number == 0 && !t.MayHaveWritten && !t.wrote && len(t.Absent) == 0 && !t.Fence &&
-		!t.Incomplete
+	return len(t.Reads) == 0 && t.Number == 0 && !t.MayHaveWritten && !t.wrote && len(t.Absent) == 0 && t.Beyond == 0 &&
+		!t.Touched && !t.Partly
 }
 
-// read adds versions that were returned, each once.
-func (t *transaction) read(reads []record.Read, limit int) {
-	for _, r := range reads {
-		if t.has(r) {
-			continue
+// read adds the versions of a row that was returned, each once. The row is counted with the first of them, if counts is
+// set.
+func (t *transaction) read(reads []record.Read, limit int, counts bool) {
+	for i, r := range reads {
+		n := uint32(0)
+		if counts && i == 0 {
+			n = 1
 		}
-		if len(t.Reads) >= limit {
-			t.Incomplete = true
-			return
-		}
-		t.Reads = append(t.Reads, r)
-		if t.seen != nil && len(t.Reads) > fewReads {
-			t.seen[r] = struct{}{}
+		switch at := t.find(r); {
+		case at >= 0:
+			t.Did.Repeated(at, len(t.Reads), n)
+		case len(t.Reads) >= limit:
+			t.Beyond++
+			t.Did.Beyond += uint64(n)
+		default:
+			t.Reads = append(t.Reads, r)
+			t.Did.Added(len(t.Reads), n)
+			if t.seen != nil && len(t.Reads) > fewReads {
+				t.seen[r] = int32(len(t.Reads) - 1)
+			}
 		}
 	}
 }
 
-func (t *transaction) has(r record.Read) bool {
+// find returns the place of a read, or -1.
+func (t *transaction) find(r record.Read) int {
 	if len(t.Reads) < fewReads {
 		for i := range t.Reads {
 			if t.Reads[i] == r {
-				return true
+				return i
 			}
 		}
-		return false
+		return -1
 	}
 	if len(t.seen) == 0 {
 		if t.seen == nil {
-			t.seen = map[record.Read]struct{}{}
+			t.seen = map[record.Read]int32{}
 		}
-		for _, old := range t.Reads {
-			t.seen[old] = struct{}{}
+		for i, old := range t.Reads {
+			t.seen[old] = int32(i)
 		}
 	}
-	_, ok := t.seen[r]
-	return ok
+	if at, ok := t.seen[r]; ok {
+		return int(at)
+	}
+	return -1
 }
 
 // version adds the xmin of a row that the transaction wrote.
@@ -108,12 +144,19 @@ func (s *Session) note(e *expectation) *record.Statement {
 		t.Statements[last].To = to // more of its rows, with no others between
 		return &t.Statements[last]
 	}
-	if !policy.Statements || e.on == nil || e.on.text == "" || len(t.Statements) >= mostStatements {
+	if !policy.Statements || e.on == nil || e.on.text == "" {
+		return nil
+	}
+	if len(t.Statements) >= mostStatements || t.kept >= mostKept {
+		t.Dropped++
 		return nil
 	}
 	st := record.Statement{Text: e.on.text, At: s.now, From: from, To: to}
 	if e.part < len(e.pieces) {
 		st.Text = e.pieces[e.part].text
+	}
+	if policy.Redacts {
+		st.Text = plan.Redacted(st.Text)
 	}
 	if len(st.Text) > mostText {
 		st.Text = st.Text[:mostText]
@@ -121,11 +164,21 @@ func (s *Session) note(e *expectation) *record.Statement {
 	if p := e.current(); p != nil {
 		st.Unseen = p.Unseen
 	}
-	if e.at != nil && policy.Parameters {
-		st.Parameters = e.at.parameters
+	if e.at != nil && policy.Parameters && !policy.Redacts {
+		st.Parameters, st.More = e.at.parameters, e.at.more
 	}
+	t.kept += sizeOf(&st)
 	t.Statements = append(t.Statements, st)
 	return &t.Statements[len(t.Statements)-1]
+}
+
+// sizeOf returns about how many bytes a statement takes.
+func sizeOf(it *record.Statement) int {
+	n := 128 + len(it.Text)
+	for _, one := range it.Parameters {
+		n += 16 + len(one)
+	}
+	return n
 }
 
 // begin records when the transaction began, by the first message that was sent for it.
@@ -142,14 +195,16 @@ func (s *Session) finish(outcome record.Outcome) {
 		t.Connection, t.Place = s.number, s.place
 		s.place++
 		t.Ended, t.Outcome = s.now, outcome
-		if t.Level == record.UnknownLevel && !t.Fence {
-			t.Level = s.level
+		if !t.started && t.Level == record.UnknownLevel {
+			t.Level = s.begins()
 		}
 		t.MayHaveWritten = t.Number == 0 && (t.MayHaveWritten || t.wrote)
 		if s.options.Auditing() {
-			s.options.Sink.Transaction(t.Transaction)
+			s.report(&t.Transaction)
 		}
 	}
+	s.set(outcome)
+	s.trust.resetBy(t, outcome)
 	if s.defines {
 		s.defines = false
 		s.options.Defined()
@@ -162,22 +217,54 @@ func (s *Session) finish(outcome record.Outcome) {
 	s.tx.Began = s.queue.next() // what was sent before this one's end may have begun by itself
 }
 
+// report reports a transaction, or that there was one that isn't offered.
+func (s *Session) report(it *record.Transaction) {
+	if !s.offered(it) {
+		*it = record.Transaction{Connection: it.Connection, Place: it.Place, Began: it.Began, Ended: it.Ended, Level: it.Level,
+			Outcome: it.Outcome, Did: it.Did.Alone(len(it.Reads)), Elsewhere: true}
+	}
+	s.options.Sink.Transaction(*it)
+}
+
 // ended is called when a ReadyForQuery says that no transaction is open.
 func (s *Session) ended() {
 	outcome := record.Committed
 	if s.tx.failed {
-		outcome = record.Aborted
+		outcome = s.tx.undone()
 	}
 	s.finish(outcome)
 	s.names.ended()
 }
 
+// onlyRead reports whether a transaction that is rolled back might as well have been committed.
+func (t *transaction) onlyRead() bool {
+	return t.Number == 0 && !t.MayHaveWritten && !t.wrote && !t.erred && !t.parted && !t.borrows &&
+		(t.Level == record.ReadCommitted || t.Level == record.RepeatableRead)
+}
+
+// undone returns the outcome of a transaction that the server has undone, unless it had committed a part before: then
+// the slot decides.
+func (t *transaction) undone() record.Outcome {
+	if t.parted && t.Number != 0 {
+		return record.Unclear
+	}
+	return record.Aborted
+}
+
 // ran handles a statement that has ended successfully, with its tag.
 func (s *Session) ran(e *expectation, tag []byte) {
 	p := e.current()
+	if (p == nil || p.MayCommit) && e.message == 'E' && !s.tx.block {
+		defer func() { s.tx.parted = true }()
+	}
+	s.starts()
+	if p == nil || p.Kind != plan.Several {
+		s.tx.did(p, e.doubts)
+	}
 	switch {
 	case p == nil:
 		s.tx.MayHaveWritten = true
+		s.notLooked(e, tag)
 	case p.Kind == plan.Several: // more statements were answered than were found in the text
 	default:
 		s.did(p, e, tag)
@@ -187,26 +274,46 @@ func (s *Session) ran(e *expectation, tag []byte) {
 	}
 }
 
+// notLooked counts a statement that wasn't looked at.
+func (s *Session) notLooked(e *expectation, tag []byte) {
+	reason := "sent before the audit had read the catalog"
+	switch {
+	case e.on != nil && e.on.unseen != "":
+		reason = e.on.unseen
+	case !s.plain:
+		reason = "an encoding that isn't read, or standard_conforming_strings is off"
+	}
+	s.sums(nil, e, tag, reason)
+	if s.options.Auditing() {
+		s.notSeen("(a statement)", reason, true)
+	} else {
+		s.tx.Partly = true
+	}
+}
+
 func (s *Session) did(p *plan.Plan, e *expectation, tag []byte) {
 	t := &s.tx
-	if p.Level != record.UnknownLevel {
-		t.Level = p.Level
-	}
+	s.levels(p, e)
 	t.borrows = t.borrows || p.TakesSnapshot
 	switch p.Kind {
 	case plan.Commit, plan.Rollback:
 		s.note(e)
+		its := t.Level
 		if string(tag) == "COMMIT" {
 			s.finish(record.Committed)
 		} else {
-			s.finish(record.Aborted)
+			t.OnlyRead = p.Kind == plan.Rollback && t.onlyRead()
+			s.finish(t.undone())
+		}
+		if p.Chain {
+			s.tx.Level, s.tx.block, s.tx.started = its, true, true
 		}
 		s.names.ended()
 		return
 	case plan.PrepareTransaction:
 		s.note(e)
 		if string(tag) == "ROLLBACK" {
-			s.finish(record.Aborted)
+			s.finish(t.undone())
 		} else {
 			s.finish(record.Unclear) // COMMIT PREPARED may come from anywhere: the slot reports it
 		}
@@ -225,22 +332,37 @@ func (s *Session) did(p *plan.Plan, e *expectation, tag []byte) {
 			}
 		}
 		delete(s.names.cursors, p.Name)
+	case plan.Begin:
+		t.block = true
 	case plan.Write:
-		t.wrote = true
+		t.wrote = t.wrote || mayHaveChanged(e)
+	case plan.Definition, plan.TemporaryDefinition:
+		t.Defines = true
 	case plan.Prepare:
 		s.madeBySQL(p, e.on)
 		s.note(e)
 		return
 	case plan.Execute:
-		s.executed(p, e)
+		s.executed(p, e, tag)
 		return
 	}
 	t.MayHaveWritten = t.MayHaveWritten || p.MayWriteUnseen
-	s.leftOut(p, e, s.note(e))
+	t.Touched = t.Touched || p.Touches()
+	s.leftOut(p, e, s.note(e), tag)
+}
+
+// mayHaveChanged reports whether a statement that writes may have written a row: if its rows report the transaction's
+// number, it has written none if there is none.
+func mayHaveChanged(e *expectation) bool { return e.hidden == 0 || e.rows > 0 }
+
+// notSeen counts something that wasn't seen, of the transaction that is running.
+func (s *Session) notSeen(shape, reason string, reads bool) {
+	s.tx.Partly = true
+	s.options.Sink.Unseen(shape, reason, reads)
 }
 
 // executed handles SQL's EXECUTE.
-func (s *Session) executed(p *plan.Plan, e *expectation) {
+func (s *Session) executed(p *plan.Plan, e *expectation, tag []byte) {
 	of := s.names.prepared[p.Name]
 	if st := s.names.statements[p.Name]; st != nil {
 		of = st
@@ -248,58 +370,73 @@ func (s *Session) executed(p *plan.Plan, e *expectation) {
 	noted := s.note(e)
 	if of == nil || of.plan == nil {
 		s.tx.MayHaveWritten = true
-		s.options.Sink.Unseen(p.Shape, "what EXECUTE runs", true)
+		s.sums(nil, e, tag, whatRuns)
+		s.notSeen(p.Shape, whatRuns, true)
 		return
 	}
 	inner := rows(of.plan)
-	s.tx.wrote = s.tx.wrote || inner.Kind == plan.Write
+	s.tx.wrote = s.tx.wrote || inner.Kind == plan.Write && mayHaveChanged(e)
+	s.tx.Touched = s.tx.Touched || inner.Touches()
+	s.tx.Defines = s.tx.Defines || inner.Kind == plan.Definition || inner.Kind == plan.TemporaryDefinition
 	s.tx.MayHaveWritten = s.tx.MayHaveWritten || inner.MayWriteUnseen
 	if !e.changed {
 		e.use = of.use
 	}
-	s.leftOut(of.plan, e, noted)
+	s.leftOut(of.plan, e, noted, tag)
 }
 
 // leftOut counts what couldn't be seen of a statement.
-func (s *Session) leftOut(p *plan.Plan, e *expectation, noted *record.Statement) {
+func (s *Session) leftOut(p *plan.Plan, e *expectation, noted *record.Statement, tag []byte) {
 	for _, u := range rows(p).Unseen {
-		s.options.Sink.Unseen(u.Shape, u.Reason, true)
+		s.notSeen(u.Shape, u.Reason, true)
 	}
+	reason := ""
 	if !e.changed && e.use != nil {
-		reason := s.trust.why(e.use)
+		reason = s.trust.why(e.use)
+		if !s.understands(p) {
+			reason = namesBeyond
+		}
 		if p.Kind == plan.Declare && differs(p.Shape) {
 			reason = "a cursor WITH HOLD or BINARY"
 		}
-		s.options.Sink.Unseen(p.Shape, reason, p.Kind != plan.Write)
-	}
-	if e.hidden > 0 && p.Asked && e.rows == 0 {
-		if e.at != nil && e.at.asked.known || e.at == nil && e.on.asked.known {
-			s.absent(p, e, noted)
+		if isWrite := p.Kind == plan.Write; isWrite && len(p.Sources) == 0 {
+			s.options.Sink.Unseen(p.Shape, reason, false) // if the transaction's number is known, all of it is
 		} else {
-			s.options.Sink.Unseen(p.Shape, "a row that wasn't there, at read committed or for an unknown key", true)
+			s.notSeen(p.Shape, reason, !isWrite)
 		}
+	}
+	s.sums(p, e, tag, reason)
+	if e.hidden > 0 && p.Asked && e.rows == 0 {
+		s.absent(p, e, noted)
 	}
 }
 
-// absent records a whole key that was asked for and not found.
+// absent records a whole key that was asked for and not found, if it is known in which snapshot.
 func (s *Session) absent(p *plan.Plan, e *expectation, noted *record.Statement) {
-	if s.status != 'T' {
-		s.options.Sink.Unseen(p.Shape, "a row that wasn't there, asked for by a transaction of one statement", true)
-		return
-	}
-	if s.tx.borrows {
-		s.options.Sink.Unseen(p.Shape, borrowed, true)
-		return
-	}
-	key := e.on.asked.key
+	its := e.on.asked
 	if e.at != nil {
-		key = e.at.asked.key
+		its = e.at.asked
+	}
+	reason := s.tx.unreported()
+	switch {
+	case !its.known:
+		reason = "a row that wasn't there, at read committed or for an unknown key"
+	case s.status != 'T':
+		reason = "a row that wasn't there, asked for by a transaction of one statement"
+	}
+	if reason != "" {
+		s.options.Sink.Unseen(p.Shape, reason, true)
+		s.tx.Did.Leave(foundNoRow, false, 1, 0, 0)
+		return
 	}
 	if len(s.tx.Absent) >= s.options.ReadLimit {
-		s.tx.Incomplete = true
+		s.tx.Beyond++
+		s.tx.Did.Leave(foundNoRow, false, 1, 0, 0)
 		return
 	}
-	s.tx.Absent = append(s.tx.Absent, record.Absence{Relation: p.Sources[0].Relation, Key: key})
+	s.tx.Absent = append(s.tx.Absent, record.Absence{Relation: p.Sources[0].Relation, Key: its.key,
+		Identity: p.Sources[0].Identity})
+	s.tx.Did.Selects = append(s.tx.Did.Selects, record.Select{Absent: int32(len(s.tx.Absent))})
 	if noted != nil {
 		noted.Absent = len(s.tx.Absent)
 	}

@@ -3,7 +3,9 @@ package session
 import (
 	"bytes"
 
+	"zanteyard/own"
 	"zanteyard/plan"
+	"zanteyard/record"
 	"zanteyard/wire"
 )
 
@@ -45,21 +47,37 @@ type trust struct {
 	// been compared; doubts counts them, so that an answer to one isn't taken for an answer to a later one.
 	doubt     bool
 	doubts    uint64
+	levels    uint64 // counts what may have changed the level at which transactions begin
+	unsure    bool   // this level isn't known, though nothing else is in doubt
 	signature []byte
-	asks      bool     // the ask was prepared and has run in this generation
-	wanted    bool     // the ask is worth preparing
-	broken    bool     // not even the proxy's own questions work here
-	pooled    bool     // there is a pooler between proxy and server: statements may reach one backend after another
-	orphans   []string // twins whose statements are gone
+	initial   initial    // what the parts of the connection are after a reset
+	back      plan.Parts // these are as at its beginning, or after a reset
+	fresh     bool       // nothing may have been changed since its beginning
+	asks      bool       // the ask has run in this generation
+	prepared  bool       // and is still prepared
+	discards  uint64     // counts what drops prepared statements
+	wanted    bool       // the ask is worth preparing
+	broken    bool       // not even the proxy's own questions work here
+	pooled    bool       // there is a pooler between proxy and server: statements may reach one backend after another
+	orphans   []string   // twins whose statements are gone
+	mark      int64      // of the audit that the connection was last asked about
+	here      bool       // it is to that audit's server
+	elsewhere bool       // it isn't
 	shared    *Shared
 }
 
 // trial is one series of messages that was sent at an idle moment.
 type trial struct {
 	generation, doubts uint64
+	discards           uint64
+	back               plan.Parts
 	uses               []*use
 	signature          []byte
 	path               string
+	level              record.Level
+	levels             uint64
+	mark               int64
+	here               bool
 	asked              bool // the ask ran
 	failed             bool
 }
@@ -92,8 +110,15 @@ func (t *trust) planAnew() {
 
 func (t *trust) doubtful() {
 	t.doubt = true
-	t.asks = false // a function may have dropped it
+	t.asks, t.prepared = false, false // a function may have dropped it
 	t.doubts++
+	t.levels++
+}
+
+// unsureLevel is called before what may change the level at which transactions begin, and nothing else.
+func (t *trust) unsureLevel() {
+	t.unsure = true
+	t.levels++
 }
 
 // of returns what is known about a plan, or nil if the plan adds nothing.
@@ -135,7 +160,7 @@ func (t *trust) usable(u *use, sample *statement) bool {
 	if u.state != tried {
 		return false
 	}
-	sure := !t.doubt && t.asks
+	sure := !t.doubt && t.asks && t.here
 	t.wanted = t.wanted || !sure
 	return sure
 }
@@ -145,6 +170,8 @@ func (t *trust) why(u *use) string {
 	switch {
 	case t.pooled:
 		return "a pooler between proxy and server"
+	case t.elsewhere:
+		return Elsewhere
 	case t.broken:
 		return "the connection's user may not run the proxy's queries"
 	case u.state == failed:
@@ -155,9 +182,13 @@ func (t *trust) why(u *use) string {
 	return "not tried on its connection yet"
 }
 
+// Elsewhere is why nothing is seen on a connection that a balancer, a name or a failover has led to another server.
+const Elsewhere = "the connection is to another server than the audited one, or to a standby"
+
 // work reports whether there is something to try at an idle moment.
 func (t *trust) work() bool {
-	return !t.broken && (len(t.queue) > 0 || t.wanted && (t.doubt || !t.asks) || len(t.orphans) > mostOrphans)
+	return !t.broken && !t.elsewhere && (len(t.queue) > 0 || t.wanted && (t.doubt || !t.asks || t.unsure || !t.here) ||
+		len(t.orphans) > mostOrphans)
 }
 
 // hiddenColumns returns how many columns a plan adds to what its statement returns, or to the rows of its cursor.
@@ -174,7 +205,7 @@ func rows(p *plan.Plan) *plan.Plan {
 // try appends a trial's messages, and records what is expected for them.
 func (s *Session) try(out []byte) []byte {
 	t := &s.trust
-	w := &trial{generation: t.generation, doubts: t.doubts}
+	w := &trial{generation: t.generation, doubts: t.doubts, discards: t.discards, back: t.back, levels: t.levels, mark: t.mark}
 	s.trial = w
 	for _, name := range t.orphans {
 		out = appendClose(out, name)
@@ -185,9 +216,9 @@ func (s *Session) try(out []byte) []byte {
 		out = append(out, impatient...)
 		s.queue.once(expectation{kind: silent})
 	}
-	out = append(out, signature...)
+	out = append(out, signatureOf(w.mark)...)
 	s.queue.once(expectation{kind: signatureRow})
-	if !t.asks {
+	if !t.asks || !t.prepared {
 		// An ask that fails in a transaction would abort it, so it has to run here first.
 		out = append(append(out, closeAsk...), askPrepare...)
 		s.queue.step('C', nil)
@@ -215,7 +246,7 @@ func (s *Session) try(out []byte) []byte {
 func (s *Session) tryOne(out []byte, u *use) []byte {
 	want := u.plan.Trial()
 	if want.Privileges != "" {
-		out = append(out, once(privilegeName, want.Privileges)...)
+		out = append(out, once(privilegeName, own.Planned(want.Privileges))...)
 		s.queue.once(expectation{kind: privilegeRow, use: u})
 	} else {
 		u.allowed = true
@@ -294,8 +325,12 @@ func (s *Session) tryEnd() {
 	if w == nil || w.generation != t.generation {
 		return // something changed meanwhile; everything is tried again when it is used
 	}
+	if w.signature != nil {
+		t.shows(w.mark, w.here)
+	}
 	if w.signature != nil && w.doubts == t.doubts {
 		changed := t.signature != nil && !bytes.Equal(t.signature, w.signature)
+		isLevel := w.levels == t.levels
 		if s.options.Plans.Own(w.path) {
 			w.path = ""
 		}
@@ -307,12 +342,16 @@ func (s *Session) tryEnd() {
 			t.forget()
 		}
 		t.signature, t.doubt = w.signature, false
+		if isLevel {
+			s.level, t.unsure = level{w.level, t.levels, true}, false
+		}
+		t.learn(w, s.begins())
 		if changed {
 			return
 		}
 	}
 	if w.asked && !w.failed {
-		t.asks = true
+		t.asks, t.prepared = true, w.discards == t.discards
 	}
 	for _, u := range w.uses {
 		switch {

@@ -11,7 +11,9 @@ import (
 
 	"github.com/jackc/pgconn"
 
+	"zanteyard/catalog"
 	"zanteyard/join"
+	"zanteyard/own"
 	"zanteyard/record"
 )
 
@@ -23,7 +25,8 @@ type Control struct {
 
 	lock     sync.Mutex
 	conn     *pgconn.PgConn
-	prepared bool // placeSQL is prepared on conn
+	prepared bool  // placeSQL is prepared on conn
+	mark     int64 // of the connection that reads the slot; 0 before that
 	reloaded time.Time
 }
 
@@ -46,13 +49,13 @@ func (c *Control) Close(ctx context.Context) {
 }
 
 // ask runs statements without parameters, and returns the last one's rows as text. NULL is an empty text.
-func (c *Control) ask(ctx context.Context, sql string) ([][]string, error) {
+func (c *Control) ask(ctx context.Context, text own.Text) ([][]string, error) {
 	c.lock.Lock()
 	defer c.lock.Unlock()
 	if err := c.connect(ctx); err != nil {
 		return nil, err
 	}
-	return query(ctx, c.conn, sql)
+	return own.Ask(ctx, c.conn, text)
 }
 
 // connect makes a connection if there is none. Called with lock held.
@@ -64,8 +67,35 @@ func (c *Control) connect(ctx context.Context) error {
 	if err != nil {
 		return fmt.Errorf("connect to the server: %w", err)
 	}
+	if err := sees(ctx, conn, c.mark); err != nil {
+		conn.Close(ctx)
+		return err
+	}
 	c.conn, c.prepared = conn, false
 	return nil
+}
+
+// sees returns an error if a connection isn't to the server that has the mark.
+func sees(ctx context.Context, conn *pgconn.PgConn, mark int64) error {
+	if mark == 0 {
+		return nil
+	}
+	is, err := own.SeesMark(ctx, conn, mark)
+	if err == nil && !is {
+		err = own.ErrElsewhere
+	}
+	return err
+}
+
+// Follow makes every question be put to the server that has this mark. The connection that there is has to be to it.
+func (c *Control) Follow(ctx context.Context, mark int64) error {
+	c.lock.Lock()
+	defer c.lock.Unlock()
+	c.mark = mark
+	if c.conn == nil || c.conn.IsClosed() {
+		return nil
+	}
+	return sees(ctx, c.conn, mark)
 }
 
 // where asks where the log stands, and for the stamps of these tables. It is called so often that the statement is
@@ -77,83 +107,66 @@ func (c *Control) where(ctx context.Context, tables string) ([][]string, error) 
 		return nil, err
 	}
 	if !c.prepared {
-		if _, err := c.conn.Prepare(ctx, placeName, placeSQL, nil); err != nil {
+		if err := own.Prepare(ctx, c.conn, placeName, placeSQL); err != nil {
 			return nil, err
 		}
 		c.prepared = true
 	}
-	its := c.conn.ExecPrepared(ctx, placeName, [][]byte{[]byte(tables)}, nil, nil).Read()
-	if its.Err != nil {
+	rows, err := own.AskPrepared(ctx, c.conn, placeName, tables)
+	if err != nil {
 		// Somebody, such as a pooler, may have dropped it: the next question prepares it again, on another connection.
 		c.conn.Close(ctx)
-		return nil, its.Err
 	}
-	return rowsOf(its), nil
+	return rows, err
 }
 
 const placeName = "zanteyard.place"
 
-func query(ctx context.Context, conn *pgconn.PgConn, sql string) ([][]string, error) {
-	results, err := conn.Exec(ctx, sql).ReadAll()
-	if err != nil {
-		return nil, err
-	}
-	if len(results) == 0 {
-		return nil, nil
-	}
-	return rowsOf(results[len(results)-1]), nil
-}
-
-func rowsOf(its *pgconn.Result) [][]string {
-	rows := make([][]string, len(its.Rows))
-	for i, row := range its.Rows {
-		rows[i] = make([]string, len(row))
-		for j, value := range row {
-			rows[i][j] = string(value)
-		}
-	}
-	return rows
-}
-
 // one returns the only value of a statement.
-func (c *Control) one(ctx context.Context, sql string) (string, error) {
-	rows, err := c.ask(ctx, sql)
-	if err != nil {
+func (c *Control) one(ctx context.Context, text own.Text) (string, error) {
+	c.lock.Lock()
+	defer c.lock.Unlock()
+	if err := c.connect(ctx); err != nil {
 		return "", err
 	}
-	if len(rows) != 1 || len(rows[0]) != 1 {
-		return "", fmt.Errorf("unexpected form of the server's answer to %q", sql)
-	}
-	return rows[0][0], nil
+	return own.One(ctx, c.conn, text)
 }
 
 // Place implements join.Server. The same statement checks the tables that the slot has reported; if one has changed,
-// the catalog is read again, and the place is asked for again.
+// the catalog is read again, and all is asked again.
 func (c *Control) Place(ctx context.Context) (join.Place, error) {
-	rows, err := c.where(ctx, c.tables.usedText())
-	if err != nil {
-		return join.Place{}, err
-	}
-	if len(rows) == 1 && len(rows[0]) == 2 {
-		same := rows[0][1] == c.tables.usedStamp() && !(c.tables.Missing() && c.mayReload())
-		if at, ok := parsePlace(rows[0][0]); ok && same {
-			return join.Place{At: at, Names: c.tables.Names()}, nil
+	var changed []record.Relation
+	for again := 0; ; again++ {
+		oids, used := c.tables.usedText()
+		rows, err := c.where(ctx, oids)
+		if err != nil {
+			return join.Place{}, err
 		}
+		if len(rows) != 1 || len(rows[0]) != 3 {
+			return join.Place{}, errForm
+		}
+		at, ok := parsePlace(rows[0][0])
+		if !ok {
+			return join.Place{}, errForm
+		}
+		place := join.Place{At: at, Changed: changed, Names: c.tables.Names(), Used: used, Shows: rows[0][2]}
+		switch {
+		case rows[0][1] == c.tables.usedStamp() && !(c.tables.Missing() && c.mayReload()):
+			return place, nil
+		case again == mostReloads: // somebody changes one table after the other: nothing is verified for now
+			place.Unsure = true
+			return place, nil
+		}
+		more, err := c.reload(ctx)
+		if err != nil {
+			return join.Place{}, err
+		}
+		changed = append(changed, more...)
 	}
-	changed, err := c.reload(ctx)
-	if err != nil {
-		return join.Place{}, err
-	}
-	text, err := c.one(ctx, "SELECT pg_current_wal_insert_lsn()")
-	if err != nil {
-		return join.Place{}, err
-	}
-	at, ok := parsePlace(text)
-	if !ok {
-		return join.Place{}, errForm
-	}
-	return join.Place{At: at, Changed: changed, Names: c.tables.Names()}, nil
 }
+
+// mostReloads is how often the catalog is read again for one place.
+const mostReloads = 2
 
 // mayReload reports whether the last time is long enough ago: names that the catalog no longer has stay unknown.
 func (c *Control) mayReload() bool {
@@ -163,29 +176,25 @@ func (c *Control) mayReload() bool {
 }
 
 // stampSQL returns a text that changes with a table's name or key.
-const stampSQL = `SELECT string_agg(concat_ws(' ', c.oid, n.nspname, c.relname, c.relispartition, i.indexrelid, i.indkey), '; '
-  ORDER BY c.oid) FROM pg_class c JOIN pg_namespace n ON n.oid = c.relnamespace
-  LEFT JOIN pg_index i ON i.indrelid = c.oid AND i.indisprimary `
+const stampSQL = `SELECT pg_catalog.string_agg(` + stampOfOne + `, '; ' ORDER BY c.oid)
+  FROM pg_catalog.pg_class c JOIN pg_catalog.pg_namespace n ON n.oid = c.relnamespace
+  LEFT JOIN pg_catalog.pg_index i ON i.indrelid = c.oid AND i.indisprimary `
 
-const placeSQL = "SELECT pg_current_wal_insert_lsn(), (" + stampSQL + "WHERE c.oid = ANY($1::oid[]))"
+const stampOfOne = "pg_catalog.concat_ws(' ', c.oid, n.nspname, c.relname, c.relispartition, " + catalog.IdentitySQL + ")"
+
+var placeSQL = own.SQL("SELECT pg_catalog.pg_current_wal_insert_lsn(), (" + stampSQL +
+	"WHERE c.oid = ANY($1::pg_catalog.oid[])), pg_catalog.pg_current_snapshot()")
 
 // Sees reports whether the server has an advisory lock with this number in the slot's database: whoever holds it is
 // connected to the same one.
 func (c *Control) Sees(ctx context.Context, lock int64) (bool, error) {
-	text, err := c.one(ctx, LockSQL(lock))
+	text, err := c.one(ctx, own.MarkSQL(lock))
 	return text == "1", err
-}
-
-// LockSQL counts the advisory locks with this number in the connection's database.
-func LockSQL(lock int64) string {
-	return fmt.Sprintf("SELECT count(*) FROM pg_catalog.pg_locks WHERE locktype = 'advisory' AND granted "+
-		"AND classid = %d AND objid = %d AND objsubid = 1 AND database = "+
-		"(SELECT oid FROM pg_catalog.pg_database WHERE datname = pg_catalog.current_database())", uint32(lock>>32), uint32(lock))
 }
 
 // Base implements join.Server.
 func (c *Control) Base(ctx context.Context) (uint32, error) {
-	text, err := c.one(ctx, "SELECT pg_snapshot_xmin(pg_current_snapshot())")
+	text, err := c.one(ctx, own.SQL("SELECT pg_catalog.pg_snapshot_xmin(pg_catalog.pg_current_snapshot())"))
 	if err != nil {
 		return 0, err
 	}
@@ -193,40 +202,56 @@ func (c *Control) Base(ctx context.Context) (uint32, error) {
 	return uint32(number), err
 }
 
-// Fence implements join.Server.
-func (c *Control) Fence(ctx context.Context) (uint64, error) {
-	text, err := c.one(ctx, "UPDATE "+quoted(c.options.FenceSchema)+"."+quoted(c.options.FenceTable)+
-		" SET n = n + 1 WHERE id = 0 RETURNING pg_current_xact_id()")
-	if err != nil {
-		return 0, err
-	}
-	return strconv.ParseUint(text, 10, 64)
+// Inspects returns why subtransactions can't be looked up, "" if they can: the role may call the function of the
+// extension pg_walinspect, and nobody can have put another one in its place.
+func (c *Control) Inspects(ctx context.Context) (reason string) {
+	_, reason = c.inspector(ctx)
+	return reason
 }
 
-// Inspects returns whether subtransactions can be looked up, that is, whether the role may call pg_walinspect's
-// functions. If it may not, reason says why.
-func (c *Control) Inspects(ctx context.Context) (schema string, reason string) {
-	rows, err := c.ask(ctx, "SELECT n.nspname, has_function_privilege(p.oid, 'EXECUTE') FROM pg_proc p "+
-		"JOIN pg_namespace n ON n.oid = p.pronamespace WHERE p.proname = 'pg_get_wal_record_info'")
+// inspector is the function that shows a record of the log: where it is, and its identifier.
+type inspector struct{ schema, function string }
+
+// The function is found by the extension that it belongs to, never by its name alone. It is written in C, which only a
+// superuser can make, and belongs to one, as the extension does, or to the audit's own role.
+var inspectorSQL = own.SQL(`SELECT n.nspname, p.oid, pg_catalog.has_function_privilege(p.oid, 'EXECUTE')
+    AND pg_catalog.has_schema_privilege(n.oid, 'USAGE'),
+  (f.rolsuper OR f.rolname = current_user) AND (o.rolsuper OR o.rolname = current_user)
+    AND l.lanname = 'c' AND p.probin = '$libdir/pg_walinspect'
+FROM pg_catalog.pg_extension e
+JOIN pg_catalog.pg_depend d ON d.refclassid = 'pg_catalog.pg_extension'::pg_catalog.regclass AND d.refobjid = e.oid
+  AND d.classid = 'pg_catalog.pg_proc'::pg_catalog.regclass AND d.deptype = 'e'
+JOIN pg_catalog.pg_proc p ON p.oid = d.objid
+JOIN pg_catalog.pg_language l ON l.oid = p.prolang
+JOIN pg_catalog.pg_namespace n ON n.oid = p.pronamespace
+JOIN pg_catalog.pg_roles f ON f.oid = p.proowner
+JOIN pg_catalog.pg_roles o ON o.oid = e.extowner
+WHERE e.extname = 'pg_walinspect' AND p.proname = 'pg_get_wal_record_info'
+  AND p.pronargs = 1 AND p.proargtypes[0] = 'pg_catalog.pg_lsn'::pg_catalog.regtype`)
+
+func (c *Control) inspector(ctx context.Context) (its inspector, reason string) {
+	rows, err := c.ask(ctx, inspectorSQL)
 	switch {
 	case err != nil:
-		return "", err.Error()
-	case len(rows) == 0:
-		return "", "the extension pg_walinspect isn't created"
-	case rows[0][1] != "t":
-		return "", "the role may not call pg_walinspect's functions"
+		return its, err.Error()
+	case len(rows) != 1:
+		return its, "the extension pg_walinspect isn't created"
+	case rows[0][3] != "t":
+		return its, "the extension pg_walinspect or its function doesn't belong to a superuser"
+	case rows[0][2] != "t":
+		return its, "the role may not call pg_walinspect's functions"
 	}
-	return rows[0][0], ""
+	return inspector{rows[0][0], rows[0][1]}, ""
 }
 
 // Subtransactions implements join.Server, using the commit records at these places.
 func (c *Control) Subtransactions(ctx context.Context, starts []uint64) ([][]uint32, error) {
-	schema, reason := c.Inspects(ctx)
+	by, reason := c.inspector(ctx)
 	if reason != "" {
 		return nil, errors.New(reason)
 	}
 	subs := make([][]uint32, len(starts))
-	rows, err := c.commits(ctx, schema, starts)
+	rows, err := c.commits(ctx, by, starts)
 	if err == nil && len(rows) == len(starts) {
 		for i, row := range rows {
 			subs[i] = subsOf(row[0])
@@ -234,7 +259,7 @@ func (c *Control) Subtransactions(ctx context.Context, starts []uint64) ([][]uin
 		return subs, nil
 	}
 	for i, start := range starts { // a record that is gone makes the whole question fail; one at a time, the others are answered
-		if rows, one := c.commits(ctx, schema, []uint64{start}); one == nil && len(rows) == 1 {
+		if rows, one := c.commits(ctx, by, []uint64{start}); one == nil && len(rows) == 1 {
 			subs[i] = subsOf(rows[0][0])
 		} else if ctx.Err() != nil {
 			return subs, ctx.Err()
@@ -243,14 +268,27 @@ func (c *Control) Subtransactions(ctx context.Context, starts []uint64) ([][]uin
 	return subs, nil
 }
 
-func (c *Control) commits(ctx context.Context, schema string, starts []uint64) ([][]string, error) {
-	texts := make([]string, len(starts))
+// commits calls the function by its name, exactly as it is declared. Who owns its schema could rename that and put
+// another one in its place since the function was looked up: the name has to mean the same function still, or it isn't
+// called.
+func (c *Control) commits(ctx context.Context, by inspector, starts []uint64) ([][]string, error) {
+	texts := make(own.Literals, len(starts))
 	for i, start := range starts {
-		texts[i] = "'" + placeText(start) + "'"
+		texts[i] = placeText(start)
 	}
-	return c.ask(ctx, "SELECT i.description FROM unnest(ARRAY["+strings.Join(texts, ",")+"]::pg_lsn[]) "+
-		"WITH ORDINALITY l(lsn, n), LATERAL "+quoted(schema)+".pg_get_wal_record_info(l.lsn) i ORDER BY l.n")
+	name := own.Name{by.schema, "pg_get_wal_record_info"}
+	number, err := strconv.ParseUint(by.function, 10, 32)
+	if err != nil {
+		return nil, err
+	}
+	return c.ask(ctx, own.SQL("SELECT i.description FROM pg_catalog.unnest(ARRAY[%s]::pg_catalog.pg_lsn[]) "+
+		"WITH ORDINALITY l(lsn, n), LATERAL %s(l.lsn::pg_catalog.pg_lsn) i "+
+		"WHERE %s::pg_catalog.regprocedure = %s::pg_catalog.oid ORDER BY l.n", texts, name,
+		own.Literal(signatureOf(name)), own.Number(number)))
 }
+
+// signatureOf writes a function with the one argument pg_lsn, as regprocedure reads it.
+func signatureOf(name own.Name) string { return name.String() + "(pg_catalog.pg_lsn)" }
 
 // subsOf parses a commit record's description: "..; subxacts: 726 727; ..".
 func subsOf(description string) []uint32 {
@@ -270,20 +308,24 @@ func subsOf(description string) []uint32 {
 	return subs
 }
 
-const tablesSQL = `SELECT c.oid, n.nspname, c.relname, CASE WHEN c.relispartition THEN
-  (SELECT p.relid::oid FROM pg_partition_ancestors(c.oid) WITH ORDINALITY p(relid, level)
-   JOIN pg_index i ON i.indrelid = p.relid AND i.indisprimary ORDER BY p.level DESC LIMIT 1) END,
-  a.attname, CASE t.typtype WHEN 'e' THEN 3500 WHEN 'd' THEN coalesce(nullif(t.typbasetype, 0), t.oid) ELSE t.oid END,
-  concat_ws(' ', c.oid, n.nspname, c.relname, c.relispartition, x.indexrelid, x.indkey), top.nspname, top.relname
-FROM pg_class c JOIN pg_namespace n ON n.oid = c.relnamespace
-LEFT JOIN pg_index x ON x.indrelid = c.oid AND x.indisprimary
-LEFT JOIN LATERAL unnest(x.indkey) WITH ORDINALITY k(number, place) ON k.place <= x.indnkeyatts
-LEFT JOIN pg_attribute a ON a.attrelid = c.oid AND a.attnum = k.number
-LEFT JOIN pg_type t ON t.oid = a.atttypid
-LEFT JOIN LATERAL (SELECT m.nspname, r.relname FROM pg_class r JOIN pg_namespace m ON m.oid = r.relnamespace
-  WHERE c.relispartition AND r.oid = pg_partition_root(c.oid)) top ON true
-WHERE c.relkind IN ('r', 'p') AND c.relpersistence = 'p' AND n.nspname NOT IN ('pg_catalog', 'information_schema')
-ORDER BY c.oid, k.place`
+var tablesSQL = own.SQL(`SELECT c.oid, n.nspname, c.relname, CASE WHEN c.relispartition THEN
+  (SELECT p.relid::pg_catalog.oid FROM pg_catalog.pg_partition_ancestors(c.oid) WITH ORDINALITY p(relid, level)
+   JOIN pg_catalog.pg_index ix ON ix.indrelid = p.relid AND ix.indisprimary ORDER BY p.level DESC LIMIT 1) END,
+  a.attname, CASE WHEN t.typtype = 'e' THEN 3500 WHEN t.typname = 'citext' THEN 25 ELSE t.oid END,
+  ` + stampOfOne + `, top.nspname, top.relname, ` + catalog.IdentitySQL + `, NOT i.indimmediate
+FROM pg_catalog.pg_class c JOIN pg_catalog.pg_namespace n ON n.oid = c.relnamespace
+LEFT JOIN pg_catalog.pg_index i ON i.indrelid = c.oid AND i.indisprimary
+LEFT JOIN LATERAL pg_catalog.unnest(i.indkey) WITH ORDINALITY k(number, place) ON k.place <= i.indnkeyatts
+LEFT JOIN pg_catalog.pg_attribute a ON a.attrelid = c.oid AND a.attnum = k.number
+LEFT JOIN LATERAL (WITH RECURSIVE base AS (SELECT y.oid, y.typtype, y.typbasetype, y.typname FROM pg_catalog.pg_type y
+    WHERE y.oid = a.atttypid UNION ALL SELECT y.oid, y.typtype, y.typbasetype, y.typname FROM base
+    JOIN pg_catalog.pg_type y ON y.oid = base.typbasetype WHERE base.typtype = 'd')
+  SELECT * FROM base WHERE base.typtype <> 'd') t ON true
+LEFT JOIN LATERAL (SELECT m.nspname, r.relname FROM pg_catalog.pg_class r
+  JOIN pg_catalog.pg_namespace m ON m.oid = r.relnamespace
+  WHERE c.relispartition AND r.oid = pg_catalog.pg_partition_root(c.oid)) top ON true
+WHERE c.relkind IN ('r', 'p', 'm') AND c.relpersistence = 'p' AND n.nspname NOT IN ('pg_catalog', 'information_schema')
+ORDER BY c.oid, k.place`)
 
 // Load reads the catalog.
 func (c *Control) Load(ctx context.Context) error {
@@ -328,11 +370,14 @@ func (c *Control) table(row []string) (*Table, error) {
 		return nil, fmt.Errorf("read the catalog: %w", err)
 	}
 	its := &Table{Relation: record.Relation(oid), Root: record.Relation(oid), Schema: row[1], Name: row[2], stamp: row[6]}
+	its.deferrable = row[10] == "t"
+	if row[9] != "" {
+		its.identity = catalog.IdentityOf(row[9])
+	}
 	if root, err := strconv.ParseUint(row[3], 10, 32); err == nil {
 		its.Root = record.Relation(root)
 	}
-	its.fence = its.Schema == c.options.FenceSchema && its.Name == c.options.FenceTable
-	its.unasked = !its.fence && !c.options.Asked.Has(its.Schema, its.Name) &&
+	its.unasked = !c.options.Asked.Has(its.Schema, its.Name) &&
 		(row[8] == "" || !c.options.Asked.Has(row[7], row[8]))
 	return its, nil
 }

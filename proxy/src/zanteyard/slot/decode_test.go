@@ -16,7 +16,6 @@ func someTables() *Tables {
 		{Relation: 1, Root: 1, Schema: "public", Name: "t", Key: []Column{{"id", 23}}},
 		{Relation: 2, Root: 9, Schema: "public", Name: "part1", Key: []Column{{"a", 23}, {"b", 25}}},
 		{Relation: 3, Root: 3, Schema: "public", Name: "keyless"},
-		{Relation: 4, Root: 4, Schema: "public", Name: "zanteyard_fence", Key: []Column{{"id", 23}}, fence: true},
 		{Relation: 5, Root: 5, Schema: "an \"odd\" one", Name: "wei.rd", Key: []Column{{"the [key]", 25}}},
 		{Relation: 9, Root: 9, Schema: "public", Name: "part", Key: []Column{{"a", 23}, {"b", 25}}},
 	})
@@ -35,9 +34,6 @@ func show(it record.Commit) string {
 			sign += "-"
 		}
 		text += fmt.Sprintf(" %s%d(%s)", sign, one.Relation, strings.ReplaceAll(string(one.Key), "\x00", ","))
-	}
-	if it.Fence {
-		text += " fence"
 	}
 	for _, one := range it.Emptied {
 		text += fmt.Sprint(" emptied ", one)
@@ -83,9 +79,6 @@ func TestDecoders(t *testing.T) {
 		{"odd names", []string{`{"action":"I","xid":725,"schema":"an \"odd\" one","table":"wei.rd","columns":[{"name":"a","value":true},` +
 			`{"name":"the [key]","value":"\u00e9\ud83d\ude00\n"}],"pk":[{"name":"the [key]"}]}`},
 			[]string{`table "an ""odd"" one"."wei.rd": INSERT: a[boolean]:true "the [key]"[text]:'é😀` + "\n'"}, " +5(é😀\n)"},
-		{"a fence", []string{`{"action":"U","xid":725,"schema":"public","table":"zanteyard_fence","columns":[{"name":"id","value":0},` +
-			`{"name":"n","value":7}],"identity":[{"name":"id","value":0}],"pk":[{"name":"id"}]}`},
-			[]string{`table public.zanteyard_fence: UPDATE: id[integer]:0 n[bigint]:7`}, " fence"},
 		{"truncate, after an insert", []string{`{"action":"I","xid":725,"schema":"public","table":"t","columns":[{"name":"id","value":1}],"pk":[{"name":"id"}]}`,
 			`{"action":"T","xid":725,"lsn":"0/1","schema":"public","table":"t"}`, `{"action":"T","xid":725,"schema":"public","table":"part"}`},
 			[]string{`table public.t: INSERT: id[integer]:1`, `table public.t, public.part: TRUNCATE: (no-flags)`},
@@ -154,8 +147,12 @@ func TestManyWritesOfOneTransaction(t *testing.T) {
 			it.write(1, record.Key(fmt.Sprint(n)), round == 0, round == 1)
 		}
 	}
-	if commit := it.commit(1); len(commit.Writes) != mostWrites || !commit.Writes[5].Deleted || it.dropped != 20 {
-		t.Errorf("%d writes, %d dropped", len(commit.Writes), it.dropped)
+	if commit := it.commit(1, 0); len(commit.Writes) != mostWrites || !commit.Writes[5].Deleted || commit.Dropped != 20 {
+		t.Errorf("%d writes, %d dropped", len(commit.Writes), commit.Dropped)
+	}
+	it.begin(2, 0, 0)
+	if commit := it.commit(2, 0); commit.Dropped != 0 {
+		t.Errorf("the next one: %d dropped", commit.Dropped)
 	}
 }
 

@@ -7,6 +7,7 @@ import (
 	"strings"
 
 	"zanteyard/join"
+	"zanteyard/own"
 )
 
 // Health is the state of a slot.
@@ -17,9 +18,9 @@ type Health struct {
 
 // Health asks for the state of a slot.
 func (c *Control) Health(ctx context.Context, name string) (Health, error) {
-	rows, err := c.ask(ctx, "SELECT coalesce(wal_status, ''), "+
-		"coalesce(pg_wal_lsn_diff(pg_current_wal_lsn(), restart_lsn)::bigint, 0) FROM pg_replication_slots "+
-		"WHERE slot_name = '"+strings.ReplaceAll(name, "'", "''")+"'")
+	rows, err := c.ask(ctx, own.SQL("SELECT coalesce(wal_status, ''), "+
+		"coalesce(pg_catalog.pg_wal_lsn_diff(pg_catalog.pg_current_wal_lsn(), restart_lsn)::pg_catalog.int8, 0) "+
+		"FROM pg_catalog.pg_replication_slots WHERE slot_name = %s", own.Literal(name)))
 	if err != nil {
 		return Health{}, err
 	}
@@ -38,8 +39,8 @@ func (c *Control) Health(ctx context.Context, name string) (Health, error) {
 
 // Started returns what the feed reports when an audit begins, as far as the server knows it.
 func (c *Control) Started(ctx context.Context) (join.Started, error) {
-	rows, err := c.ask(ctx, "SELECT current_database(), current_setting('server_version'), "+
-		"current_setting('max_slot_wal_keep_size', true)")
+	rows, err := c.ask(ctx, own.SQL("SELECT pg_catalog.current_database(), pg_catalog.current_setting('server_version'), "+
+		"pg_catalog.current_setting('max_slot_wal_keep_size', true)"))
 	if err != nil {
 		return join.Started{}, err
 	}
@@ -65,17 +66,22 @@ func (c *Control) Started(ctx context.Context) (join.Started, error) {
 	return its, nil
 }
 
-// Open describes the transactions that a new slot waits for, in words by which a person can find them.
+// Open describes the transactions that a new slot waits for, in words by which a person can find them. The name of a
+// prepared one is a client's constant.
 func (c *Control) Open(ctx context.Context) string {
-	rows, err := c.ask(ctx, "SELECT 'the session with pid ' || pid || ', since ' || xact_start FROM pg_stat_activity "+
-		"WHERE backend_xid IS NOT NULL AND pid <> pg_backend_pid() UNION ALL "+
-		"SELECT 'the prepared transaction ' || quote_literal(gid) || ', since ' || prepared FROM pg_prepared_xacts LIMIT 5")
+	rows, err := c.ask(ctx, own.SQL("SELECT 'the session with pid ' || pid, '', xact_start "+
+		"FROM pg_catalog.pg_stat_activity WHERE backend_xid IS NOT NULL AND pid <> pg_catalog.pg_backend_pid() UNION ALL "+
+		"SELECT 'the prepared transaction ' || transaction, pg_catalog.quote_literal(gid), prepared "+
+		"FROM pg_catalog.pg_prepared_xacts LIMIT 5"))
 	if err != nil || len(rows) == 0 {
 		return "no details are known"
 	}
 	its := make([]string, len(rows))
 	for i, row := range rows {
-		its[i] = row[0]
+		its[i] = row[0] + ", since " + row[2]
+		if row[1] != "" && !c.options.Redacts {
+			its[i] = row[0] + ", " + row[1] + ", since " + row[2]
+		}
 	}
 	return strings.Join(its, "; ")
 }

@@ -23,7 +23,7 @@ const (
 
 // Options say how to make and read a slot.
 type Options struct {
-	// Source is a connection string for pgconn. The role needs REPLICATION.
+	// Source is a connection string for package address. The role needs REPLICATION.
 	Source string
 	// Settings are set on both connections, so that Canonical understands the texts of values.
 	Settings map[string]string
@@ -33,14 +33,17 @@ type Options struct {
 	Permanent bool
 	// Plugin is the one to use; if empty, wal2json if it is installed, otherwise test_decoding.
 	Plugin Plugin
-	// Fence is the table of the fences.
-	FenceSchema, FenceTable string
 	// Asked selects the tables to audit: changes of others are only counted, not reported.
 	Asked catalog.Filter
+	// Marked is called with the number of the mark (package own) that the slot's connection holds, before it waits for
+	// anything. It may be nil.
+	Marked func(mark int64)
 	// Canonical returns the canonical text of a key column's value, as the slot writes it.
 	Canonical func(typeOID uint32, text string) (string, bool)
 	// Show converts a canonical text to one for people.
 	Show func(typeOID uint32, canonical string) string
+	// Redacts leaves clients' constants out of texts for people.
+	Redacts bool
 }
 
 // Receiver takes what the slot reports, in order. An error ends the reading.

@@ -14,7 +14,10 @@ import (
 
 	"github.com/jackc/pgconn"
 
+	"zanteyard/address"
+	"zanteyard/guard"
 	"zanteyard/loop"
+	"zanteyard/own"
 	"zanteyard/record"
 )
 
@@ -25,6 +28,7 @@ type Reader struct {
 	tables  *Tables
 	conn    *pgconn.PgConn
 	from    string // where the slot begins
+	mark    int64
 
 	raw      io.ReadWriteCloser
 	writing  sync.Mutex
@@ -49,7 +53,7 @@ func Open(ctx context.Context, options Options, tables *Tables) (*Reader, error)
 		return nil, fmt.Errorf("connect for the replication slot: %w", err)
 	}
 	r := &Reader{options: options, tables: tables, conn: conn, pings: make(chan struct{}, 1)}
-	if err := r.create(ctx); err != nil {
+	if err := r.begin(ctx); err != nil {
 		end, cancel := context.WithTimeout(context.Background(), time.Second)
 		defer cancel()
 		conn.Close(end)
@@ -58,24 +62,37 @@ func Open(ctx context.Context, options Options, tables *Tables) (*Reader, error)
 	return r, nil
 }
 
+// begin marks the server, then makes the slot.
+func (r *Reader) begin(ctx context.Context) (err error) {
+	if r.mark, err = own.SetMark(ctx, r.conn); err != nil {
+		return err
+	}
+	if r.options.Marked != nil {
+		r.options.Marked(r.mark)
+	}
+	return r.create(ctx)
+}
+
+// Mark is the lock that the slot's connection holds: whoever sees it is connected to the server whose log is read.
+func (r *Reader) Mark() int64 { return r.mark }
+
 func connect(ctx context.Context, options Options, replication bool) (*pgconn.PgConn, error) {
-	config, err := pgconn.ParseConfig(options.Source)
+	config, err := address.Parse(options.Source)
 	if err != nil {
 		return nil, err
 	}
+	settings := map[string]string{}
 	for name, value := range options.Settings {
-		config.RuntimeParams[name] = value
+		settings[name] = value
 	}
-	config.RuntimeParams["application_name"] = "zanteyard"
 	if replication {
-		config.RuntimeParams["replication"] = "database"
+		settings["replication"] = "database"
 	} else {
-		config.RuntimeParams["synchronous_commit"] = "off"
-		config.RuntimeParams["default_transaction_isolation"] = "read committed"
-		config.RuntimeParams["default_transaction_read_only"] = "off"
-		config.RuntimeParams["search_path"] = "pg_catalog"
+		settings["synchronous_commit"] = "off"
+		settings["default_transaction_isolation"] = "read committed"
+		settings["default_transaction_read_only"] = "off"
 	}
-	return pgconn.ConnectConfig(ctx, config)
+	return own.Connect(ctx, config, settings)
 }
 
 // create makes the slot with the first plugin that is installed and that the server lets us use: since 15.19 the server
@@ -91,8 +108,8 @@ func (r *Reader) create(ctx context.Context) error {
 	}
 	refused := ErrNoPlugin
 	for _, plugin := range plugins {
-		rows, err := query(ctx, r.conn, fmt.Sprintf(`CREATE_REPLICATION_SLOT %s %sLOGICAL %s NOEXPORT_SNAPSHOT`,
-			quoted(r.options.Name), kind, plugin))
+		rows, err := own.Ask(ctx, r.conn, own.Command("CREATE_REPLICATION_SLOT %s %sLOGICAL %s NOEXPORT_SNAPSHOT",
+			own.Name{r.options.Name}, own.Word(kind), own.Word(plugin)))
 		switch {
 		case err == nil && len(rows) == 1 && len(rows[0]) >= 2:
 			r.plugin, r.from = plugin, rows[0][1]
@@ -115,8 +132,8 @@ func (r *Reader) create(ctx context.Context) error {
 
 // known finds the plugin of an existing slot, and whether it can be read.
 func (r *Reader) known(ctx context.Context) error {
-	rows, err := query(ctx, r.conn, "SELECT plugin, database = current_database(), active FROM pg_replication_slots "+
-		"WHERE slot_name = '"+strings.ReplaceAll(r.options.Name, "'", "''")+"'")
+	rows, err := own.Ask(ctx, r.conn, own.SQL("SELECT plugin, database = pg_catalog.current_database(), active "+
+		"FROM pg_catalog.pg_replication_slots WHERE slot_name = %s", own.Literal(r.options.Name)))
 	switch {
 	case err != nil:
 		return fmt.Errorf("look at the replication slot: %w", err)
@@ -140,8 +157,6 @@ func hasCode(err error, code string) bool {
 	return errors.As(err, &told) && told.Code == code
 }
 
-func quoted(name string) string { return `"` + strings.ReplaceAll(name, `"`, `""`) + `"` }
-
 // Plugin returns the slot's plugin.
 func (r *Reader) Plugin() Plugin { return r.plugin }
 
@@ -149,11 +164,13 @@ func (r *Reader) Plugin() Plugin { return r.plugin }
 // is lost.
 func (r *Reader) Read(ctx context.Context, to Receiver) error {
 	var its decoder
-	options := wal2jsonOptions
+	name, from := own.Name{r.options.Name}, own.Word(r.from)
+	command := own.Command("START_REPLICATION SLOT %s LOGICAL %s ("+wal2jsonOptions+")", name, from).String()
 	if r.plugin == Wal2json {
 		its = &wal2json{tables: r.tables, canonical: r.options.Canonical}
 	} else {
-		its, options = &testDecoding{tables: r.tables, canonical: r.options.Canonical}, testDecodingOptions
+		its = &testDecoding{tables: r.tables, canonical: r.options.Canonical}
+		command = own.Command("START_REPLICATION SLOT %s LOGICAL %s ("+testDecodingOptions+")", name, from).String()
 	}
 	hijacked, err := r.conn.Hijack()
 	if err != nil {
@@ -169,14 +186,22 @@ func (r *Reader) Read(ctx context.Context, to Receiver) error {
 		<-ctx.Done()
 		r.raw.Close()
 	}()
-	command := fmt.Sprintf("START_REPLICATION SLOT %s LOGICAL %s (%s)", quoted(r.options.Name), r.from, options)
 	message := append([]byte{'Q'}, binary.BigEndian.AppendUint32(nil, uint32(len(command)+5))...)
 	message = append(append(message, command...), 0)
 	if _, err := r.raw.Write(message); err != nil {
 		return fmt.Errorf("begin the replication: %w", err)
 	}
-	go r.report(ctx)
+	failed := make(chan error, 1)
+	guard.Go("the slot's reports", func(err error) {
+		failed <- err
+		cancel()
+	}, func() { r.report(ctx) })
 	err = r.receive(its, to)
+	select {
+	case wrong := <-failed:
+		return wrong
+	default:
+	}
 	if ctx.Err() != nil {
 		return ctx.Err()
 	}
@@ -203,6 +228,7 @@ func (r *Reader) receive(its decoder, to Receiver) error {
 		if _, err := io.ReadFull(frames, body); err != nil {
 			return fmt.Errorf("the replication slot's connection was lost: %w", err)
 		}
+		guard.At("a message of the slot")
 		switch header[0] {
 		case 'd':
 			if err := r.data(body, its, to); err != nil {
@@ -259,6 +285,7 @@ func (r *Reader) report(ctx context.Context) {
 		case <-ticker.C:
 		case <-r.pings:
 		}
+		guard.At("a report to the slot")
 		message := make([]byte, 0, 39)
 		message = append(message, 'd', 0, 0, 0, 38, 'r')
 		place := atomic.LoadUint64(&r.received)

@@ -6,6 +6,7 @@ import (
 	"strings"
 	"sync"
 	"sync/atomic"
+	"time"
 
 	"zanteyard/catalog"
 	"zanteyard/record"
@@ -16,11 +17,12 @@ type Table struct {
 	Relation     record.Relation
 	Root         record.Relation // the topmost partitioned table, if that has a primary key; otherwise the table itself
 	Schema, Name string
-	Key          []Column // in the key's order; none without a primary key
-	fence        bool
-	unasked      bool   // it isn't among those to audit
-	stamp        string // changes with the table's name or key
-	used         uint32 // atomic: the slot has reported it
+	Key          []Column        // in the key's order; none without a primary key
+	unasked      bool            // it isn't among those to audit
+	stamp        string          // changes with the table's name or key
+	identity     record.Identity // of the key
+	deferrable   bool            // the key is
+	used         uint32          // atomic: the slot has reported it
 }
 
 // Column is a column of a key. Type is a type that Canonical knows: for a domain, its base type.
@@ -54,37 +56,32 @@ func (t *Table) sameKey(names [][]byte) bool {
 // left are changes of a table that are left out, by the table's name and the reason.
 type left struct{ table, reason string }
 
-const noKey = "the table has no primary key"
+// Why changes are left out.
+const (
+	noKey     = "the table has no primary key"
+	noKeyLog  = "the log doesn't have the row's key, as for a long one that is stored apart and stays as it is"
+	truncated = "TRUNCATE: its rows count as deleted by somebody else"
+	notKnown  = "a table that isn't known yet, any more, or by this key"
+)
 
 // Tables is what is known about a database's tables, by name and by identifier. Safe for use by many goroutines.
 type Tables struct {
 	show func(uint32, string) string
 
-	lock     sync.RWMutex
-	by       map[record.Relation]*Table
-	byName   map[string]map[string]*Table // by schema and name
-	names    uint64                       // how often names were read
-	oids     string                       // of the tables that are used, as an array's text
-	stamp    string                       // their stamps
-	missing  bool                         // an unknown name arrived: the tables have to be read again
-	left     map[left]uint64              // changes that are left out
-	unlisted uint64
-}
-
-// HasFence says whether the fences' table is among them.
-func (t *Tables) HasFence() bool {
-	t.lock.RLock()
-	defer t.lock.RUnlock()
-	for _, one := range t.by {
-		if one.fence {
-			return true
-		}
-	}
-	return false
+	lock    sync.RWMutex
+	by      map[record.Relation]*Table
+	byName  map[string]map[string]*Table // by schema and name
+	names   uint64                       // how often names were read
+	uses    uint64                       // atomic: how many have been used
+	oids    string                       // of the tables that are used, as an array's text
+	stamp   string                       // their stamps
+	missing bool                         // an unknown name arrived: the tables have to be read again
+	left    map[left]uint64              // changes that are left out
+	strange map[string]time.Time         // unknown names, and when the tables were last to be read again because of them
 }
 
 func newTables(show func(uint32, string) string) *Tables {
-	return &Tables{show: show, left: map[left]uint64{}}
+	return &Tables{show: show, left: map[left]uint64{}, strange: map[string]time.Time{}}
 }
 
 // set replaces all tables, and returns those that have changed.
@@ -135,12 +132,14 @@ func (t *Tables) stampOf() {
 	t.oids, t.stamp = "{"+strings.Join(oids, ",")+"}", strings.Join(stamps, "; ")
 }
 
-// usedText returns the used tables as an array's text, usedStamp what is expected of them.
-func (t *Tables) usedText() string {
+// usedText returns the used tables as an array's text, and how many these are at least; usedStamp is what is expected of
+// them.
+func (t *Tables) usedText() (oids string, used uint64) {
+	used = atomic.LoadUint64(&t.uses)
 	t.lock.Lock()
 	defer t.lock.Unlock()
 	t.stampOf()
-	return t.oids
+	return t.oids, used
 }
 
 func (t *Tables) usedStamp() string {
@@ -159,12 +158,39 @@ func (t *Tables) Names() uint64 {
 // named returns the table of that name, or nil if none is known. From then on it counts as used.
 func (t *Tables) named(schema, table []byte) *Table {
 	t.lock.RLock()
+	defer t.lock.RUnlock()
 	its := t.byName[string(schema)][string(table)]
-	t.lock.RUnlock()
-	if its != nil && atomic.LoadUint32(&its.used) == 0 {
-		atomic.StoreUint32(&its.used, 1)
-	}
+	t.use(its)
 	return its
+}
+
+// use marks a table as used. Called with lock held for reading: a table isn't replaced meanwhile.
+func (t *Tables) use(table *Table) {
+	if table != nil && atomic.LoadUint32(&table.used) == 0 && atomic.SwapUint32(&table.used, 1) == 0 {
+		atomic.AddUint64(&t.uses, 1)
+	}
+}
+
+// Used returns how many tables have been used.
+func (t *Tables) Used() uint64 { return atomic.LoadUint64(&t.uses) }
+
+// Use implements join.Tables.
+func (t *Tables) Use(relation record.Relation) {
+	t.lock.RLock()
+	defer t.lock.RUnlock()
+	t.use(t.by[relation])
+}
+
+// Same implements join.Tables.
+func (t *Tables) Same(relation record.Relation, identity record.Identity) bool {
+	t.lock.RLock()
+	defer t.lock.RUnlock()
+	its := t.by[relation]
+	if its == nil || identity == 0 {
+		return false
+	}
+	root := t.by[its.Root]
+	return its.identity == identity || root != nil && root.identity == identity
 }
 
 // list returns all tables, by name.
@@ -181,12 +207,38 @@ func (t *Tables) list() []*Table {
 	return its
 }
 
-// unknown records that a name isn't known, or has another meaning than before.
+// patience is how long a name that stays unknown doesn't make the tables be read again.
+const patience = 30 * time.Second
+
+// unknown records that a name isn't known, or has another meaning than before: the change is left out.
 func (t *Tables) unknown(schema, table []byte) {
+	name := string(schema) + "." + string(table)
 	t.lock.Lock()
-	t.missing = true
-	t.unlisted++
-	t.lock.Unlock()
+	defer t.lock.Unlock()
+	t.leave(name, notKnown)
+	if last, is := t.strange[name]; is && time.Since(last) < patience {
+		return
+	}
+	if len(t.strange) >= mostNames {
+		t.strange = map[string]time.Time{}
+	}
+	t.strange[name], t.missing = time.Now(), true
+}
+
+// without counts a change of a table that is left out.
+func (t *Tables) without(table *Table, reason string) {
+	t.lock.Lock()
+	defer t.lock.Unlock()
+	t.leave(table.Schema+"."+table.Name, reason)
+}
+
+// leave is called with lock held.
+func (t *Tables) leave(table, reason string) {
+	its := left{table, reason}
+	if _, is := t.left[its]; !is && len(t.left) >= mostNames {
+		its.table = "others"
+	}
+	t.left[its]++
 }
 
 // mostNames limits the tables that are counted separately.
@@ -198,16 +250,12 @@ func (t *Tables) leaves(table *Table) bool {
 	switch {
 	case table.unasked:
 		reason = catalog.NotAsked
+	case table.deferrable:
+		reason = catalog.Deferrable
 	case len(table.Key) > 0:
 		return false
 	}
-	its := left{table.Schema + "." + table.Name, reason}
-	t.lock.Lock()
-	defer t.lock.Unlock()
-	if _, is := t.left[its]; !is && len(t.left) >= mostNames {
-		its.table = "others"
-	}
-	t.left[its]++
+	t.without(table, reason)
 	return true
 }
 

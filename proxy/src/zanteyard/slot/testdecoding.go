@@ -26,7 +26,7 @@ func (d *testDecoding) decode(text []byte, end uint64) (record.Commit, bool, err
 		}
 		d.open.begin(uint32(number), 0, d.tables.Names())
 	case bytes.HasPrefix(text, []byte("COMMIT")):
-		return d.open.commit(end), true, nil
+		return d.open.commit(end, d.tables.Used()), true, nil
 	case bytes.HasPrefix(text, []byte("table ")):
 		d.open.touched = true
 		return record.Commit{}, false, d.change(text[len("table "):])
@@ -54,11 +54,10 @@ func (d *testDecoding) change(text []byte) error {
 	switch {
 	case t == nil:
 		d.tables.unknown(schema, first)
-		return nil
-	case t.fence:
-		d.open.fence = true
+		d.open.keyless++
 		return nil
 	case d.tables.leaves(t):
+		d.open.keyless++
 		return nil
 	}
 	was, now, err := d.rows(rest, t, string(action))
@@ -67,6 +66,10 @@ func (d *testDecoding) change(text []byte) error {
 	}
 	old, hasOld := d.key(t, was)
 	key, hasKey := d.key(t, now)
+	if string(action) == "DELETE" && !hasOld || string(action) != "DELETE" && !hasKey {
+		d.tables.without(t, noKeyLog)
+		d.open.keyless++
+	}
 	if hasOld && (string(action) == "DELETE" || hasKey && old != key) {
 		d.open.write(t.Root, old, false, true)
 	}
@@ -82,6 +85,7 @@ func (d *testDecoding) truncate(schema, table, rest []byte) error {
 	for {
 		if t := d.tables.named(schema, table); t != nil && !(t.unasked && d.tables.leaves(t)) {
 			d.open.empty(t.Root)
+			d.tables.without(t, truncated)
 		}
 		if !bytes.HasPrefix(rest, []byte(", ")) {
 			return nil

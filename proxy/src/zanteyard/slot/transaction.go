@@ -2,7 +2,8 @@ package slot
 
 import "zanteyard/record"
 
-// mostWrites limits what is kept of one transaction. The rest is left out, as nobody's: reads of it aren't resolved.
+// mostWrites limits what is kept of one transaction. The rest is counted and left out, as nobody's: reads of it aren't
+// resolved.
 const mostWrites = 1 << 16
 
 // transaction collects what one transaction wrote: each row once, with its last change.
@@ -12,10 +13,10 @@ type transaction struct {
 	names   uint64
 	writes  []record.Write
 	at      map[place]int // index of a row in writes, if there are many
-	fence   bool
 	emptied []record.Relation
 	touched bool // the slot reported a change of some table
 	dropped uint64
+	keyless uint64 // changes of rows whose key isn't known, or of tables that aren't audited
 }
 
 type place struct {
@@ -27,7 +28,7 @@ type place struct {
 const few = 8
 
 func (t *transaction) begin(number uint32, start, names uint64) {
-	*t = transaction{number: number, start: start, names: names, dropped: t.dropped}
+	*t = transaction{number: number, start: start, names: names}
 }
 
 func (t *transaction) write(relation record.Relation, key record.Key, inserted, deleted bool) {
@@ -75,9 +76,9 @@ func (t *transaction) empty(relation record.Relation) {
 	t.emptied = append(t.emptied, relation)
 }
 
-func (t *transaction) commit(end uint64) record.Commit {
+func (t *transaction) commit(end, used uint64) record.Commit {
 	return record.Commit{
-		Number: t.number, LSN: end, Start: t.start, Writes: t.writes, Fence: t.fence, Emptied: t.emptied, Names: t.names,
-		Bare: !t.touched,
+		Number: t.number, LSN: end, Start: t.start, Writes: t.writes, Emptied: t.emptied, Names: t.names,
+		Bare: !t.touched, Dropped: t.dropped, Keyless: t.keyless, Used: used,
 	}
 }

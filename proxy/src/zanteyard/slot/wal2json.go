@@ -58,7 +58,7 @@ func (w *wal2json) decode(text []byte, _ uint64) (record.Commit, bool, error) {
 		if !ok {
 			return record.Commit{}, false, errForm
 		}
-		return w.open.commit(end), true, nil
+		return w.open.commit(end, w.tables.Used()), true, nil
 	case 'I', 'U', 'D', 'T':
 		w.open.touched = true
 		w.change(m)
@@ -209,27 +209,39 @@ func (w *wal2json) change(m *message) {
 	switch {
 	case t == nil:
 		w.tables.unknown(m.schema, m.table)
+		w.lacks(m)
 		return
 	case m.action == 'T' && !t.unasked:
 		w.open.empty(t.Root)
-		return
-	case t.fence:
-		w.open.fence = true
+		w.tables.without(t, truncated)
 		return
 	case w.tables.leaves(t):
+		w.lacks(m)
 		return
 	case !t.sameKey(m.pk):
 		w.tables.unknown(m.schema, m.table)
+		w.lacks(m)
 		return
 	}
 	now, hasNow := w.key(t, m.columns)
 	was, hasWas := w.key(t, m.identity)
+	if m.action == 'D' && !hasWas || m.action != 'D' && !hasNow {
+		w.tables.without(t, noKeyLog)
+		w.lacks(m)
+	}
 	if m.action != 'I' && hasWas && (m.action == 'D' || hasNow && was != now) {
 		w.open.write(t.Root, was, false, true)
 	}
 	if m.action != 'D' && hasNow {
 		moved := m.action == 'U' && hasWas && was != now
 		w.open.write(t.Root, now, m.action == 'I' || moved, false)
+	}
+}
+
+// lacks counts a row that is left out, in its transaction.
+func (w *wal2json) lacks(m *message) {
+	if m.action != 'T' {
+		w.open.keyless++
 	}
 }
 

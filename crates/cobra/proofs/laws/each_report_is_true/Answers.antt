@@ -7,4 +7,9 @@ returns c = each_report (record {
   fresh = c.fresh_engines_are_split.ensures;
   verdict = c.split_keeps_verdict.ensures;
   doubles = c.split_doubles_counts.ensures;
+  isolate = c.orders_isolate.ensures;
+  follow = c.split_steps_follow.ensures;
+  wholes = record { on = c.steps_go_on.ensures; ends = c.reported_orders_end_orders.ensures };
+  fresh_on = c.fresh_engines_go_on.ensures;
+  parts_on = c.left_parts_go_on.ensures;
 })

@@ -1,4 +1,4 @@
-use Rattle.std.proofs.Common.{ℕ, ◌<◌, ◌≤◌, get_or}
+use Rattle.std.proofs.Common.{ℕ, ◌<◌, get_or}
 use Rattle.session_clocks.specs.Drops.{IsBehind, first_left}
 use Rattle.session_clocks.proofs.drops.are_behind.Given as goal
 

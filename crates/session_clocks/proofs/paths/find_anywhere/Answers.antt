@@ -1,8 +1,6 @@
-use Rattle.std.proofs.Common.{◌≡◌, ◌∙◌, List, refl, sym, subst, inl}
+use Rattle.std.proofs.Common.{◌∙◌, refl, sym, inl}
 use Rattle.std.proofs.lemmas.Bool.{false≢true}
 use Rattle.std.proofs.lemmas.List.Elements.{All-contains, Contains-get_or}
-use Rattle.txn.specs.declared.choices.Arc.{Arc}
-use Rattle.session_clocks.specs.Paths.{IsPathOf}
 use Rattle.session_clocks.specs.Trees.{IsBetween}
 use Rattle.session_clocks.proofs.FoundPaths.{whole_reaches, path_more, path_reaches}
 use Rattle.session_clocks.proofs.paths.find_anywhere.Goals as goal

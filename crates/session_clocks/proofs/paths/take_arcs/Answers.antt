@@ -1,9 +1,9 @@
-use Rattle.std.proofs.Common.{◌≡◌, ◌∙◌, ◌-◌, ◌+◌, ◌<◌, ◌≤◌, ℕ, List, true, false, length, get_or, sym, ap, subst, subst₂, arith}
+use Rattle.std.proofs.Common.{◌∙◌, ◌-◌, ◌<◌, ℕ, List, get_or, sym, subst, subst₂, arith}
 use Rattle.std.proofs.lemmas.Bool.{false≢true}
 use Rattle.std.proofs.lemmas.List.Elements.{Contains-get_or}
 use Rattle.txn.specs.declared.choices.Arc.{Arc}
 use Rattle.txn.specs.Arcs.{start_of, end_of}
-use Rattle.session_clocks.specs.Trees.{IsTreeOf, IsTaken, IsPassed, IsLed, IsLedTo, rooms}
+use Rattle.session_clocks.specs.Trees.{IsTreeOf, IsLed, IsLedTo, rooms}
 use Rattle.session_clocks.proofs.FoundPaths.{tree_taken, rooms_taken, rooms_less, looked_all, looked_one}
 use Rattle.session_clocks.proofs.paths.take_arcs.Goals as goal
 

@@ -11,6 +11,7 @@ import (
 	"time"
 
 	"zanteyard/audit"
+	"zanteyard/guard"
 	"zanteyard/record"
 	"zanteyard/remote"
 )
@@ -19,8 +20,75 @@ import (
 type audits struct {
 	config  audit.Config // without In
 	sink    *switched
+	ready   <-chan struct{} // closed once the catalog was read: sessions report no transaction before that
 	running atomic.Bool
+	mark    atomic.Int64 // of the audit that runs
 	log     func(string)
+
+	lock    sync.Mutex
+	current *current // nil if no audit runs
+	its     atomic.Pointer[audit.Audit]
+}
+
+// current is the running audit.
+type current struct {
+	drained func()        // tells its parent that the proxy is about to end
+	over    chan struct{} // closed when it has ended, or its parent wants no more of it
+	once    sync.Once
+}
+
+func (c *current) end() { c.once.Do(func() { close(c.over) }) }
+
+// lastRound is how long a parent may take for an audit's last round, and for asking about its violations, when the proxy
+// has no connection left.
+const lastRound = 2 * time.Minute
+
+// finish returns when the running audit's parent has what it wants: a signal that ends the proxy is often sent to the
+// parent, too, which then wants a last round.
+func (a *audits) finish(ctx context.Context) {
+	a.lock.Lock()
+	its := a.current
+	a.lock.Unlock()
+	if its == nil {
+		return
+	}
+	its.drained()
+	timer := time.NewTimer(lastRound)
+	defer timer.Stop()
+	select {
+	case <-its.over:
+	case <-ctx.Done():
+	case <-timer.C:
+	}
+}
+
+func (a *audits) set(its *current) {
+	a.lock.Lock()
+	defer a.lock.Unlock()
+	a.current = its
+}
+
+// fail ends the audit that is running, if one is, because of a fault of the proxy's. Traffic goes on.
+func (a *audits) fail(err error) {
+	a.log(err.Error() + "; traffic goes on: " + guard.Stack(err))
+	if its := a.its.Load(); its != nil {
+		its.End(err)
+	}
+}
+
+// forever runs f again a second after it has panicked, until ctx ends.
+func forever(ctx context.Context, place string, failed func(error), f func() error) {
+	for ctx.Err() == nil {
+		err := guard.Run(place, f)
+		if err == nil {
+			return
+		}
+		failed(err)
+		select {
+		case <-ctx.Done():
+		case <-time.After(time.Second):
+		}
+	}
 }
 
 // run runs audits until ctx ends.
@@ -28,11 +96,11 @@ func (a *audits) run(ctx context.Context, in io.Reader) {
 	lines := make(chan []byte)
 	go readLines(ctx, in, lines)
 	for {
-		left, err := a.one(ctx, lines)
+		left, again, err := a.one(ctx, lines)
 		if err != nil && ctx.Err() == nil {
 			a.log("the audit has ended, traffic goes on: " + err.Error())
 		}
-		for again := left != nil && a.command(left); !again; {
+		for again = again || left != nil && a.command(left); !again; {
 			select {
 			case line, ok := <-lines:
 				if !ok {
@@ -47,17 +115,53 @@ func (a *audits) run(ctx context.Context, in io.Reader) {
 	}
 }
 
+// attend runs audits for one attached parent after another.
+func (a *audits) attend(ctx context.Context, from *control) {
+	for {
+		select {
+		case one := <-from.parents:
+			its, cancel := context.WithCancel(ctx)
+			a.config.Out = one
+			a.run(its, &ending{one, cancel})
+			cancel()
+			from.detach(one)
+		case <-ctx.Done():
+			return
+		}
+	}
+}
+
+// ending is a stream whose end ends something else: with its parent an audit ends at once, since nobody is left to tell.
+type ending struct {
+	from io.Reader
+	end  func()
+}
+
+func (e *ending) Read(to []byte) (int, error) {
+	n, err := e.from.Read(to)
+	if err != nil {
+		e.end()
+	}
+	return n, err
+}
+
 // command handles a command while there is no audit. It reports whether another audit should begin.
 func (a *audits) command(line []byte) (again bool) {
-	var it struct{ Command string }
-	if json.Unmarshal(line, &it) != nil {
-		return false
-	}
-	if it.Command == "stop" {
+	name := nameOf(line)
+	if name == "stop" {
 		at := time.Now()
 		fmt.Fprintf(a.config.Out, "{\"event\":\"stopped\",\"at\":%d.%06d}\n", at.Unix(), at.Nanosecond()/1000)
 	}
-	return it.Command == "restart"
+	return name == "restart"
+}
+
+// nameOf returns a command's name, or "" if the line is no command.
+func nameOf(line []byte) string {
+	var it struct{ Command string }
+	if json.Unmarshal(line, &it) != nil {
+		return ""
+	}
+	return it.Command
 }
 
 func readLines(ctx context.Context, in io.Reader, to chan<- []byte) {
@@ -77,34 +181,62 @@ func readLines(ctx context.Context, in io.Reader, to chan<- []byte) {
 	}
 }
 
+// forCatalog is how long an audit waits until the catalog was read, so that each transaction that ends while it runs is
+// reported. If the server can't be reached, the audit says so.
+const forCatalog = 10 * time.Second
+
+func awaitCatalog(ctx context.Context, ready <-chan struct{}) {
+	timer := time.NewTimer(forCatalog)
+	defer timer.Stop()
+	select {
+	case <-ready:
+	case <-timer.C:
+	case <-ctx.Done():
+	}
+}
+
 // one runs an audit to its end, and passes the parent's commands on to it. It returns the command that came too late
-// for it.
-func (a *audits) one(ctx context.Context, lines <-chan []byte) (left []byte, err error) {
+// for it, and whether another audit was asked for while it ended.
+func (a *audits) one(ctx context.Context, lines <-chan []byte) (left []byte, again bool, err error) {
+	awaitCatalog(ctx, a.ready)
 	commands, to := io.Pipe()
 	config := a.config
 	config.In = commands
 	it := audit.New(config)
+	a.its.Store(it)
 	a.sink.use(it.Sink())
 	a.running.Store(true)
 	defer a.running.Store(false)
+	now := &current{drained: it.Drained, over: make(chan struct{})}
+	a.set(now)
+	defer now.end()
+	defer a.set(nil)
+	a.mark.Store(0)
+	defer a.mark.Store(0)
 	ended := make(chan error, 1)
 	go func() {
 		err := it.Run(ctx)
 		commands.Close() // writers of commands don't wait any more
 		ended <- err
 	}()
+	defer func() { again = it.WantsRestart() }()
 	for {
 		select {
 		case line, ok := <-lines:
 			if !ok {
+				now.end()
 				to.Close()
-				return nil, <-ended
+				return nil, false, <-ended
+			}
+			if nameOf(line) == "leave" {
+				now.end()
+				continue
 			}
 			if _, err := to.Write(line); err != nil {
-				return line, <-ended
+				return line, false, <-ended
 			}
 		case err := <-ended:
-			return nil, err
+			return nil, false, err
 		}
 	}
 }
@@ -112,14 +244,15 @@ func (a *audits) one(ctx context.Context, lines <-chan []byte) (left []byte, err
 // switched is a sink that passes on to another one, which can be exchanged: existing connections are reported to the
 // new one.
 type switched struct {
-	to atomic.Pointer[record.Sink]
+	to   atomic.Pointer[record.Sink]
+	fail func(error) // what to do about a panic of the sink: it is no fault of the connection that reports something
 
 	lock sync.Mutex
 	live map[uint64]record.Connection
 }
 
 func newSwitched(to record.Sink) *switched {
-	s := &switched{live: map[uint64]record.Connection{}}
+	s := &switched{live: map[uint64]record.Connection{}, fail: func(error) {}}
 	s.to.Store(&to)
 	return s
 }
@@ -128,12 +261,17 @@ func (s *switched) use(to record.Sink) {
 	s.lock.Lock()
 	defer s.lock.Unlock()
 	for _, it := range s.live {
-		to.Connection(it)
+		it := it
+		guard.Do("the record of a connection", s.fail, func() { to.Connection(it) })
 	}
 	s.to.Store(&to)
 }
 
 func (s *switched) Connection(it record.Connection) {
+	guard.Do("the record of a connection", s.fail, func() { s.connection(it) })
+}
+
+func (s *switched) connection(it record.Connection) {
 	s.lock.Lock()
 	defer s.lock.Unlock()
 	if it.Ended {
@@ -144,10 +282,12 @@ func (s *switched) Connection(it record.Connection) {
 	(*s.to.Load()).Connection(it)
 }
 
-func (s *switched) Transaction(it record.Transaction) { (*s.to.Load()).Transaction(it) }
+func (s *switched) Transaction(it record.Transaction) {
+	guard.Do("the record of a transaction", s.fail, func() { (*s.to.Load()).Transaction(it) })
+}
 
 func (s *switched) Unseen(shape, reason string, reads bool) {
-	(*s.to.Load()).Unseen(shape, reason, reads)
+	guard.Do("the count of a statement", s.fail, func() { (*s.to.Load()).Unseen(shape, reason, reads) })
 }
 
 // UnseenMany implements remote.Sink.

@@ -12,20 +12,20 @@ import (
 	"log"
 	"net"
 	"os"
-	"os/signal"
 	"runtime"
 	"runtime/debug"
 	"strings"
 	"sync"
 	"sync/atomic"
-	"syscall"
 	"time"
 
 	"github.com/jackc/pgconn"
 
+	"zanteyard/address"
 	"zanteyard/audit"
 	"zanteyard/catalog"
 	"zanteyard/definitions"
+	"zanteyard/guard"
 	"zanteyard/join"
 	"zanteyard/keys"
 	"zanteyard/loop"
@@ -42,7 +42,7 @@ var build = "unknown"
 type flags struct {
 	listen, server    string
 	certificate, key  string
-	fence             string
+	secure, trusts    bool
 	bound, look       time.Duration
 	reads             int
 	texts, parameters bool
@@ -56,6 +56,10 @@ type flags struct {
 	remote, redact    bool
 	records           string
 	passing           bool
+	drain             time.Duration
+	most              int
+	control           string
+	takesOver         bool
 	version           bool
 }
 
@@ -66,12 +70,14 @@ func parse(args []string, errors io.Writer) (flags, error) {
 	set.SetOutput(&told)
 	set.StringVar(&f.listen, "listen", "127.0.0.1:6432", "`address` for clients to connect to; with a / it is a Unix socket's path")
 	set.StringVar(&f.server, "server", "", "the server and database, as libpq's `URL` or keywords; "+
-		"its user and password are for the audit's own connections")
+		"its user and password are for the audit's own connections. Better given by the environment's "+serverURL)
 	set.StringVar(&f.certificate, "tls-cert", "", "`file` with the certificate for clients' TLS")
 	set.StringVar(&f.key, "tls-key", "", "`file` with its key")
-	set.StringVar(&f.fence, "fence-table", "public.zanteyard_fence", "`table` for fences, with its schema")
-	set.DurationVar(&f.bound, "hold", 50*time.Millisecond,
-		"the longest `time` for which a meeting holds what clients send")
+	set.BoolVar(&f.secure, "require-tls", false, "refuse clients without TLS, except those by a Unix socket")
+	set.BoolVar(&f.trusts, "trust-clients", false, "let clients in whom the server asks for no credential (pg_hba.conf's trust, "+
+		"peer, ident): whoever reaches the proxy is such a client")
+	set.DurationVar(&f.bound, "hold", 3*time.Millisecond,
+		"the longest `time` for which a meeting holds what clients begin; with --remote seven times as long")
 	set.DurationVar(&f.look, "look", time.Second, "`time` between two checks for changed definitions")
 	set.IntVar(&f.reads, "reads", 10000, "the largest `number` of reads kept of one transaction")
 	set.BoolVar(&f.texts, "statements", true, "keep statements' texts for explanations")
@@ -90,26 +96,37 @@ func parse(args []string, errors io.Writer) (flags, error) {
 		}
 		return nil
 	})
+	set.BoolVar(&f.join.Rollbacks, "rollbacks", false, "below serializable, audit transactions that only read and were rolled back "+
+		"without a failed statement as if they had been committed")
 	set.Float64Var(&f.join.Sample, "sample", 1, "the `part` of the connections that is audited")
 	set.DurationVar(&f.join.Between, "between", 2*time.Second, "the shortest `time` between two meetings")
 	set.Func("tables", "audit only these tables, given as `patterns` such as public.*, shop.orders", func(text string) (err error) {
 		f.tables, err = catalog.ParseFilter(text)
 		return err
 	})
-	set.StringVar(&f.redis, "redis", os.Getenv(redisURL), "let several proxies feed one audit through the Redis with this `URL`; better "+
+	set.StringVar(&f.redis, "redis", "", "let several proxies feed one audit through the Redis with this `URL`; better "+
 		"given by the environment's "+redisURL)
 	set.StringVar(&f.audit, "audit", "", "the audit's `name` in that Redis")
 	set.StringVar(&f.shared, "key", "", "`file` with the key that proxies and audit share")
 	set.BoolVar(&f.remote, "remote", false, "audit nothing here: send the records to the audit of that name")
-	set.BoolVar(&f.redact, "redact", false, "send no constants and parameters of statements to Redis")
+	set.BoolVar(&f.redact, "redact", false, "tell nobody a constant, parameter or comment of a statement, or a row's key")
 	set.StringVar(&f.name, "name", "", "this proxy's name in the audit (default: the machine's name)")
 	set.StringVar(&f.records, "records", "", "write the records to this `file`, as JSON, and audit nothing")
 	set.BoolVar(&f.passing, "pass", false, "pass traffic on unchanged, and audit nothing")
+	set.DurationVar(&f.drain, "drain", 30*time.Second,
+		"the longest `time` for which open transactions may go on after SIGTERM or SIGINT; a second signal ends them at once")
+	set.IntVar(&f.most, "most-connections", 0, "the largest `number` of clients at a time (0: as many as the server takes)")
+	set.StringVar(&f.control, "control", "", "a Unix socket's `path`, by which programs of the same user audit through this proxy, "+
+		"in place of its standard input and output")
+	set.BoolVar(&f.takesOver, "take-over", false, "take the listening socket of the proxy that has the --control socket, if one is "+
+		"there, and let that one drain")
 	set.BoolVar(&f.version, "version", false, "print the version and end")
 	if err := set.Parse(args); err != nil {
 		fmt.Fprint(errors, strings.TrimPrefix(told.String(), err.Error()+"\n"))
 		return f, err
 	}
+	fromEnvironment(&f.server, serverURL)
+	fromEnvironment(&f.redis, redisURL)
 	if set.NArg() > 0 {
 		return f, fmt.Errorf("unexpected argument %q", set.Arg(0))
 	}
@@ -122,12 +139,36 @@ func parse(args []string, errors io.Writer) (flags, error) {
 		return f, fmt.Errorf("--audit is missing")
 	case f.audit != "" && (f.redis == "" || f.shared == ""):
 		return f, fmt.Errorf("--audit needs --redis and --key")
+	case f.secure && f.certificate == "":
+		return f, fmt.Errorf("--require-tls needs --tls-cert and --tls-key")
+	case f.takesOver && f.control == "":
+		return f, fmt.Errorf("--take-over needs --control")
+	case f.most < 0 || f.drain < 0:
+		return f, fmt.Errorf("--most-connections and --drain can't be negative")
 	}
 	return f, nil
 }
 
-// redisURL is the environment variable for --redis: a list of processes doesn't show it.
-const redisURL = "ZANTEYARD_REDIS"
+// fromEnvironment fills in what wasn't given as an option. It is no default of the option: --help shows those.
+func fromEnvironment(option *string, name string) {
+	if *option == "" {
+		*option = os.Getenv(name)
+	}
+}
+
+// longest is how long a client may be held for a meeting.
+func (f flags) longest() time.Duration {
+	if f.remote {
+		return remote.Longest(f.bound)
+	}
+	return f.bound
+}
+
+// The environment variables for --server and --redis: a list of processes doesn't show them.
+const (
+	serverURL = "ZANTEYARD_URL"
+	redisURL  = "ZANTEYARD_REDIS"
+)
 
 func main() {
 	f, err := parse(os.Args[1:], os.Stderr)
@@ -143,13 +184,24 @@ func main() {
 	}
 	log.SetFlags(log.LstdFlags | log.Lmsgprefix)
 	log.SetPrefix("zanteyard-proxy: ")
-	log.SetOutput(shownLog{os.Stderr})
-	ctx, stop := signal.NotifyContext(context.Background(), syscall.SIGINT, syscall.SIGTERM)
-	defer stop()
-	if err := run(ctx, f, os.Stdin, os.Stdout); err != nil {
+	its := newWords(os.Stderr)
+	log.SetOutput(its)
+	err = serve(context.Background(), f, outside{in: os.Stdin, out: os.Stdout, signals: listenForSignals(), words: its})
+	if err != nil {
 		log.Print(err)
+	}
+	its.close()
+	if err != nil {
 		os.Exit(1)
 	}
+}
+
+// outside is what the program has outside, other than connections.
+type outside struct {
+	in      io.Reader // the parent's commands
+	out     io.Writer // the feed
+	signals <-chan os.Signal
+	words   *words // the log
 }
 
 // hosts returns how many servers a connection string names. The ways to reach one server, with TLS and without, count
@@ -166,9 +218,11 @@ func hosts(config *pgconn.Config) int {
 	return len(its)
 }
 
-// run is the program: it passes traffic on until ctx ends, and talks with its parent by in and out.
-func run(ctx context.Context, f flags, in io.Reader, out io.Writer) error {
-	config, err := pgconn.ParseConfig(f.server)
+// serve is the program: it passes traffic on until ctx ends or a signal ends it, and talks with its parent.
+func serve(ctx context.Context, f flags, its outside) error {
+	ctx, cancel := context.WithCancel(ctx)
+	defer cancel()
+	config, err := address.Parse(f.server)
 	if err != nil {
 		return fmt.Errorf("--server: %w", err)
 	}
@@ -177,22 +231,24 @@ func run(ctx context.Context, f flags, in io.Reader, out io.Writer) error {
 			"while the log of another is read")
 	}
 	var clientTLS *tls.Config
+	reload := func() { log.Print("SIGHUP: there is no certificate to read (--tls-cert)") }
 	if f.certificate != "" || f.key != "" {
-		pair, err := tls.LoadX509KeyPair(f.certificate, f.key)
+		own, err := readCertificate(f.certificate, f.key)
 		if err != nil {
-			return fmt.Errorf("--tls-cert and --tls-key: %w", err)
+			return err
 		}
-		clientTLS = &tls.Config{Certificates: []tls.Certificate{pair}, MinVersion: tls.VersionTLS12}
+		clientTLS = own.config()
+		reload = own.reload
 	}
-	listener, err := listen(f.listen)
+	listener, control, err := f.sockets(its.words)
 	if err != nil {
 		return err
 	}
+	defer listener.Close()
 	options := &session.Options{
-		Policy:    session.Policy{Statements: f.texts, Parameters: f.parameters},
+		Policy:    session.Policy{Statements: f.texts, Parameters: f.parameters, Redacts: f.redact},
 		ReadLimit: f.reads,
-		Fence:     session.NewFence(f.fence, int(f.bound/time.Millisecond)),
-		Bound:     f.bound,
+		Bound:     f.longest(),
 		Shared:    session.NewShared(),
 		Log:       func(text string) { log.Print(text) },
 	}
@@ -210,67 +266,138 @@ func run(ctx context.Context, f flags, in io.Reader, out io.Writer) error {
 	}
 	go fewProcessors(ctx, loops)
 	room := meeting.NewRoom(f.bound)
-	end, err := look(ctx, f, config, options, room, in, out)
+	finish, end, err := look(ctx, f, config, options, room, its, control)
 	if err != nil {
 		return err
 	}
 	defer end()
+	defer cancel()
+	go warnOfTLS(ctx, f, config, options.Log)
 	s := server.New(server.Options{
 		Loops:     loops,
 		Server:    config,
 		ClientTLS: clientTLS,
-		Database:  config.Database,
-		Session:   options,
-		Room:      room,
-		Log:       options.Log,
+
+		RequireTLS:   f.secure,
+		TrustClients: f.trusts,
+		Database:     config.Database,
+		Session:      options,
+		Room:         room,
+		Log:          options.Log,
+		Draining:     f.drain,
+		Most:         f.most,
 	})
+	go signals{drain: func() {
+		log.Printf("ending: no more connections are accepted, and open transactions have %v", f.drain)
+		s.Drain()
+	}, end: cancel, reload: reload}.follow(ctx, its.signals)
+	if control != nil {
+		control.handOver = func() (*os.File, func(), error) {
+			its, err := file(listener)
+			return its, s.Drain, err
+		}
+		go control.run(ctx)
+	}
 	log.Printf("listening on %s", listener.Addr())
-	return s.Serve(ctx, listener)
+	err = s.Serve(ctx, listener)
+	finish(ctx)
+	return err
+}
+
+// sockets returns the socket for clients, and the one for programs of this machine, if there is one.
+func (f flags) sockets(its *words) (listener net.Listener, controls *control, err error) {
+	if f.takesOver {
+		if listener, err = takeOver(f.control); err != nil {
+			return nil, nil, err
+		}
+	}
+	if listener == nil {
+		if listener, err = listen(f.listen); err != nil {
+			return nil, nil, err
+		}
+	}
+	if f.control != "" {
+		if controls, err = newControl(f.control, its); err != nil {
+			listener.Close()
+			return nil, nil, err
+		}
+	}
+	return listener, controls, nil
 }
 
 // look fills in how sessions look at statements, and to whom they report what they saw. If something in it fails, that
-// ends the audit, not the proxy.
+// ends the audit, not the proxy. Before ctx ends, finish lets the audit make its last round; after it end waits.
 func look(ctx context.Context, f flags, config *pgconn.Config, options *session.Options, room *meeting.Room,
-	in io.Reader, out io.Writer) (end func(), err error) {
+	outer outside, controls *control) (finish func(context.Context), end func(), err error) {
+	finish = func(context.Context) {}
 	var loaded atomic.Bool
+	var first sync.Once
+	ready := make(chan struct{}) // closed when the catalog was read for the first time
 	options.Auditing = loaded.Load
 	options.Generation, options.Defined = func() uint64 { return 0 }, func() {}
 	if options.Sink, end, err = newRecords(f.records); err != nil || f.passing {
-		return end, err
+		return finish, end, err
 	}
 	d := definitions.New(config, f.look, options.Log)
 	d.Only(f.tables)
 	options.Plans, options.Generation, options.Defined = d, d.Generation, d.Changed
-	go d.Run(ctx, func() { loaded.Store(true) })
+	failed := func(err error) { options.Log(err.Error() + "; traffic goes on: " + guard.Stack(err)) }
+	options.Plans = newPlanner(d, options.Log)
+	defer func() {
+		go forever(ctx, "the definitions", func(err error) {
+			loaded.Store(false)
+			failed(err)
+		}, func() error {
+			d.Run(ctx, func() {
+				loaded.Store(true)
+				first.Do(func() { close(ready) })
+			})
+			return nil
+		})
+	}()
 	if f.records != "" {
-		return end, nil
+		return finish, end, nil
 	}
 	var shared remote.Options
 	if f.audit != "" {
 		if shared, err = sharing(f, config, options.Log); err != nil {
-			return nil, err
+			return nil, nil, err
 		}
 	}
 	if f.remote {
-		return post(ctx, f, shared, options, room, &loaded)
+		end, err = post(ctx, f, shared, options, room, &loaded, ready)
+		d.Follow(options.Mark)
+		return finish, end, err
 	}
 	sink := newSwitched(options.Sink)
-	all := &audits{sink: sink, log: options.Log, config: audit.Config{Slot: slotOptions(f), Join: f.join, Meeter: room,
-		Held: int(f.held), Kept: uint64(f.kept), Out: out}}
+	all := &audits{sink: sink, log: options.Log, ready: ready, config: audit.Config{Slot: slotOptions(f), Join: f.join, Meeter: room,
+		Held: int(f.held), Kept: uint64(f.kept), Out: outer.out}}
 	options.Sink = sink
+	sink.fail, failed = all.fail, all.fail
 	options.Auditing = func() bool { return loaded.Load() && all.running.Load() }
+	options.Mark = all.mark.Load
+	d.Follow(options.Mark)
+	all.config.Slot.Marked = all.mark.Store
+	hide(f, &shared, options, &all.config)
 	var running sync.WaitGroup
 	if f.audit != "" {
 		hub, err := remote.NewHub(shared, sink, all.running.Load)
 		if err != nil {
-			return nil, err
+			return nil, nil, err
 		}
 		all.config.Begins = hub.Begins
-		all.config.Meeter = remote.NewMeeter(room, hub, f.bound)
-		beside(&running, func() { hub.Run(ctx) })
+		all.config.Meeter = remote.NewMeeter(room, hub)
+		beside(&running, func() {
+			forever(ctx, "what proxies elsewhere report", all.fail, func() error { return hub.Run(ctx) })
+		})
 	}
-	beside(&running, func() { all.run(ctx, in) })
-	return running.Wait, nil
+	if controls != nil {
+		controls.audits = true
+		beside(&running, func() { all.attend(ctx, controls) })
+	} else {
+		beside(&running, func() { all.run(ctx, outer.in) })
+	}
+	return all.finish, running.Wait, nil
 }
 
 func beside(all *sync.WaitGroup, f func()) {
@@ -287,13 +414,13 @@ func sharing(f flags, config *pgconn.Config, log func(string)) (remote.Options, 
 		return remote.Options{}, err
 	}
 	key, err := remote.ReadKey(f.shared)
-	return remote.Options{Redis: f.redis, Audit: f.audit, Key: key, Server: config, Fence: f.fence, Log: log,
+	return remote.Options{Redis: f.redis, Audit: f.audit, Key: key, Server: config, Bound: f.bound, Log: log,
 		Redacts: f.redact}, err
 }
 
 // post makes sessions send what they saw to an audit elsewhere.
 func post(ctx context.Context, f flags, shared remote.Options, options *session.Options, room *meeting.Room,
-	loaded *atomic.Bool) (end func(), err error) {
+	loaded *atomic.Bool, ready <-chan struct{}) (end func(), err error) {
 	name := f.name
 	if name == "" {
 		if name, err = os.Hostname(); err != nil {
@@ -306,18 +433,19 @@ func post(ctx context.Context, f flags, shared remote.Options, options *session.
 	}
 	options.Sink = its
 	options.Auditing = func() bool { return loaded.Load() && its.Auditing() }
+	options.Mark = its.Mark
 	var running sync.WaitGroup
-	beside(&running, func() { its.Run(ctx) })
+	beside(&running, func() {
+		awaitCatalog(ctx, ready)
+		forever(ctx, "what this proxy reports", func(err error) { options.Log(err.Error() + "; traffic goes on: " + guard.Stack(err)) },
+			func() error { return its.Run(ctx) })
+	})
 	return running.Wait, nil
 }
 
 func slotOptions(f flags) slot.Options {
-	schema, table, qualified := strings.Cut(f.fence, ".")
-	if !qualified {
-		schema, table = "public", f.fence
-	}
 	return slot.Options{Source: f.server, Settings: keys.SlotSettings(), Name: f.slot, Permanent: f.permanent,
-		FenceSchema: schema, FenceTable: table, Asked: f.tables, Canonical: keys.FromSlot, Show: keys.Show}
+		Asked: f.tables, Canonical: keys.FromSlot, Show: keys.Show}
 }
 
 func listen(address string) (net.Listener, error) {

@@ -5,6 +5,7 @@ import (
 	"context"
 	"encoding/json"
 	"errors"
+	"flag"
 	"fmt"
 	"io"
 	"net"
@@ -48,7 +49,7 @@ func TestSeveralServers(t *testing.T) {
 			t.Fatal(err)
 		}
 		f.passing = x.passing
-		err = run(context.Background(), f, strings.NewReader(""), io.Discard)
+		err = serve(context.Background(), f, outside{in: strings.NewReader(""), out: io.Discard})
 		if err == nil || strings.Contains(err.Error(), "several") != x.refused {
 			t.Errorf("%+v: %v", x, err)
 		}
@@ -75,7 +76,7 @@ func begin(t *testing.T, c *cluster.Cluster, more ...string) *program {
 		ended: make(chan error, 1)}
 	listener.Close()
 	f, err := parse(append([]string{"--listen", fmt.Sprintf("127.0.0.1:%d", p.port), "--look", "20ms",
-		"--server", fmt.Sprintf("host=127.0.0.1 port=%d user=postgres dbname=postgres sslmode=disable", c.Port)}, more...),
+		"--trust-clients", "--server", fmt.Sprintf("host=127.0.0.1 port=%d user=postgres dbname=postgres sslmode=disable", c.Port)}, more...),
 		io.Discard)
 	if err != nil {
 		t.Fatal(err)
@@ -90,7 +91,7 @@ func begin(t *testing.T, c *cluster.Cluster, more ...string) *program {
 			p.lines <- s.Text()
 		}
 	}()
-	go func() { p.ended <- run(ctx, f, inFrom, outTo) }()
+	go func() { p.ended <- serve(ctx, f, outside{in: inFrom, out: outTo}) }()
 	t.Cleanup(func() {
 		cancel()
 		if err := <-p.ended; err != nil {
@@ -169,8 +170,7 @@ func start(t *testing.T, settings ...string) *cluster.Cluster {
 	return c
 }
 
-const schema = `CREATE TABLE zanteyard_fence (id int PRIMARY KEY, n bigint); INSERT INTO zanteyard_fence VALUES (0, 0);
-	CREATE TABLE account (id int PRIMARY KEY, balance int); INSERT INTO account VALUES (1, 100), (2, 100)`
+const schema = `CREATE TABLE account (id int PRIMARY KEY, balance int); INSERT INTO account VALUES (1, 100), (2, 100)`
 
 // TestAudit: two transactions each read what the other one writes, and both reads are offered to the auditor.
 func TestAudit(t *testing.T) {
@@ -221,26 +221,66 @@ func TestNoAudit(t *testing.T) {
 	}
 }
 
-// TestRestart: the server restarts as after a crash. The audit ends, the proxy accepts connections again, and the
-// parent may begin another audit.
-func TestNoFenceTable(t *testing.T) {
-	c := start(t)
-	conn, err := pgconn.Connect(context.Background(),
-		fmt.Sprintf("host=127.0.0.1 port=%d user=postgres dbname=postgres sslmode=disable", c.Port))
+// TestLongestHold: a proxy that feeds another one's audit holds clients until it hears that the meeting is over.
+func TestLongestHold(t *testing.T) {
+	for _, one := range []struct {
+		words []string
+		want  time.Duration
+	}{{nil, 3 * time.Millisecond}, {[]string{"--hold", "2ms"}, 2 * time.Millisecond},
+		{[]string{"--remote", "--audit", "a", "--redis", "r", "--key", "k"}, 21 * time.Millisecond}} {
+		f, err := parse(append([]string{"--server", "host=a"}, one.words...), io.Discard)
+		if err != nil || f.longest() != one.want {
+			t.Errorf("%v: %v, %v", one.words, f.longest(), err)
+		}
+	}
+}
+
+// TestTheAuditWritesNothing: meetings take no transaction number, write no row, create nothing, and send nothing on a
+// client's connection, whoever is idle in a transaction or holds an old snapshot meanwhile.
+func TestTheAuditWritesNothing(t *testing.T) {
+	c := start(t, "autovacuum=off")
+	p := begin(t, c, "--between", "10ms")
+	p.until(`["open"`)
+	beside, err := pgconn.Connect(context.Background(), sourceOf(c, "postgres"))
 	if err != nil {
 		t.Fatal(err)
 	}
-	defer conn.Close(context.Background())
-	sql(t, conn, "ALTER TABLE zanteyard_fence RENAME TO other")
-	p := begin(t, c)
-	if line := p.until("ended"); !strings.Contains(line, "the table public.zanteyard_fence doesn't exist") {
-		t.Errorf("the reason is %s", line)
+	defer beside.Close(context.Background())
+	sql(t, beside, "BEGIN ISOLATION LEVEL REPEATABLE READ")
+	state := "SELECT pg_snapshot_xmax(pg_current_snapshot()) || ' ' || (SELECT count(*) FROM pg_class) || ' ' || (SELECT " +
+		"coalesce(sum(n_tup_ins + n_tup_upd + n_tup_del), 0) FROM pg_stat_user_tables WHERE relname <> 'account')"
+	observer, err := pgconn.Connect(context.Background(), sourceOf(c, "postgres"))
+	if err != nil {
+		t.Fatal(err)
 	}
-	sql(t, conn, "ALTER TABLE other RENAME TO zanteyard_fence")
-	fmt.Fprintln(p.say, `{"command":"restart"}`)
-	p.until("started")
-	fmt.Fprintln(p.say, `{"command":"stop"}`)
-	p.until("stopped")
+	defer observer.Close(context.Background())
+	sql(t, beside, state)
+	silent, idle, client := p.connect(), p.connect(), p.connect()
+	sql(t, silent, "SELECT 1")
+	sql(t, idle, "BEGIN")
+	sql(t, idle, "SELECT balance FROM account WHERE id = 1")
+	before := sql(t, observer, state)
+	seen := fmt.Sprintf("SELECT string_agg(state_change || ' ' || query, '; ' ORDER BY pid) FROM pg_stat_activity WHERE pid IN (%d, %d)",
+		silent.PID(), idle.PID())
+	said := sql(t, observer, seen)
+	for meetings := 0; meetings < 5; meetings++ {
+		for i := 0; i < 20; i++ {
+			sql(t, client, "SELECT balance FROM account WHERE id = 1")
+		}
+		fmt.Fprintln(p.say, `{"command":"round"}`)
+		p.until("meeting")
+		p.until(`["truncate"]`)
+	}
+	if after := sql(t, observer, state); after != before {
+		t.Errorf("there was %s, and now there is %s", before, after)
+	}
+	if after := sql(t, observer, seen); after != said || !strings.Contains(said, "account") {
+		t.Errorf("clients' last statements were %s, and now they are %s", said, after)
+	}
+	if it := p.counts(); it.Offered == it.Fences || it.Fences == 0 {
+		t.Errorf("that is too little to show anything: %+v", it)
+	}
+	sql(t, idle, "COMMIT")
 }
 
 // TestRestart: the server is restarted as after a crash. The audit ends, the proxy takes connections again, and the
@@ -271,4 +311,23 @@ func TestRestart(t *testing.T) {
 	fmt.Fprintln(p.say, `{"command":"stop"}`)
 	p.until(`["offer"`)
 	p.until("stopped")
+}
+
+// TestURLsFromTheEnvironment: they may contain passwords, so neither a list of processes nor --help shows them.
+func TestURLsFromTheEnvironment(t *testing.T) {
+	t.Setenv(serverURL, "postgresql://u@a/b?password=s3cret")
+	t.Setenv(redisURL, "redis://:s3cret@c")
+	f, err := parse(nil, io.Discard)
+	if err != nil || f.server != "postgresql://u@a/b?password=s3cret" || f.redis != "redis://:s3cret@c" {
+		t.Errorf("the server %q, the Redis %q: %v", f.server, f.redis, err)
+	}
+	if f, err = parse([]string{"--server", "host=d", "--redis", "redis://e"}, io.Discard); err != nil || f.server != "host=d" ||
+		f.redis != "redis://e" {
+		t.Errorf("with options, the server %q, the Redis %q: %v", f.server, f.redis, err)
+	}
+	var help strings.Builder
+	if _, err := parse([]string{"--help"}, &help); !errors.Is(err, flag.ErrHelp) || strings.Contains(help.String(), "s3cret") ||
+		!strings.Contains(help.String(), serverURL) {
+		t.Errorf("%v: %s", err, help.String())
+	}
 }

@@ -88,13 +88,13 @@ const someKey = "a key of more than sixteen bytes"
 func elsewhere(t *testing.T, source string, more ...string) (p *program, end func()) {
 	t.Helper()
 	p = &program{t: t, port: freePort(t), ended: make(chan error, 1)}
-	f, err := parse(append([]string{"--listen", fmt.Sprintf("127.0.0.1:%d", p.port), "--look", "20ms", "--server", source,
+	f, err := parse(append([]string{"--listen", fmt.Sprintf("127.0.0.1:%d", p.port), "--look", "20ms", "--trust-clients", "--server", source,
 		"--remote", "--name", "elsewhere"}, more...), io.Discard)
 	if err != nil {
 		t.Fatal(err)
 	}
 	ctx, cancel := context.WithCancel(context.Background())
-	go func() { p.ended <- run(ctx, f, strings.NewReader(""), io.Discard) }()
+	go func() { p.ended <- serve(ctx, f, outside{in: strings.NewReader(""), out: io.Discard}) }()
 	ended := false
 	end = func() {
 		if cancel(); !ended {

@@ -118,8 +118,8 @@ type described struct {
 	By              []*int `json:"read_by"`
 	Writes          []int
 	Keys            []struct {
-		Key int
-		Row string
+		Key        int
+		Table, Row string
 	}
 }
 

@@ -242,7 +242,7 @@ func BenchmarkShortConnections(b *testing.B) {
 		}
 		ports[name] = listener.Addr().(*net.TCPAddr).Port
 		listener.Close()
-		f, err := parse(append([]string{"--listen", fmt.Sprintf("127.0.0.1:%d", ports[name]), "--server", url(c.Port)}, more...),
+		f, err := parse(append([]string{"--trust-clients", "--listen", fmt.Sprintf("127.0.0.1:%d", ports[name]), "--server", url(c.Port)}, more...),
 			io.Discard)
 		if err != nil {
 			b.Fatal(err)
@@ -250,7 +250,7 @@ func BenchmarkShortConnections(b *testing.B) {
 		ctx, cancel := context.WithCancel(context.Background())
 		in, to := io.Pipe()
 		ended := make(chan error)
-		go func() { ended <- run(ctx, f, in, io.Discard) }()
+		go func() { ended <- serve(ctx, f, outside{in: in, out: io.Discard}) }()
 		defer func() {
 			cancel()
 			to.Close()

@@ -61,7 +61,7 @@ func TestProgramShowsItsWords(t *testing.T) {
 		return
 	}
 	for _, words := range []string{
-		"--" + evil, "--hold|" + evil, "--server|host=a|" + evil, "--server|" + evil, "--listen|/" + evil + "/x|--server|host=a",
+		"--" + evil, "--hold|" + evil, "--server|host=a|" + evil, "--server|host=a FORGED\x1b\u202e\x7f\xff=1", "--listen|/" + evil + "/x|--server|host=a",
 		"--server|host=a|--tls-cert|" + evil, "--server|host=a|--records|/" + evil + "/x|--listen|127.0.0.1:0",
 	} {
 		c := exec.Command(os.Args[0], "-test.run=^TestProgramShowsItsWords$")

@@ -7,7 +7,7 @@ use Rattle.cobra.proofs.open_engine.OpenEngine.begin.Goals as goal
 
 pub invariant_of-self : goal.invariant_of-self
 invariant_of-self c =
-    (c.in-Done.ensures.kept, c.begin.ensures c.self.inside.engine c.step.new.self c.self.invariant.1 c.in-Done.ensures.right)
+    c.begin.ensures c.self.inside.engine c.step.new.self c.self.invariant c.in-Done.ensures.right
 
 pub returns-in-Done : goal.returns-in-Done
 returns-in-Done c =

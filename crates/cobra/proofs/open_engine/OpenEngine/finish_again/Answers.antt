@@ -6,14 +6,14 @@ use Rattle.cobra.specs.Searches.{MayAnswerOf}
 use Rattle.cobra.proofs.LastTold.{finish_fits}
 use Rattle.cobra.proofs.open_engine.OpenEngine.finish_again.Goals as goal
 
-pub finish_by-requires-clause-answer : goal.finish_by-requires-clause-answer
-finish_by-requires-clause-answer c =
+pub finish_by-requires : goal.finish_by-requires
+finish_by-requires c =
     subst (λ (engine : EngineState). MayAnswerOf c.args.effort.search engine.asked c.args.effort.budget c.args.effort.depth (answers.Yes c.args.order)) (sym c.self.view_is) c.requires
 
 pub invariant_of-self : goal.invariant_of-self
 invariant_of-self c =
-    (c.finish_by.ensures.kept, finish_fits c.self.inside.engine c.finish_by.new.engine c.self.inside.last c.args.effort.budget c.args.effort.depth c.args.effort.workers c.finish_by.result c.self.invariant.1 c.finish_by.ensures.finishes.goes.right)
+    finish_fits c.self.inside.engine c.finish_by.new.engine c.self.inside.last c.args.effort.budget c.args.effort.depth c.args.effort.workers c.finish_by.result c.self.invariant c.finish_by.ensures.goes.right
 
 pub returns : goal.returns
 returns c =
-    subst (λ (engine : EngineState). Finishes engine c.args.effort.search c.args.effort.budget c.args.effort.depth c.args.effort.workers c.finish_by.result c.finish_by.new.engine) c.self.view_is c.finish_by.ensures.finishes
+    subst (λ (engine : EngineState). Finishes engine c.args.effort.search c.args.effort.budget c.args.effort.depth c.args.effort.workers c.finish_by.result c.finish_by.new.engine) c.self.view_is c.finish_by.ensures

@@ -4,10 +4,10 @@ use Rattle.cobra.specs.Scripts.{Finishes}
 use Rattle.cobra.specs.Searches.{MayAnswerOf}
 use Rattle.cobra.proofs.open_engine.OpenEngine.finish_by.Goals as goal
 
-pub finish_by-said-requires-clause-answer : goal.finish_by-said-requires-clause-answer
-finish_by-said-requires-clause-answer c =
+pub finish_by-said-requires : goal.finish_by-said-requires
+finish_by-said-requires c =
     subst (λ (engine : EngineState). MayAnswerOf c.args.effort.search engine.asked c.args.effort.budget c.args.effort.depth c.args.answer) (sym c.self.view_is) c.requires
 
 pub returns : goal.returns
 returns c =
-    subst (λ (engine : EngineState). Finishes engine c.args.effort.search c.args.effort.budget c.args.effort.depth c.args.effort.workers c.finish_by-said.result c.finish_by-said.new.engine) c.self.view_is c.finish_by-said.ensures.finishes
+    subst (λ (engine : EngineState). Finishes engine c.args.effort.search c.args.effort.budget c.args.effort.depth c.args.effort.workers c.finish_by-said.result c.finish_by-said.new.engine) c.self.view_is c.finish_by-said.ensures

@@ -2,5 +2,5 @@
 use Rattle.std.proofs.Common.{rules}
 use Rattle.round_state.proofs.state.Engine.reply_to_close.Goals as goal
 
-pub returns-in-Ok-clause-right : goal.returns-in-Ok-clause-right
-returns-in-Ok-clause-right c = search rules
+pub returns-in-Ok : goal.returns-in-Ok
+returns-in-Ok c = search rules

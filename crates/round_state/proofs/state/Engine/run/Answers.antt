@@ -20,7 +20,6 @@ pub loop-step-init : goal.loop-step-init
 loop-step-init g c = record {
   right = subst (λ (replies : List StepReply). RunsTo c.args.self.now [] replies c.args.self.now) (sym c.in_ok-replies.ensures.items) (right_none c.args.self.now);
   legal = subst (λ (replies : List StepReply). RunsLegally c.args.self.now [] replies c.args.self.now) (sym c.in_ok-replies.ensures.items) (runs_none c.args.self.now);
-  kept = c.in_ok-kept.ensures;
   count = c.in_ok-replies.ensures.len;
   room = omega (arith, c.in_ok-replies.ensures.exact, c.len.ensures);
 }
@@ -35,7 +34,6 @@ loop-step-preserved g c =
           (right_more c.args.self.now c.loop-step.self c.step-reply.new.self c.loop-step.yielded c.loop-step.replies.items step reply c.loop-step.invariant.right c.step-reply.ensures.right);
       legal = subst (λ (replies : List StepReply). RunsLegally c.args.self.now (c.loop-step.yielded ++ step ∷ []) replies c.step-reply.new.self) (sym {A = List StepReply} c.note.ensures.items)
           (runs_more c.args.self.now c.loop-step.self c.step-reply.new.self c.loop-step.yielded c.loop-step.replies.items step reply c.loop-step.invariant.legal c.step-reply.ensures.legal);
-      kept = c.step-reply.ensures.kept;
       count = omega (arith, long, length_push c.loop-step.yielded step, c.note.new.replies.ok.0, c.loop-step.replies.ok.0, c.loop-step.invariant.count);
       room = omega (arith, c.note.ensures.capacity, c.loop-step.invariant.room);
     }

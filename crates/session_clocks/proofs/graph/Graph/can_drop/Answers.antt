@@ -8,7 +8,7 @@ use Rattle.session_clocks.proofs.graph.Graph.can_drop.Goals as goal
 pub are_behind-requires : goal.are_behind-requires
 are_behind-requires c =
     let graph = c.self.inside in
-    let kept = c.self.invariant.kept in
+    let kept = c.self.invariant.0.kept in
     let sessions = subst (λ (s : GraphState). length c.args.gone.now ≡ length s.gone) (sym c.self.view_is) c.requires.sessions in
     let more = subst (λ (s : GraphState). (session : ℕ) → get_or s.gone session 0 ≤ get_or c.args.gone.now session 0) (sym c.self.view_is) c.requires.more in
     let within = subst (λ (s : GraphState). (session : ℕ) → get_or c.args.gone.now session 0 ≤ get_or s.received session 0) (sym c.self.view_is) c.requires.within in
@@ -23,7 +23,7 @@ are_behind-requires c =
 pub returns : goal.returns
 returns c =
     let graph = c.self.inside in
-    let kept = c.self.invariant.kept in
+    let kept = c.self.invariant.0.kept in
     let sessions = subst (λ (s : GraphState). length c.args.gone.now ≡ length s.gone) (sym c.self.view_is) c.requires.sessions in
     let more = subst (λ (s : GraphState). (session : ℕ) → get_or s.gone session 0 ≤ get_or c.args.gone.now session 0) (sym c.self.view_is) c.requires.more in
     let within = subst (λ (s : GraphState). (session : ℕ) → get_or c.args.gone.now session 0 ≤ get_or s.received session 0) (sym c.self.view_is) c.requires.within in

@@ -1,4 +1,4 @@
-use Rattle.std.proofs.Common.{◌≡◌, ◌∙◌, [], ℕ, List, ap}
+use Rattle.std.proofs.Common.{◌∙◌, [], ap}
 use Rattle.session_clocks.specs.Graphs.{GraphState}
 use Rattle.session_clocks.specs.Marks.{marks_of}
 use Rattle.session_clocks.proofs.Marked.{IsTrail-none}
@@ -7,11 +7,13 @@ use Rattle.session_clocks.proofs.graph.Graph.forget_marks.Goals as goal
 pub invariant_of-self : goal.invariant_of-self
 invariant_of-self c =
     let graph = c.self.inside in
-    let kept = c.self.invariant.kept in
-    record {
-      kept = kept;
-      marked = IsTrail-none graph.gone.items graph.received.items kept.sessions graph.arcs.items graph.first.items graph.count.items c.clear.new.self c.clear.ensures.marks c.clear.ensures.first c.clear.ensures.count;
-    }
+    let kept = c.self.invariant.0.kept in (
+      record {
+        kept = kept;
+        marked = IsTrail-none graph.gone.items graph.received.items kept.sessions graph.arcs.items graph.first.items graph.count.items c.clear.new.self c.clear.ensures.marks c.clear.ensures.first c.clear.ensures.count;
+      },
+      c.self.invariant.1,
+    )
 
 pub returns : goal.returns
 returns c =

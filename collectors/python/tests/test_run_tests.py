@@ -1,0 +1,65 @@
+"""The program that runs the tests: what it says of a module that fails, once or always."""
+
+import os
+import subprocess
+import sys
+import tempfile
+import unittest
+
+HERE = os.path.dirname(os.path.dirname(os.path.abspath(__file__)))
+FAILS = """
+import os, unittest
+
+
+class It(unittest.TestCase):
+    def test_it(self):
+        with open(os.path.join({folder!r}, "{name}"), "a", encoding="ascii") as file:
+            file.write("x")
+            self.assertGreater(file.tell(), {times})
+"""
+
+
+class Rerun(unittest.TestCase):
+    def setUp(self):
+        folder = tempfile.TemporaryDirectory()
+        self.addCleanup(folder.cleanup)
+        self.folder = folder.name
+
+    def run_modules(self, *words, **times):
+        """Runs modules with these names, each of which fails so many times first."""
+        for name, count in times.items():
+            with open(os.path.join(self.folder, f"{name}.py"), "w", encoding="ascii") as file:
+                file.write(FAILS.format(folder=self.folder, name=name, times=count))
+        its = {**os.environ, "PYTHONPATH": self.folder}
+        program = [sys.executable, os.path.join(HERE, "run_tests.py"), "--processes", "1"]
+        return subprocess.run(
+            [*program, *words, *times], env=its, capture_output=True, text=True, timeout=600
+        )
+
+    def runs(self, name):
+        with open(os.path.join(self.folder, name), encoding="ascii") as file:
+            return len(file.read())
+
+    def test_what_failed_once_is_listed(self):
+        ran = self.run_modules("--again", "2", fails_once=1, passes=0)
+        self.assertEqual((ran.returncode, self.runs("fails_once"), self.runs("passes")), (0, 2, 1))
+        self.assertIn("FAILED ONCE, then passed by itself: fails_once: 1 failed", ran.stdout)
+        self.assertIn("AssertionError", ran.stdout)
+
+    def test_what_fails_again_fails(self):
+        ran = self.run_modules("--again", "2", fails_twice=2)
+        self.assertEqual((ran.returncode, self.runs("fails_twice")), (1, 2))
+        self.assertIn("FAILED: fails_twice: 1 failed", ran.stdout)
+        self.assertNotIn("FAILED ONCE", ran.stdout)
+
+    def test_more_than_few_fail_at_once(self):
+        ran = self.run_modules("--again", "2", one=1, two=1, three=1)
+        self.assertEqual((ran.returncode, self.runs("one")), (1, 1))
+
+    def test_without_the_option_none_runs_again(self):
+        ran = self.run_modules(fails_once=1)
+        self.assertEqual((ran.returncode, self.runs("fails_once")), (1, 1))
+
+
+if __name__ == "__main__":
+    unittest.main()

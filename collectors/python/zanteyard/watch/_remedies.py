@@ -1,0 +1,71 @@
+"""What a reader can do about each reason for which something wasn't checked."""
+
+from collections.abc import Sequence
+
+# By the words that a reason begins with; the first one that fits. A reason without a remedy stands
+# alone.
+REMEDIES: Sequence[tuple[str, str]] = (
+    ("its writes couldn't be told apart", "put BEGIN and COMMIT around the statement"),
+    ("no statement of it was seen", "the statements below say why"),
+    ("some statements weren't seen", "the statements below say why"),
+    ("some row reads or writes were left out", "the rows below say why"),
+    ("it read and wrote no row", "there was nothing to check"),
+    ("a statement of it found no row", "see SELECTs that found no row"),
+    ("it found no row", "ask by a whole primary key, at repeatable read or serializable"),
+    ("reported too late", "the machine, the network or Redis was slow"),
+    ("it was under way when the audit began", "start the audit first"),
+    ("the audit ended before its next round", "the log says why it ended"),
+    ("reported faster than they could be processed", "audit a share of the connections: --sample"),
+    ("the auditor's limit was reached", "audit a share of the connections: --sample"),
+    ("its connection has no session", "use at most 64 connections, or a pooler before the proxy"),
+    ("it ran during a meeting", "keep transactions short"),
+    ("the outcome of the one before", "its connection was lost during COMMIT"),
+    ("its outcome is unknown", "its connection was lost during COMMIT"),
+    ("its connection uses another database", "audit that one as well"),
+    ("its connection isn't in the sample", "audit all connections: no --sample"),
+    ("on a connection to another server", "let all connections lead to the audited server"),
+    ("the connection is to another server", "let all connections lead to the audited server"),
+    ("in a table without a key", "add a primary key"),
+    ("no primary key", "add a primary key"),
+    ("more than 256", "read or write fewer rows in one transaction"),
+    ("more than 65,536", "write fewer rows in one transaction"),
+    ("more reads of one transaction", "read fewer rows in one transaction"),
+    ("its version is unknown", "it was written before the audit, or by what isn't audited"),
+    ("its version may be from a savepoint", "let the audit call pg_walinspect"),
+    ("its table's key has changed", "it will be seen again within a second"),
+    ("an absent row", "ask at repeatable read or serializable"),
+    ("an aggregate", "select the rows, and add them up"),
+    ("GROUP BY", "group by the whole key, or select the rows"),
+    ("DISTINCT", "select the rows themselves"),
+    ("UNION", "run it as several SELECTs"),
+    ("HAVING", "select the rows themselves"),
+    ("a subquery", "run it as a SELECT of its own"),
+    ("WITH", "run it as a SELECT of its own"),
+    ("a view", "select from its tables"),
+    ("a materialized view", "select from its tables"),
+    ("what a function reads", "run its SELECTs yourself"),
+    ("a procedure", "run its statements yourself"),
+    ("what INSERT selects", "select the rows first"),
+    ("COPY TO", "use SELECT"),
+    ("MERGE", "use INSERT .. ON CONFLICT, or UPDATE"),
+    ("an index may answer", "select a column that no index has"),
+    ("two tables with the same name", "give each its own alias"),
+    ("tables of an UPDATE or DELETE", "select their rows first"),
+    ("not tried on its connection yet", "it was a first run: the next one is seen"),
+    ("something may have changed what names", "set the search path when connecting, not later"),
+    ("the audit's columns can't be read", "grant SELECT on the table's key columns"),
+    ("the connection's user may not read", "grant SELECT on the table's key columns"),
+    ("a pooler between proxy and server", "put the pooler before the proxy"),
+    ("a row that wasn't there", "ask at repeatable read or serializable"),
+    ("it can't be parsed", "please report the statement"),
+)
+
+
+def remedy_for(reason: str) -> str:
+    """One clause, or an empty string."""
+    return next((told for begins, told in REMEDIES if reason.startswith(begins)), "")
+
+
+def with_remedy(reason: str) -> str:
+    told = remedy_for(reason)
+    return f"{reason}: {told}" if told else reason

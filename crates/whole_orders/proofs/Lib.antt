@@ -1,0 +1,4 @@
+mod CutOff
+mod Growing
+pub mod Isolated
+mod Steps

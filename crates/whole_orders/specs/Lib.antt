@@ -1,0 +1,3 @@
+pub mod Isolated
+pub mod Laws
+pub mod Left

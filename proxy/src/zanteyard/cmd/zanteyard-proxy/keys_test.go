@@ -1,0 +1,97 @@
+package main
+
+import (
+	"fmt"
+	"strings"
+	"testing"
+
+	"github.com/jackc/pgconn"
+)
+
+// TestKeysThatChangeBesideTheProxy: what a key's values mean changes, and the sessions don't hear of it. What they read by
+// the old meaning isn't taken for rows of the new one: it is left out, and counted.
+func TestKeysThatChangeBesideTheProxy(t *testing.T) {
+	c := start(t)
+	beside := directly(t, c)
+	sql(t, beside, `CREATE TABLE o (id int PRIMARY KEY, v int); INSERT INTO o VALUES (1, 0);
+		CREATE TABLE exchanged (id int PRIMARY KEY, code int UNIQUE NOT NULL, v int); INSERT INTO exchanged VALUES (5, 7, 0), (7, 5, 0);
+		CREATE TABLE renamed (a int, b int, v int, PRIMARY KEY (a, b)); INSERT INTO renamed VALUES (5, 7, 0), (7, 5, 0);
+		CREATE TYPE colour AS ENUM ('red', 'green'); CREATE TABLE labelled (k colour PRIMARY KEY, v int);
+		INSERT INTO labelled VALUES ('red', 0), ('green', 0);
+		CREATE TABLE one (id int PRIMARY KEY, v int); INSERT INTO one VALUES (5, 0);
+		CREATE TABLE two (code int PRIMARY KEY, id int UNIQUE NOT NULL, v int); INSERT INTO two VALUES (5, 7, 0), (7, 5, 0)`)
+	p := begin(t, c, "--look", "1h")
+	p.until(`["open"`)
+	w := &watched{program: p}
+	reader, writer := p.connect(), p.connect()
+	for _, x := range []struct {
+		table, read, change, write string
+		before                     bool // the read is before the change
+	}{
+		{"exchanged", "SELECT v FROM exchanged WHERE id = 5",
+			"ALTER TABLE exchanged DROP CONSTRAINT exchanged_pkey, ADD PRIMARY KEY (code)", "UPDATE exchanged SET v = v + 1 WHERE code = 5", false},
+		{"renamed", "SELECT v FROM renamed WHERE a = 5 AND b = 7",
+			"ALTER TABLE renamed RENAME a TO c; ALTER TABLE renamed RENAME b TO a; ALTER TABLE renamed RENAME c TO b",
+			"UPDATE renamed SET v = v + 1 WHERE b = 7 AND a = 5", false},
+		{"labelled", "SELECT v FROM labelled WHERE k = 'red'",
+			"ALTER TYPE colour RENAME VALUE 'red' TO 'none'; ALTER TYPE colour RENAME VALUE 'green' TO 'red'; ALTER TYPE colour RENAME VALUE 'none' TO 'green'",
+			"UPDATE labelled SET v = v + 1 WHERE k = 'red'", true},
+		{"one", "SELECT v FROM one WHERE id = 5", "ALTER TABLE one RENAME TO three; ALTER TABLE two RENAME TO one",
+			"UPDATE one SET v = v + 1 WHERE code = 5", false},
+	} {
+		warm(t, reader, x.read, "SELECT v FROM o WHERE id = 1", "UPDATE account SET balance = balance WHERE id = 2")
+		warm(t, writer, strings.ReplaceAll(x.write, "WHERE code", "WHERE id"), "UPDATE o SET v = v + 1 WHERE id = 1")
+		offered := false
+		for try := 1; try <= mostTries && !offered; try++ {
+			one, two := fmt.Sprint("reads ", x.table, try), fmt.Sprint("writes ", x.table, try)
+			sql(t, reader, "BEGIN /*tag='"+one+"'*/")
+			if x.before {
+				sql(t, reader, x.read)
+			}
+			if try == 1 {
+				sql(t, beside, "BEGIN; "+x.change+"; COMMIT")
+			}
+			sql(t, writer, "BEGIN /*tag='"+two+"'*/")
+			sql(t, writer, x.write)
+			sql(t, writer, "UPDATE o SET v = v + 1 WHERE id = 1")
+			sql(t, writer, "COMMIT")
+			if !x.before {
+				sql(t, reader, x.read)
+			}
+			sql(t, reader, "SELECT v FROM o WHERE id = 1")
+			sql(t, reader, "COMMIT")
+			its := w.tagged(reader, writer)
+			reads, there := its[one]
+			_, written := its[two]
+			if offered = there && written && strings.Contains(reads.reads(its), "o 1 from "+two); offered && reads.reads(its) != "o 1 from "+two {
+				t.Errorf("%s: it is offered with reads of %s", x.table, reads.reads(its))
+			}
+		}
+		if !offered {
+			t.Errorf("%s: nothing was offered", x.table)
+		}
+	}
+	fmt.Fprintln(p.say, `{"command":"stop"}`)
+	var last string
+	for line := range p.lines {
+		if strings.HasPrefix(line, `{"event":"coverage"`) {
+			last = line
+		}
+		if strings.HasPrefix(line, `{"event":"stopped"`) {
+			break
+		}
+	}
+	if !strings.Contains(last, "its table's key has changed") {
+		t.Errorf("it isn't counted: %s", last)
+	}
+}
+
+// warm runs statements until they have been tried.
+func warm(t *testing.T, conn *pgconn.PgConn, texts ...string) {
+	t.Helper()
+	for i := 0; i < 4; i++ {
+		for _, text := range texts {
+			sql(t, conn, text)
+		}
+	}
+}

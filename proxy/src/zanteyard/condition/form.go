@@ -1,0 +1,177 @@
+package condition
+
+import (
+	"zanteyard/catalog"
+)
+
+// Form is what a statement asks of one of its tables, without its constants and parameters. It never changes, and is
+// safe for use by many goroutines.
+type Form struct {
+	Table *catalog.Table
+	// Name is the one by which the statement knows the table.
+	Name string
+	// Constants are the places of the constants in the text that the parse tree was made from, in bytes: where the token
+	// begins, which is a minus for a negative number.
+	Constants []int
+
+	// Given says that the condition is asked beside the other tables' rows of each row of the result, and Outer names the
+	// columns of these on which it depends.
+	Given bool
+	Outer []Outer
+
+	// Drops says why the statement's result may lack a row that satisfies the condition, or "" if it can't: then whatever
+	// isn't in the result was passed over. What a result's rows are made of, if it has aggregates or groups, is for the
+	// caller to know.
+	Drops string
+
+	catalog  *catalog.Catalog
+	text     string    // that the parse tree was made from
+	literals []literal // in it
+	// elsewhere counts the places in which the statement has a parameter outside of what the form reads.
+	elsewhere map[int]int
+	root      expression
+}
+
+// Why a statement isn't followed, or one of its tables.
+const (
+	unknownTable   = Refusal("unknown table")
+	notOneTable    = Refusal("several tables, or none")
+	renamedColumns = Refusal("a table alias that renames columns")
+	onlyTable      = Refusal("ONLY")
+	aPartition     = Refusal("a partition by its own name")
+	sampled        = Refusal("TABLESAMPLE")
+	skipLocked     = Refusal("SKIP LOCKED")
+	rowSecurity    = Refusal("row security")
+	currentOf      = Refusal("WHERE CURRENT OF")
+	withQueries    = Refusal("WITH")
+	notAStatement  = Refusal("neither SELECT, UPDATE nor DELETE")
+	pathOrder      = Refusal("the search path names pg_catalog after other schemas")
+)
+
+// Make reads what a statement asks of its table: a SELECT over one table, an UPDATE or a DELETE. The statement is a
+// parse tree as encoding/json reads what pg_query writes: {"SelectStmt": {..}}, and text is what it was made from. The
+// error is a Refusal.
+func Make(statement map[string]any, text string, c *catalog.Catalog) (*Form, error) {
+	kind, body := open(statement)
+	var from any
+	switch kind {
+	case "SelectStmt":
+		list := body.list("fromClause")
+		if len(list) != 1 {
+			return nil, notOneTable
+		}
+		from = list[0]
+	case "UpdateStmt", "DeleteStmt":
+		if body.has("fromClause") || body.has("usingClause") {
+			return nil, notOneTable
+		}
+		from = map[string]any{"RangeVar": map[string]any(body.tree("relation"))}
+	default:
+		return nil, notAStatement
+	}
+	if err := plainLook(body); err != nil {
+		return nil, err
+	}
+	f := newForm(statement, text, c)
+	if err := f.from(from); err != nil {
+		return nil, err
+	}
+	f.Drops = f.drops(kind, body)
+	var err error
+	if f.root, err = (&reader{form: f}).where(body["whereClause"]); err != nil {
+		return nil, err
+	}
+	return f, nil
+}
+
+// plainLook refuses what is no plain look at tables.
+func plainLook(body tree) error {
+	if body.has("withClause") { // a name of it may hide a table's
+		return withQueries
+	}
+	for _, lock := range body.list("lockingClause") {
+		if _, clause := open(lock); clause.text("waitPolicy") == "LockWaitSkip" {
+			return skipLocked
+		}
+	}
+	return nil
+}
+
+// newForm makes a form without a table, and counts the places of its parameters.
+func newForm(statement map[string]any, text string, c *catalog.Catalog) *Form {
+	f := &Form{catalog: c, text: text, elsewhere: map[int]int{}}
+	visit(statement, func(kind string, body tree) {
+		if kind == "ParamRef" {
+			f.elsewhere[body.number("number")]++
+		}
+	})
+	return f
+}
+
+// from finds the table.
+func (f *Form) from(entry any) error {
+	kind, body := open(entry)
+	switch kind {
+	case "RangeVar":
+	case "RangeTableSample":
+		return sampled
+	default:
+		return notOneTable
+	}
+	table, ok := f.catalog.Find(body.text("schemaname"), body.text("relname"))
+	switch {
+	case !ok, body.has("catalogname"):
+		return unknownTable
+	case table.Hidden != "":
+		return Refusal(table.Hidden)
+	case table.RowSecurity:
+		return rowSecurity
+	case !body.flag("inh"):
+		return onlyTable
+	case table.Root != table.OID:
+		return aPartition
+	case body.tree("alias").has("colnames"):
+		return renamedColumns
+	case !f.catalog.Own():
+		return pathOrder
+	}
+	f.Table, f.Name = table, body.text("relname")
+	if alias := body.tree("alias").text("aliasname"); alias != "" {
+		f.Name = alias
+	}
+	return nil
+}
+
+// drops returns why a row that satisfies the condition may be missing in the result.
+func (f *Form) drops(kind string, body tree) string {
+	if kind != "SelectStmt" {
+		switch {
+		case f.Table.Triggers:
+			return "a trigger may keep a row from being written"
+		case f.Table.Rules:
+			return "a rule"
+		}
+		return ""
+	}
+	switch {
+	case body.has("limitCount"), body.has("limitOffset"):
+		return "LIMIT or OFFSET"
+	case body.has("distinctClause"):
+		return "DISTINCT"
+	case body.has("havingClause"):
+		return "HAVING"
+	}
+	reason := ""
+	visit(map[string]any(body), func(kind string, call tree) {
+		if names := call.names("funcname"); kind == "FuncCall" && len(names) > 0 {
+			schema := ""
+			if len(names) > 1 {
+				schema = names[0]
+			}
+			if f.catalog.Function(schema, names[len(names)-1]).Set {
+				reason = "a function that returns any number of rows"
+			}
+		}
+	})
+	return reason
+}

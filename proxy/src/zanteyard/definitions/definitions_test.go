@@ -1,0 +1,127 @@
+package definitions
+
+import (
+	"context"
+	"errors"
+	"fmt"
+	"testing"
+	"time"
+
+	"github.com/jackc/pgconn"
+
+	"zanteyard/cluster"
+)
+
+func TestPauses(t *testing.T) {
+	const ms = time.Millisecond
+	for _, x := range []struct{ every, took, whole, regular, urgent time.Duration }{
+		{time.Second, ms, 30 * ms, time.Second, time.Second},
+		{20 * ms, ms / 10, 10 * ms, 20 * ms, 20 * ms},
+		{time.Second, 100 * ms, 900 * ms, 10 * time.Second, time.Second}, // ten thousand partitions
+		{time.Second, 500 * ms, 5 * time.Second, 50 * time.Second, 5 * time.Second},
+		{time.Minute, ms, 30 * ms, time.Minute, time.Second},
+	} {
+		regular, urgent := pauses(x.every, x.took, x.whole)
+		if regular != x.regular || urgent != x.urgent {
+			t.Errorf("%v, if looks take %v and the last %v: %v and %v", x.every, x.took, x.whole, regular, urgent)
+		}
+	}
+	if got := shortest([]time.Duration{3 * ms, ms, 2 * ms}); got != ms {
+		t.Errorf("the shortest is %v", got)
+	}
+}
+
+func open(t *testing.T, every time.Duration) (*Definitions, *pgconn.PgConn) {
+	t.Helper()
+	c, err := cluster.Start(nil, nil)
+	if errors.Is(err, cluster.ErrMissing) {
+		t.Skip(err)
+	}
+	if err != nil {
+		t.Fatal(err)
+	}
+	t.Cleanup(c.Stop)
+	config, err := pgconn.ParseConfig(fmt.Sprintf("host=127.0.0.1 port=%d user=postgres dbname=postgres sslmode=disable", c.Port))
+	if err != nil {
+		t.Fatal(err)
+	}
+	conn, err := pgconn.ConnectConfig(context.Background(), config)
+	if err != nil {
+		t.Fatal(err)
+	}
+	t.Cleanup(func() { conn.Close(context.Background()) })
+	return New(config, every, func(text string) { t.Log(text) }), conn
+}
+
+func sql(t *testing.T, conn *pgconn.PgConn, text string) {
+	t.Helper()
+	if _, err := conn.Exec(context.Background(), text).ReadAll(); err != nil {
+		t.Fatalf("%s: %v", text, err)
+	}
+}
+
+// TestTemporaryTables: what only one connection can see is no change of the catalog, whichever way it is made; a change
+// of anything else is.
+func TestTemporaryTables(t *testing.T) {
+	d, conn := open(t, time.Hour)
+	ctx := context.Background()
+	own, err := pgconn.ConnectConfig(ctx, d.config)
+	if err != nil {
+		t.Fatal(err)
+	}
+	defer own.Close(ctx)
+	looks := func() uint64 {
+		t.Helper()
+		if err := d.renew(ctx, own); err != nil {
+			t.Fatal(err)
+		}
+		return d.loads.Load()
+	}
+	sql(t, conn, "CREATE TABLE t (id int PRIMARY KEY, v text)")
+	was := looks()
+	for _, text := range []string{"CREATE TEMP TABLE s (id int PRIMARY KEY, v text)", "INSERT INTO s VALUES (1, repeat('x', 9000))",
+		"CREATE INDEX ON s (v)", "ALTER TABLE s ADD COLUMN w text", "CREATE TEMP TABLE IF NOT EXISTS s (id int)", "TRUNCATE s",
+		"CREATE TEMP TABLE copied AS SELECT 1 AS a", "SELECT 1 AS a INTO TEMP other", "CREATE TEMP VIEW seen AS SELECT id FROM s",
+		"CREATE TEMP SEQUENCE numbers", "DROP VIEW seen", "DROP TABLE s, copied, other", "DISCARD TEMP",
+		"BEGIN; CREATE TEMP TABLE u (id int) ON COMMIT DROP; COMMIT"} {
+		sql(t, conn, text)
+		if now := looks(); now != was {
+			t.Errorf("%s: the catalog was loaded", text)
+			was = now
+		}
+	}
+	for _, text := range []string{"CREATE TABLE u (id int)", "ALTER TABLE t ADD COLUMN w text", "CREATE INDEX ON t (v)", "GRANT SELECT ON t TO PUBLIC",
+		"CREATE SCHEMA elsewhere", "CREATE FUNCTION f() RETURNS int LANGUAGE sql AS 'SELECT 1'", "CREATE ROLE somebody", "DROP TABLE u",
+		"ALTER TABLE t RENAME TO pg_temp_t", "CREATE SCHEMA pgtemp_1", "ALTER TABLE pg_temp_t DROP CONSTRAINT t_pkey"} {
+		sql(t, conn, text)
+		now := looks()
+		if now != was+1 {
+			t.Errorf("%s: the catalog was loaded %d times", text, now-was)
+		}
+		was = now
+	}
+}
+
+// TestLoadsAreFew: however many changes are reported, the catalog is loaded again only after a pause.
+func TestLoadsAreFew(t *testing.T) {
+	d, conn := open(t, time.Hour)
+	ctx, cancel := context.WithCancel(context.Background())
+	defer cancel()
+	loaded, over := make(chan struct{}), make(chan struct{})
+	go func() {
+		defer close(over)
+		d.Run(ctx, func() { close(loaded) })
+	}()
+	<-loaded
+	began, at := time.Now(), d.loads.Load()
+	for i := 0; d.loads.Load() < at+2; i++ {
+		sql(t, conn, fmt.Sprintf("CREATE TABLE made%d (id int PRIMARY KEY)", i))
+		d.Changed()
+	}
+	// The first of the two may have come at once, the second only after the pause.
+	if took := time.Since(began); took < leastPause {
+		t.Errorf("the catalog was loaded twice within %v", took)
+	}
+	cancel()
+	<-over
+}

@@ -1,0 +1,209 @@
+package join
+
+import "zanteyard/record"
+
+// Total is how much there was of something, and in which place each is. Rolled-back ones are beside All. What isn't in a
+// place yet waits for its decision.
+type Total struct {
+	All, Checked, RolledBack uint64
+	InPart, NotChecked       map[string]uint64
+}
+
+// Waiting is how many aren't decided yet.
+func (t *Total) Waiting() uint64 { return t.All - t.decided() }
+
+func (t *Total) decided() uint64 { return t.Checked + sumOf(t.InPart) + sumOf(t.NotChecked) }
+
+func sumOf(its map[string]uint64) (sum uint64) {
+	for _, n := range its {
+		sum += n
+	}
+	return sum
+}
+
+func (t *Total) leave(reason string, n uint64) { put(&t.NotChecked, reason, n) }
+func (t *Total) part(reason string, n uint64)  { put(&t.InPart, reason, n) }
+
+func put(to *map[string]uint64, reason string, n uint64) {
+	if n == 0 {
+		return
+	}
+	if *to == nil {
+		*to = map[string]uint64{}
+	}
+	(*to)[reason] += n
+}
+
+func (t *Total) add(more *Total) {
+	t.All, t.Checked, t.RolledBack = t.All+more.All, t.Checked+more.Checked, t.RolledBack+more.RolledBack
+	for reason, n := range more.InPart {
+		t.part(reason, n)
+	}
+	for reason, n := range more.NotChecked {
+		t.leave(reason, n)
+	}
+}
+
+// Totals are how much of what clients finished was checked: transactions, their statements on tables, and rows. A row
+// counts as read each time that a SELECT returns it, and as written once in each transaction.
+type Totals struct {
+	Transactions, Selects, Writes Total
+	RowsRead, RowsWritten         Total
+	// Conditions are SELECTs that asked by anything but a whole key, and Empty those that returned no row.
+	Conditions, Empty uint64
+	OnlyRead          uint64 // of the transactions that were rolled back: Options.Rollbacks would check them
+	Others            uint64 // definitions, procedures, and whatever else may read or write
+	// Of the rows read and checked: what the transaction itself had written, versions from before the audit, and versions
+	// that unchecked transactions wrote.
+	Own, Before, OfUnchecked uint64
+	// Outside are commits that no session reported, and their rows: of programs that bypass the proxy.
+	Outside, OutsideRows uint64
+}
+
+func (t *Totals) each() []*Total {
+	return []*Total{&t.Transactions, &t.Selects, &t.Writes, &t.RowsRead, &t.RowsWritten}
+}
+
+func (t *Totals) add(more *Totals) {
+	its := more.each()
+	for i, one := range t.each() {
+		one.add(its[i])
+	}
+	t.Conditions, t.Empty, t.Others = t.Conditions+more.Conditions, t.Empty+more.Empty, t.Others+more.Others
+	t.OnlyRead += more.OnlyRead
+	t.Own, t.Before, t.OfUnchecked = t.Own+more.Own, t.Before+more.Before, t.OfUnchecked+more.OfUnchecked
+	t.Outside, t.OutsideRows = t.Outside+more.Outside, t.OutsideRows+more.OutsideRows
+}
+
+// copied returns the same, which doesn't change any more.
+func (t *Totals) copied() Totals {
+	var to Totals
+	to.add(t)
+	return to
+}
+
+// told counts a transaction that has ended.
+func (t *Totals) told(it *record.Transaction) {
+	selects, writes, rows := it.Did.Sum(len(it.Reads))
+	t.Conditions, t.Empty, t.Others = t.Conditions+it.Did.Conditions, t.Empty+it.Did.Empty, t.Others+it.Did.Others
+	if it.Outcome == record.Aborted {
+		if it.OnlyRead {
+			t.OnlyRead++
+		}
+		t.Transactions.RolledBack++
+		t.Selects.RolledBack += selects
+		t.Writes.RolledBack += writes
+		t.RowsRead.RolledBack += rows
+		t.RowsWritten.RolledBack += it.Did.Written
+		return
+	}
+	t.Transactions.All++
+	t.Selects.All += selects
+	t.Writes.All += writes
+	t.RowsRead.All += rows
+}
+
+// leave counts what a transaction did as not checked, except for its rows in the slot. What wasn't seen in any case keeps
+// its own reason.
+func (t *Totals) leave(it *record.Transaction, reason string) {
+	d := it.Did.Alone(len(it.Reads))
+	t.Transactions.leave(reason, 1)
+	t.Selects.leave(reason, d.Again)
+	t.Writes.leave(reason, d.Writes)
+	t.RowsRead.leave(reason, d.Beyond)
+	for _, one := range d.Left {
+		why := one.Reason
+		if one.InPart {
+			why = reason
+		}
+		t.Selects.leave(why, one.Selects)
+		t.Writes.leave(why, one.Writes)
+		t.RowsRead.leave(why, one.Rows)
+	}
+}
+
+// take counts a transaction that was offered. why says why it isn't checked in full, or is "".
+func (t *Totals) take(e *entry, to *resolution, why string) {
+	d := &e.its.Did
+	switch {
+	case why == "":
+		t.Transactions.Checked++
+	case to.offersNothing():
+		t.Transactions.leave(why, 1)
+	default:
+		t.Transactions.part(why, 1)
+	}
+	t.takeRows(e, to)
+	t.takeSelects(d, to)
+	switch {
+	case e.its.Number == 0 && e.its.MayHaveWritten, e.late != "":
+		t.Writes.leave(why, d.Writes)
+	case e.writer != nil && e.writer.lacks:
+		t.Writes.part(someRows, d.Writes)
+	default:
+		t.Writes.Checked += d.Writes
+	}
+	for _, one := range d.Left {
+		add := (*Total).leave
+		if one.InPart {
+			add = (*Total).part
+		}
+		add(&t.Selects, one.Reason, one.Selects)
+		add(&t.Writes, one.Reason, one.Writes)
+		add(&t.RowsRead, one.Reason, one.Rows)
+	}
+	t.RowsWritten.Checked += uint64(len(to.writes) - to.marked)
+}
+
+func (t *Totals) takeRows(e *entry, to *resolution) {
+	d := &e.its.Did
+	rows := record.Did{Rows: d.Rows}.Alone(len(e.its.Reads)).Beyond
+	for _, one := range to.lost {
+		if one.at > 0 {
+			t.RowsRead.leave(one.reason, e.rowsOf(one.at))
+			rows -= e.rowsOf(one.at)
+		}
+	}
+	t.RowsRead.Checked += rows
+	t.RowsRead.leave(notKept, d.Beyond)
+	for _, at := range to.owned {
+		t.Own += e.rowsOf(at)
+	}
+	t.Before, t.OfUnchecked = t.Before+to.beforeRows, t.OfUnchecked+to.foldedRows
+}
+
+// takeSelects counts those of which all was seen: if some of a SELECT's reads are left out, it is checked in part.
+func (t *Totals) takeSelects(d *record.Did, to *resolution) {
+	t.Selects.Checked += d.Again
+	if len(to.lost) == 0 {
+		t.Selects.Checked += uint64(len(d.Selects))
+		return
+	}
+	why := map[int32]string{}
+	for _, one := range to.lost {
+		why[one.at] = one.reason
+	}
+	for _, one := range d.Selects {
+		lost, reason := 0, why[-one.Absent]
+		for at := one.From + 1; at <= one.To; at++ {
+			if its, is := why[at]; is {
+				lost, reason = lost+1, its
+			}
+		}
+		switch {
+		case reason == "":
+			t.Selects.Checked++
+		case lost < int(one.To-one.From):
+			t.Selects.part(someRows, 1)
+		default:
+			t.Selects.leave(reason, 1)
+		}
+	}
+}
+
+// close counts as not checked whatever isn't decided.
+func (t *Totals) close(reason string) {
+	for _, one := range t.each() {
+		one.leave(reason, one.Waiting())
+	}
+}

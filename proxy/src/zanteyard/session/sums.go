@@ -1,0 +1,195 @@
+package session
+
+import (
+	"bytes"
+	"strconv"
+
+	"zanteyard/plan"
+	"zanteyard/record"
+)
+
+// Why a statement isn't checked though nothing of it is hidden.
+const (
+	foundNoRow = record.FoundNoRow
+	noVersion  = "a row without a version, as of an outer join"
+	anyCursor  = "a cursor that isn't known"
+	aFunction  = "what a function reads"
+)
+
+// sums puts a statement that has ended, and the rows that it returned, in one place (record.Did). reason says why it was
+// sent as it is, "" if it was rewritten or needn't be; p is nil if it isn't known.
+func (s *Session) sums(p *plan.Plan, e *expectation, tag []byte, reason string) {
+	verb, n := counted(tag)
+	if p == nil || p.Unknown {
+		s.sumUnknown(verb, n, e, p, reason)
+		return
+	}
+	inner := rows(p)
+	switch {
+	case p.Kind == plan.Fetch:
+		s.sumFetched(p, e, verb)
+	case p.Kind == plan.Declare && !inner.Touches():
+		s.names.unseen(p.Name, "")
+	case !inner.Touches():
+	case p.Kind == plan.Declare:
+		s.sumSelect(inner, e, reason, 0)
+		s.names.unseen(p.Name, s.whyUnseen(inner, e, reason))
+	case inner.Kind == plan.Copy && verb == "COPY" && len(inner.Unseen) > 0:
+		s.sumSelect(inner, e, inner.Unseen[0].Reason, n)
+	case inner.Kind == plan.Definition:
+		s.tx.Did.Others++
+	case verb == "SELECT":
+		s.sumSelect(inner, e, reason, uint64(e.rows))
+	case writes(verb), inner.Kind == plan.Write:
+		s.sumWrite(inner, e, reason, n)
+	default:
+		s.tx.Did.Others++
+	}
+}
+
+// sumUnknown counts a statement of which only the server's answer is known.
+func (s *Session) sumUnknown(verb string, n uint64, e *expectation, p *plan.Plan, reason string) {
+	if p != nil && len(p.Unseen) > 0 {
+		reason = p.Unseen[0].Reason
+	}
+	d := &s.tx.Did
+	switch {
+	case verb == "SELECT" || verb == "FETCH":
+		d.Leave(reason, false, isOne(verb == "SELECT"), 0, uint64(e.rows))
+		d.Empty += isOne(verb == "SELECT" && e.rows == 0)
+	case writes(verb):
+		d.Leave(reason, false, 0, 1, 0)
+		d.Written += n
+	default:
+		d.Others++
+	}
+}
+
+// sumFetched counts rows of a cursor: its SELECT was counted with DECLARE.
+func (s *Session) sumFetched(p *plan.Plan, e *expectation, verb string) {
+	reason, known := s.names.unread[p.Name]
+	switch {
+	case e.rows == 0 || verb != "FETCH" || e.hides != nil && len(e.hides.Unseen) == 0:
+	case e.hides != nil:
+		s.tx.Did.Leave(e.hides.Unseen[0].Reason, true, 0, 0, uint64(e.rows))
+	case !known:
+		s.fetchedUnseen(anyCursor, e)
+	case reason != "":
+		s.fetchedUnseen(reason, e)
+	}
+}
+
+// fetchedUnseen counts rows of a cursor that isn't seen. One WITH HOLD returns them in a transaction that may have no
+// other statement.
+func (s *Session) fetchedUnseen(reason string, e *expectation) {
+	s.tx.Did.Leave(reason, false, 0, 0, uint64(e.rows))
+	s.tx.Touched, s.tx.Partly = true, true
+}
+
+// whyUnseen is why no row of a SELECT on tables is seen, or "".
+func (s *Session) whyUnseen(p *plan.Plan, e *expectation, reason string) string {
+	switch why := s.tx.unreported(); {
+	case reason != "":
+		return reason
+	case !e.changed && len(p.Unseen) > 0:
+		return p.Unseen[0].Reason
+	case !e.changed:
+		return aFunction
+	case why != "":
+		return why
+	}
+	return ""
+}
+
+func (s *Session) sumSelect(p *plan.Plan, e *expectation, reason string, n uint64) {
+	d := &s.tx.Did
+	isFirst := e.at == nil || !e.at.counted
+	reason = s.whyUnseen(p, e, reason)
+	isCursor := e.on != nil && e.on.kind() == plan.Declare
+	if isFirst {
+		d.Conditions += isOne(!p.ByKey)
+		d.Empty += isOne(n == 0 && !isCursor)
+	}
+	one := isOne(isFirst)
+	switch {
+	case reason != "":
+		d.Leave(reason, false, one, 0, n)
+	case n == 0 && !isCursor && isFirst && p.Asked && e.hidden > 0: // absent counts it
+	case n == 0 && !isCursor:
+		if isFirst {
+			d.Leave(foundNoRow, false, 1, 0, 0)
+		}
+	case len(p.Unseen) > 0:
+		d.Leave(p.Unseen[0].Reason, true, one, 0, n)
+	case e.loose > 0:
+		d.Leave(noVersion, true, one, 0, uint64(e.loose))
+	case !isFirst:
+	case len(s.tx.Reads) > e.from && !isCursor:
+		d.Selects = append(d.Selects, record.Select{From: int32(e.from), To: int32(len(s.tx.Reads))})
+	default:
+		d.Again++
+	}
+}
+
+func (s *Session) sumWrite(p *plan.Plan, e *expectation, reason string, n uint64) {
+	d := &s.tx.Did
+	d.Written += n
+	left, inPart := "", false
+	for _, u := range p.Unseen {
+		if left == "" || u.Writes && inPart {
+			left, inPart = u.Reason, !u.Writes
+		}
+	}
+	switch {
+	case n == 0 && p.Kind == plan.Write && !p.MayWriteUnseen:
+		left, inPart = foundNoRow, false
+	case left == "" && len(p.Sources) > 0 && reason != "":
+		left, inPart = reason, true
+	}
+	if left != "" {
+		d.Leave(left, inPart, 0, 1, 0)
+		return
+	}
+	d.Writes++
+}
+
+// suspended counts what a portal has returned by now, of which more may come.
+func (s *Session) suspended(e *expectation) {
+	p := e.current()
+	if e.at == nil || p == nil || p.Unknown || p.Kind != plan.Select || !p.Touches() {
+		return
+	}
+	reason := ""
+	if !e.changed && e.use != nil {
+		reason = s.trust.why(e.use)
+	}
+	s.sumSelect(p, e, reason, uint64(e.rows))
+	e.at.counted = true
+}
+
+// counted parses a command's tag: what was done, and with how many rows.
+func counted(tag []byte) (verb string, n uint64) {
+	words := bytes.Fields(tag)
+	if len(words) == 0 {
+		return "", 0
+	}
+	if n, err := strconv.ParseUint(string(words[len(words)-1]), 10, 64); err == nil && len(words) > 1 {
+		return string(words[0]), n
+	}
+	return string(tag), 0
+}
+
+func writes(verb string) bool {
+	switch verb {
+	case "INSERT", "UPDATE", "DELETE", "MERGE", "COPY", "TRUNCATE TABLE":
+		return true
+	}
+	return false
+}
+
+func isOne(is bool) uint64 {
+	if is {
+		return 1
+	}
+	return 0
+}
