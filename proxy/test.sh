@@ -28,9 +28,9 @@ go vet zanteyard/...
 told=$(mktemp)
 trap 'rm -f "$told"' EXIT
 tests() {
-    # A package that hangs fails after 40 minutes; on a busy machine the usual ten may be too short for one that doesn't.
+    # A package that hangs fails after 20 minutes; on a busy machine the usual ten may be too short for one that doesn't.
     status=0
-    { go test -race -timeout 40m "$@" || echo $? > "$told.status"; } 2>&1 | tee "$told"
+    { go test -race -timeout 20m "$@" || echo $? > "$told.status"; } 2>&1 | tee "$told"
     if [ -e "$told.status" ]; then status=$(cat "$told.status"); rm -f "$told.status"; fi
     [ "$status" -ne 0 ] || return 0
     failed=$(sed -n 's/^FAIL[[:space:]]\(zanteyard[^[:space:]]*\)[[:space:]][0-9.]*s$/\1/p' "$told")
@@ -39,14 +39,14 @@ tests() {
     fi
     for package in $failed; do
         echo "once more, by itself: $package"
-        go test -race -timeout 40m -count 1 "$package" || return
+        go test -race -timeout 20m -count 1 "$package" || return
         echo "FAILED ONCE, then passed by itself: $package"
     done
 }
 tests "$@" zanteyard/...
 # A panic at each place of an audit: the places are in the program only with this tag.
 go vet -tags faults zanteyard/guard zanteyard/cmd/zanteyard-proxy
-go test -race -timeout 40m -tags faults "$@" zanteyard/cmd/zanteyard-proxy -run '^TestFaults$'
+go test -race -timeout 20m -tags faults "$@" zanteyard/cmd/zanteyard-proxy -run '^TestFaults$'
 # Sessions again, served by goroutines, as with TLS.
-go test -race -timeout 40m "$@" zanteyard/session -without-loop
+go test -race -timeout 20m "$@" zanteyard/session -without-loop
 ./build.sh

@@ -1,13 +1,15 @@
 #!/usr/bin/env python3
 """Runs the tests in several parallel processes, since most of them wait for servers and clients.
 
-    ./run_tests.py [--processes N] [--seconds N] [--slowest N] [--again N] [MODULE ...]
+    ./run_tests.py [--processes N] [--seconds N] [--module-seconds N] [--slowest N] [--again N]
+                   [MODULE ...]
 
 Each process runs one module after another, and has its own folder for temporary files and its own
 server, which its modules share. A module's output is printed as a whole, in alphabetical order. The
-status is 1 if a test fails, if a process ends by itself, or if the time is up; then each running
-thread is shown. With --again N, if at most N modules failed, these are run once more, one at a
-time, after all others: what fails only next to other tests is listed, and isn't a failure.
+status is 1 if a test fails, if a process ends by itself, or if the time is up: that of all modules,
+or that of one, whose process is then ended with all that it started. Each running thread is shown
+then. With --again N, if at most N modules failed, these are run once more, one at a time, after all
+others: what fails only next to other tests is listed, and isn't a failure.
 """
 
 import argparse
@@ -15,6 +17,7 @@ import contextlib
 import glob
 import json
 import os
+import select
 import shutil
 import signal
 import subprocess
@@ -115,11 +118,15 @@ class Names:
 
 
 class Worker(threading.Thread):
-    """Has a process, replaced if it ends."""
+    """Has a process, replaced if it ends, or if a module takes longer than `limit` seconds."""
 
-    def __init__(self, folder: str, number: int, names: Names, results: dict[str, Ran]) -> None:
+    def __init__(
+        self, folder: str, number: int, limit: float, names: Names, results: dict[str, Ran]
+    ) -> None:
         super().__init__(daemon=True)
         self.folder, self.number, self.names, self.results = folder, number, names, results
+        self.limit = limit
+        self.own = os.path.join(folder, str(number))  # for temporary files
         self.process: subprocess.Popen[str] | None = None
         self.is_stopped = False
 
@@ -131,7 +138,11 @@ class Worker(threading.Thread):
                 self.results[name] = Ran(*json.loads(answer))
             elif not self.is_stopped:
                 assert self.process is not None
-                ended = f"its process ended, with status {self.process.wait()}"
+                ended = f"it hasn't ended in {self.limit:.0f} s"
+                if answer is None:
+                    self.kill()
+                else:
+                    ended = f"its process ended, with status {self.process.wait()}"
                 self.results[name] = Ran(0, [], ended, time.monotonic() - began, [])
                 self.process = None
         if self.process is not None and not self.is_stopped:
@@ -146,7 +157,8 @@ class Worker(threading.Thread):
         except subprocess.TimeoutExpired:
             self.results[f"process {self.number}"] = LATE
 
-    def ask(self, name: str) -> str:
+    def ask(self, name: str) -> str | None:
+        """Returns its answer, empty if its process ended, and None if the module takes too long."""
         if self.process is None:
             self.process = subprocess.Popen(
                 [sys.executable, "-X", "faulthandler", __file__, "--one-of-them"],
@@ -160,35 +172,44 @@ class Worker(threading.Thread):
         with contextlib.suppress(BrokenPipeError):
             self.process.stdin.write(json.dumps([name, os.path.join(self.folder, name)]) + "\n")
             self.process.stdin.flush()
-        return self.process.stdout.readline()
+        answers, _, _ = select.select([self.process.stdout], [], [], self.limit)
+        return self.process.stdout.readline() if answers else None
 
     def environment(self) -> dict[str, str]:
         """With a folder of its own. Compiled files are kept for the hundreds of programs that tests
         start, even if the tree is read-only."""
-        own, compiled = (os.path.join(self.folder, it) for it in (str(self.number), "compiled"))
-        os.makedirs(own, mode=0o711, exist_ok=True)
-        its = {**os.environ, "TMPDIR": own, "PYTHONPYCACHEPREFIX": compiled}
+        compiled = os.path.join(self.folder, "compiled")
+        os.makedirs(self.own, mode=0o711, exist_ok=True)
+        its = {**os.environ, "TMPDIR": self.own, "PYTHONPYCACHEPREFIX": compiled}
         its.pop("PYTHONDONTWRITEBYTECODE", None)
         return its
 
     def stop(self) -> None:
-        """Shows where its threads are."""
-        self.is_stopped, process = True, self.process
-        if process is not None and process.poll() is None:
-            process.send_signal(signal.SIGABRT)
-            with contextlib.suppress(subprocess.TimeoutExpired):
-                process.wait(ENDING)
-            process.kill()
-            process.wait()
+        self.is_stopped = True
+        if self.process is not None and self.process.poll() is None:
+            self.kill()
+
+    def kill(self) -> None:
+        """Shows where its threads are, and ends it with all that it started."""
+        process = self.process
+        assert process is not None
+        process.send_signal(signal.SIGABRT)
+        with contextlib.suppress(subprocess.TimeoutExpired):
+            process.wait(ENDING)
+        process.kill()
+        process.wait()
+        end_servers(self.own)
+        end_programs(self.own)
 
 
-def run_all(names: list[str], count: int, seconds: float) -> dict[str, Ran]:
-    """Runs all in this many processes, for at most this many seconds; prints their output."""
+def run_all(names: list[str], count: int, seconds: float, limit: float) -> dict[str, Ran]:
+    """Runs all in this many processes, for at most this many seconds, each module for at most
+    `limit` seconds; prints their output."""
     ends, waiting = time.monotonic() + seconds, Names(names)
     results: dict[str, Ran] = {}
     told = 0
     with folder_of_its_own() as folder:
-        workers = [Worker(folder, at, waiting, results) for at in range(count)]
+        workers = [Worker(folder, at, limit, waiting, results) for at in range(count)]
         try:
             for worker in workers:
                 worker.start()
@@ -225,6 +246,16 @@ def end_servers(folder: str) -> None:
                 os.kill(abs(int(file.readline())), number)
 
 
+def end_programs(folder: str) -> None:
+    """Ends programs that a killed test has started, whose temporary files are in this folder."""
+    wanted = f"TMPDIR={folder}".encode()
+    for number in filter(str.isdigit, os.listdir("/proc")):
+        with contextlib.suppress(OSError):
+            with open(f"/proc/{number}/environ", "rb") as file:
+                if wanted in file.read().split(b"\0"):
+                    os.kill(int(number), signal.SIGKILL)
+
+
 def tell(name: str, ran: Ran, folder: str) -> None:
     print(f"== {name}: {', '.join([f'{ran.seconds:.1f} s', *filter(None, [ran.problem])])}")
     with contextlib.suppress(FileNotFoundError):
@@ -246,7 +277,9 @@ def summary(results: dict[str, Ran], seconds: float, slowest: int) -> Iterator[s
             yield f"FAILED: {name}: {ran.problem}"
 
 
-def run_again(results: dict[str, Ran], most: int, seconds: float) -> Iterator[str]:
+def run_again(
+    results: dict[str, Ran], most: int, seconds: float, limit: float
+) -> Iterator[str]:
     """Runs each module that failed once more, by itself, if they are few, and enters what it comes
     to. Gives a line for each that passes."""
     failed = sorted(name for name, ran in results.items() if ran.problem)
@@ -256,7 +289,7 @@ def run_again(results: dict[str, Ran], most: int, seconds: float) -> Iterator[st
     for name in failed:
         before = results[name]
         print(f"once more, by itself: {name} ({before.problem})", flush=True)
-        results[name] = run_all([name], 1, ends - time.monotonic())[name]
+        results[name] = run_all([name], 1, ends - time.monotonic(), limit)[name]
         if not results[name].problem:
             yield f"FAILED ONCE, then passed by itself: {name}: {before.problem}"
 
@@ -265,6 +298,7 @@ def main() -> int:
     words = argparse.ArgumentParser(description=__doc__.splitlines()[0])
     words.add_argument("--processes", type=int, default=3, help="side by side (3)")
     words.add_argument("--seconds", type=float, default=3600.0, help="for all of them (3600)")
+    words.add_argument("--module-seconds", type=float, default=600.0, help="for each (600)")
     words.add_argument("--slowest", type=int, default=0, help="so many tests are named at the end")
     words.add_argument("--again", type=int, default=0, help="rerun up to so many that failed (0)")
     words.add_argument("--one-of-them", action="store_true", help=argparse.SUPPRESS)
@@ -278,9 +312,10 @@ def main() -> int:
     names = asked.modules or [f"tests.{os.path.basename(path)[:-3]}" for path in paths]
     signal.signal(signal.SIGTERM, lambda *_: sys.exit(1))
     began = time.monotonic()
-    results = run_all(sorted(names), min(asked.processes, len(names)), asked.seconds)
+    limit = asked.module_seconds
+    results = run_all(sorted(names), min(asked.processes, len(names)), asked.seconds, limit)
     left = asked.seconds - (time.monotonic() - began)
-    for line in list(run_again(results, asked.again, left)):
+    for line in list(run_again(results, asked.again, left, limit)):
         print(line)
     for line in summary(results, time.monotonic() - began, asked.slowest):
         print(line)

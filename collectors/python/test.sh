@@ -1,11 +1,11 @@
 #!/usr/bin/env bash
 # Tests the collectors: types, style, and the unit tests, in parallel processes that start their own servers. It needs a built auditor
 # (crates/cobra_audit/out/cobra_audit, or the one that COBRA_AUDIT names). If something isn't installed, one line says what is skipped. It
-# takes about ten minutes on two processors, and always ends: a test that hangs is killed after 3600 s, or ZANTEYARD_SECONDS, and fails.
+# takes about twenty minutes on four processors, and always ends: a test that hangs is killed after 2700 s, or ZANTEYARD_SECONDS, and fails.
 #
 #     collectors/python/test.sh [--install]      --install: as root, first installs the Debian packages that it needs
 set -euo pipefail
-seconds=${ZANTEYARD_SECONDS:-3600}
+seconds=${ZANTEYARD_SECONDS:-2700}
 [ -z "${COBRA_AUDIT:-}" ] || COBRA_AUDIT=$(realpath "$COBRA_AUDIT")
 cd "$(dirname "$0")"
 if [ "${1:-}" = --install ]; then

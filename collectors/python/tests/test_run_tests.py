@@ -19,6 +19,24 @@ class It(unittest.TestCase):
 """
 
 
+HANGS_ONCE = """
+import os, subprocess, sys, time, unittest
+
+
+class It(unittest.TestCase):
+    def test_it(self):
+        with open(os.path.join({folder!r}, "hangs"), "a", encoding="ascii") as file:
+            file.write("x")
+            if file.tell() > 1:
+                return
+        sleeps = [sys.executable, "-c", "import time; time.sleep(600)"]
+        program = subprocess.Popen(sleeps, start_new_session=True)
+        with open(os.path.join({folder!r}, "program"), "a", encoding="ascii") as file:
+            file.write(str(program.pid))
+        time.sleep(600)
+"""
+
+
 class Rerun(unittest.TestCase):
     def setUp(self):
         folder = tempfile.TemporaryDirectory()
@@ -55,6 +73,21 @@ class Rerun(unittest.TestCase):
     def test_more_than_few_fail_at_once(self):
         ran = self.run_modules("--again", "2", one=1, two=1, three=1)
         self.assertEqual((ran.returncode, self.runs("one")), (1, 1))
+
+    def test_what_hangs_is_ended_with_what_it_started(self):
+        with open(os.path.join(self.folder, "hangs_once.py"), "w", encoding="ascii") as file:
+            file.write(HANGS_ONCE.format(folder=self.folder))
+        words = ("--module-seconds", "4", "hangs_once")
+        ran = self.run_modules(*words, passes=0)
+        self.assertEqual((ran.returncode, self.runs("passes")), (1, 1), ran.stdout)
+        self.assertIn("FAILED: hangs_once: it hasn't ended in 4 s", ran.stdout)
+        self.assertIn("in test_it", ran.stdout)  # where it was
+        with open(os.path.join(self.folder, "program"), encoding="ascii") as file:
+            self.assertFalse(os.path.exists(f"/proc/{file.read()}/exe"))
+        os.unlink(os.path.join(self.folder, "hangs"))
+        ran = self.run_modules("--again", "2", *words)
+        self.assertEqual(ran.returncode, 0, ran.stdout)
+        self.assertIn("FAILED ONCE, then passed by itself: hangs_once", ran.stdout)
 
     def test_without_the_option_none_runs_again(self):
         ran = self.run_modules(fails_once=1)
