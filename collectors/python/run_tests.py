@@ -56,7 +56,8 @@ class Ran(NamedTuple):
 LATE = Ran(0, [], "it hasn't ended in time", 0.0, [])
 
 
-# One of the processes: reads names of modules, a line each, and answers each with a line.
+# One of the processes: reads names of modules, a line each, and answers each with a line. Its standard
+# input is empty: a program that a test leaves behind could otherwise read the next name.
 
 
 class Timed(unittest.TextTestResult):
@@ -128,6 +129,7 @@ class Worker(threading.Thread):
         self.limit = limit
         self.own = os.path.join(folder, str(number))  # for temporary files
         self.process: subprocess.Popen[str] | None = None
+        self.asked: TextIO | None = None  # to the process
         self.is_stopped = False
 
     def run(self) -> None:
@@ -150,8 +152,8 @@ class Worker(threading.Thread):
 
     def end(self) -> None:
         """Ends its servers, too."""
-        assert self.process is not None and self.process.stdin is not None
-        self.process.stdin.close()
+        assert self.process is not None and self.asked is not None
+        self.asked.close()
         try:
             self.process.wait(30 * ENDING)
         except subprocess.TimeoutExpired:
@@ -160,20 +162,31 @@ class Worker(threading.Thread):
     def ask(self, name: str) -> str | None:
         """Returns its answer, empty if its process ended, and None if the module takes too long."""
         if self.process is None:
-            self.process = subprocess.Popen(
-                [sys.executable, "-X", "faulthandler", __file__, "--one-of-them"],
-                cwd=HERE,
-                env=self.environment(),
-                stdin=subprocess.PIPE,
-                stdout=subprocess.PIPE,
-                text=True,
-            )
-        assert self.process.stdin is not None and self.process.stdout is not None
+            self.start_process()
+        assert self.process is not None and self.process.stdout is not None
+        assert self.asked is not None
         with contextlib.suppress(BrokenPipeError):
-            self.process.stdin.write(json.dumps([name, os.path.join(self.folder, name)]) + "\n")
-            self.process.stdin.flush()
+            self.asked.write(json.dumps([name, os.path.join(self.folder, name)]) + "\n")
+            self.asked.flush()
         answers, _, _ = select.select([self.process.stdout], [], [], self.limit)
         return self.process.stdout.readline() if answers else None
+
+    def start_process(self) -> None:
+        names, written = os.pipe()
+        if self.asked is not None:
+            with contextlib.suppress(BrokenPipeError):
+                self.asked.close()
+        self.asked = os.fdopen(written, "w", encoding="utf-8")
+        self.process = subprocess.Popen(
+            [sys.executable, "-X", "faulthandler", __file__, "--one-of-them", str(names)],
+            cwd=HERE,
+            env=self.environment(),
+            stdin=subprocess.DEVNULL,
+            stdout=subprocess.PIPE,
+            pass_fds=(names,),
+            text=True,
+        )
+        os.close(names)
 
     def environment(self) -> dict[str, str]:
         """With a folder of its own. Compiled files are kept for the hundreds of programs that tests
@@ -301,12 +314,14 @@ def main() -> int:
     words.add_argument("--module-seconds", type=float, default=600.0, help="for each (600)")
     words.add_argument("--slowest", type=int, default=0, help="so many tests are named at the end")
     words.add_argument("--again", type=int, default=0, help="rerun up to so many that failed (0)")
-    words.add_argument("--one-of-them", action="store_true", help=argparse.SUPPRESS)
+    words.add_argument("--one-of-them", type=int, help=argparse.SUPPRESS)
     words.add_argument("modules", nargs="*", metavar="MODULE", help="as tests.test_live; else all")
     asked = words.parse_args()
-    if asked.one_of_them:
+    if asked.one_of_them is not None:
+        os.set_inheritable(asked.one_of_them, False)
+        lines = os.fdopen(asked.one_of_them, encoding="utf-8")
         answers = os.fdopen(os.dup(1), "w", encoding="utf-8")
-        run_modules(sys.stdin, answers)
+        run_modules(lines, answers)
         return 0
     paths = glob.glob(os.path.join(HERE, "tests", "test_*.py"))
     names = asked.modules or [f"tests.{os.path.basename(path)[:-3]}" for path in paths]

@@ -19,6 +19,15 @@ class It(unittest.TestCase):
 """
 
 
+READS_ON = """
+import subprocess, sys, unittest
+
+
+class It(unittest.TestCase):
+    def test_it(self):
+        reads = [sys.executable, "-c", "import sys; sys.stdin.read()"]
+        subprocess.Popen(reads, start_new_session=True)
+"""
 HANGS_ONCE = """
 import os, subprocess, sys, time, unittest
 
@@ -74,20 +83,24 @@ class Rerun(unittest.TestCase):
         ran = self.run_modules("--again", "2", one=1, two=1, three=1)
         self.assertEqual((ran.returncode, self.runs("one")), (1, 1))
 
+    def test_a_program_that_is_left_reads_no_name(self):
+        with open(os.path.join(self.folder, "reads_on.py"), "w", encoding="ascii") as file:
+            file.write(READS_ON)
+        others = {f"z{at}": 0 for at in range(20)}
+        ran = self.run_modules("--module-seconds", "60", "reads_on", **others)
+        self.assertEqual((ran.returncode, self.runs("z19")), (0, 1), ran.stdout)
+
     def test_what_hangs_is_ended_with_what_it_started(self):
         with open(os.path.join(self.folder, "hangs_once.py"), "w", encoding="ascii") as file:
             file.write(HANGS_ONCE.format(folder=self.folder))
-        words = ("--module-seconds", "4", "hangs_once")
+        words = ("--again", "2", "--module-seconds", "20", "hangs_once")
         ran = self.run_modules(*words, passes=0)
-        self.assertEqual((ran.returncode, self.runs("passes")), (1, 1), ran.stdout)
-        self.assertIn("FAILED: hangs_once: it hasn't ended in 4 s", ran.stdout)
+        self.assertEqual((ran.returncode, self.runs("passes")), (0, 1), ran.stdout)
+        self.assertIn("once more, by itself: hangs_once (it hasn't ended in 20 s)", ran.stdout)
         self.assertIn("in test_it", ran.stdout)  # where it was
+        self.assertIn("FAILED ONCE, then passed by itself: hangs_once", ran.stdout)
         with open(os.path.join(self.folder, "program"), encoding="ascii") as file:
             self.assertFalse(os.path.exists(f"/proc/{file.read()}/exe"))
-        os.unlink(os.path.join(self.folder, "hangs"))
-        ran = self.run_modules("--again", "2", *words)
-        self.assertEqual(ran.returncode, 0, ran.stdout)
-        self.assertIn("FAILED ONCE, then passed by itself: hangs_once", ran.stdout)
 
     def test_without_the_option_none_runs_again(self):
         ran = self.run_modules(fails_once=1)
