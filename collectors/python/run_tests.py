@@ -56,8 +56,8 @@ class Ran(NamedTuple):
 LATE = Ran(0, [], "it hasn't ended in time", 0.0, [])
 
 
-# One of the processes: reads names of modules, a line each, and answers each with a line. Its standard
-# input is empty: a program that a test leaves behind could otherwise read the next name.
+# One of the processes: reads names of modules, a line each, and answers each with a line. Its
+# standard input is empty: a program that a test leaves behind could otherwise read the next name.
 
 
 class Timed(unittest.TextTestResult):
