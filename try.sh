@@ -67,7 +67,7 @@ fi
 if [ "$status" -eq 3 ]; then
     step "an audit of SQLite: four clients count, each statement a transaction of its own, which loses updates"
     status=0
-    (cd "$folder" && "$zanteyard" audit sqlite --level autocommit --workload counter --clients 4 --rate 400 --every 60 \
+    (cd "$folder" && "$zanteyard" bench sqlite --level autocommit --workload counter --clients 4 --rate 400 --every 60 \
         --seconds 600 --unaudited 0 --rather-wait --html violation.html) || status=$?
     [ "$status" -eq 1 ] || fail "the audit ended with status $status, but should have found a violation (status 1)"
     printf '\n%s\n' "The violation's page is $folder/violation.html: open it in a browser."

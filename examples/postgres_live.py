@@ -10,7 +10,7 @@ for cobra_audit and as a picture. With --churn clients live for two seconds, 16 
 replaced by others; it prints the first transaction of each. The status is 0 if everything that was
 done was audited and is serial, and else 1.
 
-This is `zanteyard audit postgres` without an installed wheel; that command's statuses say more.
+This is `zanteyard bench postgres` without an installed wheel; that command's statuses say more.
 """
 import argparse
 import os

@@ -18,7 +18,7 @@ from zanteyard.trial.postgres_server import program
 from zanteyard.trial.store_kinds import KINDS
 from zanteyard.cli import audit
 from zanteyard.cli.audit import stopped_by_signals
-from zanteyard.cli._commands import COMMANDS, parser
+from zanteyard.cli._commands import COMMANDS, GROUPS, parser
 from zanteyard.cli._main import main
 from zanteyard.core._command_start import is_command
 from zanteyard.core._outcome import Outcome
@@ -320,8 +320,9 @@ class Help(unittest.TestCase):
                 self.assertIn("Exit status: ", " ".join(out.split()))
                 self.assertEqual(run(name, "--help"), (0, out, ""))
         for kind in KINDS:
-            out = run("help", "audit", kind.command)[1]
-            self.assertIn(f"\nexample:\n  zanteyard audit {kind.command} --seconds 5\n", out)
+            for name in ("bench", "audit"):
+                out = run("help", name, kind.command)[1]
+                self.assertIn(f"\nexample:\n  zanteyard {name} {kind.command} --seconds 5\n", out)
 
     def test_help_is_the_same_whichever_commands_are_filled(self):
         """Only the requested command has its arguments filled in."""
@@ -332,8 +333,12 @@ class Help(unittest.TestCase):
         self.assertEqual(run("help"), (0, whole, ""))
         self.assertEqual(run("--help"), (0, whole, ""))
         self.assertEqual(run(), (2, "", whole))
-        for name in COMMANDS:
-            self.assertIn(f"\n    {name}", whole)
+        sections = dict(part.split(":\n", 1) for part in whole.split("\n\n")[2:-3])
+        self.assertEqual([*sections], [*GROUPS, "options"])
+        for title, commands in GROUPS.items():
+            lines = [line.split(None, 1) for line in sections[title].splitlines()]
+            self.assertEqual(lines, [[name, its.about] for name, its in commands.items()])
+        self.assertLessEqual(max(map(len, whole.split("\nDocuments")[0].splitlines())), 100)
         status, out, err = run("help", "nothing")
         self.assertEqual((status, out), (2, ""))
         self.assertIn("there is no command 'nothing'", err)
@@ -354,7 +359,7 @@ class Help(unittest.TestCase):
                 ("che", ["check", "check-report"]),
                 ("explain --h", ["--help", "--html"]),
                 ("check --promise s", ["serializable", "snapshot", "strict"]),
-                ("audit p", ["postgres"]),
+                ("bench p", ["postgres"]),
                 ("audit postgres --level r", ["repeatable"]),
                 (f"check {folder}/h", [f"{folder}/history.jsonl"]),
             ):
@@ -470,7 +475,7 @@ print(before == signal.SIG_DFL, signal.getsignal(signal.SIGINT) == signal.defaul
 
     def test_what_is_interrupted_later(self):
         for name, place, told in (
-            ("check", "zanteyard.cli._scripts._run_of", "undecided: interrupted\n"),
+            ("check", "zanteyard.cli._scripts.given", "undecided: interrupted\n"),
             ("import", "zanteyard.imports._command.text_of", "interrupted\n"),
         ):
             with self.subTest(name=name):

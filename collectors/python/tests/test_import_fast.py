@@ -1,6 +1,7 @@
 """What makes the import of Jepsen's EDN fast changes nothing: lines that one expression takes apart
 say what the reader of any EDN makes of them."""
 import contextlib
+import fcntl
 import gzip
 import io
 import os
@@ -8,6 +9,7 @@ import re
 import subprocess
 import sys
 import tempfile
+import termios
 import unittest
 from unittest import mock
 
@@ -266,17 +268,39 @@ class Options(unittest.TestCase):
         self.assertEqual(status, 0)
         self.assertIn("real-time order explains every read", "\n".join(lines))
 
-    def test_a_history_that_cant_be_read_again(self):
-        """From a pipe, what tells the form can't be read twice."""
+    @unittest.skipUnless(os.path.isfile(PROGRAM), f"{PROGRAM} is not built")
+    def test_a_history_from_a_pipe(self):
+        """It is read once, also if the pipe's first piece doesn't tell its form."""
+        wanted = self.ran("check", f"{SAMPLES}/lists.edn")[1]
+        with open(f"{SAMPLES}/lists.edn", "rb") as file:
+            whole = file.read()
         with tempfile.TemporaryDirectory() as folder:
-            pipe, err = f"{folder}/pipe", io.StringIO()
+            pipe = f"{folder}/lists.edn"
             os.mkfifo(pipe)
-            with subprocess.Popen(["cp", f"{SAMPLES}/registers.edn", pipe]):
-                with contextlib.redirect_stderr(err), mock.patch.dict(
-                    os.environ, {"COBRA_AUDIT": sys.executable}
-                ):
-                    self.assertEqual(main(("check", pipe)), 2)
-        self.assertIn("is a history, not a script: save it to a file", err.getvalue())
+            with subprocess.Popen(["cp", f"{SAMPLES}/lists.edn", pipe]):
+                self.assertEqual(self.ran("check", pipe), (1, wanted))
+            zipped = gzip.compress(whole)
+            wanted = [line.replace("lists.edn", "a history") for line in wanted]
+            for text, size in ((whole, len(whole)), (whole, 9), (zipped, 40)):
+                with self.subTest(size=size):
+                    self.assertEqual(self.piped(text, size), (1, wanted))
+
+    @staticmethod
+    def piped(text, size):
+        """The same of a history on standard input, which arrives in pieces of this size, of which
+        the first is read before the second is written."""
+        call = [sys.executable, "-u", "-m", "zanteyard", "check", "-"]
+        with subprocess.Popen(
+            call, stdin=subprocess.PIPE, stdout=subprocess.PIPE, text=False, bufsize=0
+        ) as running:
+            running.stdin.write(text[:size])
+            left = b"1234"
+            while any(left):  # until the pipe is empty
+                left = fcntl.ioctl(running.stdin, termios.FIONREAD, bytes(4))
+            running.stdin.write(text[size:])
+            running.stdin.close()
+            lines = running.stdout.read().decode().splitlines()
+        return running.returncode, lines
 
     @staticmethod
     def ran(*words):

@@ -1,5 +1,5 @@
-"""The commands of `zanteyard`, and its parser. A command's modules are imported only if that
-command was requested."""
+"""The commands of `zanteyard`, by what they are for, and its parser. A command's modules are
+imported only if that command was requested."""
 
 import argparse
 import os
@@ -8,7 +8,7 @@ from collections.abc import Callable, Mapping, Sequence
 from typing import Any, NamedTuple
 
 from ..core._visible import say
-from ._parsing import Parser
+from ._parsing import GroupedParser, Parser
 from ._settings import settle
 from ._statuses import STATUS_WORDS
 
@@ -127,12 +127,20 @@ def _key(command: argparse.ArgumentParser) -> None:
 
 
 def _journal(command: argparse.ArgumentParser) -> None:
-    from ._runs import add_journal
+    from ._journal import add_journal
 
     add_journal(command)
 
 
+def _bench(command: argparse.ArgumentParser) -> None:
+    _add_stores(command, "bench")
+
+
 def _audit(command: argparse.ArgumentParser) -> None:
+    _add_stores(command, "audit")
+
+
+def _add_stores(command: argparse.ArgumentParser, name: str) -> None:
     from ..trial.store_kinds import KINDS
     from ._runs import run_audit
     from .audit import add_arguments
@@ -145,7 +153,7 @@ def _audit(command: argparse.ArgumentParser) -> None:
             command.commands[kind.command] = store
         store.set_defaults(run=run_audit)
         add_arguments(store, kind)
-        _end(store, f"zanteyard audit {kind.command} --seconds 5")
+        _end(store, f"zanteyard {name} {kind.command} --seconds 5")
 
 
 def _help(command: argparse.ArgumentParser) -> None:
@@ -160,76 +168,96 @@ def _help(command: argparse.ArgumentParser) -> None:
     command.epilog = "Exit status: 0, or 2 if there is no such command."
 
 
+GROUPS: Mapping[str, Mapping[str, Command]] = {
+    "audit your application while it runs": {
+        "prepare": Command(
+            "shows what a server still needs for `watch`",
+            "zanteyard prepare postgresql://admin@db.example/shop",
+            _prepare,
+            False,
+        ),
+        "watch": Command(
+            "audits any application that uses PostgreSQL",
+            "zanteyard watch postgresql://admin@db.example/shop --listen 127.0.0.1:6432",
+            _watch,
+        ),
+        "proxy": Command(
+            "runs a proxy on another machine, for the audit of `watch`",
+            "zanteyard proxy postgresql://admin@db.example/shop --redis rediss://redis.example "
+            "--audit shop --key audit.key",
+            _proxy,
+            False,
+        ),
+        "serve": Command(
+            "runs the auditor as a daemon, for clients with a collector",
+            "zanteyard serve --folder /var/lib/zanteyard --metrics 127.0.0.1:9464",
+            _serve,
+        ),
+        "key": Command(
+            "makes a key for processes on several machines to share",
+            "zanteyard key audit.key",
+            _key,
+            False,
+        ),
+    },
+    "check what was recorded or saved": {
+        "check": Command(
+            "prints the verdict on a history, a script or a journal",
+            "zanteyard check history.edn --html page.html",
+            _check,
+        ),
+        "levels": Command(
+            "lists which isolation levels a history meets",
+            "zanteyard levels history.jsonl",
+            _levels,
+            False,
+        ),
+        "import": Command(
+            "converts another tool's history into a script",
+            "zanteyard import jepsen-lists history.edn -o history.jsonl",
+            _import,
+            False,
+        ),
+    },
+    "try it, or measure a store": {
+        "demo": Command(
+            "audits an in-memory store that has a fault", "zanteyard demo write-skew", _demo
+        ),
+        "bench": Command(
+            "runs clients against a store and audits them live",
+            "zanteyard bench sqlite --seconds 5",
+            _bench,
+        ),
+    },
+    "learn more": {
+        "help": Command("shows the options of a command", "zanteyard help watch", _help, False),
+    },
+    "other names, which go on working": {
+        "explain": Command(
+            "explains the first violation, as `check --html` does",
+            "zanteyard explain history.jsonl --html page.html",
+            _explain,
+        ),
+        "journal": Command(
+            "gives the verdict on a journal, as `check` does",
+            "zanteyard journal /var/lib/zanteyard/audit.journal",
+            _journal,
+        ),
+        "check-report": Command(
+            "checks stored replies, as `check --replies` does",
+            "zanteyard check-report history.jsonl replies.jsonl",
+            _check_report,
+            False,
+        ),
+        "audit": Command(
+            "audits clients of a store, as `bench` does",
+            "zanteyard audit sqlite --seconds 5",
+            _audit,
+        ),
+    },
+}
 COMMANDS: Mapping[str, Command] = {
-    "check": Command(
-        "prints the verdicts on a script in words", "zanteyard check history.jsonl", _check
-    ),
-    "explain": Command(
-        "explains why a script is violated, in words or on an HTML page",
-        "zanteyard explain history.jsonl --html page.html",
-        _explain,
-    ),
-    "levels": Command(
-        "lists which isolation levels a script's history meets",
-        "zanteyard levels history.jsonl",
-        _levels,
-        False,
-    ),
-    "demo": Command(
-        "audits an in-memory store that has a fault", "zanteyard demo write-skew", _demo
-    ),
-    "check-report": Command(
-        "checks stored replies without trusting the auditor",
-        "zanteyard check-report history.jsonl replies.jsonl",
-        _check_report,
-        False,
-    ),
-    "import": Command(
-        "converts another tool's history into a script",
-        "zanteyard import jepsen-lists history.edn -o history.jsonl",
-        _import,
-        False,
-    ),
-    "watch": Command(
-        "audits any application that uses PostgreSQL",
-        "zanteyard watch postgresql://admin@db.example/shop --listen 127.0.0.1:6432",
-        _watch,
-    ),
-    "proxy": Command(
-        "runs a proxy on another machine, for the audit of `watch`",
-        "zanteyard proxy postgresql://admin@db.example/shop --redis rediss://redis.example "
-        "--audit shop --key audit.key",
-        _proxy,
-        False,
-    ),
-    "prepare": Command(
-        "shows what a server still needs for `watch`",
-        "zanteyard prepare postgresql://admin@db.example/shop",
-        _prepare,
-        False,
-    ),
-    "serve": Command(
-        "runs the auditor as a daemon",
-        "zanteyard serve --folder /var/lib/zanteyard --metrics 127.0.0.1:9464",
-        _serve,
-    ),
-    "key": Command(
-        "makes a key for processes on several machines to share",
-        "zanteyard key audit.key",
-        _key,
-        False,
-    ),
-    "journal": Command(
-        "gives the verdict on a journal that a killed process left",
-        "zanteyard journal /var/lib/zanteyard/audit.journal",
-        _journal,
-    ),
-    "audit": Command(
-        "runs clients against a store and audits them live",
-        "zanteyard audit sqlite --seconds 5",
-        _audit,
-    ),
-    "help": Command("shows the options of a command", "zanteyard help watch", _help, False),
+    name: its for commands in GROUPS.values() for name, its in commands.items()
 }
 
 
@@ -253,7 +281,7 @@ def parser(named: str | None = None, words: Sequence[str] = ()) -> Parser:
     """The command line's parser. Only the command with this name has its arguments; all have them
     if it is None. What `words` leave open is taken from the environment and the file that they
     name. Raises SettingError."""
-    whole = Parser(
+    whole = GroupedParser(
         prog="zanteyard",
         description="Checks whether a store's transactions were serializable and kept each "
         "session's order.",
@@ -262,7 +290,7 @@ def parser(named: str | None = None, words: Sequence[str] = ()) -> Parser:
     whole.add_argument(
         "--version", action=_Version, nargs=0, help="print the version and the programs it uses"
     )
-    commands = whole.add_subparsers(metavar="COMMAND", required=True)
+    commands = whole.add_subparsers(metavar="COMMAND", required=True, parser_class=Parser)
     for name, its in COMMANDS.items():
         command = _add(commands, name, its.about)
         command.set_defaults(has_verdict=its.has_verdict)
@@ -277,6 +305,7 @@ def parser(named: str | None = None, words: Sequence[str] = ()) -> Parser:
         STATUS_WORDS,
     ]
     folder = documents()
+    whole.groups = {title: [*its] for title, its in GROUPS.items()}
     whole.epilog = _paragraphs(*texts) + (f"\n\nDocuments: {folder}" if folder else "")
     return whole
 

@@ -4,7 +4,7 @@ meant."""
 import argparse
 import difflib
 import sys
-from collections.abc import Iterable, Sequence
+from collections.abc import Iterable, Mapping, Sequence
 from typing import Any, NoReturn
 
 from ..core._visible import say
@@ -81,6 +81,30 @@ class Parser(argparse.ArgumentParser):
                 raise
             told = f"{arg_string!r} isn't {wanted[0]}"
             raise argparse.ArgumentError(action, told) from error
+
+
+class GroupedParser(Parser):
+    """Lists its commands in groups. `groups` are the names of commands, by the group's title."""
+
+    groups: Mapping[str, Sequence[str]]
+
+    def format_help(self) -> str:
+        shown = self._get_formatter()
+        shown.add_usage(self.usage, self._actions, self._mutually_exclusive_groups)
+        shown.add_text(self.description)
+        for title, names in self.groups.items():
+            shown.start_section(title)
+            shown.add_arguments(self._listed(name) for name in names)
+            shown.end_section()
+        shown.start_section("options")
+        shown.add_arguments(option for option in self.options if option.option_strings)
+        shown.end_section()
+        shown.add_text(self.epilog)
+        return shown.format_help()
+
+    def _listed(self, name: str) -> argparse.Action:
+        about = (self.commands[name].description or "").rstrip(".")
+        return argparse.Action([], name, metavar=name, help=about[:1].lower() + about[1:])
 
 
 class Renamed(argparse.Action):

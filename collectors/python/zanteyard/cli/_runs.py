@@ -1,10 +1,10 @@
-"""`zanteyard demo`, `audit` and `journal`: a run of clients, while it happens or afterwards."""
+"""`zanteyard demo` and `bench`: a run of clients."""
 
 import argparse
 from typing import Any
 
 from ..core._visible import say
-from ..explain._report import EXPLAINED, Story, violation_story
+from ..explain._report import Story, violation_story
 from ..program._auditor import Auditor
 from ..program._binaries import find_program
 from ..trial import _demo as demo
@@ -63,25 +63,3 @@ def run_audit(asked: Any) -> int:
     elif asked.html:
         say(f"(page: {asked.html})")
     return status
-
-
-def add_journal(command: argparse.ArgumentParser) -> None:
-    command.add_argument("journal", metavar="JOURNAL", help="the journal's file (docs/JOURNAL.md)")
-    command.set_defaults(run=run_journal)
-
-
-def run_journal(asked: Any) -> int:
-    program = find_program()
-    with Auditor.resumed(asked.journal, program) as auditor:
-        count, sessions = sum(auditor.received), auditor.sessions
-        say(f"{auditor.run_name}: {count} transactions from {sessions} sessions were accepted")
-        report = auditor.last_round()
-        if report.kind == "violated":
-            asked.status = STATUSES["violated"]
-            round_told = (report.counts, EXPLAINED, report.certificate, auditor.promise)
-            tell_with_page(violation_story(auditor, program, *round_told))
-            return STATUSES["violated"]
-        outcome = auditor.outcome()
-        asked.status = STATUSES.get(outcome.kind, UNDECIDED)
-        say(f"the last round over them is {report.kind}; {outcome}")
-        return STATUSES.get(outcome.kind, UNDECIDED)

@@ -1,67 +1,69 @@
-"""`zanteyard check`, `explain` and `levels`: what a script says, as text and on a page.
-
-A history of another tool is imported first, into a folder that is removed at the end.
-"""
+"""`zanteyard check`, `explain` and `levels`: what a script, another tool's history or a journal
+says, as text and on a page."""
 
 import argparse
-import contextlib
-import io
-import os
-import shlex
-import sys
-import tempfile
-from collections.abc import Iterator, Sequence
-from dataclasses import dataclass
 from typing import Any
 
 from ..core._garbage import no_collections
 from ..core._visible import say
 from ..core.errors import CantBeAskedError, ScriptMistakeError
+from ..explain._html import page_of
 from ..explain._json import levels_json, say_json, story_json
 from ..explain._levels import Levels, levels_lines
 from ..explain._report import EXPLAINED, Story, verdict_story, violation_story
 from ..explain._script_names import ScriptNames, read_names
 from ..explain._script_times import ScriptTimes, read_times
 from ..explain._scripts import MORE, ScriptRun, Verdict
-from ..imports._command import import_text, text_of
-from ..imports._command import write as write_script
-from ..imports._guess import FIRST, history_form
+from ..program import _check_report
 from ..program._binaries import find_program
 from ..promises._kinds import ASKED, STRICT
+from ._given import FOR_HISTORIES, add_file, given, is_journal, refuse_options
+from ._journal import run_journal
 from ._junit import junit_report
 from ._parsing import add_old_name
 from ._progress import Progress
-from ._told import STATUSES, tell, tell_with_page, write
+from ._told import STATUSES, origin, tell, tell_with_page, write
 
 
-READING, EXPLAINING, IMPORTING = "reading", "explaining", "importing"  # what progress shows
+READING, EXPLAINING = "reading", "explaining"  # what progress shows
+OF_VERDICTS = ("promise", "all", "html", "json", "junit", *FOR_HISTORIES)
 
 
-@dataclass(frozen=True)
-class Given:
-    """The script to check: the given one, or the one that was made of a history."""
+class Page:
+    """The page of the first violation, or else of the last verdict. It is written before the
+    verdict is printed: a reader may stop before the end of the text."""
 
-    script: str
-    about: str  # the file's name
-    form: str = ""  # of the history
-    imported: Sequence[str] = ()  # how it was turned into the script
+    def __init__(self, path: str | None, about: str) -> None:
+        self.path, self._about, self._is_final = path, about, False
+        self._why_not: OSError | None = None
 
-    def where(self, verdict: Verdict) -> str:
-        """Which round the verdict is from. Lines of a script that nobody has seen aren't named."""
-        return f"{self.about}:" if self.form else _where(verdict)
+    def write(self, story: Story) -> None:
+        if self.path is None or self._is_final:
+            return
+        self._is_final = story.kind == "violated"
+        try:
+            write(page_of(story, self._about, origin()), self.path)
+        except OSError as error:
+            self._why_not = error
 
-    def as_json(self, verdict: Verdict | None = None) -> dict[str, Any]:
-        found: dict[str, Any] = {"file": self.about}
-        if self.form:
-            found.update(form=self.form, imported=list(self.imported))
-        elif verdict is not None and verdict.line_number:
-            found["line"] = verdict.line_number
-        return found
+    def end(self, is_said: bool) -> None:
+        """Says where it is. Raises OSError if it couldn't be written."""
+        if self._why_not is not None:
+            raise self._why_not
+        if self.path is not None and is_said:
+            say(f"(page: {self.path})")
 
 
 def add_check(command: argparse.ArgumentParser) -> None:
-    _add_script(command)
+    _add_script(command, ", or an audit's journal (docs/JOURNAL.md)")
     _add_promise(command)
+    _add_html(command, "of the first violation, or else of the last verdict")
+    command.add_argument(
+        "--replies",
+        metavar="REPLIES",
+        help="instead check the auditor's stored replies to the lines of this script, without "
+        "trusting the auditor: the exit status is 1 if one is wrong",
+    )
     _add_json(command, "a line of JSON for each verdict")
     command.add_argument(
         "--junit",
@@ -74,7 +76,7 @@ def add_check(command: argparse.ArgumentParser) -> None:
 def add_explain(command: argparse.ArgumentParser) -> None:
     _add_script(command)
     _add_promise(command)
-    command.add_argument("--html", metavar="FILE", help="write an HTML page")
+    _add_html(command, "as well")
     command.set_defaults(run=explain)
 
 
@@ -84,19 +86,18 @@ def add_levels(command: argparse.ArgumentParser) -> None:
     command.set_defaults(run=levels)
 
 
+def _add_html(command: argparse.ArgumentParser, what: str) -> None:
+    command.add_argument("--html", metavar="PAGE", help=f"write an HTML page {what}")
+
+
 def _add_json(command: argparse.ArgumentParser, what: str) -> None:
     command.add_argument(
         "--json", action="store_true", help=f"print {what} instead of text (docs/FORMATS.md)"
     )
 
 
-def _add_script(command: argparse.ArgumentParser) -> None:
-    command.add_argument(
-        "script",
-        metavar="FILE",
-        help="a script, as in docs/FORMATS.md, or another tool's history (docs/IMPORT.md); - reads "
-        "a script from standard input",
-    )
+def _add_script(command: argparse.ArgumentParser, also: str = "") -> None:
+    add_file(command, also)
     command.add_argument(
         "--nodes",
         type=_nodes,
@@ -136,65 +137,6 @@ def _nodes(text: str) -> int:
     return nodes
 
 
-@contextlib.contextmanager
-def given(asked: Any, progress: Progress) -> Iterator[Given]:
-    """The script that the call is about. Raises ImportRefusedError if the file is a history that
-    can't be turned into a sound script."""
-    path = asked.script
-    form = _form_of(path) if path != "-" else None
-    if form is None:
-        yield Given(path, os.path.basename(path) if path != "-" else "a script")
-        return
-    if form == "FORM":
-        raise CantBeAskedError(
-            f"{path} is compressed, and can't be a script: `zanteyard import FORM "
-            f"{shlex.quote(path)} -o SCRIPT` reads it if you know its form (docs/IMPORT.md)"
-        )
-    with tempfile.TemporaryDirectory(prefix="zanteyard-") as folder:
-        script = os.path.join(folder, "script")
-        with progress.during(IMPORTING):
-            is_timed = getattr(asked, "promise", None) == STRICT.name
-            imported = import_text(form, text_of(path), asks_time=is_timed)
-            write_script(imported, script)
-        about = os.path.basename(path)
-        if not getattr(asked, "json", False):
-            say(f"{about}, read as {form}: {imported.about[0]}")
-            for line in imported.about[1:]:
-                say(f"  {line}")
-        yield Given(script, about, form, imported.about)
-
-
-def _form_of(path: str) -> str | None:
-    if not os.path.isfile(path):
-        return None  # what is read of a pipe is gone; a missing file is reported later
-    with open(path, "rb") as file:
-        return history_form(file.peek(FIRST)[:FIRST])
-
-
-def _lines(path: str) -> Iterator[bytes]:
-    if path != "-":
-        with open(path, "rb") as file:
-            _check_script(file, path)
-            yield from file
-        return
-    if sys.stdin is None:  # Python's value if it is closed
-        raise OSError("standard input is closed")
-    lines = sys.stdin.buffer
-    if isinstance(lines, io.BufferedReader):
-        _check_script(lines, "standard input")
-    yield from lines
-
-
-def _check_script(file: io.BufferedReader, called: str) -> None:
-    """Raises CantBeAskedError if what is read from a pipe seems to be a history."""
-    form = history_form(file.peek(FIRST)[:FIRST])
-    if form is not None:
-        raise CantBeAskedError(
-            f"{called} is a history, not a script: save it to a file, which `zanteyard check` "
-            f"reads, or use `zanteyard import {form}` (docs/IMPORT.md)"
-        )
-
-
 def _names(path: str) -> ScriptNames | None:
     """The names next to the script, if there are any."""
     names, why_not = read_names(path) if path != "-" else (None, "")
@@ -223,11 +165,19 @@ def _run_of(asked: Any, script: str) -> ScriptRun:
 
 
 def check(asked: Any) -> int:
+    if asked.replies is not None:
+        refuse_options(asked, OF_VERDICTS, "isn't possible with --replies")
+        asked.has_verdict = False
+        return _check_report.run(asked)
+    if is_journal(asked.script):
+        refuse_options(asked, OF_VERDICTS, "isn't possible with a journal")
+        return run_journal(asked)
     stories: list[Story] = []
     with no_collections(), Progress(READING) as progress, given(asked, progress) as its:
+        page = Page(asked.html, its.about)
         with _run_of(asked, its.script) as run:
             progress.doing = run.doing
-            for verdict in run.verdicts(_lines(its.script)):
+            for verdict in run.verdicts(its.lines):
                 is_violated = verdict.kind == "violated"
                 if is_violated:
                     asked.status = STATUSES[verdict.kind]  # this is final
@@ -238,6 +188,7 @@ def check(asked: Any) -> int:
                 with progress.during(EXPLAINING):
                     story = _story(verdict, run, asked.shrink_seconds)
                 stories.append(story)
+                page.write(story)
                 if asked.json:
                     say_json({**its.as_json(verdict), **story_json(story)})
                 else:
@@ -247,14 +198,16 @@ def check(asked: Any) -> int:
                 _tell_resumed(run)
             if asked.junit is not None:
                 write(junit_report(its.about, stories), asked.junit)
-            return _status(run)
+            status = _status(run)
+            page.end(not asked.json)
+            return status
 
 
 def explain(asked: Any) -> int:
     with no_collections(), Progress(READING) as progress, given(asked, progress) as its:
         with _run_of(asked, its.script) as run:
             progress.doing = run.doing
-            for verdict in run.verdicts(_lines(its.script)):
+            for verdict in run.verdicts(its.lines):
                 if verdict.kind == "violated":
                     break  # violated is final
             assert run.verdict is not None
@@ -269,7 +222,7 @@ def explain(asked: Any) -> int:
 
 def levels(asked: Any) -> int:
     with no_collections(), Progress(READING) as progress, given(asked, progress) as its:
-        lines = [*_lines(its.script)]
+        lines = [*its.lines]
         names, times = _names(its.script), _times(its.script)
         found = Levels(find_program(), lines, names, times, asked.nodes, asked.shrink_seconds)
         progress.doing = found.doing
@@ -286,13 +239,6 @@ def _story(verdict: Verdict, run: ScriptRun, seconds: float) -> Story:
         round_told = (verdict.counts, seconds, verdict.certificate)
         return violation_story(run.history, find_program(), *round_told, run.promise)
     return verdict_story(verdict, run.history, run.promise)
-
-
-def _where(verdict: Verdict) -> str:
-    """Which round the verdict is from."""
-    line = f"line {verdict.line_number}" if verdict.line_number else "at the end"
-    again = f", after {verdict.rounds} tries, the last with {verdict.nodes:,} nodes"
-    return f"{line}{again if verdict.rounds > 1 else ''}:"
 
 
 def _tell_no_cuts(run: ScriptRun) -> None:

@@ -1,5 +1,5 @@
 """Audits PostgreSQL or another store while clients run on it at the same time. Prints a line for
-each round, and the explanation of a violation. Both `zanteyard audit` and
+each round, and the explanation of a violation. Both `zanteyard bench` and
 `examples/postgres_live.py` run this."""
 
 import argparse

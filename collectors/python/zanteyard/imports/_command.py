@@ -64,6 +64,12 @@ def add_arguments(command: argparse.ArgumentParser) -> None:
     command.add_argument(
         "-o", dest="script", metavar="SCRIPT", required=True, help="the script to write"
     )
+    add_history_options(command)
+    _add_strict(command)
+
+
+def add_history_options(command: argparse.ArgumentParser) -> None:
+    """Adds the options of a history, whichever form it has."""
     command.add_argument(
         "--initial",
         metavar="VALUE",
@@ -77,11 +83,6 @@ def add_arguments(command: argparse.ArgumentParser) -> None:
         help="take only the first N attempts of the file; a history without a violation is then "
         "pending",
     )
-    _add_jepsen(command)
-    _add_strict(command)
-
-
-def _add_jepsen(command: argparse.ArgumentParser) -> None:
     command.add_argument(
         "--independent",
         action="store_true",
@@ -185,9 +186,12 @@ def import_text(
 
 def text_of(path: str) -> str:
     """The text of a file, which may be compressed by gzip."""
-    name = os.path.basename(path)
     with open(path, "rb") as file:
-        whole = file.read()
+        return text_in(file.read(), os.path.basename(path))
+
+
+def text_in(whole: bytes, name: str) -> str:
+    """The text of a file with this content and name."""
     if whole[:2] == GZIP:
         try:
             whole = gzip.decompress(whole)

@@ -16,7 +16,7 @@ def history_form(front: bytes) -> str | None:
         return history_form(_decompressed(front)) or "FORM"
     text = front.decode("utf-8-sig", "replace").lstrip()
     line = text.partition("\n")[0].strip()
-    if line == ",".join(HEADER):
+    if line.replace('"', "") == ",".join(HEADER):
         return "csv"
     if POLYSI_LINE.fullmatch(line):
         return "polysi"

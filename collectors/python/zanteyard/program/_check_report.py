@@ -1,4 +1,4 @@
-"""`zanteyard check-report SCRIPT REPLIES`: has a separate program check stored replies, which runs
+"""`zanteyard check SCRIPT --replies REPLIES`: has a separate program check stored replies. It runs
 no search and doesn't rely on the auditor (`cobra_check`, docs/FORMATS.md)."""
 
 import argparse

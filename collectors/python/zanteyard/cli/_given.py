@@ -1,0 +1,142 @@
+"""The file to check: a script, or a history of another tool, which is imported first, into a folder
+that is removed at the end."""
+
+import argparse
+import contextlib
+import io
+import os
+import sys
+import tempfile
+from collections.abc import Iterator, Sequence
+from dataclasses import dataclass
+from typing import IO, Any
+
+from ..core._visible import say
+from ..core.errors import CantBeAskedError
+from ..explain._scripts import Verdict
+from ..imports._command import FORMS, add_history_options, import_text, text_in
+from ..imports._command import write as write_script
+from ..imports._guess import FIRST, history_form
+from ..journal._file import NAME as JOURNAL
+from ..promises._kinds import STRICT
+from ._progress import Progress
+
+IMPORTING = "importing"  # what progress shows
+FOR_HISTORIES = ("form", "initial", "first", "independent", "leave_out")
+
+
+@dataclass(frozen=True)
+class Given:
+    """The script to check: the given one, or the one that was made of a history."""
+
+    script: str
+    about: str  # the file's name
+    lines: IO[bytes]
+    form: str = ""  # of the history
+    imported: Sequence[str] = ()  # how it was turned into the script
+
+    def where(self, verdict: Verdict) -> str:
+        """Which round the verdict is from. Lines of a script that nobody has seen aren't named."""
+        return f"{self.about}:" if self.form else _where(verdict)
+
+    def as_json(self, verdict: Verdict | None = None) -> dict[str, Any]:
+        found: dict[str, Any] = {"file": self.about}
+        if self.form:
+            found.update(form=self.form, imported=list(self.imported))
+        elif verdict is not None and verdict.line_number:
+            found["line"] = verdict.line_number
+        return found
+
+
+def add_file(command: argparse.ArgumentParser, also: str = "") -> None:
+    """Adds the argument FILE, and the options of a history."""
+    command.add_argument(
+        "script",
+        metavar="FILE",
+        help="a script, as in docs/FORMATS.md, or another tool's history (docs/IMPORT.md)"
+        f"{also}; - reads standard input",
+    )
+    command.add_argument(
+        "--form",
+        choices=tuple(FORMS),
+        help="the form of another tool's history, if it isn't recognized",
+    )
+    add_history_options(command)
+
+
+def is_journal(path: str) -> bool:
+    """Whether the file is the journal of an audit (docs/JOURNAL.md)."""
+    if not os.path.isfile(path):
+        return False
+    with open(path, "rb") as file:
+        return file.read(len(JOURNAL)) == JOURNAL
+
+
+@contextlib.contextmanager
+def given(asked: Any, progress: Progress) -> Iterator[Given]:
+    """The script that the call is about. Raises ImportRefusedError if the file is a history that
+    can't be turned into a sound script."""
+    path = asked.script
+    with _opened(path) as file:
+        form, whole = _history_in(file, path, asked.form)
+        if form is not None:
+            yield from _imported(asked, progress, form, whole)
+            return
+        refuse_options(asked, FOR_HISTORIES, f"is for another tool's history, and {path} is none")
+        yield Given(path, os.path.basename(path) if path != "-" else "a script", file)
+
+
+def _imported(asked: Any, progress: Progress, form: str, whole: bytes) -> Iterator[Given]:
+    about = os.path.basename(asked.script) if asked.script != "-" else "a history"
+    with tempfile.TemporaryDirectory(prefix="zanteyard-") as folder:
+        script = os.path.join(folder, "script")
+        with progress.during(IMPORTING):
+            is_timed = getattr(asked, "promise", None) == STRICT.name
+            its = (asked.first, asked.initial, is_timed, asked.independent, asked.leave_out)
+            imported = import_text(form, text_in(whole, about), *its)
+            write_script(imported, script)
+        if not getattr(asked, "json", False):
+            say(f"{about}, read as {form}: {imported.about[0]}")
+            for line in imported.about[1:]:
+                say(f"  {line}")
+        with open(script, "rb") as lines:
+            yield Given(script, about, lines, form, imported.about)
+
+
+def refuse_options(asked: Any, names: Sequence[str], why: str) -> None:
+    """Raises CantBeAskedError if one of these options was given."""
+    for name in names:
+        if getattr(asked, name):
+            raise CantBeAskedError(f"--{name.replace('_', '-')} {why}")
+
+
+def _opened(path: str) -> contextlib.AbstractContextManager[IO[bytes]]:
+    if path != "-":
+        return open(path, "rb", FIRST)
+    if sys.stdin is None:  # Python's value if it is closed
+        raise OSError("standard input is closed")
+    return contextlib.nullcontext(sys.stdin.buffer)
+
+
+def _history_in(file: IO[bytes], path: str, form: str | None) -> tuple[str | None, bytes]:
+    """The form of the history in the file, and its bytes; without a form it is a script, of which
+    nothing is read."""
+    if form is None:
+        front = file.peek(FIRST)[:FIRST] if isinstance(file, io.BufferedReader) else b""
+        if history_form(front) is None:
+            return None, b""
+    whole = file.read()
+    form = form or history_form(whole[:FIRST])  # of a pipe, the front may have been short
+    if form == "FORM":
+        raise CantBeAskedError(
+            f"{path} is compressed, and can't be a script: if you know its form, name it with "
+            "--form (docs/IMPORT.md)"
+        )
+    return form, whole
+
+
+def _where(verdict: Verdict) -> str:
+    """Which round the verdict is from."""
+    line = f"line {verdict.line_number}" if verdict.line_number else "at the end"
+    again = f", after {verdict.rounds} tries, the last with {verdict.nodes:,} nodes"
+    return f"{line}{again if verdict.rounds > 1 else ''}:"
