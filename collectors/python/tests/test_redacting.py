@@ -46,6 +46,11 @@ class Texts(unittest.TestCase):
             ('SELECT "4929", t2.c3, $1 FROM x4929', 'SELECT "4929", t2.c3, $1 FROM x4929'),
             ("SELECT 'without an end", "SELECT ?"),
             ("SELECT 1 /* 4929 */ -- 4929", "SELECT ?"),
+            ('SET a.b TO word, "word"', "SET a.b TO ?, ?"),
+            ("BEGIN; SET LOCAL a.b = word; UPDATE t SET a = b", "BEGIN; SET LOCAL a.b = ?; UPDATE t SET a = b"),
+            ("ALTER ROLE r SET a.b TO word", "ALTER ROLE r SET a.b TO ?"),
+            ("CREATE FUNCTION f() SET a.b TO word AS $$1$$", "CREATE FUNCTION f() SET a.b TO ? ? ?"),
+            ("CREATE TABLE t (a int CHECK (a = b))", "CREATE TABLE t (a int CHECK (a = b))"),
         ):
             self.assertEqual(without_constants(text), wanted)
 

@@ -50,6 +50,31 @@ class PrivateFiles(unittest.TestCase):
         with open(self.path, encoding="utf-8") as file:
             self.assertEqual(file.read(), "a value")
 
+    @unittest.skipIf(os.geteuid(), "only root can make another user's files")
+    def test_what_another_user_has_put_there(self):
+        """They could read what is written, or have a file of this user overwritten."""
+        with open(self.path, "w", encoding="utf-8") as file:
+            file.write("as before")
+        os.chmod(self.path, 0o666)
+        os.chown(self.path, NOBODY, NOBODY)
+        link = f"{self.path}.link"
+        own = f"{self.path}.own"
+        with open(own, "w", encoding="utf-8") as file:
+            file.write("as before")
+        os.symlink(own, link)
+        os.lchown(link, NOBODY, NOBODY)
+        for path in (self.path, link):
+            with self.subTest(path=path), self.assertRaisesRegex(PermissionError, "another user"):
+                open(path, "w", encoding="utf-8", opener=private)
+            with open(path, encoding="utf-8") as file:
+                self.assertEqual(file.read(), "as before")
+        os.lchown(link, os.geteuid(), -1)
+        with open(link, "w", encoding="utf-8", opener=private) as file:
+            file.write("new")
+        with open(own, encoding="utf-8") as file:
+            self.assertEqual(file.read(), "new")
+        self.assertEqual(os.stat(own).st_mode & 0o777, 0o600)
+
     def test_a_device_keeps_its_rights(self):
         before = os.stat(os.devnull).st_mode
         with open(os.devnull, "w", encoding="utf-8", opener=private) as file:

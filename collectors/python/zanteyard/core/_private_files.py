@@ -1,6 +1,7 @@
 """Files that only their owner may read, since they contain keys, values and statements of an
 application."""
 
+import errno
 import os
 import stat
 
@@ -9,11 +10,25 @@ from .errors import FolderUnfitError
 
 def private(path: str, flags: int) -> int:
     """An opener for `open`: only the owner can read and write the file, even if it existed before
-    with other permissions. Raises OSError as `os.open` does."""
-    file = os.open(path, flags | os.O_CLOEXEC, 0o600)
+    with other permissions. Raises OSError as `os.open` does, and PermissionError for a file or a
+    link that another user has put there, in a folder that others may write to."""
+    opens = (flags & ~os.O_TRUNC) | os.O_CLOEXEC  # what is somebody else's stays as it is
     try:
-        if os.fstat(file).st_uid == os.geteuid() and os.path.isfile(path):
+        file = os.open(path, opens | os.O_NOFOLLOW, 0o600)
+    except OSError as error:
+        if error.errno != errno.ELOOP:
+            raise
+        if os.lstat(path).st_uid not in (os.geteuid(), 0):  # root's are such as /dev/stdout
+            raise PermissionError(errno.EPERM, "another user's link", path) from error
+        file = os.open(path, opens, 0o600)
+    try:
+        its = os.fstat(file)
+        if stat.S_ISREG(its.st_mode):
+            if its.st_uid != os.geteuid():
+                raise PermissionError(errno.EPERM, "another user's file", path)
             os.fchmod(file, 0o600)
+            if flags & os.O_TRUNC:
+                os.ftruncate(file, 0)
     except BaseException:
         os.close(file)
         raise

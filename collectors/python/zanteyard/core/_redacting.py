@@ -15,6 +15,7 @@ TOKENS = re.compile(
   | (?P<escaped> [eE]'(?:[^'\\]|\\.|'')*(?:'|\Z) )
   | (?P<text> (?:[bBxXnN]|[uU]&)?'(?:[^']|'')*(?:'|\Z) )
   | (?P<number> (?:\d[\d_]*(?:\.[\d_]*)?|\.\d[\d_]*)(?:[eE][+-]?\d+)?\w* )
+  | (?P<sign> [=;] )
     """,
     re.VERBOSE | re.DOTALL,
 )
@@ -23,13 +24,41 @@ TOKENS = re.compile(
 def without_constants(statement: str) -> str:
     """The statement with a question mark for each constant, and without comments. A quoted text
     without an end extends to the end of the statement."""
+    settings = Settings()
 
     def one(found: "re.Match[str]") -> str:
-        if found["name"] is not None:
-            return found[0]
+        if found["name"] is not None or found["sign"] is not None:
+            return GONE if settings.is_value(found[0]) else found[0]
         return "" if found["comment"] is not None else GONE
 
     return TOKENS.sub(one, statement).strip()
+
+
+class Settings:
+    """Finds values that are written as words, with or without quotes: SET a.b TO secret,
+    ALTER ROLE r SET a.b = "secret", CREATE FUNCTION .. SET a.b TO secret."""
+
+    def __init__(self) -> None:
+        self._begin()
+
+    def _begin(self) -> None:
+        self._is_within = False  # a statement, after its first word
+        self._may_set = self._sets = self._has_begun = False
+
+    def is_value(self, token: str) -> bool:
+        """Whether the next name, `=` or `;` of the statement is, or belongs to, such a value."""
+        word = token.lower()
+        if word == ";":
+            self._begin()
+        elif self._has_begun:
+            return word != "="
+        elif self._sets and word in ("=", "to"):
+            self._has_begun = True
+        elif word != "=":
+            self._may_set |= not self._is_within and word in ("set", "alter", "create")
+            self._sets |= self._may_set and word == "set"
+            self._is_within = True
+        return False
 
 
 def redacted(logged: Logged) -> Logged:

@@ -57,7 +57,7 @@ var functionsSQL = own.SQL(`SELECT p.proname::pg_catalog.text, n.nspname::pg_cat
   pg_catalog.bool_or(p.prokind = 'w')::pg_catalog.text, pg_catalog.bool_or(p.proretset)::pg_catalog.text,
   pg_catalog.bool_and(p.provolatile = 'i' OR p.provolatile = 's' AND l.lanname IN ('c', 'internal'))::pg_catalog.text,
   pg_catalog.bool_or(l.lanname NOT IN ('c', 'internal')
-    AND p.prosrc ~* 'set_config|search_path|\mrole\M|authorization|\mtemp|\mcreate\M|\malter\M|\mdrop\M|\mexecute\M')::pg_catalog.text,
+    AND p.prosrc ~* 'set_config|search_path|\mrole\M|authorization|\mtemp|\mcreate\M|\malter\M|\mdrop\M|\mexecute\M|\mprepare\M|\mdeallocate\M')::pg_catalog.text,
   pg_catalog.bool_or(l.lanname NOT IN ('c', 'internal')
     AND p.prosrc ~* 'transaction_isolation|characteristics|set_config|\mreset\M|\mexecute\M')::pg_catalog.text
 FROM pg_catalog.pg_proc p JOIN pg_catalog.pg_namespace n ON n.oid = p.pronamespace

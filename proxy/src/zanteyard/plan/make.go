@@ -181,7 +181,7 @@ func (m *maker) shorten() string {
 	value := values{}
 	for i, t := range m.tokens {
 		word := m.word(i)
-		if value.is(i, t.kind, word) {
+		if value.is(t.kind, word) {
 			word = "?"
 		}
 		closes := t.kind == symbolToken && strings.Contains(",);].::", word)

@@ -16,7 +16,7 @@ func Redacted(text string) string {
 		if i > 0 && t.start > behind {
 			out.WriteByte(' ')
 		}
-		if word := text[t.start:t.end]; value.is(i, t.kind, word) {
+		if word := text[t.start:t.end]; value.is(t.kind, word) {
 			out.WriteByte('?')
 		} else {
 			out.WriteString(word)
@@ -26,20 +26,29 @@ func Redacted(text string) string {
 	return out.String()
 }
 
-// values tells constants from the other tokens of a statement. A setting's value may be written as a word, without
-// quotes: SET a.b TO secret.
-type values struct{ sets, begun bool }
+// values tells constants from the other tokens of a statement, or of several. A setting's value may be written as a word,
+// with or without quotes: SET a.b TO secret, ALTER ROLE r SET a.b = "secret", CREATE FUNCTION .. SET a.b TO secret.
+type values struct {
+	within           bool // a statement, after its first word
+	may, sets, begun bool // it may set; it has the word SET; the value has begun
+}
 
-func (v *values) is(i int, kind tokenKind, word string) bool {
+func (v *values) is(kind tokenKind, word string) bool {
+	isWord := kind == wordToken || kind == quotedToken
 	switch {
 	case kind == stringToken || kind == numberToken:
 		return true
-	case i == 0:
-		v.sets = strings.EqualFold(word, "set") || strings.EqualFold(word, "alter")
-	case v.sets && v.begun && kind == wordToken:
+	case word == ";":
+		*v = values{}
+	case v.begun && isWord:
 		return true
-	case word == "=" || strings.EqualFold(word, "to"):
+	case v.sets && (word == "=" || strings.EqualFold(word, "to")):
 		v.begun = true
+	case kind == wordToken:
+		is := func(other string) bool { return strings.EqualFold(word, other) }
+		v.may = v.may || !v.within && (is("set") || is("alter") || is("create"))
+		v.sets = v.sets || v.may && is("set")
+		v.within = true
 	}
 	return false
 }

@@ -88,7 +88,7 @@ func (s *Session) look(name string, text []byte) *statement {
 
 // looking reports whether statements are looked at.
 func (s *Session) looking() bool {
-	return s.plain && s.options.Auditing() && s.mark() != 0
+	return s.plain && s.options.Auditing() && s.mark() != 0 && !s.trust.taken
 }
 
 // fresh looks up a statement's plan again if the catalog or the search path has changed since.
@@ -177,6 +177,7 @@ func (s *Session) wantsAbsent() bool {
 func (s *Session) parse(o *output, m []byte, start, end int) {
 	s.begin()
 	name, rest, ok := wire.Text(m[wire.Header:])
+	s.uses(string(name))
 	text, types, ok2 := wire.Text(rest)
 	if !ok || !ok2 {
 		o.pass(start, end)
@@ -227,6 +228,8 @@ func (s *Session) bind(o *output, m []byte, start, end int) {
 		s.queue.push(expectation{message: 'B'})
 		return
 	}
+	s.uses(string(b.Statement))
+	s.uses(string(b.Portal))
 	st := s.names.statements[string(b.Statement)]
 	p := &portal{on: st}
 	if len(b.Portal) > 0 {
@@ -318,7 +321,7 @@ func declared(types []byte) []uint32 {
 
 // twin returns the name of a named statement's rewritten twin, which is made at its first use.
 func (s *Session) twin(o *output, st *statement) string {
-	if st.twin != "" && st.twinOf == st.plan && st.twinIn == s.trust.generation {
+	if st.twin != "" && st.twinOf == st.plan && st.twinIn == s.trust.era {
 		return st.twin
 	}
 	to := o.own()
@@ -331,7 +334,7 @@ func (s *Session) twin(o *output, st *statement) string {
 	to = appendDescribe(to, st.name)
 	s.queue.push(expectation{kind: twin, message: 'D', on: st})
 	s.names.twins++
-	st.twin, st.twinOf, st.twinIn = twinName(s.names.twins), st.plan, s.trust.generation
+	st.twin, st.twinOf, st.twinIn = twinName(s.names.twins), st.plan, s.trust.era
 	text, _, _ := st.plan.Rewrite(st.text, st.tokens)
 	types := st.types
 	if st.parameters != nil {
@@ -360,6 +363,7 @@ func (s *Session) original(o *output, st *statement) {
 }
 
 func (s *Session) describe(o *output, m []byte, start, end int) {
+	s.begin() // the server begins a transaction, and may take its snapshot
 	o.pass(start, end)
 	s.open = true
 	e := expectation{message: 'D'}
@@ -379,6 +383,7 @@ func (s *Session) describe(o *output, m []byte, start, end int) {
 }
 
 func (s *Session) execute(o *output, m []byte, start, end int) {
+	s.begin()
 	s.open = true
 	name, _, _ := wire.Text(m[wire.Header:])
 	p := s.names.portals[string(name)]
@@ -414,6 +419,7 @@ func (s *Session) close(o *output, m []byte, start, end int) {
 		return
 	}
 	name, _, _ := wire.Text(m[wire.Header+1:])
+	s.uses(string(name))
 	var gone *statement
 	if m[wire.Header] == 'S' {
 		s.replay.valid = false

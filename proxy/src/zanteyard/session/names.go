@@ -24,7 +24,7 @@ type statement struct {
 	rewritten          string // the text of several statements, with the insertions
 	renamed, renamedAt int    // an EXECUTE: how many characters longer its name is, and from which statement on
 	asked              asked
-	// A named statement's rewritten twin: its name, the plan that it was made from, and the generation of trust then.
+	// A named statement's rewritten twin: its name, the plan that it was made from, and the era of trust then.
 	twin   string
 	twinOf *plan.Plan
 	twinIn uint64

@@ -9,7 +9,10 @@ import (
 
 // The names of the proxy's own statements and portals begin with this. They are named because the unnamed ones are the
 // client's, and a simple Query would drop those too.
-const prefix = "zanteyard."
+const (
+	reserved = "zanteyard" // and a point, or an underscore where SQL has the name
+	prefix   = reserved + "."
+)
 
 const (
 	askName       = prefix + "ask"

@@ -28,7 +28,7 @@ func (s *Session) executes(o *output, st *statement, e *expectation) bool {
 	if !ok {
 		return false
 	}
-	if of.twin == "" || of.twinIn != s.trust.generation {
+	if of.twin == "" || of.twinIn != s.trust.era {
 		if !s.prepares(o, of) {
 			return false
 		}
@@ -54,7 +54,7 @@ func (s *Session) prepares(o *output, of *statement) bool {
 		s.trust.orphans = append(s.trust.orphans, of.twin)
 	}
 	s.names.twins++
-	of.twin, of.twinIn = "zanteyard_"+strconv.Itoa(s.names.twins), s.trust.generation
+	of.twin, of.twinIn = "zanteyard_"+strconv.Itoa(s.names.twins), s.trust.era
 	text := rewritten[:from] + own.Name{of.twin}.String() + rewritten[to:]
 	o.buf = append(append(o.own(), once(prepareName, own.Planned(text))...), syncMessage...)
 	s.queue.once(expectation{kind: silent})

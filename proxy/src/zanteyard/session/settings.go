@@ -1,6 +1,10 @@
 package session
 
-import "zanteyard/plan"
+import (
+	"strings"
+
+	"zanteyard/plan"
+)
 
 // before handles a statement that is about to be sent: whatever it may change isn't relied on from here on, whether or
 // not it succeeds.
@@ -8,8 +12,10 @@ func (s *Session) before(p *plan.Plan) {
 	t := &s.trust
 	if p == nil {
 		t.changed()
+		t.era++
 		return
 	}
+	s.uses(p.Name)
 	switch p.Kind {
 	case plan.Several:
 		for _, part := range p.Parts {
@@ -39,6 +45,18 @@ func (s *Session) before(p *plan.Plan) {
 	}
 	if p.ChangesNames || p.Unknown || p.Kind == plan.Set {
 		t.changed()
+	}
+	if p.Unknown || p.ChangesNames && p.Kind != plan.Set && p.Kind != plan.TemporaryDefinition {
+		t.era++ // a function may have prepared something by the same name
+	}
+}
+
+// uses notices a name that the client uses. By one of the proxy's own it could replace what the proxy asks, and so have
+// anything reported: nothing more of the connection is.
+func (s *Session) uses(name string) {
+	if len(name) > len(reserved) && strings.HasPrefix(name, reserved) && (name[len(reserved)] == '.' || name[len(reserved)] == '_') {
+		s.trust.taken = true
+		s.trust.doubtful()
 	}
 }
 

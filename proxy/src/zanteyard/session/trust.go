@@ -38,6 +38,7 @@ type use struct {
 // what a name means or what its user may do.
 type trust struct {
 	generation uint64 // what was tried in an older one is forgotten
+	era        uint64 // what the proxy prepared in an older one may be something else by now
 	catalog    uint64 // the catalog's generation, as last looked at
 	path       string // the search path for resolving names, "" for the catalog's own
 	plans      uint64 // counts changes of these two: plans from before aren't used any more
@@ -60,6 +61,7 @@ type trust struct {
 	broken    bool       // not even the proxy's own questions work here
 	pooled    bool       // there is a pooler between proxy and server: statements may reach one backend after another
 	orphans   []string   // twins whose statements are gone
+	taken     bool       // the client has used names that are the proxy's own
 	mark      int64      // of the audit that the connection was last asked about
 	here      bool       // it is to that audit's server
 	elsewhere bool       // it isn't
@@ -92,6 +94,7 @@ const (
 // forget makes everything be tried again.
 func (t *trust) forget() {
 	t.generation++
+	t.era++
 	t.queue = t.queue[:0]
 	t.broken = t.pooled
 	t.signature = nil
@@ -168,6 +171,8 @@ func (t *trust) usable(u *use, sample *statement) bool {
 // why returns why a plan isn't used.
 func (t *trust) why(u *use) string {
 	switch {
+	case t.taken:
+		return "the client uses names that begin with zanteyard"
 	case t.pooled:
 		return "a pooler between proxy and server"
 	case t.elsewhere:
@@ -187,7 +192,7 @@ const Elsewhere = "the connection is to another server than the audited one, or 
 
 // work reports whether there is something to try at an idle moment.
 func (t *trust) work() bool {
-	return !t.broken && !t.elsewhere && (len(t.queue) > 0 || t.wanted && (t.doubt || !t.asks || t.unsure || !t.here) ||
+	return !t.broken && !t.taken && !t.elsewhere && (len(t.queue) > 0 || t.wanted && (t.doubt || !t.asks || t.unsure || !t.here) ||
 		len(t.orphans) > mostOrphans)
 }
 
