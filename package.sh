@@ -1,5 +1,6 @@
 #!/usr/bin/env bash
-# Makes a wheel of the Python package, including the auditor, in the folder out. `pip install` needs only this one file.
+# Makes a wheel of the Python package, including the auditor, in the folder out, in place of an earlier wheel. `pip install` needs only
+# this one file.
 #
 #     ./package.sh                 with the auditor that the prover built; asks the prover whether anything has changed since
 #     ./package.sh --built         the same without asking, if it is newer than all sources: for use right after the gate

@@ -9,6 +9,7 @@ takes the given one; its version says so everywhere.
 
 import argparse
 import contextlib
+import glob
 import hashlib
 import json
 import os
@@ -188,7 +189,7 @@ def stage(folder: str, programs: Sequence[str], is_proved: bool) -> None:
 
 
 def wheel_of(folder: str, output: str) -> str:
-    """Builds the wheel with its backend only, and returns its path."""
+    """Builds the wheel with its backend only, in place of an earlier one, and returns its path."""
     code = (
         "import sys; from setuptools import build_meta; print(build_meta.build_wheel(sys.argv[1]))"
     )
@@ -198,7 +199,11 @@ def wheel_of(folder: str, output: str) -> str:
     )
     if ended.returncode:
         raise CantPackError(f"setuptools has failed:\n{ended.stdout}")
-    return os.path.join(output, ended.stdout.split()[-1])
+    made = os.path.join(output, ended.stdout.split()[-1])
+    for path in glob.glob(os.path.join(glob.escape(output), "zanteyard-*.whl")):
+        if path != made:
+            os.remove(path)
+    return made
 
 
 def arguments(words: Sequence[str] | None) -> argparse.Namespace:

@@ -11,6 +11,10 @@ cd "$(dirname "$0")"
 if [ "${1:-}" = --install ]; then
     ../../install_packages.sh
 fi
+if [ -n "${ZANTEYARD_POSTGRES_BIN:-}" ] && [ ! -x "$ZANTEYARD_POSTGRES_BIN/initdb" ]; then
+    echo "ZANTEYARD_POSTGRES_BIN is $ZANTEYARD_POSTGRES_BIN, which has no initdb"
+    exit 1
+fi
 audit=${COBRA_AUDIT:-../../crates/cobra_audit/out/cobra_audit}
 [ -x "$audit" ] || { echo "$audit is not built: README.md says how"; exit 1; }
 python=python3

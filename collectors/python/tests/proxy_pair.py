@@ -13,6 +13,7 @@ import threading
 import time
 from typing import Any
 
+from zanteyard.trial import postgres_server
 from zanteyard.trial.postgres_server import trusted_plugins
 
 from tests.waiting import at_a_free_port
@@ -28,6 +29,8 @@ SETTINGS = (
 
 def postgres_program(name: str) -> str | None:
     """The path of PostgreSQL's program of this name; None if it isn't installed."""
+    if os.environ.get(postgres_server.BIN):
+        return postgres_server.program(name)
     places = glob.glob(f"/usr/lib/postgresql/*/bin/{name}")
     places.sort(key=lambda path: int(path.split("/")[4]))
     return places[-1] if places else shutil.which(name)

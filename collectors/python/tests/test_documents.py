@@ -23,7 +23,7 @@ COLUMNS, WORDS = 120, 900
 
 # Commands that aren't run here, and the tests that run them.
 ELSEWHERE = {
-    r"python3 -m venv venv": "test_package",
+    r"python3 -m venv .*venv": "test_package",
     r"venv/bin/.*": "test_package",
     r"\./test\.sh": "the gate, which has called this",
     r"\./try\.sh": "test_package, in a folder of its own",

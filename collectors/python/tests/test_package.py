@@ -38,10 +38,10 @@ def python_for(modules):
 
 
 def commands_of_the_readme():
-    """From the new environment to a violation on a page."""
+    """From the new environment to a violation on a page, each as it is pasted."""
     with open(f"{TOP}/README.md", encoding="utf-8") as file:
-        found = re.search(r"```\n((?:\$ .*venv.*\n)+)```", file.read())
-    return [line[2:] for line in found[1].splitlines()]
+        found = re.search(r"```\n((?:.*venv.*\n)+)```", file.read())
+    return found[1].splitlines()
 
 
 @unittest.skipUnless(os.path.isfile(PROGRAM), f"{PROGRAM} is not built")
@@ -59,6 +59,9 @@ class Package(unittest.TestCase):
             for key, value in os.environ.items()
             if not key.startswith("COBRA_") and key != "PYTHONPATH"
         }
+        os.mkdir(f"{cls.folder}/out")
+        with open(f"{cls.folder}/out/zanteyard-0.0.1-py3-none-any.whl", "wb"):
+            pass
         made = cls.run_it(f"{TOP}/package.sh", *how, "--output", f"{cls.folder}/out")
         cls.wheel = made.stdout.split()[-1] if not made.returncode else None
         cls.said = made.stdout + made.stderr
@@ -121,6 +124,17 @@ class Package(unittest.TestCase):
         if os.path.isfile(make_wheel.PROXY) and os.path.isfile(make_wheel.LGPL):
             wanted.add("LICENSE.LGPL-2.1")
         self.assertLessEqual(wanted, names)
+
+    def test_an_extra_brings_a_driver(self):
+        with zipfile.ZipFile(self.wheel) as packed:
+            (path,) = (name for name in packed.namelist() if name.endswith(".dist-info/METADATA"))
+            lines = packed.read(path).decode().splitlines()
+        needed = [line for line in lines if line.startswith("Requires-Dist: ") and '"postgresql"' in line.replace("'", '"')]
+        self.assertRegex("".join(needed), r"^Requires-Dist: psycopg2-binary\b")
+
+    def test_there_is_one_wheel(self):
+        """An earlier one is gone, so that README's pattern has one match."""
+        self.assertEqual(os.listdir(f"{self.folder}/out"), [os.path.basename(self.wheel)])
 
     def test_a_page_from_a_demonstration(self):
         self.assertEqual(len(self.commands), 3)

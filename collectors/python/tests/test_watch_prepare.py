@@ -6,12 +6,14 @@ import io
 import json
 import os
 import re
+import shlex
+import subprocess
 import sys
 import unittest
 from unittest import mock
 
 from zanteyard.cli._main import main
-from zanteyard.trial.postgres_server import PostgresServer, program
+from zanteyard.trial.postgres_server import BIN, PostgresServer, program
 from zanteyard.watch import _facts as facts
 from zanteyard.watch import _hosts as hosts
 from zanteyard.watch._address import _LIMITED
@@ -212,7 +214,8 @@ class Reports(unittest.TestCase):
 
 
 def plugin_is_installed():
-    return bool(glob.glob("/usr/lib/postgresql/*/lib/wal2json.so"))
+    folders = os.environ.get(BIN) or "/usr/lib/postgresql/*/bin"
+    return bool(glob.glob(f"{folders}/../lib/wal2json.so"))
 
 
 @unittest.skipUnless(psycopg2 and program("initdb"), "PostgreSQL or psycopg2 is not installed")
@@ -379,6 +382,20 @@ class OverAServer(unittest.TestCase):
         self.assertFalse([it for it in lines if "pg_read_server_files" in it], lines)
         if len(made) > 2:
             self.assertIn("  ok      pg_walinspect exists, and zanteyard may call it", lines)
+        self.leave()
+
+    def leave(self):
+        """WATCH.md's command removes that role, with all that it was given."""
+        with open(os.path.join(TOP, "docs/WATCH.md"), encoding="utf-8") as file:
+            text = file.read().split("\n## Leaving\n")[1].split("\n## ")[0]
+        (command,) = re.findall("^psql (.*)$", text, re.MULTILINE)
+        words = [self.url, *shlex.split(command)[1:]]
+        psql = [program("psql"), "-X", "-v", "ON_ERROR_STOP=1", *words]
+        ended = subprocess.run(psql, capture_output=True, text=True)
+        self.assertEqual((ended.returncode, ended.stderr), (0, ""))
+        with Database(self.url) as database:
+            ask = "SELECT pg_catalog.count(*) FROM pg_catalog.pg_roles WHERE rolname = 'zanteyard'"
+            self.assertEqual(database.one(ask), 0)
 
     def test_4_b_whose_extension_it_is(self):
         """The proxy calls a function of pg_walinspect only if nobody else can have made it, and

@@ -18,10 +18,14 @@ from ._throwaway_folder import TRIES, new_path
 INITIAL = ("-A", "trust", "-U", "postgres", "-E", "UTF8", "--locale=C", "--no-sync")
 STARTING = 300  # seconds for a server to take connections
 STOPPING = 20  # seconds for a server to stop
+BIN = "ZANTEYARD_POSTGRES_BIN"  # in the environment: the folder of the programs to take
 
 
 def program(name: str) -> str | None:
-    """The path of PostgreSQL's program of this name; None if it isn't installed."""
+    """The path of PostgreSQL's program of this name, in the folder that ZANTEYARD_POSTGRES_BIN
+    names if it is set; None if it isn't installed."""
+    if os.environ.get(BIN):
+        return shutil.which(os.path.join(os.environ[BIN], name))
     places = glob.glob(f"/usr/lib/postgresql/*/bin/{name}")
     places.sort(key=lambda path: int(path.split("/")[4]))
     return shutil.which(name) or (places[-1] if places else None)

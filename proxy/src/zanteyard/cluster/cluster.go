@@ -55,8 +55,11 @@ func Start(settings, hba []string) (*Cluster, error) {
 	return c, nil
 }
 
-// programs is the folder of the newest installed server.
+// programs is the folder of the newest installed server, or the one that ZANTEYARD_POSTGRES_BIN names.
 func programs() (string, error) {
+	if given := os.Getenv("ZANTEYARD_POSTGRES_BIN"); given != "" {
+		return given, nil
+	}
 	found, _ := filepath.Glob("/usr/lib/postgresql/*/bin/initdb")
 	if path, err := exec.LookPath("initdb"); err == nil && len(found) == 0 {
 		found = []string{path}
@@ -67,6 +70,9 @@ func programs() (string, error) {
 	sort.Slice(found, func(i, j int) bool { return release(found[i]) < release(found[j]) })
 	return filepath.Dir(found[len(found)-1]), nil
 }
+
+// Program is the path of one of the server's programs.
+func (c *Cluster) Program(name string) string { return filepath.Join(c.bin, name) }
 
 func release(path string) int {
 	n, _ := strconv.Atoi(filepath.Base(filepath.Dir(filepath.Dir(path))))
@@ -166,7 +172,7 @@ func (c *Cluster) follow(other *Cluster) error {
 // plugins is the setting that allows wal2json, if the server has that setting: 15.19 and later, and equally late
 // versions of other releases.
 func (c *Cluster) plugins() []string {
-	known, err := exec.Command(filepath.Join(c.bin, "postgres"), "--describe-config").Output()
+	known, err := exec.Command(c.Program("postgres"), "--describe-config").Output()
 	if err != nil || !strings.Contains(string(known), "\n"+Plugins+"\t") {
 		return nil
 	}
@@ -256,7 +262,7 @@ func (c *Cluster) run(name string, args ...string) error {
 }
 
 func (c *Cluster) command(name string, args ...string) *exec.Cmd {
-	cmd := exec.Command(filepath.Join(c.bin, name), args...)
+	cmd := exec.Command(c.Program(name), args...)
 	cmd.Dir = c.Dir
 	cmd.Env = append(os.Environ(), "LC_ALL=C.UTF-8", "TZ=UTC")
 	cmd.SysProcAttr = &syscall.SysProcAttr{Credential: c.cred, Pdeathsig: syscall.SIGQUIT}

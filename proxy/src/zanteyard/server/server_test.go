@@ -364,7 +364,7 @@ func TestCancel(t *testing.T) {
 // TestReplication: a connection for replication is passed on without looking, COPY BOTH and all.
 func TestReplication(t *testing.T) {
 	needServer(t)
-	path, err := exec.LookPath("/usr/lib/postgresql/15/bin/pg_recvlogical")
+	path, err := exec.LookPath(theCluster.Program("pg_recvlogical"))
 	if err != nil {
 		t.Skip("pg_recvlogical isn't installed")
 	}
