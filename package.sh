@@ -6,6 +6,8 @@
 #     ./package.sh --built         the same without asking, if it is newer than all sources: for use right after the gate
 #     ./package.sh --unproved      builds the auditor without a proof, in a minute or two, for a first try; its version says so. It has
 #                                  its checks compiled in, and is about 300 times slower: ./try.sh shows a run that suits it
+#     ./package.sh --deb ..        a Debian package instead, with the same content, units for systemd and man pages; it needs dpkg-deb, and
+#                                  for the man pages Debian's python3-argparse-manpage
 #
 # It needs Python 3.11 or later with setuptools and wheel (on Debian python3-setuptools and python3-wheel), and downloads nothing.
 set -euo pipefail

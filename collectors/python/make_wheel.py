@@ -1,4 +1,5 @@
-"""Makes the wheel of the package, with the auditor inside; package.sh at the top calls this.
+"""Makes the wheel of the package, with the auditor inside, or the Debian package; package.sh at the
+top calls this.
 
 It needs Python's setuptools and wheel, and uses no index. The auditor is the prover's build in this
 tree, which exists only if everything is proved; this asks the prover to check that nothing has
@@ -23,17 +24,17 @@ import time
 from collections.abc import Iterator, Sequence
 from concurrent.futures import ThreadPoolExecutor
 
+from make_deb import CantPackError, deb_of
+
 HERE = os.path.dirname(os.path.abspath(__file__))
 TOP = os.path.normpath(os.path.join(HERE, "../.."))
 PROGRAMS = ("cobra_audit", "cobra_check")  # each a crate of this name
+with open(os.path.join(TOP, "VERSION"), encoding="utf-8") as text:
+    VERSION = text.read().strip()
 PROXY = os.path.join(TOP, "proxy", "out", "zanteyard-proxy")  # where its build.sh puts it
 LGPL = "/usr/share/common-licenses/LGPL-2.1"  # of the C library, which is linked into the proxy
 SLOWER = 300  # factor, as in docs/PERFORMANCE.md
 PATIENCE = 1200  # seconds for a build without proofs to get to its run
-
-
-class CantPackError(Exception):
-    """Why there is no wheel."""
 
 
 def built(name: str) -> str:
@@ -208,6 +209,7 @@ def wheel_of(folder: str, output: str) -> str:
 
 def arguments(words: Sequence[str] | None) -> argparse.Namespace:
     asked = argparse.ArgumentParser(prog="package.sh", description="Makes the wheel.")
+    asked.add_argument("--deb", action="store_true", help="makes Debian's package instead")
     asked.add_argument("--output", default=os.path.join(TOP, "out"), help="folder (out)")
     how = asked.add_mutually_exclusive_group()
     how.add_argument("--built", action="store_true", help="takes what the gate has just built")
@@ -238,9 +240,13 @@ def main(words: Sequence[str] | None = None) -> int:
             else:
                 programs = all_unproved(PROGRAMS[: 1 if asked.auditor_alone else None], made)
             stage(staged, programs, asked.unproved is None)
-            print(wheel_of(staged, os.path.abspath(asked.output)))
+            output = os.path.abspath(asked.output)
+            if asked.deb:
+                print(deb_of(staged, output, VERSION, asked.unproved is None))
+            else:
+                print(wheel_of(staged, output))
     except CantPackError as error:
-        print(f"no wheel: {error}", file=sys.stderr)
+        print(f"no package: {error}", file=sys.stderr)
         return 1
     return 0
 

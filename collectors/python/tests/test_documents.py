@@ -34,6 +34,7 @@ ELSEWHERE = {
     r"zanteyard proxy .*": "test_watch_remote, over servers of its own",
     r"zanteyard serve .*": "test_serving and test_machines, over folders and a Redis of their own",
     r"zanteyard key .*": "test_hostile_redis, in a folder of its own",
+    r"apt-get install \./out/zanteyard_\*\.deb": "test_deb, which unpacks it and runs its commands",
     r"zanteyard bench postgres .*": "test_commands, with less time",
     r"zanteyard bench (mariadb|redis|sqlite) .*": "test_stores, with less time",
     r"/usr/bin/python3 examples/store_faults\.py .*": "test_stores, which compares the tables",
