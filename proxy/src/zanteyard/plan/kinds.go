@@ -181,19 +181,19 @@ func setting(p *Plan, body node) {
 		case body.text("kind") == "VAR_SET_VALUE":
 			p.SetsDefault = true
 		default: // to what it is then has to be asked
-			p.Kind, p.ChangesNames = Set, true
+			p.Kind, p.ChangesNames, p.Settings = Set, true, true
 		}
 	case "transaction snapshot":
 		p.TakesSnapshot = true
 	case "search_path", "role", "session_authorization", "client_encoding":
-		p.Kind, p.ChangesNames = Set, true
+		p.Kind, p.ChangesNames, p.Settings = Set, true, true
 		if kind := body.text("kind"); name == "session_authorization" && !body.flag("is_local") &&
 			(kind == "VAR_RESET" || kind == "VAR_SET_DEFAULT") {
 			p.Resets = User
 		}
 	default:
 		if body.text("kind") == "VAR_RESET_ALL" {
-			p.Kind, p.ChangesNames, p.Resets = Set, true, Settings|Level
+			p.Kind, p.ChangesNames, p.Settings, p.Resets = Set, true, true, Settings|Level
 		}
 	}
 }
@@ -267,6 +267,7 @@ func (m *maker) calls(p *Plan, value any) {
 			}
 			p.MayWriteUnseen = p.MayWriteUnseen || f.Writes
 			p.ChangesNames = p.ChangesNames || f.Names
+			p.Calls = p.Calls || f.Made
 			if name[len(name)-1] == "set_config" && !f.Made {
 				m.configs = append(m.configs, m.nameOf(body))
 			} else {
@@ -280,7 +281,7 @@ func (m *maker) calls(p *Plan, value any) {
 			name := names(body.list("name"))
 			if len(name) > 0 && !m.catalog.PureOperator(name[len(name)-1]) {
 				p.leaveOut(aFunctionReads)
-				p.MayWriteUnseen = true
+				p.MayWriteUnseen, p.Calls = true, true
 			}
 		}
 		return true
@@ -306,13 +307,14 @@ func (m *maker) customs(p *Plan) {
 	if p.Kind != Set || len(m.configs) == 0 || m.renames {
 		return
 	}
+	p.Settings = true
 	for _, at := range m.configs {
 		if at < 0 || m.tokens[at].kind != stringToken {
 			return
 		}
 	}
 	its := *p
-	its.Kind, its.ChangesNames = Select, false
+	its.Kind, its.ChangesNames, its.Settings = Select, false, false
 	p.custom, p.configs = &its, m.configs
 }
 

@@ -97,6 +97,12 @@ type Plan struct {
 	MayLevel bool
 	// ChangesNames means, for any kind, that names and rights may have another meaning afterwards.
 	ChangesNames bool
+	// Settings means that the statement changes names and rights by settings alone, which a connection's signature has:
+	// SET, RESET, set_config.
+	Settings bool
+	// Calls means that the statement calls a function or an operator that isn't the server's own, and may do more than
+	// compute a value.
+	Calls bool
 	// Resets are the parts of a connection's state that the statement sets to what they were when the connection began, and
 	// all that it does to names and rights.
 	Resets Parts

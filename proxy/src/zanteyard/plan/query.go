@@ -108,7 +108,7 @@ func (m *maker) place(p *Plan) int {
 func (p *Plan) without(reason string) *Plan {
 	bare := &Plan{
 		Kind: p.Kind, Shape: p.Shape, ChangesNames: p.ChangesNames, Unseen: append(p.Unseen[:0:0], p.Unseen...),
-		MayWriteUnseen: p.MayWriteUnseen || p.Kind == Write, ByKey: p.ByKey,
+		MayWriteUnseen: p.MayWriteUnseen || p.Kind == Write, ByKey: p.ByKey, Settings: p.Settings, Calls: p.Calls,
 	}
 	bare.leaveOut(reason)
 	return bare

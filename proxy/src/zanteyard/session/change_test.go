@@ -141,7 +141,10 @@ func TestCancelOfTheQuestion(t *testing.T) {
 		p.warm("BEGIN", "UPDATE t SET v = 1 WHERE v > 20", "COMMIT")
 		p.query("BEGIN")
 		p.query("UPDATE t SET v = 1 WHERE v > 20")
-		// The question is made to fail by dropping its statement.
+		// The question is made to fail by dropping its statement, which would be prepared again at once if it was wanted.
+		p.session.state.Lock()
+		p.session.trust.wanted = false
+		p.session.state.Unlock()
 		p.query("DO $$BEGIN EXECUTE 'DEALLOCATE \"zanteyard.ask\"'; END$$")
 		p.session.state.Lock()
 		p.session.trust.doubt, p.session.trust.asks, p.session.trust.prepared = false, true, true

@@ -250,6 +250,9 @@ func (s *Session) bind(o *output, m []byte, start, end int) {
 	if st.name == "" && !st.altered {
 		may = false // it was prepared unchanged: the plan has become usable since
 	}
+	if s.status == 'E' && s.queue.empty() {
+		may = may && st.name == "" // it fails: by the client's own Bind, not by what a twin needs before it
+	}
 	if n := len(b.Results) / 2; may && n > 1 && n != st.use.own {
 		may = st.plan.AddsReturning // otherwise the server refuses it, and its error says how many columns there are
 	}

@@ -97,6 +97,9 @@ func (s *Session) useIdle() []byte {
 	s.state.Lock()
 	defer s.state.Unlock()
 	switch {
+	case s.pauses() && s.looking():
+		s.asked++
+		return s.try(nil)
 	case !s.idle():
 	case s.draining.Load():
 		return s.leave()

@@ -21,6 +21,7 @@ const (
 	trialName     = prefix + "trial"
 	privilegeName = prefix + "privilege"
 	prepareName   = prefix + "prepare"
+	savepointName = prefix + "savepoint"
 )
 
 var (
@@ -31,6 +32,11 @@ var (
 	// A trial that would wait for a lock fails instead, so no client waits for the trial. The setting ends with the
 	// transaction, which is that of the trial's messages up to their Sync.
 	impatientText = own.Guest("SELECT pg_catalog.set_config('lock_timeout', '20ms', true)")
+
+	// In a block, a trial is undone: an error in it isn't the block's, and it leaves no lock and no savepoint.
+	savepointText  = own.Guest(`SAVEPOINT "zanteyard.trial"`)
+	rollbackToText = own.Guest(`ROLLBACK TO SAVEPOINT "zanteyard.trial"`)
+	releaseText    = own.Guest(`RELEASE SAVEPOINT "zanteyard.trial"`)
 )
 
 const (
@@ -82,6 +88,9 @@ var (
 	askPrepare  = prepared(askName, askText)
 	askRun      = again(askName)
 	impatient   = once(impatientName, impatientText)
+	savepoint   = once(savepointName, savepointText)
+	rollbackTo  = once(savepointName, rollbackToText)
+	release     = once(savepointName, releaseText)
 	closeAsk    = encoded(&pgproto3.Close{ObjectType: 'S', Name: askName})
 
 	describeTrial = encoded(&pgproto3.Describe{ObjectType: 'S', Name: trialName})

@@ -18,6 +18,7 @@ const (
 	privilegeRow
 	trialColumns
 	trialEnd
+	blockPart  // the Sync of a trial in a block, before its savepoint is rolled back
 	reparse    // the original text of an unnamed statement, whose failure goes to the client
 	twin       // a statement's rewritten twin, just before the client's Bind
 	prepareEnd // the Sync after the twin of a statement of SQL's PREPARE

@@ -59,6 +59,10 @@ func (s *Session) answer(o *output, m []byte, start, end int) {
 		return
 	case 'C', 's', 'I':
 		s.replay.given = s.replay.given || pass
+		if pass && m[0] == 'C' && s.undoneUnasked(e, m) {
+			o.buf = append(o.own(), s.failure...)
+			pass = false
+		}
 		s.complete(e, m)
 	case 'E':
 		s.failed(o, e, m, start, end, pass)
@@ -324,6 +328,9 @@ func (s *Session) failed(o *output, e *expectation, m []byte, start, end int, pa
 	if pass {
 		text := s.renamed(e, m)
 		switch {
+		case len(s.owed) > 0:
+			o.buf = append(o.own(), s.owed...)
+			s.owed = s.owed[:0]
 		case e.altered():
 			o.buf = wire.AppendMoved(o.own(), text, e.moved())
 		case len(text) != len(m):
@@ -375,13 +382,18 @@ func (s *Session) ownFailed(m []byte) bool {
 
 // ready handles a ReadyForQuery.
 func (s *Session) ready(o *output, e *expectation, m []byte, start, end int) {
-	s.status = m[wire.Header]
 	kind := e.kind
+	if kind != blockPart {
+		s.status = m[wire.Header]
+	}
 	s.copying = false
 	s.queue.pop()
 	switch kind {
 	case clients:
 		s.failure = s.failure[:0]
+		if s.status != 'E' {
+			s.owed = s.owed[:0]
+		}
 		s.replay.skip = 0
 		if r := &s.replay; r.running && s.status == 'I' {
 			s.tx = transaction{seen: s.tx.seen}
@@ -405,6 +417,9 @@ func (s *Session) ready(o *output, e *expectation, m []byte, start, end int) {
 			o.buf = append(o.own(), s.failure...)
 		}
 	case trialEnd:
+		if w := s.trial; w != nil && w.inBlock && s.status == 'E' {
+			s.blockFailed(w.failure)
+		}
 		s.tryEnd()
 	}
 }

@@ -93,6 +93,8 @@ type Session struct {
 	copying  bool
 	replay   replay
 	failure  []byte // the error that the client gets in place of the answer to its COMMIT
+	owed     []byte // the error by which the proxy's own statements have ended a block, until the client gets it
+	asked    int    // trials in the block since the client has sent something
 	charset  string // the client's encoding, as the server reports it
 	encoding bool   // texts can be looked at: the client's encoding and settings allow it
 	standard bool
@@ -105,6 +107,7 @@ type Session struct {
 	place    uint64
 	defines  bool // the transaction changes definitions
 	now      time.Time
+	slow     time.Time // until then no statement waits for a trial
 	toClient output
 	columns  []wire.Column
 	ends     []int
@@ -125,7 +128,9 @@ func New(number uint64, client, server Conn, options *Options) *Session {
 	s.queue.levels, s.queue.doubts = &s.trust.levels, &s.trust.doubts
 	s.trust.uses, s.trust.shared = map[*plan.Plan]*use{}, options.Shared
 	s.trust.doubtful()
-	s.trust.generation, s.trust.back, s.trust.fresh = 1, plan.Settings|plan.Level, true
+	s.trust.generations = map[string]uint64{}
+	s.trust.renew()
+	s.trust.back, s.trust.fresh = plan.Settings|plan.Level, true
 	s.follow()
 	return s
 }
@@ -266,7 +271,7 @@ func (s *Session) written() {
 func (s *Session) looked(batch []byte, more int) ([]byte, error) {
 	s.state.Lock()
 	defer s.state.Unlock()
-	for {
+	for asks := 0; ; {
 		h := s.holds()
 		switch {
 		case s.left.Load():
@@ -275,6 +280,9 @@ func (s *Session) looked(batch []byte, more int) ([]byte, error) {
 			s.waiting.Wait()
 		case h != nil:
 			s.wait(h)
+		case more == 0 && asks < mostAsks && s.needsTrial(batch):
+			asks++
+			s.tryFirst()
 		default:
 			return s.lookAt(batch, more), nil
 		}
@@ -288,7 +296,7 @@ func (s *Session) lookedNow(batch []byte) (out []byte, ok bool) {
 		return nil, false
 	}
 	defer s.state.Unlock()
-	if s.replay.running || s.holds() != nil {
+	if s.replay.running || s.holds() != nil || s.needsTrial(batch) {
 		return nil, false
 	}
 	return s.lookAt(batch, 0), true
@@ -303,11 +311,8 @@ func (s *Session) lookAt(batch []byte, more int) []byte {
 		s.early = s.early || batch[0] != 'p'
 		return batch
 	}
-	s.follow()
-	if g := s.options.Generation(); g != s.trust.catalog {
-		s.trust.catalog = g
-		s.trust.planAnew()
-	}
+	s.catchUp()
+	s.asked = 0
 	s.replay.sent(batch, more > 0, s.between())
 	if more > 0 {
 		s.partial = true
@@ -391,7 +396,16 @@ func (s *Session) answers(batch []byte) (out []byte, again, rest bool) {
 	if h := s.hold.Load(); h != nil && s.between() {
 		h.end()
 	}
-	return out, s.replay.due, s.idle() && (s.trust.work() || s.draining.Load())
+	return out, s.replay.due, s.idle() && (s.trust.work() || s.draining.Load()) || s.pauses()
+}
+
+// catchUp takes notice of another catalog and another audit.
+func (s *Session) catchUp() {
+	s.follow()
+	if g := s.options.Generation(); g != s.trust.catalog {
+		s.trust.catalog = g
+		s.trust.planAnew()
+	}
 }
 
 // backLong passes on a long message from the server.

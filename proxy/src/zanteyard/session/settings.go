@@ -11,20 +11,28 @@ import (
 func (s *Session) before(p *plan.Plan) {
 	t := &s.trust
 	if p == nil {
+		t.block.murky = true
 		t.changed()
 		t.era++
 		return
 	}
 	s.uses(p.Name)
+	b := &t.block
+	b.murky = b.murky || p.Unknown || p.ChangesNames && !p.Settings
 	switch p.Kind {
 	case plan.Several:
 		for _, part := range p.Parts {
 			s.before(part)
 		}
 		return
+	case plan.Commit, plan.Rollback, plan.PrepareTransaction:
+		t.undoes()
+		b.murky, b.redefined = false, false
+	case plan.RollbackTo:
+		t.undoes()
 	case plan.Definition:
 		t.forget()
-		s.defines = true
+		s.defines, b.redefined = true, true
 	case plan.DiscardAll:
 		s.names.discarded()
 		t.discarded()

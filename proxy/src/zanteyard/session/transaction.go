@@ -40,6 +40,8 @@ type transaction struct {
 	sets    level   // what later transactions begin at, if it is committed
 	resets  plan.Parts
 	doubts  uint64 // what trust counted when the last of these resets was sent
+	queried bool   // it has a snapshot
+	calls   bool   // a statement of it has called what isn't the server's own
 	block   bool   // it is a block for certain: no statement in it but COMMIT or ROLLBACK ends it
 	// parted means that a statement has run which may have committed what precedes it, in a pipeline, where the server
 	// says whether it has only at the end. What follows is left out until then.
@@ -257,6 +259,11 @@ func (s *Session) ran(e *expectation, tag []byte) {
 	if (p == nil || p.MayCommit) && e.message == 'E' && !s.tx.block {
 		defer func() { s.tx.parted = true }()
 	}
+	if endsUnseen(p, tag) {
+		s.tx.parted = true
+	}
+	s.tx.queried = s.tx.queried || takesSnapshot(tag)
+	s.tx.calls = s.tx.calls || p == nil || p.Calls
 	s.starts()
 	if p == nil || p.Kind != plan.Several {
 		s.tx.did(p, e.doubts)
@@ -379,6 +386,7 @@ func (s *Session) executed(p *plan.Plan, e *expectation, tag []byte) {
 	s.tx.Touched = s.tx.Touched || inner.Touches()
 	s.tx.Defines = s.tx.Defines || inner.Kind == plan.Definition || inner.Kind == plan.TemporaryDefinition
 	s.tx.MayHaveWritten = s.tx.MayHaveWritten || inner.MayWriteUnseen
+	s.tx.calls = s.tx.calls || inner.Calls
 	if !e.changed {
 		e.use = of.use
 	}

@@ -37,13 +37,16 @@ type use struct {
 // trust records which plans may be used on a connection: those tried there since the last event that may have changed
 // what a name means or what its user may do.
 type trust struct {
-	generation uint64 // what was tried in an older one is forgotten
-	era        uint64 // what the proxy prepared in an older one may be something else by now
-	catalog    uint64 // the catalog's generation, as last looked at
-	path       string // the search path for resolving names, "" for the catalog's own
-	plans      uint64 // counts changes of these two: plans from before aren't used any more
-	uses       map[*plan.Plan]*use
-	queue      []*use // those that wait for a trial
+	generation uint64 // what was tried in another one isn't used
+	// Each signature has its own generation, so that a connection which returns to one finds what it has tried there.
+	generations map[string]uint64
+	newest      uint64 // of all generations
+	era         uint64 // what the proxy prepared in an older one may be something else by now
+	catalog     uint64 // the catalog's generation, as last looked at
+	path        string // the search path for resolving names, "" for the catalog's own
+	plans       uint64 // counts changes of these two: plans from before aren't used any more
+	uses        map[*plan.Plan]*use
+	queue       []*use // those that wait for a trial
 	// doubt means that something happened which may have changed names or rights. Nothing is used until the signature has
 	// been compared; doubts counts them, so that an answer to one isn't taken for an answer to a later one.
 	doubt     bool
@@ -66,6 +69,7 @@ type trust struct {
 	here      bool       // it is to that audit's server
 	elsewhere bool       // it isn't
 	shared    *Shared
+	block     block
 }
 
 // trial is one series of messages that was sent at an idle moment.
@@ -82,6 +86,13 @@ type trial struct {
 	here               bool
 	asked              bool // the ask ran
 	failed             bool
+	// In a block: how many had ended when it was sent, whether it was in doubt then what names refer to, and whether the
+	// block's signature was another one than that from before it.
+	inBlock        bool
+	ends           uint64
+	doubted, local bool
+	done           chan struct{} // closed when the trial has ended
+	failure        []byte        // the first error
 }
 
 const (
@@ -89,19 +100,63 @@ const (
 	mostUses     = 4096
 	mostDelays   = 20
 	mostOrphans  = 16
+	mostStates   = 256 // signatures whose generations are known
 )
 
 // forget makes everything be tried again.
 func (t *trust) forget() {
-	t.generation++
+	t.generations = map[string]uint64{}
+	t.renew()
 	t.era++
-	t.queue = t.queue[:0]
+	t.leaveQueue()
 	t.broken = t.pooled
 	t.signature = nil
 	t.doubtful()
 	if len(t.uses) > mostUses {
 		t.uses = map[*plan.Plan]*use{}
 	}
+}
+
+// renew begins a generation in which nothing was tried.
+func (t *trust) renew() {
+	t.newest++
+	t.generation = t.newest
+}
+
+func (t *trust) leaveQueue() {
+	for _, u := range t.queue {
+		u.state = untried
+	}
+	t.queue = t.queue[:0]
+}
+
+// moves takes over another signature and its search path. What is tried in a private generation is only known on this
+// connection, for as long as nothing else happens that may change names.
+func (t *trust) moves(signature []byte, path string, isPrivate bool) {
+	if path != t.path {
+		t.path = path
+		t.plans++
+		t.uses = map[*plan.Plan]*use{}
+	}
+	t.leaveQueue()
+	t.broken = t.pooled
+	known, is := t.generations[string(signature)]
+	if is && !isPrivate {
+		t.generation = known
+		return
+	}
+	t.renew()
+	if !isPrivate {
+		t.knows(signature)
+	}
+}
+
+// knows records which signature the generation is of.
+func (t *trust) knows(signature []byte) {
+	if len(t.generations) >= mostStates {
+		t.generations = map[string]uint64{}
+	}
+	t.generations[string(signature)] = t.generation
 }
 
 // planAnew makes all statements be planned and tried again.
@@ -149,7 +204,7 @@ func (t *trust) usable(u *use, sample *statement) bool {
 	}
 	if u.generation != t.generation || u.state == untried {
 		own, is := 0, false
-		if !t.doubt {
+		if !t.doubt && !t.block.isPrivate {
 			own, is = t.shared.has(t.signature, t.catalog, u.plan)
 		}
 		if is {
@@ -210,8 +265,14 @@ func rows(p *plan.Plan) *plan.Plan {
 // try appends a trial's messages, and records what is expected for them.
 func (s *Session) try(out []byte) []byte {
 	t := &s.trust
-	w := &trial{generation: t.generation, doubts: t.doubts, discards: t.discards, back: t.back, levels: t.levels, mark: t.mark}
+	w := &trial{generation: t.generation, doubts: t.doubts, discards: t.discards, back: t.back, levels: t.levels, mark: t.mark,
+		done: make(chan struct{})}
 	s.trial = w
+	if s.status == 'T' {
+		w.inBlock, w.ends, w.doubted, w.local = true, t.block.ends, t.doubt, t.block.local
+		out = append(out, savepoint...)
+		s.queue.once(expectation{kind: silent})
+	}
 	for _, name := range t.orphans {
 		out = appendClose(out, name)
 		s.queue.step('C', nil)
@@ -241,6 +302,12 @@ func (s *Session) try(out []byte) []byte {
 		u.state, u.columns, u.allowed = trying, false, false
 		w.uses = append(w.uses, u)
 		out = s.tryOne(out, u)
+	}
+	if w.inBlock {
+		s.queue.push(expectation{kind: blockPart, message: 'S'})
+		out = append(append(append(out, syncMessage...), rollbackTo...), release...)
+		s.queue.once(expectation{kind: silent})
+		s.queue.once(expectation{kind: silent})
 	}
 	s.queue.push(expectation{kind: trialEnd, message: 'S'})
 	return append(out, syncMessage...)
@@ -300,6 +367,9 @@ func (s *Session) tryError(e *expectation, m []byte) {
 		return
 	}
 	w.failed = true
+	if w.failure == nil {
+		w.failure = append(w.failure, m...)
+	}
 	if e.use == nil {
 		if !passing(m) {
 			s.trust.broken = true
@@ -327,52 +397,82 @@ func (s *Session) tryEnd() {
 	defer s.greeted()
 	t, w := &s.trust, s.trial
 	s.trial = nil
-	if w == nil || w.generation != t.generation {
+	if w == nil {
+		return
+	}
+	defer close(w.done)
+	if w.generation != t.generation {
 		return // something changed meanwhile; everything is tried again when it is used
 	}
 	if w.signature != nil {
 		t.shows(w.mark, w.here)
-	}
-	if w.signature != nil && w.doubts == t.doubts {
-		changed := t.signature != nil && !bytes.Equal(t.signature, w.signature)
-		isLevel := w.levels == t.levels
 		if s.options.Plans.Own(w.path) {
 			w.path = ""
 		}
-		switch {
-		case w.path != t.path:
-			t.path, changed = w.path, true
-			t.planAnew()
-		case changed:
-			t.forget()
-		}
-		t.signature, t.doubt = w.signature, false
-		if isLevel {
-			s.level, t.unsure = level{w.level, t.levels, true}, false
-		}
-		t.learn(w, s.begins())
-		if changed {
-			return
-		}
 	}
-	if w.asked && !w.failed {
+	isSame := w.doubts == t.doubts
+	switch {
+	case w.signature == nil || !isSame:
+	case !w.inBlock || w.ends == t.block.ends:
+		s.compares(w)
+	case w.local || w.doubted || !bytes.Equal(w.signature, t.signature): // the block has ended
+		t.doubtful()
+		isSame = false
+	}
+	if w.asked && !w.failed && isSame {
 		t.asks, t.prepared = true, w.discards == t.discards
 	}
+	s.tried(w)
+}
+
+// compares takes over the signature that a trial has returned, if it is the connection's now.
+func (s *Session) compares(w *trial) {
+	t, b := &s.trust, &s.trust.block
+	isPrivate := w.inBlock && (b.murky || s.tx.calls)
+	isSame := bytes.Equal(w.signature, t.signature)
+	switch {
+	case t.signature == nil && w.path == t.path && !isPrivate:
+		t.knows(w.signature)
+	case !isSame || w.path != t.path || isPrivate != b.isPrivate || isPrivate && w.doubted:
+		t.moves(w.signature, w.path, isPrivate)
+		t.asks = false
+	}
+	t.signature, t.doubt = w.signature, false
+	b.isPrivate, b.local = isPrivate, w.inBlock && (w.local || w.doubted || !isSame)
+	if w.inBlock {
+		return
+	}
+	b.murky, b.redefined = false, false
+	if w.levels == t.levels {
+		s.level, t.unsure = level{w.level, t.levels, true}, false
+	}
+	t.learn(w, s.begins())
+}
+
+// tried takes over what was found about plans.
+func (s *Session) tried(w *trial) {
+	t := &s.trust
+	holds := w.signature != nil && bytes.Equal(w.signature, t.signature) && w.path == t.path
 	for _, u := range w.uses {
 		switch {
 		case u.state != trying:
-		case u.allowed && u.columns && !w.failed:
-			u.state = tried
-			if !t.doubt {
-				t.shared.add(t.signature, t.catalog, u)
-			}
-		case w.failed:
+			continue
+		case w.failed && (holds || w.signature == nil):
 			u.state = waiting
 			t.queue = append(t.queue, u)
+		case !holds:
+			u.state = untried
+			continue
+		case u.allowed && u.columns:
+			u.state = tried
 		case !u.allowed:
 			u.state, u.reason = failed, "the connection's user may not read the audit's columns"
 		default:
 			u.state, u.reason = failed, "names refer to something else on its connection"
+		}
+		u.generation = t.generation
+		if u.state == tried && !t.doubt && !t.block.isPrivate {
+			t.shared.add(t.signature, t.catalog, u)
 		}
 	}
 }
