@@ -6,6 +6,7 @@
 #     collectors/python/test.sh [--install]      --install: as root, first installs the Debian packages that it needs
 set -euo pipefail
 seconds=${ZANTEYARD_SECONDS:-2700}
+unset ZANTEYARD_SECONDS # commands would take it as their option --seconds
 [ -z "${COBRA_AUDIT:-}" ] || COBRA_AUDIT=$(realpath "$COBRA_AUDIT")
 cd "$(dirname "$0")"
 if [ "${1:-}" = --install ]; then
