@@ -10,7 +10,7 @@ var encodingSQL = own.SQL(`SELECT pg_catalog.getdatabaseencoding()`)
 const PathSQL = `SELECT pg_catalog.array_to_json(pg_catalog.current_schemas(false))::pg_catalog.text`
 
 var typesSQL = own.SQL(`SELECT oid::pg_catalog.text, typtype::pg_catalog.text, typbasetype::pg_catalog.text, typname::pg_catalog.text FROM pg_catalog.pg_type
-WHERE typtype IN ('d', 'e') OR typname = 'citext'`)
+WHERE typtype IN ('d', 'e') OR typname = 'citext' AND typtype = 'b'`)
 
 var tablesSQL = own.SQL(`SELECT c.oid::pg_catalog.text, n.nspname::pg_catalog.text, c.relname::pg_catalog.text, c.relkind::pg_catalog.text, c.relpersistence::pg_catalog.text,
   coalesce(a.amname::pg_catalog.text, ''), c.relreplident::pg_catalog.text, c.relrowsecurity::pg_catalog.text,

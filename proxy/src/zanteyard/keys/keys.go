@@ -108,16 +108,14 @@ func Askable(typeOID uint32) bool {
 
 // Expression returns the SQL for a hidden column that contains a key column's value, with one type whatever ALTER TABLE
 // makes of the column: otherwise the server would refuse a statement that was prepared before. It is the value's text
-// or, if that depends on the session's settings, the type's binary form, as bytea. If it converts, texts are bytea too, in
-// the server's encoding.
+// or, if that depends on the session's settings, its binary form in a record of one column, as bytea. If it converts,
+// texts are bytea too, in the server's encoding. Nothing is cast, since the owner of the column's type may have defined
+// the cast: concat and record_send call only the type's own functions for its texts and binary forms.
 func Expression(typeOID uint32, column string, converts bool) string {
-	if send := sendFunction(typeOID); send != "" {
-		return "pg_catalog." + send + "(" + column + ")"
+	if sent(typeOID) {
+		return "pg_catalog.record_send(ROW(" + column + "))"
 	}
-	text := column + "::pg_catalog.text"
-	if typeOID == Enum { // the type's owner may have defined a cast
-		text = "pg_catalog.concat(" + column + ")"
-	}
+	text := "pg_catalog.concat(" + column + ")"
 	if converts && IsText(typeOID) {
 		return "pg_catalog.convert_to(" + text + ", pg_catalog.getdatabaseencoding())"
 	}
@@ -135,7 +133,7 @@ func IsText(typeOID uint32) bool {
 
 // ExpressionType returns the type of Expression's column.
 func ExpressionType(typeOID uint32, converts bool) uint32 {
-	if sendFunction(typeOID) != "" || converts && IsText(typeOID) {
+	if sent(typeOID) || converts && IsText(typeOID) {
 		return Bytea
 	}
 	return Text
@@ -147,34 +145,40 @@ func FromHidden(typeOID uint32, value []byte, binary, converts bool) (string, bo
 		return fromText(typeOID, value)
 	}
 	if !binary {
-		var room [24]byte
+		var room [48]byte
 		raw, ok := appendBytea(room[:0], value)
 		if !ok {
 			return "", false
 		}
 		value = raw
 	}
+	if sent(typeOID) {
+		var ok bool
+		if value, ok = onlyField(value); !ok {
+			return "", false
+		}
+	}
 	return fromBinary(typeOID, value)
 }
 
-// sendFunction names the function that returns a type's binary form, for types whose text depends on DateStyle,
-// TimeZone or extra_float_digits.
-func sendFunction(typeOID uint32) string {
-	switch typeOID {
-	case Float4:
-		return "float4send"
-	case Float8:
-		return "float8send"
-	case Date:
-		return "date_send"
-	case Time:
-		return "time_send"
-	case Timestamp:
-		return "timestamp_send"
-	case Timestamptz:
-		return "timestamptz_send"
+// onlyField returns the value of a record of one column in its binary form: how many columns there are, the column's
+// type, its length and its value.
+func onlyField(record []byte) ([]byte, bool) {
+	const header = 12
+	if len(record) < header || binary.BigEndian.Uint32(record) != 1 ||
+		int64(binary.BigEndian.Uint32(record[8:])) != int64(len(record)-header) {
+		return nil, false
 	}
-	return ""
+	return record[header:], true
+}
+
+// sent reports whether a type's text depends on DateStyle, TimeZone or extra_float_digits: its binary form doesn't.
+func sent(typeOID uint32) bool {
+	switch typeOID {
+	case Float4, Float8, Date, Time, Timestamp, Timestamptz:
+		return true
+	}
+	return false
 }
 
 func fromText(typeOID uint32, value []byte) (string, bool) {
