@@ -7,15 +7,15 @@ import (
 
 // A name may lead to several servers: through a balancer, by DNS, or after a failover. What a standby, a copy or the
 // primary of before returns isn't what the audited server's log explains. So a connection shows, before anything of it
-// is offered to an audit, that it is to the server whose log that audit reads: this server isn't in recovery, and the
-// lock is there that the audit's own connection holds.
+// is offered to an audit, that it is to the server whose log that audit reads: this server isn't in recovery, was
+// started when that one was, and has the lock that the audit's own connection holds.
 
 // signatureOf is the question for a connection's signature, with the audit's mark.
 func signatureOf(mark int64) []byte {
 	if mark == anywhere {
 		mark = 0
 	}
-	return once(signatureName, own.Guest(signatureForm, own.Number(mark)))
+	return once(signatureName, own.Guest(signatureForm, own.Number(own.Started(mark)), own.Number(mark)))
 }
 
 // mark is the number of the audit's lock, 0 while there is none.

@@ -43,8 +43,8 @@ const (
 	// Everything that decides what a name means on a connection and what its user may do, in one text: if it is the same
 	// as before, or as on another connection, then what was tried still means the same. It ends with an empty string if
 	// there are no temporary objects, which are those that depend on the schema for them. The second column is the level that transactions begin at, the third the search path
-	// (catalog.PathSQL), the fourth the backend's process, the fifth says whether it is the audited server (mark.go): a lock
-	// that nobody could share is the audit's. If there is none, the one that is taken instead ends with the transaction.
+	// (catalog.PathSQL), the fourth the backend's process, the fifth says whether it is the audited server (mark.go): it
+	// was started when that one was, and a lock that nobody could share is the audit's. If there is none, the one that is taken instead ends with the transaction.
 	signatureForm = "SELECT pg_catalog.json_build_array(pg_catalog.current_setting('search_path'), " +
 		"pg_catalog.current_setting('row_security'), current_user, session_user, pg_catalog.current_setting('role'), " +
 		"CASE WHEN pg_catalog.pg_my_temp_schema() OPERATOR(pg_catalog.=) 0::pg_catalog.oid THEN '' ELSE coalesce((" +
@@ -52,8 +52,8 @@ const (
 		"FROM pg_catalog.pg_depend WHERE refclassid OPERATOR(pg_catalog.=) 'pg_catalog.pg_namespace'::pg_catalog.regclass " +
 		"AND refobjid OPERATOR(pg_catalog.=) pg_catalog.pg_my_temp_schema()), '') END)::pg_catalog.text, " +
 		"pg_catalog.current_setting('default_transaction_isolation'), (" + catalog.PathSQL + "), " +
-		"pg_catalog.pg_backend_pid(), CASE WHEN pg_catalog.pg_is_in_recovery() THEN false " +
-		"ELSE NOT pg_catalog.pg_try_advisory_xact_lock_shared(%s::pg_catalog.int8) END"
+		"pg_catalog.pg_backend_pid(), CASE WHEN pg_catalog.pg_is_in_recovery() OR " + own.StartedSQL +
+		" OPERATOR(pg_catalog.<>) %s::pg_catalog.int8 THEN false ELSE NOT pg_catalog.pg_try_advisory_xact_lock_shared(%s::pg_catalog.int8) END"
 )
 
 func encoded(messages ...pgproto3.FrontendMessage) []byte {
