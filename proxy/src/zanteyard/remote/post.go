@@ -36,8 +36,8 @@ type Post struct {
 	live    map[uint64]record.Connection
 	ticks   ticks
 	run     string    // the watch that is heard
-	number  uint64    // of its last message
-	heard   time.Time // when that was
+	heard   time.Time // when its last message arrived
+	numbers numbers   // of the messages that were heard
 	try     uint64
 	tried   time.Time
 	epoch   uint64 // of the attachment, 0 without one
@@ -235,13 +235,13 @@ func (p *Post) one(ctx context.Context, m *fromHub, isNew bool) {
 	switch {
 	case m.Run != p.run && now.Sub(p.heard) < silence:
 		return // from another watch: an earlier one, or a second one
+	case !p.numbers.isNext(m.Run, m.Number):
+		return // a repeated one
 	case m.Run != p.run:
 		p.detach()
-		p.run, p.number = m.Run, 0
-	case m.Number <= p.number:
-		return // a repeated one
+		p.run = m.Run
 	}
-	p.number, p.heard = m.Number, now
+	p.heard = now
 	p.takes.Store(p.epoch != 0 && !m.Idle)
 	p.ticks.add(now, m.Tick)
 	switch {
