@@ -414,6 +414,10 @@ class OverAServer(unittest.TestCase):
             for change, wanted in (
                 ("SELECT 1", "  ok      pg_walinspect exists, and postgres may call it"),
                 ("UPDATE pg_extension SET extowner = 'maker'::regrole WHERE extname = 'pg_walinspect'", hers),
+                ("ALTER EXTENSION pg_walinspect SET SCHEMA m",
+                 "the schema of the extension pg_walinspect doesn't belong to a superuser"),
+                ("ALTER EXTENSION pg_walinspect SET SCHEMA m", "            as a superuser: ALTER EXTENSION pg_walinspect SET SCHEMA pg_catalog"),
+                ("ALTER EXTENSION pg_walinspect SET SCHEMA pg_catalog", "  ok      pg_walinspect exists, and postgres may call it"),
                 (f"SET ROLE maker; {made}; RESET ROLE; ALTER EXTENSION pg_walinspect DROP FUNCTION "
                  "pg_get_wal_record_info(pg_lsn); ALTER EXTENSION pg_walinspect ADD FUNCTION "
                  "m.pg_get_wal_record_info(pg_lsn)", hers),

@@ -15,6 +15,7 @@ TRUSTED = "output_plugin_libraries"  # the server's list of allowed plugins
 UNUSED = "public.zanteyard_fence"  # which versions up to 0.1.0 created
 PROBE = "zanteyard_probe"
 BEHIND_SAVEPOINTS = "the writer of a row may be unknown if it wrote after a savepoint"
+OPEN_SCHEMA = "the schema of the extension pg_walinspect doesn't belong to a superuser"
 NO_PLUGIN = ("58P01", "42704")  # undefined file, undefined object
 REFUSED = "42501"  # insufficient privilege
 
@@ -227,6 +228,8 @@ def _walinspect(database: Database, server: Server) -> Finding:
     if not rows[0][0]:
         return Finding(False, False, f"the extension {told} isn't created; {without}", remedy)
     reason = _not_inspecting(database, server)
+    if reason == OPEN_SCHEMA:
+        remedy = "as a superuser: ALTER EXTENSION pg_walinspect SET SCHEMA pg_catalog"
     if reason:
         return Finding(False, False, f"{reason}; {without}", remedy)
     return Finding(True, False, f"{told} exists, and {server.user} may call it")
@@ -235,12 +238,14 @@ def _walinspect(database: Database, server: Server) -> Finding:
 def _not_inspecting(database: Database, server: Server) -> str:
     """Why the proxy won't call the function of pg_walinspect; empty if it will. The function is
     found by its extension. It is in C, which only a superuser can make, and belongs to one, as the
-    extension does, or to the audit's own role."""
+    extension and its schema do, or to the audit's own role: who owns the schema could put another
+    one in its place."""
     rows = database.run(
         "SELECT (f.rolsuper OR f.rolname = current_user) AND (o.rolsuper OR o.rolname = "
         "current_user) AND l.lanname = 'c' AND p.probin = '$libdir/pg_walinspect', "
         "pg_catalog.has_function_privilege(p.oid, 'EXECUTE') "
-        "AND pg_catalog.has_schema_privilege(p.pronamespace, 'USAGE') "
+        "AND pg_catalog.has_schema_privilege(p.pronamespace, 'USAGE'), "
+        "(s.rolsuper OR s.rolname = current_user) "
         "FROM pg_catalog.pg_extension e JOIN pg_catalog.pg_depend d ON d.refobjid = e.oid "
         "AND d.refclassid = 'pg_catalog.pg_extension'::pg_catalog.regclass "
         "AND d.classid = 'pg_catalog.pg_proc'::pg_catalog.regclass AND d.deptype = 'e' "
@@ -248,11 +253,18 @@ def _not_inspecting(database: Database, server: Server) -> str:
         "JOIN pg_catalog.pg_language l ON l.oid = p.prolang "
         "JOIN pg_catalog.pg_roles f ON f.oid = p.proowner "
         "JOIN pg_catalog.pg_roles o ON o.oid = e.extowner "
+        "JOIN pg_catalog.pg_namespace n ON n.oid = p.pronamespace "
+        "JOIN pg_catalog.pg_database b ON b.datname = pg_catalog.current_database() "
+        "JOIN pg_catalog.pg_roles s ON s.oid = CASE WHEN n.nspowner = (SELECT w.oid FROM "
+        "pg_catalog.pg_roles w WHERE w.rolname = 'pg_database_owner') THEN b.datdba "
+        "ELSE n.nspowner END "
         "WHERE e.extname = 'pg_walinspect' AND p.proname = 'pg_get_wal_record_info' "
         "AND p.pronargs = 1 AND p.proargtypes[0] = 'pg_catalog.pg_lsn'::pg_catalog.regtype"
     )
     if len(rows) != 1 or not rows[0][0]:
         return "the extension pg_walinspect or its function doesn't belong to a superuser"
+    if not rows[0][2]:
+        return OPEN_SCHEMA
     return "" if rows[0][1] else f"the role {server.user} may not call pg_walinspect"
 
 

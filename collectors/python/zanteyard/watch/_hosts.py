@@ -32,7 +32,7 @@ OWN = Host(
         SLOTS: "ALTER SYSTEM SET max_replication_slots = 10; then restart the server",
         SENDERS: "ALTER SYSTEM SET max_wal_senders = 10; then restart the server",
         REPLICATION: "as a superuser: ALTER ROLE {user} REPLICATION",
-        WALINSPECT: "as a superuser: CREATE EXTENSION pg_walinspect; "
+        WALINSPECT: "as a superuser: CREATE EXTENSION pg_walinspect SCHEMA pg_catalog; "
         "GRANT EXECUTE ON FUNCTION pg_get_wal_record_info(pg_lsn) TO {user}",
         ROLE: "CREATE ROLE {user} LOGIN REPLICATION PASSWORD '..'",
         KEEP: "ALTER SYSTEM SET max_slot_wal_keep_size = '4GB'; SELECT pg_reload_conf()",

@@ -151,6 +151,10 @@ func TestInspector(t *testing.T) {
 			fmt.Sprintf(made, "public", "VARIADIC pg_lsn[]") + "; RESET ROLE", ""},
 		"an extension of hers": {"", extension + "; UPDATE pg_extension SET extowner = 'intruder'::regrole WHERE extname = 'pg_walinspect'",
 			"the extension pg_walinspect or its function doesn't belong to a superuser"},
+		"in a schema of hers": {"", "CREATE EXTENSION pg_walinspect SCHEMA m",
+			"the schema of the extension pg_walinspect doesn't belong to a superuser"},
+		"in her database": {"", "CREATE EXTENSION pg_walinspect SCHEMA public; ALTER DATABASE postgres OWNER TO intruder",
+			"the schema of the extension pg_walinspect doesn't belong to a superuser"},
 		"a function of hers in the extension": {fmt.Sprintf(made, "m", "pg_lsn"), extension + ";" +
 			"ALTER EXTENSION pg_walinspect DROP FUNCTION pg_get_wal_record_info(pg_lsn); ALTER EXTENSION pg_walinspect ADD FUNCTION m.pg_get_wal_record_info(pg_lsn)",
 			"the extension pg_walinspect or its function doesn't belong to a superuser"},

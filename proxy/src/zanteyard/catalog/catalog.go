@@ -247,7 +247,7 @@ func (t *Table) reason() string {
 	case t.children > 0:
 		return "other tables inherit from it"
 	case t.Kind == 'r' && (t.system.replica == "n" || t.system.replica == "i" && !t.system.identity):
-		return "its replica identity leaves out the primary key"
+		return NoOldKeys
 	}
 	for _, column := range t.Key {
 		if !keys.Known(column.Type) {

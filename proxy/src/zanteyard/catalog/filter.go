@@ -12,6 +12,10 @@ const NotAsked = "a table excluded by --tables"
 // are deleted or get another key.
 const Deferrable = "its primary key is deferrable"
 
+// NoOldKeys is the reason for a table whose replica identity isn't its primary key, nor the whole row: the log then
+// doesn't tell an update that changes a row's key from another one.
+const NoOldKeys = "its replica identity leaves out the primary key"
+
 // Filter says which tables to audit, by patterns of their names. The zero value includes all.
 type Filter struct{ patterns []pattern }
 

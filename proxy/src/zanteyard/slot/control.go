@@ -180,7 +180,7 @@ const stampSQL = `SELECT pg_catalog.string_agg(` + stampOfOne + `, '; ' ORDER BY
   FROM pg_catalog.pg_class c JOIN pg_catalog.pg_namespace n ON n.oid = c.relnamespace
   LEFT JOIN pg_catalog.pg_index i ON i.indrelid = c.oid AND i.indisprimary `
 
-const stampOfOne = "pg_catalog.concat_ws(' ', c.oid, n.nspname, c.relname, c.relispartition, " + catalog.IdentitySQL + ")"
+const stampOfOne = "pg_catalog.concat_ws(' ', c.oid, n.nspname, c.relname, c.relispartition, c.relreplident, i.indisreplident, " + catalog.IdentitySQL + ")"
 
 var placeSQL = own.SQL("SELECT pg_catalog.pg_current_wal_insert_lsn(), (" + stampSQL +
 	"WHERE c.oid = ANY($1::pg_catalog.oid[])), pg_catalog.pg_current_snapshot()")
@@ -213,11 +213,13 @@ func (c *Control) Inspects(ctx context.Context) (reason string) {
 type inspector struct{ schema, function string }
 
 // The function is found by the extension that it belongs to, never by its name alone. It is written in C, which only a
-// superuser can make, and belongs to one, as the extension does, or to the audit's own role.
+// superuser can make, and belongs to one, as the extension and its schema do, or to the audit's own role. Who owned the
+// schema could rename it after this question and put another one in its place.
 var inspectorSQL = own.SQL(`SELECT n.nspname, p.oid, pg_catalog.has_function_privilege(p.oid, 'EXECUTE')
     AND pg_catalog.has_schema_privilege(n.oid, 'USAGE'),
   (f.rolsuper OR f.rolname = current_user) AND (o.rolsuper OR o.rolname = current_user)
-    AND l.lanname = 'c' AND p.probin = '$libdir/pg_walinspect'
+    AND l.lanname = 'c' AND p.probin = '$libdir/pg_walinspect',
+  (s.rolsuper OR s.rolname = current_user)
 FROM pg_catalog.pg_extension e
 JOIN pg_catalog.pg_depend d ON d.refclassid = 'pg_catalog.pg_extension'::pg_catalog.regclass AND d.refobjid = e.oid
   AND d.classid = 'pg_catalog.pg_proc'::pg_catalog.regclass AND d.deptype = 'e'
@@ -226,6 +228,9 @@ JOIN pg_catalog.pg_language l ON l.oid = p.prolang
 JOIN pg_catalog.pg_namespace n ON n.oid = p.pronamespace
 JOIN pg_catalog.pg_roles f ON f.oid = p.proowner
 JOIN pg_catalog.pg_roles o ON o.oid = e.extowner
+JOIN pg_catalog.pg_database b ON b.datname = pg_catalog.current_database()
+JOIN pg_catalog.pg_roles s ON s.oid = CASE WHEN n.nspowner =
+  (SELECT w.oid FROM pg_catalog.pg_roles w WHERE w.rolname = 'pg_database_owner') THEN b.datdba ELSE n.nspowner END
 WHERE e.extname = 'pg_walinspect' AND p.proname = 'pg_get_wal_record_info'
   AND p.pronargs = 1 AND p.proargtypes[0] = 'pg_catalog.pg_lsn'::pg_catalog.regtype`)
 
@@ -238,6 +243,8 @@ func (c *Control) inspector(ctx context.Context) (its inspector, reason string) 
 		return its, "the extension pg_walinspect isn't created"
 	case rows[0][3] != "t":
 		return its, "the extension pg_walinspect or its function doesn't belong to a superuser"
+	case rows[0][4] != "t":
+		return its, "the schema of the extension pg_walinspect doesn't belong to a superuser"
 	case rows[0][2] != "t":
 		return its, "the role may not call pg_walinspect's functions"
 	}
@@ -268,9 +275,8 @@ func (c *Control) Subtransactions(ctx context.Context, starts []uint64) ([][]uin
 	return subs, nil
 }
 
-// commits calls the function by its name, exactly as it is declared. Who owns its schema could rename that and put
-// another one in its place since the function was looked up: the name has to mean the same function still, or it isn't
-// called.
+// commits calls the function by its name, exactly as it is declared. If those who are trusted have moved it since, no
+// rows are returned. That alone protects nothing: the planner may already run what another function of the name does.
 func (c *Control) commits(ctx context.Context, by inspector, starts []uint64) ([][]string, error) {
 	texts := make(own.Literals, len(starts))
 	for i, start := range starts {
@@ -311,8 +317,9 @@ func subsOf(description string) []uint32 {
 var tablesSQL = own.SQL(`SELECT c.oid, n.nspname, c.relname, CASE WHEN c.relispartition THEN
   (SELECT p.relid::pg_catalog.oid FROM pg_catalog.pg_partition_ancestors(c.oid) WITH ORDINALITY p(relid, level)
    JOIN pg_catalog.pg_index ix ON ix.indrelid = p.relid AND ix.indisprimary ORDER BY p.level DESC LIMIT 1) END,
-  a.attname, CASE WHEN t.typtype = 'e' THEN 3500 WHEN t.typname = 'citext' THEN 25 ELSE t.oid END,
-  ` + stampOfOne + `, top.nspname, top.relname, ` + catalog.IdentitySQL + `, NOT i.indimmediate
+  a.attname, CASE WHEN t.typtype = 'e' THEN 3500 WHEN t.typname = 'citext' AND t.typtype = 'b' THEN 25 ELSE t.oid END,
+  ` + stampOfOne + `, top.nspname, top.relname, ` + catalog.IdentitySQL + `, NOT i.indimmediate,
+  c.relkind = 'r' AND (c.relreplident = 'n' OR c.relreplident = 'i' AND NOT i.indisreplident)
 FROM pg_catalog.pg_class c JOIN pg_catalog.pg_namespace n ON n.oid = c.relnamespace
 LEFT JOIN pg_catalog.pg_index i ON i.indrelid = c.oid AND i.indisprimary
 LEFT JOIN LATERAL pg_catalog.unnest(i.indkey) WITH ORDINALITY k(number, place) ON k.place <= i.indnkeyatts
@@ -370,7 +377,7 @@ func (c *Control) table(row []string) (*Table, error) {
 		return nil, fmt.Errorf("read the catalog: %w", err)
 	}
 	its := &Table{Relation: record.Relation(oid), Root: record.Relation(oid), Schema: row[1], Name: row[2], stamp: row[6]}
-	its.deferrable = row[10] == "t"
+	its.deferrable, its.noOldKeys = row[10] == "t", row[11] == "t"
 	if row[9] != "" {
 		its.identity = catalog.IdentityOf(row[9])
 	}

@@ -22,6 +22,7 @@ type Table struct {
 	stamp        string          // changes with the table's name or key
 	identity     record.Identity // of the key
 	deferrable   bool            // the key is
+	noOldKeys    bool            // the log doesn't have a row's old key
 	used         uint32          // atomic: the slot has reported it
 }
 
@@ -252,6 +253,8 @@ func (t *Tables) leaves(table *Table) bool {
 		reason = catalog.NotAsked
 	case table.deferrable:
 		reason = catalog.Deferrable
+	case len(table.Key) > 0 && table.noOldKeys:
+		reason = catalog.NoOldKeys
 	case len(table.Key) > 0:
 		return false
 	}

@@ -174,14 +174,11 @@ func columnOf(text []byte) (column, []byte, error) {
 		return one, nil, errForm
 	}
 	one.name = plainName(text[:open])
-	end := bytes.Index(text[open:], []byte("]:"))
-	if end < 0 {
+	value := typeEnd(text, open)
+	if value < 0 {
 		return one, nil, errForm
 	}
-	for bytes.HasPrefix(text[open+end+1:], []byte("]:")) { // the name of an array type ends with []
-		end++
-	}
-	rest := text[open+end+2:]
+	rest := text[value:]
 	var err error
 	one.value, one.null, rest, err = valueOf(rest)
 	return one, rest, err
@@ -204,6 +201,21 @@ func nameEnd(text []byte) int {
 			return i + 1
 		}
 		return -1
+	}
+	return -1
+}
+
+// typeEnd returns where the value begins: after the type's bracket, which opens there, and a colon. A type's name may
+// contain both, in quotes.
+func typeEnd(text []byte, open int) int {
+	quoted := false
+	for i := open + 1; i+1 < len(text); i++ {
+		switch {
+		case text[i] == '"': // one that is doubled ends a quoted part and begins another
+			quoted = !quoted
+		case !quoted && text[i] == ']' && text[i+1] == ':':
+			return i + 2
+		}
 	}
 	return -1
 }

@@ -225,16 +225,16 @@ func (w *wal2json) change(m *message) {
 	}
 	now, hasNow := w.key(t, m.columns)
 	was, hasWas := w.key(t, m.identity)
-	if m.action == 'D' && !hasWas || m.action != 'D' && !hasNow {
+	if m.action != 'I' && !hasWas || m.action != 'D' && !hasNow { // an update that changes the key has to be known as one
 		w.tables.without(t, noKeyLog)
 		w.lacks(m)
+		return
 	}
-	if m.action != 'I' && hasWas && (m.action == 'D' || hasNow && was != now) {
+	if m.action == 'D' || m.action == 'U' && was != now {
 		w.open.write(t.Root, was, false, true)
 	}
-	if m.action != 'D' && hasNow {
-		moved := m.action == 'U' && hasWas && was != now
-		w.open.write(t.Root, now, m.action == 'I' || moved, false)
+	if m.action != 'D' {
+		w.open.write(t.Root, now, m.action == 'I' || was != now, false)
 	}
 }
 
