@@ -10,7 +10,7 @@ import unittest
 from zanteyard import Auditor
 from zanteyard.cli._main import main
 from zanteyard.imports._command import FORMS
-from zanteyard.imports._guess import history_form
+from zanteyard.imports._guess import FIRST, history_form
 from zanteyard.program._binaries import PROGRAM, checker_path
 
 from .test_import import SAMPLES
@@ -135,9 +135,10 @@ class Forms(unittest.TestCase):
         line = '{:process 0, :type :%s, :f :txn, :value [[%s]]}\n'
         reads = line % ("invoke", ":r 1 nil") + line % ("ok", ":r 1 []")
         appends = line % ("invoke", ":append 1 1") + line % ("ok", ":append 1 1")
-        path = self.written("late.edn", reads * 200 + appends)
-        status, out, err = ran("check", path, "--json")
-        self.assertEqual((status, json.loads(out)["form"]), (0, "jepsen-lists"), err)
+        for size in (1 << 13, FIRST):
+            path = self.written("late.edn", f"{reads * 9};{'x' * size}\n{appends}")
+            status, out, err = ran("check", path, "--json")
+            self.assertEqual((status, json.loads(out)["form"]), (0, "jepsen-lists"), err)
 
 
 if __name__ == "__main__":

@@ -126,13 +126,21 @@ def _history_in(file: IO[bytes], path: str, form: str | None) -> tuple[str | Non
         if history_form(front) is None:
             return None, b""
     whole = file.read()
-    form = form or history_form(whole[:FIRST])  # of a pipe, the front may have been short
+    form = form or _form_of(whole)  # of a pipe, the front may have been short
     if form == "FORM":
         raise CantBeAskedError(
             f"{path} is compressed, and can't be a script: if you know its form, name it with "
             "--form (docs/IMPORT.md)"
         )
     return form, whole
+
+
+def _form_of(whole: bytes) -> str | None:
+    """The first append may be far from the file's beginning."""
+    form = history_form(whole[:FIRST])
+    if form == "jepsen-registers" and any(it in whole for it in (b":append ", b'"append"')):
+        return "jepsen-lists"
+    return form
 
 
 def _where(verdict: Verdict) -> str:
