@@ -8,6 +8,9 @@ import (
 	"zanteyard/wire"
 )
 
+// A statement that wasn't tried on its connection, or in the state that it is in, waits for its trial, which takes as long
+// as one answer of the server. What others have tried in the same state needn't be tried again (Shared).
+//
 // In a block something may change what names refer to, and what is tried must be tried there: SET LOCAL, set_config,
 // DO. So trials are made in blocks, too. They must not be able to do the block any harm: all of a trial is undone by a
 // savepoint of its own, and nothing is asked before the block has its snapshot, unless the next statement takes it.
@@ -37,100 +40,131 @@ func (t *trust) undoes() {
 	}
 }
 
-// inBlock reports whether a block is open in which a trial may be made or is under way, and the client has nothing under
+// free reports whether a trial may be made or is under way, outside of a block or in one, and the client has nothing under
 // way.
-func (s *Session) inBlock() bool {
-	return s.status == 'T' && s.tx.block && !s.open && !s.skipping && !s.blind.Load() && !s.trust.block.redefined &&
-		len(s.owed) == 0 && !s.owes() && (s.queue.empty() || s.trial != nil && s.trial.inBlock)
+func (s *Session) free() bool {
+	isBlock := s.status == 'T' && s.tx.block && !s.trust.block.redefined && len(s.owed) == 0
+	return (isBlock || s.status == 'I') && !s.open && !s.skipping && !s.blind.Load() && !s.owes() &&
+		(s.queue.empty() || s.trial != nil && s.trial.inBlock == isBlock)
 }
 
 // pauses reports whether there is something to try in a block while its client is silent.
 func (s *Session) pauses() bool {
 	t := &s.trust
-	return s.status == 'T' && s.tx.queried && s.queue.empty() && s.asked < mostAsks && s.inBlock() &&
+	return s.status == 'T' && s.tx.queried && s.queue.empty() && s.asked < mostAsks && s.free() &&
 		!t.broken && !t.taken && !t.elsewhere && (t.doubt || t.block.local || !s.tx.calls) &&
 		(len(t.queue) > 0 || t.wanted && (t.doubt || !t.asks || !t.here))
 }
 
-// needsTrial reports whether a batch of messages begins, in a block, with a statement that is seen only if a trial is made
-// first. It queues the statement's plan for that. Called with state locked.
+// needsTrial reports whether a batch of messages begins with a statement that is seen only if a trial is made first, or
+// with the beginning of a block if it isn't known what names refer to. It queues the statement's plan for the trial. Called
+// with state locked.
 func (s *Session) needsTrial(batch []byte) bool {
 	t := &s.trust
-	if s.status != 'T' || !s.inBlock() || clock().Before(s.slow) {
+	s.ahead = nil
+	if !s.free() || s.options.Bound <= 0 || !s.slow.IsZero() && clock().Before(s.slow) {
 		return false
 	}
 	s.catchUp()
-	inDoubt := t.doubt || !t.asks || !t.here
-	if !inDoubt && !t.block.local || t.broken || t.elsewhere || !s.looking() {
+	if t.broken || t.elsewhere || !s.looking() {
 		return false
 	}
-	st := s.firstOf(batch)
-	switch st.kind() {
-	case plan.Several:
-		return inDoubt && s.readsFirst(st)
-	case plan.Commit, plan.PrepareTransaction:
-		return inDoubt && s.tx.queried && s.tx.Number == 0 && (s.tx.wrote || s.tx.MayHaveWritten)
-	case plan.Execute:
-		st = s.names.prepared[st.plan.Name]
-		if st == nil || st.use == nil || !s.understands(st.plan) || t.usable(st.use, st) {
-			return false
-		}
-	default:
-		if st == nil || st.use == nil || !rewritable(st) || !s.understands(st.plan) || s.usable(st) {
-			return false
-		}
+	inDoubt := t.doubt || !t.asks || !t.here
+	if !inDoubt && s.status == 'T' && s.tx.calls && !t.block.local {
+		return false
 	}
-	return inDoubt || (st.use.state == waiting || st.use.state == trying) && st.use.delays == 0
-}
-
-// readsFirst reports whether the first of several statements has a plan to try. Only then it takes the block's
-// snapshot, if there is none yet.
-func (s *Session) readsFirst(st *statement) bool {
-	for i, part := range st.tokens.Parts() {
-		if hiddenColumns(part.Plan) > 0 {
-			return i == 0 || s.tx.queried
+	for st := (*statement)(nil); len(batch) > 0; {
+		st, batch = s.firstOf(batch, st)
+		if s.status != 'I' || st.kind() != plan.Begin {
+			return st != nil && s.needs(st, inDoubt)
+		}
+		if inDoubt {
+			return true
 		}
 	}
 	return false
 }
 
-// firstOf returns the first statement of a batch of messages: the one that is parsed, bound or queried first; nil if it
-// isn't known.
-func (s *Session) firstOf(batch []byte) *statement {
-	for at := 0; at < len(batch); at += wire.Length(batch[at:]) {
-		m := batch[at : at+wire.Length(batch[at:])]
+// needs is needsTrial for one statement.
+func (s *Session) needs(st *statement, inDoubt bool) bool {
+	switch st.kind() {
+	case plan.Several:
+		return s.partsNeed(st, inDoubt)
+	case plan.Commit, plan.PrepareTransaction:
+		return inDoubt && s.tx.queried && s.tx.Number == 0 && (s.tx.wrote || s.tx.MayHaveWritten)
+	case plan.Execute:
+		st = s.names.prepared[st.plan.Name]
+		if st == nil || st.use == nil || !s.understands(st.plan) || s.trust.usable(st.use, st) {
+			return false
+		}
+	default:
+		if st.use == nil || !rewritable(st) || !s.understands(st.plan) || s.usable(st) {
+			return false
+		}
+	}
+	return inDoubt || st.use.waits()
+}
+
+// waits reports whether the plan is seen after the next trial, as far as is known.
+func (u *use) waits() bool { return (u.state == waiting || u.state == trying) && u.delays == 0 }
+
+// partsNeed is needs for several statements. In a block without a snapshot only the first of them counts: it takes the
+// snapshot, and another one may set the level first.
+func (s *Session) partsNeed(st *statement, inDoubt bool) bool {
+	need := false
+	for i, part := range st.tokens.Parts() {
+		if i > 0 && s.status == 'T' && !s.tx.queried {
+			break
+		}
+		one := &statement{text: st.text[part.From:part.To], plan: part.Plan, tokens: part.Tokens, looked: s.trust.plans,
+			use: s.trust.of(part.Plan)}
+		if one.use != nil && rewritable(one) && s.understands(one.plan) && !s.usable(one) {
+			need = need || inDoubt || one.use.waits()
+		}
+	}
+	return need
+}
+
+// firstOf returns the first statement of a batch of messages, and what follows it: the one that is parsed, bound or queried
+// first, apart from the binding of the one before; nil if it isn't known.
+func (s *Session) firstOf(batch []byte, before *statement) (st *statement, rest []byte) {
+	for len(batch) > 0 {
+		m := batch[:wire.Length(batch)]
+		batch = batch[len(m):]
 		switch m[0] {
 		case 'Q', 'P':
-			name, rest := []byte(nil), m[wire.Header:]
-			ok, ok2 := true, true
+			name, rest, ok := []byte(nil), m[wire.Header:], true
 			if m[0] == 'P' {
 				name, rest, ok = wire.Text(rest)
 			}
 			text, types, ok2 := wire.Text(rest)
 			if !ok || !ok2 {
-				return nil
+				return nil, nil
 			}
 			st := s.look(string(name), text)
-			if m[0] == 'P' {
+			if s.ahead = st; m[0] == 'P' {
 				st.types = append([]byte(nil), types...)
 			}
-			return st
+			return st, batch
 		case 'B':
 			_, name, _, _ := wire.Names(m)
+			if before != nil && string(name) == before.name {
+				continue
+			}
 			st := s.names.statements[string(name)]
-			if st == nil || st.name == "" && !st.altered {
-				return nil
+			if st == nil || st.kind() != plan.Begin && st.name == "" && !st.altered {
+				return nil, nil
 			}
 			if s.trust.plans != st.looked {
 				s.fresh(st)
 			}
-			return st
-		case 'C', 'D':
+			return st, batch
+		case 'C', 'D', 'E', 'S':
 		default:
-			return nil
+			return nil, nil
 		}
 	}
-	return nil
+	return nil, nil
 }
 
 // tryFirst makes a trial before the client's next statement, or waits for the one that is under way, for the bound at

@@ -74,6 +74,11 @@ func (s *Session) look(name string, text []byte) *statement {
 	if !s.plain || s.options.Plans == nil {
 		return &statement{name: name}
 	}
+	ahead := s.ahead
+	s.ahead = nil
+	if ahead != nil && ahead.name == name && ahead.looked == s.trust.plans && ahead.text == string(text) {
+		return ahead
+	}
 	st := &statement{name: name, text: string(text), looked: never}
 	if !s.options.Auditing() {
 		return st // it may be run after an audit has begun

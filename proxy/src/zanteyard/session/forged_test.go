@@ -96,7 +96,9 @@ func TestFunctionForges(t *testing.T) {
 	if len(before.Reads) != 1 {
 		t.Fatalf("not seen before: %+v", before)
 	}
+	p.session.state.Lock()
 	twin := p.session.names.statements["s"].twin
+	p.session.state.Unlock()
 	p.query(`DO $$DECLARE it text; BEGIN
 		SELECT statement INTO it FROM pg_prepared_statements WHERE name = '` + twin + `';
 		EXECUTE 'DEALLOCATE "` + twin + `"';

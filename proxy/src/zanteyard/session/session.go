@@ -92,11 +92,12 @@ type Session struct {
 	early    bool // the client sent something before the server was ready for it
 	copying  bool
 	replay   replay
-	failure  []byte // the error that the client gets in place of the answer to its COMMIT
-	owed     []byte // the error by which the proxy's own statements have ended a block, until the client gets it
-	asked    int    // trials in the block since the client has sent something
-	charset  string // the client's encoding, as the server reports it
-	encoding bool   // texts can be looked at: the client's encoding and settings allow it
+	failure  []byte     // the error that the client gets in place of the answer to its COMMIT
+	owed     []byte     // the error by which the proxy's own statements have ended a block, until the client gets it
+	ahead    *statement // the client's next one, if it was looked at
+	asked    int        // trials in the block since the client has sent something
+	charset  string     // the client's encoding, as the server reports it
+	encoding bool       // texts can be looked at: the client's encoding and settings allow it
 	standard bool
 	plain    bool
 	level    level // that transactions begin at

@@ -2,6 +2,7 @@ package session
 
 import (
 	"testing"
+	"time"
 
 	"github.com/jackc/pgproto3/v2"
 )
@@ -35,6 +36,9 @@ func TestShared(t *testing.T) {
 		{"a temporary object that is no table", "postgres", []string{"CREATE TYPE pg_temp.t AS ENUM ('a')"}, query(select1), false},
 	} {
 		p, one := connect(x.user), direct(t, x.user)
+		p.session.state.Lock()
+		p.session.slow = time.Now().Add(time.Hour) // nothing is tried for its first statement
+		p.session.state.Unlock()
 		for _, text := range x.before {
 			p.query(text)
 			one.query(text)

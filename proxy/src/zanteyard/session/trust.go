@@ -402,8 +402,10 @@ func (s *Session) tryEnd() {
 	}
 	defer close(w.done)
 	if w.generation != t.generation {
-		return // something changed meanwhile; everything is tried again when it is used
+		w.leave() // something changed meanwhile; everything is tried again when it is used
+		return
 	}
+	path := t.path
 	if w.signature != nil {
 		t.shows(w.mark, w.here)
 		if s.options.Plans.Own(w.path) {
@@ -422,7 +424,19 @@ func (s *Session) tryEnd() {
 	if w.asked && !w.failed && isSame {
 		t.asks, t.prepared = true, w.discards == t.discards
 	}
-	s.tried(w)
+	switch {
+	case w.signature == nil || bytes.Equal(w.signature, t.signature) && path == t.path:
+		s.tried(w)
+	default: // something else was tried than what is used now
+		w.leave()
+	}
+}
+
+// leave forgets what a trial was to show.
+func (w *trial) leave() {
+	for _, u := range w.uses {
+		u.state = untried
+	}
 }
 
 // compares takes over the signature that a trial has returned, if it is the connection's now.
@@ -452,17 +466,12 @@ func (s *Session) compares(w *trial) {
 // tried takes over what was found about plans.
 func (s *Session) tried(w *trial) {
 	t := &s.trust
-	holds := w.signature != nil && bytes.Equal(w.signature, t.signature) && w.path == t.path
 	for _, u := range w.uses {
 		switch {
 		case u.state != trying:
-			continue
-		case w.failed && (holds || w.signature == nil):
+		case w.failed:
 			u.state = waiting
 			t.queue = append(t.queue, u)
-		case !holds:
-			u.state = untried
-			continue
 		case u.allowed && u.columns:
 			u.state = tried
 		case !u.allowed:

@@ -257,6 +257,14 @@ func TestTheAuditWritesNothing(t *testing.T) {
 	sql(t, beside, state)
 	silent, idle, client := p.connect(), p.connect(), p.connect()
 	sql(t, silent, "SELECT 1")
+	// Until the statement is rewritten: then nothing is left to be tried in the block.
+	last := fmt.Sprintf("SELECT query FROM pg_stat_activity WHERE pid = %d", idle.PID())
+	for end := time.Now().Add(5 * time.Minute); !strings.Contains(sql(t, observer, last), "zanteyard FROM account"); {
+		sql(t, idle, "SELECT balance FROM account WHERE id = 1")
+		if time.Now().After(end) {
+			t.Fatal("the statement isn't seen")
+		}
+	}
 	sql(t, idle, "BEGIN")
 	sql(t, idle, "SELECT balance FROM account WHERE id = 1")
 	before := sql(t, observer, state)
