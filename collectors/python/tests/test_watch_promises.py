@@ -50,7 +50,14 @@ class Words(unittest.TestCase):
         asked = parser().parse_args(["proxy", "postgresql://a/b", "--redis", "redis://c", "--audit", "d", "--key", "e"])
         call, _ = call_of("proxy", asked)
         self.assertEqual(call[:3], ["proxy", "--server", "postgresql://a/b"])
-        self.assertFalse([it for it in call if it.startswith(("--promise", "--rollbacks", "--sample"))])
+        self.assertFalse(
+            [it for it in call if it.startswith(("--promise", "--rollbacks", "--sample", "--conditions"))]
+        )
+
+    def test_conditions_are_followed_if_that_is_asked_for(self):
+        for more in ([], ["--conditions"]):
+            asked = parser().parse_args(["watch", "postgresql://a/b", *more])
+            self.assertEqual("--conditions" in call_of("proxy", asked)[0], bool(more))
 
     def test_a_list_of_processes_shows_no_password(self):
         for url in (

@@ -151,6 +151,30 @@ class Explained(unittest.TestCase):
         self.assertEqual(lines[first + 1], read)
         self.assertIn(f'<span class="read">{read}</span>', violation_page(found, "shop", "proved"))
 
+    def test_what_a_condition_passed_over(self):
+        """Each asked for who is off duty, and didn't get the row that the other one changed."""
+        keys = [
+            {"key": key, "table": "public.doctor", "row": row, "columns": ["id"],
+             "condition": "doctor WHERE NOT on_call"}
+            for key, row in ((5, "1"), (6, "2"))
+        ]
+        its = [
+            feed.described(0, 0, keys=keys, reads=[[5, "init"], [6, "init"]], read_by=[None, 0]),
+            feed.described(1, 0, keys=keys, reads=[[5, "init"], [6, "init"]], read_by=[0, None]),
+        ]
+        found = self.of(
+            feed.offer(0, 0, [[[5, "init"], [6, "init"]], [5]]),
+            feed.offer(1, 0, [[[5, "init"], [6, "init"]], [6]]),
+            answered=answered_of(feed.event("transactions", id=1, transactions=its)),
+        )
+        passed = "asked for doctor WHERE NOT on_call, and didn't get doctor(id=%d)"
+        read = [one.reads for one in found.told]
+        self.assertEqual(read, [((passed % 2,), ()), ((passed % 1,), ())])
+        self.assertEqual(found.title, "write skew")
+        whole = "\n".join(found.lines())
+        self.assertIn("wrote whether doctor(id=2) satisfies NOT on_call", whole)
+        self.assertIn("didn&#x27;t get doctor(id=2)", violation_page(found, "shop", "proved"))
+
     def test_a_feed_without_statements_of_reads(self):
         its = [feed.described(0, 0, reads=[[5, "init"]]), feed.described(1, 0)]
         found = self.of(
@@ -368,6 +392,10 @@ class Redacted(unittest.TestCase):
         event = feed.event("transactions", id=1, transactions=[feed.described(1, 2)])
         its = without_values(answered_of(event))
         self.assertEqual(its.keys[5].named(), "stock(#5)")
+        key = {"key": 5, "table": "public.stock", "row": "7", "condition": "stock WHERE qty = 4"}
+        event = feed.event("transactions", id=1, transactions=[feed.described(1, 2, keys=[key])])
+        words = without_values(answered_of(event)).keys[5].passed_over()
+        self.assertEqual(words, "asked for stock WHERE qty = ?, and didn't get stock(#5)")
         first, second = its.transactions[(1, 2)].statements
         self.assertEqual((first.text, first.parameters), ("SELECT qty FROM stock WHERE id = $1", None))
         self.assertEqual((first.origin, first.place), ("", ""))  # a comment's

@@ -77,6 +77,7 @@ def add_arguments(command: argparse.ArgumentParser) -> None:
         help="below serializable, also check transactions that only read, and that their clients "
         "rolled back though no statement had failed",
     )
+    command.add_argument("--conditions", action="store_true", help=argparse.SUPPRESS)
     add_clients(command)
     add_sharing(command)
     add_tables_option(command, "audit only these tables, such as public.*,shop.orders")
@@ -321,6 +322,8 @@ def call_of(proxy: str, asked: Any) -> tuple[Sequence[str], dict[str, str]]:
         call.append(f"--promise={asked.promise}")
     if asked.rollbacks:
         call.append("--rollbacks")
+    if asked.conditions:
+        call.append("--conditions")
     if asked.sample is not None:
         call.append(f"--sample={asked.sample:g}")
     if asked.tables is not None:

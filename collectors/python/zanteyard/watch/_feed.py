@@ -176,7 +176,9 @@ def answered_of(event: Mapping[str, Any]) -> Answered:
 
 def _row(key: Mapping[str, Any]) -> Row:
     columns = tuple(map(text, listed(key.get("columns"))))
-    return Row(text(key.get("table")), text(key.get("row")), columns)
+    return Row(
+        text(key.get("table")), text(key.get("row")), columns, text(key.get("condition"))
+    )
 
 
 def _described(id: AuditId, one: Mapping[str, Any]) -> Described:

@@ -9,7 +9,10 @@ from ._violations import Answered, Row
 
 def without_values(answered: Answered) -> Answered:
     """The same answer, with rows named by the auditor's numbers of their keys."""
-    keys = {number: Row(row.table, f"#{number}") for number, row in answered.keys.items()}
+    keys = {
+        number: Row(row.table, f"#{number}", (), without_constants(row.condition))
+        for number, row in answered.keys.items()
+    }
     its = {id: _described(one) for id, one in answered.transactions.items()}
     return Answered(its, keys)
 

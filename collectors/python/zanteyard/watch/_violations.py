@@ -29,14 +29,27 @@ EXPLAINING = 15.0  # seconds for reducing a violated history, and the same for i
 @dataclass(frozen=True)
 class Row:
     """The row that a key stands for: the table with its schema, and the values of its primary
-    key."""
+    key. With a condition the key stands for whether that holds of the row."""
 
     table: str
     values: str  # as one text
     columns: tuple[str, ...] = ()  # their names, if known
+    condition: str = ""  # such as bookings WHERE room = 7
 
     def named(self) -> str:
-        """Its name, such as accounts(id=7), or accounts(7) if the columns' names are unknown."""
+        """What the key stands for in words: accounts(id=7), or accounts(7) if the columns' names
+        are unknown; or whether bookings(id=12) satisfies room = 7."""
+        if not self.condition:
+            return self._row()
+        _, where, rest = self.condition.partition(" WHERE ")
+        told = f"satisfies {rest}" if where else "exists"
+        return f"whether {self._row()} {told}"
+
+    def passed_over(self) -> str:
+        """What a reader of the key did, if it has a condition."""
+        return f"asked for {self.condition}, and didn't get {self._row()}"
+
+    def _row(self) -> str:
         table = self.table[len(PUBLIC) :] if self.table.startswith(PUBLIC) else self.table
         values = self.values.split(", ") if len(self.columns) > 1 else [self.values]
         if len(values) != len(self.columns):
@@ -304,7 +317,14 @@ def explained(
     gone = next((one for one, there in places.items() if there == (0, 0) and one not in ids), None)
     writers = as_shown({there: one for one, there in ids.items()}, gone, held.base)
 
+    passed = {
+        key_text(key): visible(row.passed_over(), 300)
+        for key, row in answered.keys.items() if row.condition
+    }
+
     def read(key: str, source: Source) -> str:
+        if key in passed:
+            return passed[key]
         return f"read {shown.get(key, key)} {version(shown.get(key, key), source, called)}"
 
     def made(one: ShownId) -> tuple[tuple[str, ...], ...]:

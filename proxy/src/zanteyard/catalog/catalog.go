@@ -36,6 +36,8 @@ type Table struct {
 	Columns      []Column
 	Key          []Column // of the primary key, in its order
 	Identity     record.Identity
+	// ColumnsIdentity is that of all columns, if it was asked for (WithColumns).
+	ColumnsIdentity record.Identity
 	// Hidden says why the table's rows can't be identified by hidden columns with xmin and key; "" if they can.
 	Hidden string
 	// RowSecurity says that policies may hide rows from a role: then a missing row may still exist.
@@ -106,16 +108,33 @@ type Catalog struct {
 	functions map[string]*functions
 	operators map[string]bool // names of operators whose functions aren't pure
 	elsewhere *elsewhere
+	columns   map[uint32]record.Identity // of tables
 }
 
+// Option changes what Load reads.
+type Option func(*Catalog)
+
+// WithColumns makes Load read the identities of tables' columns, which reads by conditions need.
+func WithColumns(c *Catalog) { c.columns = map[uint32]record.Identity{} }
+
+// WithConditions reports whether the identities of columns were read.
+func (c *Catalog) WithConditions() bool { return c.columns != nil }
+
 // Load reads a database's definitions.
-func Load(ctx context.Context, query Query) (*Catalog, error) {
+func Load(ctx context.Context, query Query, options ...Option) (*Catalog, error) {
 	c := &Catalog{
 		tables:    map[uint32]*Table{},
 		names:     map[string]map[string]*Table{},
 		sole:      map[string]*Table{},
 		functions: map[string]*functions{},
 		operators: map[string]bool{},
+	}
+	for _, option := range options {
+		option(c)
+	}
+	// What changes while this is read has another identity afterwards: so identities come first.
+	if err := c.loadColumns(query); err != nil {
+		return nil, err
 	}
 	types := types{}
 	meanings := newMeanings(c, types)

@@ -69,3 +69,18 @@ var operatorsSQL = own.SQL(`SELECT DISTINCT o.oprname::pg_catalog.text FROM pg_c
   JOIN pg_catalog.pg_language l ON l.oid = p.prolang
 WHERE n.nspname <> 'pg_catalog'
   AND NOT (p.provolatile = 'i' OR p.provolatile = 's' AND l.lanname IN ('c', 'internal'))`)
+
+// ColumnsSQL is the text that IdentityOf makes the identity of all columns of the table c of pg_class from: what they
+// are called, their types and collations, when each was last changed, and whether there is row security. Where a column's
+// type is a domain or an enumeration, all enumerations' labels are in it. It is the same text on connections of all
+// encodings.
+const ColumnsSQL = `(SELECT pg_catalog.encode(pg_catalog.sha256(pg_catalog.convert_to(pg_catalog.concat_ws(' ', c.relrowsecurity, pg_catalog.string_agg(
+    pg_catalog.concat_ws(' ', ca.attnum, ca.attname, ca.atttypid, ca.atttypmod, ca.attcollation, ca.xmin,
+    CASE WHEN (SELECT y.typtype FROM pg_catalog.pg_type y WHERE y.oid OPERATOR(pg_catalog.=) ca.atttypid) IN ('d', 'e')
+      THEN (SELECT pg_catalog.string_agg(pg_catalog.concat_ws(' ', e.enumtypid, e.oid, e.enumlabel, e.enumsortorder, e.xmin), ','
+        ORDER BY e.oid) FROM pg_catalog.pg_enum e) END),
+    ';' ORDER BY ca.attnum)), pg_catalog.getdatabaseencoding())), 'hex') FROM pg_catalog.pg_attribute ca
+  WHERE ca.attrelid OPERATOR(pg_catalog.=) c.oid AND ca.attnum OPERATOR(pg_catalog.>) 0)`
+
+var allColumnsSQL = own.SQL(`SELECT c.oid::pg_catalog.text, ` + ColumnsSQL + ` FROM pg_catalog.pg_class c
+WHERE c.relkind IN ('r', 'p') AND c.relpersistence = 'p' AND c.oid >= 16384`)

@@ -100,6 +100,7 @@ func (c *Catalog) takeTable(row []string) error {
 		Rules: row[8] == "true", children: children,
 		system: system{persistence: row[4], method: row[5], replica: row[6]},
 	}
+	t.ColumnsIdentity = c.columns[oid]
 	c.tables[oid] = t
 	if c.names[t.Schema] == nil {
 		c.names[t.Schema] = map[string]*Table{}
@@ -109,6 +110,28 @@ func (c *Catalog) takeTable(row []string) error {
 		c.sole[t.Name] = nil
 	} else {
 		c.sole[t.Name] = t
+	}
+	return nil
+}
+
+// loadColumns reads the identities of all tables' columns, if they are wanted.
+func (c *Catalog) loadColumns(query Query) error {
+	if c.columns == nil {
+		return nil
+	}
+	rows, err := query(allColumnsSQL)
+	if err != nil {
+		return fmt.Errorf("reading the identities of columns: %w", err)
+	}
+	for _, row := range rows {
+		if err := width(row, 2); err != nil {
+			return err
+		}
+		oid, err := number(row, 0)
+		if err != nil {
+			return err
+		}
+		c.columns[oid] = IdentityOf(row[1])
 	}
 	return nil
 }

@@ -14,6 +14,7 @@ import (
 	"zanteyard/catalog"
 	"zanteyard/own"
 	"zanteyard/plan"
+	"zanteyard/record"
 )
 
 // A change is detected by the rows of the tables that contain definitions and rights: how many there are, and which
@@ -52,6 +53,7 @@ type Definitions struct {
 	config *pgconn.Config
 	log    func(string)
 	only   catalog.Filter
+	reads  []catalog.Option
 	cache  atomic.Pointer[plan.Cache]
 
 	lock   sync.Mutex
@@ -79,6 +81,15 @@ func New(config *pgconn.Config, every time.Duration, log func(string)) *Definiti
 // Only hides all tables that the filter excludes. Call it before Run.
 func (d *Definitions) Only(filter catalog.Filter) { d.only = filter }
 
+// WithConditions makes plans follow the conditions that SELECTs ask by. Call it before Run.
+func (d *Definitions) WithConditions() { d.reads = append(d.reads, catalog.WithColumns) }
+
+// FollowsTable reports whether a plan was made that follows a condition on this table's rows.
+func (d *Definitions) FollowsTable(relation record.Relation) bool {
+	cache := d.cache.Load()
+	return cache != nil && cache.FollowsTable(relation)
+}
+
 // Follow makes the catalog be read from the server that has this mark. Call it before Run.
 func (d *Definitions) Follow(marked func() int64) { d.marked = marked }
 
@@ -102,8 +113,10 @@ func (d *Definitions) here(ctx context.Context, conn *pgconn.PgConn) error {
 }
 
 // Open loads the catalog of the database that the configuration names.
-func Open(ctx context.Context, config *pgconn.Config, every time.Duration, log func(string)) (*Definitions, error) {
+func Open(ctx context.Context, config *pgconn.Config, every time.Duration, log func(string),
+	options ...catalog.Option) (*Definitions, error) {
 	d := New(config, every, log)
+	d.reads = options
 	conn, err := own.Connect(ctx, config, settings)
 	if err != nil {
 		return nil, fmt.Errorf("connecting to read the catalog: %w", err)
@@ -297,7 +310,7 @@ func (d *Definitions) look(ctx context.Context, conn *pgconn.PgConn) *pgconn.PgC
 }
 
 func (d *Definitions) load(ctx context.Context, conn *pgconn.PgConn) error {
-	c, err := catalog.Load(ctx, func(text own.Text) ([][]string, error) { return own.Ask(ctx, conn, text) })
+	c, err := catalog.Load(ctx, func(text own.Text) ([][]string, error) { return own.Ask(ctx, conn, text) }, d.reads...)
 	if err != nil {
 		return err
 	}

@@ -90,6 +90,8 @@ func coverage(it join.Coverage) map[string]any {
 		"partly": it.Partly, "folded": it.Folded,
 		"reads": map[string]any{"seen": it.Reads, "offered": it.ReadsOffered, "own": it.ReadsOwn, "before": it.ReadsBefore,
 			"folded": it.ReadsFolded, "left_out": it.ReadsLeft},
+		"conditions": map[string]any{"seen": it.Asks, "followed": it.AsksFollowed, "passed_over": it.Passed,
+			"left_out": it.AsksLeft, "dropped": it.AsksDropped},
 		"writes": map[string]any{"seen": it.Writes, "offered": it.WritesOffered, "left_out": it.WritesLeft},
 		"unseen": unseen,
 		"connections": map[string]any{
@@ -172,7 +174,11 @@ func transaction(it *join.Description) map[string]any {
 	}
 	rows := make([]any, len(it.Rows))
 	for i, one := range it.Rows {
-		rows[i] = map[string]any{"key": one.Key, "table": one.Table, "row": one.Row, "columns": texts(one.Columns)}
+		row := map[string]any{"key": one.Key, "table": one.Table, "row": one.Row, "columns": texts(one.Columns)}
+		if one.Condition != "" {
+			row["condition"] = one.Condition
+		}
+		rows[i] = row
 	}
 	writes := it.Writes
 	if writes == nil {

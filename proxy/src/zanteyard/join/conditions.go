@@ -61,6 +61,7 @@ type conditions struct {
 	valueBytes int
 	gap        uint64 // the last commit in which a change of some row of an unknown table is missing
 	shown      []shownAt
+	dropped    uint64 // conditions, to make room
 }
 
 // tableAsks are the conditions by which rows of one table were asked for.
@@ -90,7 +91,10 @@ func newConditions(most int) *conditions {
 	q := &conditions{by: map[string]*question{}, of: map[record.Relation]*tableAsks{}, most: most}
 	limits := condition.DefaultLimits()
 	limits.Bytes = most
-	q.index = condition.NewIndex(limits, func(lost *condition.Condition) { q.drop(q.by[lost.Key()]) })
+	q.index = condition.NewIndex(limits, func(lost *condition.Condition) {
+		q.dropped++
+		q.drop(q.by[lost.Key()])
+	})
 	return q
 }
 
@@ -156,6 +160,7 @@ func (q *question) size() int { return 512 + q.its.Size() }
 // makeRoom drops the conditions that were asked by longest ago, beyond the limit.
 func (q *conditions) makeRoom() {
 	for q.bytes > q.most && q.order.Len() > 1 {
+		q.dropped++
 		q.drop(q.order.Front().Value.(*question))
 	}
 }

@@ -128,3 +128,20 @@ func TestRowsOfManyVersionsAreLookedAtAgain(t *testing.T) {
 		}
 	}
 }
+
+// TestAsksThatArentFollowed: each is counted by its reason, and a transaction that did nothing else isn't offered.
+func TestAsksThatArentFollowed(t *testing.T) {
+	b := newBench(t, Options{Sessions: 2})
+	b.connect(1, 2)
+	b.tell(1, 0, record.Transaction{Asks: []record.Ask{{Why: "LIMIT"}, {Why: "LIMIT"}}})
+	its := &fakeCondition{kind: "x", c: 1}
+	b.tell(2, 0, record.Transaction{Asks: []record.Ask{{Why: "several tables"}, {Condition: its, From: b.now}}})
+	b.settle()
+	n := b.core.counts
+	if n.asks != 4 || n.asksFollowed != 1 || n.leftAsks["LIMIT"] != 2 || n.leftAsks["several tables"] != 1 || len(n.leftAsks) != 2 {
+		t.Errorf("%d, %d, %v", n.asks, n.asksFollowed, n.leftAsks)
+	}
+	if len(b.lines) != 2 || n.offered != 1 {
+		t.Errorf("%d offered: %v", n.offered, b.lines)
+	}
+}

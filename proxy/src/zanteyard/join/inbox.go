@@ -140,6 +140,14 @@ func sizeOf(it *record.Transaction) int {
 	for _, one := range it.Reads {
 		n += len(one.Key)
 	}
+	for i := range it.Asks {
+		if n += 128; it.Asks[i].Condition != nil {
+			n += it.Asks[i].Condition.Size()
+		}
+		for _, key := range it.Asks[i].Found {
+			n += 16 + len(key)
+		}
+	}
 	return n
 }
 

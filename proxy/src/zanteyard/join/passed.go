@@ -156,6 +156,8 @@ func (c *core) resolveAsks(e *entry, to *resolution) bool {
 	for i := range e.asks {
 		q := e.asks[i]
 		switch {
+		case e.its.Asks[i].Why != "": // it was counted
+			continue
 		case q == nil:
 			to.leaveAsk(askUnknown)
 			continue
@@ -314,6 +316,9 @@ func (c *core) takeAsks(e *entry) {
 	_, ended := span(&e.its)
 	e.asks = make([]*question, len(e.its.Asks))
 	for i := range e.its.Asks {
+		if e.its.Asks[i].Why != "" {
+			continue
+		}
 		c.tables.Use(e.its.Asks[i].Condition.Table())
 		e.asks[i] = c.ask(&e.its.Asks[i], ended)
 	}

@@ -24,7 +24,7 @@ func (c *core) tell(it record.Transaction) {
 	}
 	c.counts.reads += readsOf(&it) + uint64(it.Beyond)
 	c.counts.totals.told(&it)
-	c.counts.asks += uint64(len(it.Asks))
+	c.countAsks(&it)
 	conn := c.connections[it.Connection]
 	if conn != nil {
 		conn.active = c.now
@@ -52,6 +52,22 @@ func (c *core) tell(it record.Transaction) {
 		c.leave(it, whyEmpty(&it))
 	default:
 		c.take(it, conn)
+	}
+}
+
+// countAsks counts what a transaction asked for by conditions, and forgets it if none is followed.
+func (c *core) countAsks(it *record.Transaction) {
+	c.counts.asks += uint64(len(it.Asks))
+	follows := false
+	for i := range it.Asks {
+		if why := it.Asks[i].Why; why != "" {
+			c.counts.leaveAsk(why)
+		} else {
+			follows = true
+		}
+	}
+	if !follows {
+		it.Asks = nil
 	}
 }
 

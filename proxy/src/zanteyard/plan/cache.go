@@ -7,6 +7,7 @@ import (
 	"sync/atomic"
 
 	"zanteyard/catalog"
+	"zanteyard/record"
 )
 
 const (
@@ -28,6 +29,7 @@ type Cache struct {
 	state    atomic.Pointer[cached]
 	scanners sync.Pool
 	seed     maphash.Seed
+	followed sync.Map // tables, by record.Relation
 }
 
 // cached is what is held for one catalog.
@@ -157,9 +159,17 @@ func (c *Cache) find(state *cached, s *scanner, text string, apart bool) *Plan {
 	p := home.find(state, s.key)
 	if p == nil {
 		p = c.make(state, s)
+		c.follows(p)
 		home.keep(state, string(s.key), p)
 	}
 	return p
+}
+
+// follows remembers the table that a plan asks by a condition.
+func (c *Cache) follows(p *Plan) {
+	if p.follow != nil {
+		c.followed.Store(record.Relation(p.follow.form.Table.Root), true)
+	}
 }
 
 func (c *Cache) giveBack(s *scanner) {
@@ -214,6 +224,9 @@ func (c *Cache) locate(state *cached, p *Plan, text string, list []token) (*Plan
 			at := list[part.token]
 			tokens.constants[i] = span{at.start, at.end}
 		}
+	}
+	if p.follow != nil {
+		tokens.follow = p.follow.places(text, list)
 	}
 	if p.Kind == Several {
 		tokens.parts = c.parts(state, p, text, list)

@@ -117,6 +117,9 @@ type Plan struct {
 	Asked bool
 	// ByKey means that a SELECT asks for the rows of one table by its whole primary key, whatever else it asks.
 	ByKey bool
+	// NotFollowed says why what a SELECT asks tables for by a condition isn't followed; "" if it is, or asks for nothing, or
+	// no condition is followed at all.
+	NotFollowed string
 	// Level is what BEGIN or SET TRANSACTION sets; UnknownLevel if they leave it unchanged.
 	Level record.Level
 	// SetsLevel means that the transaction's level is set by name, to a value in the text.
@@ -137,6 +140,7 @@ type Plan struct {
 
 	insertion insertion
 	asked     []askedPart
+	follow    *follow
 	positions []position
 	misplaced *Plan // the same without an insertion, for texts whose positions forbid it
 	custom    *Plan // the same for texts in which set_config sets nothing but settings that names don't depend on

@@ -30,6 +30,7 @@ func (m *maker) query(stmt statement, name string, body node, start int) *Plan {
 		field = "targetList"
 		p.ByKey = m.byKey(body)
 		m.selects(p, body, start, stmt.to)
+		m.asksBy(p, body)
 		if p.Kind == Select && !m.readsTables(body) {
 			p.ofNoTable()
 		}
@@ -110,7 +111,9 @@ func (p *Plan) without(reason string) *Plan {
 		Kind: p.Kind, Shape: p.Shape, ChangesNames: p.ChangesNames, Unseen: append(p.Unseen[:0:0], p.Unseen...),
 		MayWriteUnseen: p.MayWriteUnseen || p.Kind == Write, ByKey: p.ByKey, Settings: p.Settings, Calls: p.Calls,
 	}
-	bare.leaveOut(reason)
+	if bare.leaveOut(reason); p.follow != nil || p.NotFollowed != "" {
+		bare.NotFollowed = reason
+	}
 	return bare
 }
 

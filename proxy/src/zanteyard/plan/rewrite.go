@@ -11,6 +11,7 @@ type span struct{ from, to int32 }
 type Tokens struct {
 	at        int // nowhere if nothing is inserted
 	constants [maxAsked + 1]span
+	follow    []span
 	parts     []Part
 }
 

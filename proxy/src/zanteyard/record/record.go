@@ -76,6 +76,7 @@ type Ask struct {
 	Found     []Key     // the rows that it got
 	From      time.Time // at read committed: its snapshot is no older than this
 	Wrote     bool      // the transaction may have written before
+	Why       string    // why it isn't followed: then the rest is empty. "" if it is
 }
 
 // Statement is one statement of a transaction, for readers of an explanation.

@@ -40,5 +40,14 @@ func (o *Options) HideKeys(it *record.Transaction) {
 		one.Key = o.hiddenKey(one.Key)
 		absent[i] = one
 	}
-	it.Reads, it.Absent = reads, absent
+	asks := make([]record.Ask, len(it.Asks))
+	for i, one := range it.Asks {
+		found := make([]record.Key, len(one.Found))
+		for j, key := range one.Found {
+			found[j] = o.hiddenKey(key)
+		}
+		one.Found = found
+		asks[i] = one
+	}
+	it.Reads, it.Absent, it.Asks = reads, absent, asks
 }

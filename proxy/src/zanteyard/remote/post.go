@@ -99,6 +99,7 @@ func (p *Post) Transaction(it record.Transaction) {
 	case p.redacts:
 		p.redact(&it)
 	}
+	it.Asks = nil // what a condition holds of isn't sent
 	size := sizeOf(&it)
 	switch {
 	case p.bytes+size > p.held, size > mostOfOne:

@@ -10,7 +10,7 @@ import (
 )
 
 // ask inserts the proxy's own question before a COMMIT (or PREPARE TRANSACTION): the transaction's number, if it may
-// have written without reporting it, and its snapshot, if a row wasn't found. It goes out in the same write, so it
+// have written without reporting it, and its snapshot, if a row wasn't found, or one was passed over by a condition. It goes out in the same write, so it
 // costs no round trip. It has its own Sync, since otherwise an error in it would make the server skip the COMMIT; that
 // is only possible in a block (T) with nothing under way. After other messages of a pipeline it isn't asked.
 func (s *Session) ask(o *output, p *plan.Plan) {
@@ -19,7 +19,7 @@ func (s *Session) ask(o *output, p *plan.Plan) {
 	}
 	t := &s.tx
 	known := t.Number != 0 || !t.wrote && !t.MayHaveWritten
-	if t.asked || known && len(t.Absent) == 0 || s.status != 'T' || s.open || !s.queue.empty() {
+	if t.asked || known && len(t.Absent) == 0 && !t.asksSnapshot() || s.status != 'T' || s.open || !s.queue.empty() {
 		return
 	}
 	if !s.trust.asks || s.trust.doubt {

@@ -1,6 +1,7 @@
 package session
 
 import (
+	"zanteyard/condition"
 	"zanteyard/plan"
 	"zanteyard/record"
 	"zanteyard/wire"
@@ -160,6 +161,7 @@ func (s *Session) query(o *output, m []byte, start, end int) {
 			st.asked.key, st.asked.known = st.plan.AskedKey(st.text, st.tokens, nil, nil, nil)
 			st.asked.known = st.asked.known && s.askable(st.asked.key)
 		}
+		e.asking = s.asksBy(st, condition.Arguments{})
 	} else {
 		o.pass(start, end)
 	}
@@ -306,6 +308,9 @@ func (s *Session) bindHidden(o *output, b *wire.Bind, st *statement, p *portal) 
 		p.asked.key, p.asked.known = st.plan.AskedKey(st.text, st.tokens, b.Parameters, s.formats(b), declared(st.types))
 		p.asked.known = p.asked.known && s.askable(p.asked.key)
 	}
+	if st.plan.Follows() {
+		p.asking = s.asksBy(st, s.arguments(b, st))
+	}
 }
 
 // formats returns the formats of a Bind's parameters.
@@ -398,6 +403,7 @@ func (s *Session) execute(o *output, m []byte, start, end int) {
 	e := expectation{message: 'E', on: opaque}
 	if p != nil {
 		e.at, e.on, e.hides, e.hidden, e.binary, e.changed = p, p.on, p.hides, p.hidden, p.binary, p.changed
+		e.asking = p.asking
 		if p.on != nil {
 			e.use = p.on.use
 			s.before(p.on.plan)

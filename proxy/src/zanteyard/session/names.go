@@ -52,6 +52,7 @@ type portal struct {
 	parameters []string
 	more       int // parameters beyond those
 	counted    bool
+	asking     *asking
 }
 
 // names records what the names of a connection stand for. Changes that the server didn't get to are undone

@@ -47,6 +47,7 @@ type expectation struct {
 	on      *statement
 	at      *portal
 	use     *use
+	asking  *asking // what it asks for by a condition, nil if that isn't followed
 	// What names stood for before this message, if it changes that: restored if the server doesn't get to it.
 	undo     undo
 	name     string

@@ -208,6 +208,9 @@ func (s *Session) row(o *output, e *expectation, m []byte, start, end int, pass 
 	visible, columns, values, ok := wire.Row(m, e.hidden, s.values[:0])
 	s.values = values
 	if !ok {
+		if e.asking != nil {
+			e.asking.got(nil, true)
+		}
 		o.pass(start, end)
 		return
 	}
@@ -233,6 +236,9 @@ func (s *Session) hidden(e *expectation, values [][]byte) {
 	reads, err := p.AppendReads(s.reads[:0], values, isBinary)
 	s.reads = reads
 	reads = s.comparable(p, reads)
+	if e.asking != nil {
+		e.asking.got(reads, err != nil)
+	}
 	counts := p.Kind == plan.Select && len(p.Unseen) == 0
 	if reason := s.tx.unreported(); reason != "" && len(reads) > 0 {
 		s.notSeen(p.Shape, reason, true)

@@ -3,6 +3,7 @@ package session
 import (
 	"strings"
 
+	"zanteyard/condition"
 	"zanteyard/plan"
 	"zanteyard/wire"
 )
@@ -14,6 +15,7 @@ type piece struct {
 	use        *use
 	changed    bool
 	at, length int // of the insertion, in the rewritten text of all
+	asking     *asking
 }
 
 // pieces rewrites those of several statements that may be rewritten. Whatever one of them may change isn't relied on
@@ -36,6 +38,7 @@ func (s *Session) pieces(st *statement) (string, []piece) {
 		if s.usable(one) {
 			rewritten, at, length := p.Rewrite(one.text, part.Tokens)
 			it.changed, it.at, it.length = true, len(to)+at, length
+			it.asking = s.asksBy(one, condition.Arguments{})
 			to = append(to, rewritten...)
 		} else {
 			to = append(to, one.text...)
@@ -65,12 +68,12 @@ func (s *Session) several(o *output, st *statement, e *expectation, start, end i
 // piece goes on with one of the statements.
 func (e *expectation) piece(i int) {
 	e.part = i
-	e.hides, e.hidden, e.changed, e.use, e.rows, e.loose = nil, 0, false, nil, 0, 0
+	e.hides, e.hidden, e.changed, e.use, e.rows, e.loose, e.asking = nil, 0, false, nil, 0, 0, nil
 	if i >= len(e.pieces) {
 		return
 	}
 	it := &e.pieces[i]
-	e.use, e.changed = it.use, it.changed
+	e.use, e.changed, e.asking = it.use, it.changed, it.asking
 	if it.changed && it.plan.Kind != plan.Declare {
 		e.hides, e.hidden = it.plan, it.use.hidden
 	}

@@ -69,7 +69,7 @@ type asked struct {
 // empty reports whether nothing in the transaction concerns an audit: no statement of it touched a table.
 func (t *transaction) empty() bool {
 	return len(t.Reads) == 0 && t.Number == 0 && !t.MayHaveWritten && !t.wrote && len(t.Absent) == 0 && t.Beyond == 0 &&
-		!t.Touched && !t.Partly
+		!t.Touched && !t.Partly && len(t.Asks) == 0
 }
 
 // read adds the versions of a row that was returned, each once. The row is counted with the first of them, if counts is
@@ -268,6 +268,9 @@ func (s *Session) ran(e *expectation, tag []byte) {
 	if p == nil || p.Kind != plan.Several {
 		s.tx.did(p, e.doubts)
 	}
+	if p == nil || p.Unknown || p.Kind == plan.RollbackTo {
+		s.tx.undoAsks()
+	}
 	switch {
 	case p == nil:
 		s.tx.MayHaveWritten = true
@@ -414,6 +417,7 @@ func (s *Session) leftOut(p *plan.Plan, e *expectation, noted *record.Statement,
 		}
 	}
 	s.sums(p, e, tag, reason)
+	s.askedBy(rows(p), e, noted)
 	if e.hidden > 0 && p.Asked && e.rows == 0 {
 		s.absent(p, e, noted)
 	}
@@ -468,7 +472,7 @@ func (s *Session) takeAsk(values [][]byte) {
 		t.wrote, t.MayHaveWritten = false, false // it has no number, so it has written nothing
 	}
 	t.Level = levelNamed(string(values[2]))
-	if len(t.Absent) > 0 {
+	if len(t.Absent) > 0 || t.asksSnapshot() {
 		t.Snapshot = string(values[1])
 	}
 	t.asked = true

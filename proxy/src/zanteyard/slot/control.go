@@ -107,7 +107,11 @@ func (c *Control) where(ctx context.Context, tables string) ([][]string, error) 
 		return nil, err
 	}
 	if !c.prepared {
-		if err := own.Prepare(ctx, c.conn, placeName, placeSQL); err != nil {
+		text := placeSQL
+		if c.options.Values != nil {
+			text = valuesPlaceSQL
+		}
+		if err := own.Prepare(ctx, c.conn, placeName, text); err != nil {
 			return nil, err
 		}
 		c.prepared = true
@@ -184,6 +188,28 @@ const stampOfOne = "pg_catalog.concat_ws(' ', c.oid, n.nspname, c.relname, c.rel
 
 var placeSQL = own.SQL("SELECT pg_catalog.pg_current_wal_insert_lsn(), (" + stampSQL +
 	"WHERE c.oid = ANY($1::pg_catalog.oid[])), pg_catalog.pg_current_snapshot()")
+
+// The same for an audit that wants rows' values: a stamp then changes with each column.
+const valuesStampOfOne = "pg_catalog.concat_ws(' ', c.oid, n.nspname, c.relname, c.relispartition, c.relreplident, i.indisreplident, " + catalog.IdentitySQL + ", " +
+	catalog.ColumnsSQL + ")"
+
+var valuesPlaceSQL = own.SQL("SELECT pg_catalog.pg_current_wal_insert_lsn(), (SELECT pg_catalog.string_agg(" + valuesStampOfOne +
+	", '; ' ORDER BY c.oid) FROM pg_catalog.pg_class c JOIN pg_catalog.pg_namespace n ON n.oid = c.relnamespace " +
+	"LEFT JOIN pg_catalog.pg_index i ON i.indrelid = c.oid AND i.indisprimary " +
+	"WHERE c.oid = ANY($1::pg_catalog.oid[])), pg_catalog.pg_current_snapshot()")
+
+// columnsSQL returns the columns of tables, other than partitions, whose rows' values may be wanted.
+var columnsSQL = own.SQL(`SELECT c.oid, ` + catalog.ColumnsSQL + `, ` + valuesStampOfOne + `, a.attname, a.attnum,
+  CASE WHEN t.typtype = 'e' THEN 3500 WHEN t.typname = 'citext' THEN 25 ELSE t.oid END
+FROM pg_catalog.pg_class c JOIN pg_catalog.pg_namespace n ON n.oid = c.relnamespace
+LEFT JOIN pg_catalog.pg_index i ON i.indrelid = c.oid AND i.indisprimary
+JOIN pg_catalog.pg_attribute a ON a.attrelid = c.oid AND a.attnum > 0 AND NOT a.attisdropped
+LEFT JOIN LATERAL (WITH RECURSIVE base AS (SELECT y.oid, y.typtype, y.typbasetype, y.typname FROM pg_catalog.pg_type y
+    WHERE y.oid = a.atttypid UNION ALL SELECT y.oid, y.typtype, y.typbasetype, y.typname FROM base
+    JOIN pg_catalog.pg_type y ON y.oid = base.typbasetype WHERE base.typtype = 'd')
+  SELECT * FROM base WHERE base.typtype <> 'd') t ON true
+WHERE c.relkind IN ('r', 'p') AND c.relpersistence = 'p' AND n.nspname NOT IN ('pg_catalog', 'information_schema')
+ORDER BY c.oid, a.attnum`)
 
 // Sees reports whether the server has an advisory lock with this number in the slot's database: whoever holds it is
 // connected to the same one.
@@ -314,11 +340,18 @@ func subsOf(description string) []uint32 {
 	return subs
 }
 
-var tablesSQL = own.SQL(`SELECT c.oid, n.nspname, c.relname, CASE WHEN c.relispartition THEN
+var (
+	tablesSQL       = own.SQL(tablesBegin + stampOfOne + tablesEnd)
+	valuesTablesSQL = own.SQL(tablesBegin + valuesStampOfOne + tablesEnd)
+)
+
+const tablesBegin = `SELECT c.oid, n.nspname, c.relname, CASE WHEN c.relispartition THEN
   (SELECT p.relid::pg_catalog.oid FROM pg_catalog.pg_partition_ancestors(c.oid) WITH ORDINALITY p(relid, level)
    JOIN pg_catalog.pg_index ix ON ix.indrelid = p.relid AND ix.indisprimary ORDER BY p.level DESC LIMIT 1) END,
   a.attname, CASE WHEN t.typtype = 'e' THEN 3500 WHEN t.typname = 'citext' AND t.typtype = 'b' THEN 25 ELSE t.oid END,
-  ` + stampOfOne + `, top.nspname, top.relname, ` + catalog.IdentitySQL + `, NOT i.indimmediate,
+  `
+
+const tablesEnd = `, top.nspname, top.relname, ` + catalog.IdentitySQL + `, NOT i.indimmediate,
   c.relkind = 'r' AND (c.relreplident = 'n' OR c.relreplident = 'i' AND NOT i.indisreplident)
 FROM pg_catalog.pg_class c JOIN pg_catalog.pg_namespace n ON n.oid = c.relnamespace
 LEFT JOIN pg_catalog.pg_index i ON i.indrelid = c.oid AND i.indisprimary
@@ -332,7 +365,7 @@ LEFT JOIN LATERAL (SELECT m.nspname, r.relname FROM pg_catalog.pg_class r
   JOIN pg_catalog.pg_namespace m ON m.oid = r.relnamespace
   WHERE c.relispartition AND r.oid = pg_catalog.pg_partition_root(c.oid)) top ON true
 WHERE c.relkind IN ('r', 'p', 'm') AND c.relpersistence = 'p' AND n.nspname NOT IN ('pg_catalog', 'information_schema')
-ORDER BY c.oid, k.place`)
+ORDER BY c.oid, k.place`
 
 // Load reads the catalog.
 func (c *Control) Load(ctx context.Context) error {
@@ -342,7 +375,11 @@ func (c *Control) Load(ctx context.Context) error {
 
 // reload reads the catalog again, and returns the tables that have changed.
 func (c *Control) reload(ctx context.Context) ([]record.Relation, error) {
-	rows, err := c.ask(ctx, tablesSQL)
+	text := tablesSQL
+	if c.options.Values != nil {
+		text = valuesTablesSQL
+	}
+	rows, err := c.ask(ctx, text)
 	if err != nil {
 		return nil, fmt.Errorf("read the catalog: %w", err)
 	}
@@ -368,7 +405,43 @@ func (c *Control) reload(ctx context.Context) ([]record.Relation, error) {
 		last := all[len(all)-1]
 		last.Key = append(last.Key, Column{Name: row[4], Type: uint32(number)})
 	}
+	if c.options.Values != nil {
+		if err := c.columns(ctx, all); err != nil {
+			return nil, err
+		}
+	}
 	return c.tables.set(all), nil
+}
+
+// columns reads the tables' columns.
+func (c *Control) columns(ctx context.Context, all []*Table) error {
+	rows, err := c.ask(ctx, columnsSQL)
+	if err != nil {
+		return fmt.Errorf("read the catalog: %w", err)
+	}
+	by := make(map[string]*Table, len(all))
+	for _, one := range all {
+		by[strconv.FormatUint(uint64(one.Relation), 10)] = one
+	}
+	for _, row := range rows {
+		its := by[row[0]]
+		if its == nil {
+			continue // it was made just now
+		}
+		number, err := strconv.ParseInt(row[4], 10, 16)
+		if err != nil {
+			return fmt.Errorf("read the catalog: %w", err)
+		}
+		kind, _ := strconv.ParseUint(row[5], 10, 32)
+		if its.columns == nil {
+			its.columns, its.shape = map[string]*catalog.Column{}, catalog.IdentityOf(row[1])
+			if row[2] != its.stamp {
+				its.stamp = "changed" // between the two questions: both are asked again
+			}
+		}
+		its.columns[row[3]] = &catalog.Column{Name: row[3], Number: int16(number), Type: uint32(kind)}
+	}
+	return nil
 }
 
 func (c *Control) table(row []string) (*Table, error) {

@@ -155,7 +155,7 @@ func TestManyWritesOfOneTransaction(t *testing.T) {
 	it.begin(1, 0, 0)
 	for round := 0; round < 2; round++ {
 		for n := 0; n < mostWrites+10; n++ {
-			it.write(1, record.Key(fmt.Sprint(n)), round == 0, round == 1)
+			it.write(1, record.Key(fmt.Sprint(n)), round == 0, round == 1, values{})
 		}
 	}
 	if commit := it.commit(1, 0); len(commit.Writes) != mostWrites || !commit.Writes[5].Deleted || commit.Dropped != 20 {

@@ -35,6 +35,9 @@ type Options struct {
 	Plugin Plugin
 	// Asked selects the tables to audit: changes of others are only counted, not reported.
 	Asked catalog.Filter
+	// Values reports whether the values of a table's rows are wanted: somebody asks for them by a condition. It is given
+	// the topmost partitioned table of a partition. nil: no values are ever wanted.
+	Values func(record.Relation) bool
 	// Marked is called with the number of the mark (package own) that the slot's connection holds, before it waits for
 	// anything. It may be nil.
 	Marked func(mark int64)

@@ -167,7 +167,7 @@ func (r *Reader) Read(ctx context.Context, to Receiver) error {
 	name, from := own.Name{r.options.Name}, own.Word(r.from)
 	command := own.Command("START_REPLICATION SLOT %s LOGICAL %s ("+wal2jsonOptions+")", name, from).String()
 	if r.plugin == Wal2json {
-		its = &wal2json{tables: r.tables, canonical: r.options.Canonical}
+		its = &wal2json{tables: r.tables, canonical: r.options.Canonical, wanted: r.options.Values}
 	} else {
 		its = &testDecoding{tables: r.tables, canonical: r.options.Canonical}
 		command = own.Command("START_REPLICATION SLOT %s LOGICAL %s ("+testDecodingOptions+")", name, from).String()

@@ -24,6 +24,10 @@ type Table struct {
 	deferrable   bool            // the key is
 	noOldKeys    bool            // the log doesn't have a row's old key
 	used         uint32          // atomic: the slot has reported it
+	// columns are those of the topmost partitioned table, by name, and shape is their identity; nil and 0 if values are
+	// never wanted.
+	columns map[string]*catalog.Column
+	shape   record.Identity
 }
 
 // Column is a column of a key. Type is a type that Canonical knows: for a domain, its base type.
@@ -192,6 +196,14 @@ func (t *Tables) Same(relation record.Relation, identity record.Identity) bool {
 	}
 	root := t.by[its.Root]
 	return its.identity == identity || root != nil && root.identity == identity
+}
+
+// SameColumns implements join.Columns.
+func (t *Tables) SameColumns(relation record.Relation, identity record.Identity) bool {
+	t.lock.RLock()
+	defer t.lock.RUnlock()
+	its := t.by[relation]
+	return its != nil && identity != 0 && its.shape == identity
 }
 
 // list returns all tables, by name.

@@ -55,6 +55,7 @@ func (d *testDecoding) change(text []byte) error {
 	case t == nil:
 		d.tables.unknown(schema, first)
 		d.open.keyless++
+		d.open.gap(record.NoRelation)
 		return nil
 	case d.tables.leaves(t):
 		d.open.keyless++
@@ -69,13 +70,14 @@ func (d *testDecoding) change(text []byte) error {
 	if string(action) == "DELETE" && !hasOld || string(action) != "DELETE" && !hasKey {
 		d.tables.without(t, noKeyLog)
 		d.open.keyless++
+		d.open.gap(t.Root)
 	}
 	if hasOld && (string(action) == "DELETE" || hasKey && old != key) {
-		d.open.write(t.Root, old, false, true)
+		d.open.write(t.Root, old, false, true, values{})
 	}
 	if hasKey {
 		moved := hasOld && old != key
-		d.open.write(t.Root, key, string(action) == "INSERT" || moved, false)
+		d.open.write(t.Root, key, string(action) == "INSERT" || moved, false, values{})
 	}
 	return nil
 }

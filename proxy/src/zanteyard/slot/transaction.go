@@ -1,6 +1,9 @@
 package slot
 
-import "zanteyard/record"
+import (
+	"zanteyard/condition"
+	"zanteyard/record"
+)
 
 // mostWrites limits what is kept of one transaction. The rest is counted and left out, as nobody's: reads of it aren't
 // resolved.
@@ -17,6 +20,7 @@ type transaction struct {
 	touched bool // the slot reported a change of some table
 	dropped uint64
 	keyless uint64 // changes of rows whose key isn't known, or of tables that aren't audited
+	gaps    []record.Relation
 }
 
 type place struct {
@@ -31,9 +35,16 @@ func (t *transaction) begin(number uint32, start, names uint64) {
 	*t = transaction{number: number, start: start, names: names}
 }
 
-func (t *transaction) write(relation record.Relation, key record.Key, inserted, deleted bool) {
+// values are those of a changed row's columns: afterwards and before, as far as the log has them and they are wanted.
+type values struct {
+	now, was *condition.Row
+	bytes    int
+}
+
+func (t *transaction) write(relation record.Relation, key record.Key, inserted, deleted bool, its values) {
 	if i, found := t.find(relation, key); found {
-		t.writes[i].Deleted = deleted
+		one := &t.writes[i]
+		one.Deleted, one.New, one.Bytes = deleted, asRow(its.now), its.bytes
 		return
 	}
 	if len(t.writes) >= mostWrites {
@@ -43,7 +54,26 @@ func (t *transaction) write(relation record.Relation, key record.Key, inserted, 
 	if t.at != nil {
 		t.at[place{relation, key}] = len(t.writes)
 	}
-	t.writes = append(t.writes, record.Write{Relation: relation, Key: key, Deleted: deleted, Inserted: inserted})
+	t.writes = append(t.writes, record.Write{Relation: relation, Key: key, Deleted: deleted, Inserted: inserted,
+		New: asRow(its.now), Old: asRow(its.was), Bytes: its.bytes})
+}
+
+// asRow keeps a nil a nil.
+func asRow(it *condition.Row) record.Row {
+	if it == nil {
+		return nil
+	}
+	return it
+}
+
+// gap records that a change of some row of a table is missing, or of some table.
+func (t *transaction) gap(relation record.Relation) {
+	for _, one := range t.gaps {
+		if one == relation {
+			return
+		}
+	}
+	t.gaps = append(t.gaps, relation)
 }
 
 func (t *transaction) find(relation record.Relation, key record.Key) (int, bool) {
@@ -73,6 +103,7 @@ func (t *transaction) empty(relation record.Relation) {
 			t.writes[i].Deleted = true
 		}
 	}
+	t.gap(relation)
 	t.emptied = append(t.emptied, relation)
 }
 
@@ -80,5 +111,6 @@ func (t *transaction) commit(end, used uint64) record.Commit {
 	return record.Commit{
 		Number: t.number, LSN: end, Start: t.start, Writes: t.writes, Emptied: t.emptied, Names: t.names,
 		Bare: !t.touched, Dropped: t.dropped, Keyless: t.keyless, Used: used,
+		Gaps: t.gaps,
 	}
 }

@@ -12,6 +12,7 @@ import (
 type wal2json struct {
 	tables    *Tables
 	canonical func(uint32, string) (string, bool)
+	wanted    func(record.Relation) bool // nil: no values are
 	open      transaction
 	scan      scanner
 	message   message
@@ -31,6 +32,8 @@ type message struct {
 	identity      []column // from the old row
 	pk            [][]byte
 	named         *Table
+	of            *Table   // the table whose columns the values are of; nil if they aren't wanted
+	now, was      []column // values, from the new row and the old one
 }
 
 type column struct {
@@ -41,7 +44,7 @@ type column struct {
 // decode handles one message. It returns a commit if the message is one.
 func (w *wal2json) decode(text []byte, _ uint64) (record.Commit, bool, error) {
 	m := &w.message
-	*m = message{columns: m.columns[:0], identity: m.identity[:0], pk: m.pk[:0]}
+	*m = message{columns: m.columns[:0], identity: m.identity[:0], pk: m.pk[:0], now: m.now[:0], was: m.was[:0]}
 	w.scan = scanner{text: text}
 	if err := w.read(m); err != nil {
 		return record.Commit{}, false, err
@@ -113,11 +116,12 @@ func (w *wal2json) field(m *message, name []byte) error {
 	case "table":
 		if m.table, err = s.name(); err == nil {
 			m.named = w.tables.named(m.schema, m.table)
+			m.of = w.valuesOf(m.named)
 		}
 	case "columns":
-		m.columns, err = w.columns(m.columns, m.named)
+		m.columns, err = w.columns(m.columns, m.named, m.of, &m.now)
 	case "identity":
-		m.identity, err = w.columns(m.identity, m.named)
+		m.identity, err = w.columns(m.identity, m.named, m.of, &m.was)
 	case "pk":
 		m.pk, err = w.names(m.pk)
 	default:
@@ -126,8 +130,9 @@ func (w *wal2json) field(m *message, name []byte) error {
 	return err
 }
 
-// columns reads [{"name":..,"value":..},..], and keeps those of the table's key.
-func (w *wal2json) columns(to []column, table *Table) ([]column, error) {
+// columns reads [{"name":..,"value":..},..], and keeps those of the table's key. If values are wanted, it keeps those of
+// all columns, too.
+func (w *wal2json) columns(to []column, table, of *Table, values *[]column) ([]column, error) {
 	s := &w.scan
 	if table == nil || len(table.Key) == 0 {
 		return to, s.skip()
@@ -141,7 +146,7 @@ func (w *wal2json) columns(to []column, table *Table) ([]column, error) {
 			return to, errForm
 		}
 		var one column
-		wanted := false
+		isKey, wanted := false, true
 		for !s.is('}') {
 			s.is(',')
 			field, err := s.name()
@@ -151,10 +156,12 @@ func (w *wal2json) columns(to []column, table *Table) ([]column, error) {
 			switch {
 			case string(field) == "name":
 				if one.name, err = s.name(); err == nil {
-					wanted = table.hasKey(one.name)
+					isKey = table.hasKey(one.name)
 				}
-			case string(field) == "value" && wanted:
+			case string(field) == "value" && isKey:
 				one.value, one.null, err = s.scalar()
+			case string(field) == "value" && of != nil:
+				wanted, err = s.readable(&one)
 			default:
 				err = s.skip()
 			}
@@ -162,8 +169,11 @@ func (w *wal2json) columns(to []column, table *Table) ([]column, error) {
 				return to, err
 			}
 		}
-		if wanted {
+		if isKey {
 			to = append(to, one)
+		}
+		if of != nil && wanted {
+			*values = append(*values, one)
 		}
 	}
 	return to, nil
@@ -215,14 +225,17 @@ func (w *wal2json) change(m *message) {
 		w.open.empty(t.Root)
 		w.tables.without(t, truncated)
 		return
-	case w.tables.leaves(t):
-		w.lacks(m)
+	case w.tables.leaves(t): // no condition is asked by
+		if m.action != 'T' {
+			w.open.keyless++
+		}
 		return
 	case !t.sameKey(m.pk):
 		w.tables.unknown(m.schema, m.table)
 		w.lacks(m)
 		return
 	}
+	its := w.values(m)
 	now, hasNow := w.key(t, m.columns)
 	was, hasWas := w.key(t, m.identity)
 	if m.action != 'I' && !hasWas || m.action != 'D' && !hasNow { // an update that changes the key has to be known as one
@@ -231,10 +244,13 @@ func (w *wal2json) change(m *message) {
 		return
 	}
 	if m.action == 'D' || m.action == 'U' && was != now {
-		w.open.write(t.Root, was, false, true)
+		w.open.write(t.Root, was, false, true, values{was: its.was})
 	}
 	if m.action != 'D' {
-		w.open.write(t.Root, now, m.action == 'I' || was != now, false)
+		if was != now {
+			its.was = nil // of another key
+		}
+		w.open.write(t.Root, now, m.action == 'I' || was != now, false, its)
 	}
 }
 
@@ -242,6 +258,11 @@ func (w *wal2json) change(m *message) {
 func (w *wal2json) lacks(m *message) {
 	if m.action != 'T' {
 		w.open.keyless++
+	}
+	if m.named == nil {
+		w.open.gap(record.NoRelation)
+	} else {
+		w.open.gap(m.named.Root)
 	}
 }
 

@@ -82,6 +82,17 @@ func commitOf(id int, snapshots bool) int {
 // check reports a cycle, or two transactions that overwrite one version. With snapshots it is one of begins and commits.
 func (g *graph) check(t *testing.T, snapshots bool) {
 	t.Helper()
+	cycle, wrong := g.violation(snapshots)
+	for _, text := range wrong {
+		t.Error(text)
+	}
+	if cycle != "" {
+		t.Errorf("a violation is told: %s", cycle)
+	}
+}
+
+// violation returns a cycle, "" if there is none, and what may never be told. It is called once.
+func (g *graph) violation(snapshots bool) (cycle string, wrong []string) {
 	if snapshots {
 		after := make([][]int, 2*len(g.after))
 		for id, its := range g.after {
@@ -105,7 +116,7 @@ func (g *graph) check(t *testing.T, snapshots bool) {
 			}
 			seen[read] = true
 			if other, is := next[read]; is && other != id {
-				t.Errorf("%v and %v overwrite the version %v", g.names[other], g.names[id], read)
+				wrong = append(wrong, fmt.Sprintf("%v and %v overwrite the version %v", g.names[other], g.names[id], read))
 			}
 			next[read] = id
 		}
@@ -119,7 +130,7 @@ func (g *graph) check(t *testing.T, snapshots bool) {
 			if from, is := g.ids[[2]int{read[1], read[2]}]; is {
 				edge(commitOf(from, snapshots), beginOf(id, snapshots))
 			} else if read[1] >= 0 {
-				t.Errorf("%v reads from %v, which isn't offered", g.names[id], read)
+				wrong = append(wrong, fmt.Sprintf("%v reads from %v, which isn't offered", g.names[id], read))
 			}
 			if writer, is := next[read]; is && writer != id {
 				edge(beginOf(id, snapshots), commitOf(writer, snapshots))
@@ -148,8 +159,9 @@ func (g *graph) check(t *testing.T, snapshots bool) {
 		}
 	}
 	if done < len(before) {
-		t.Errorf("a violation is told: %s", g.cycle(before, snapshots))
+		cycle = g.cycle(before, snapshots)
 	}
+	return cycle, wrong
 }
 
 // cycle returns one, of those that are left.

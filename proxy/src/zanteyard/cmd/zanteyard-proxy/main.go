@@ -54,6 +54,7 @@ type flags struct {
 	redis, audit      string
 	shared, name      string
 	remote, redact    bool
+	conditions        bool
 	records           string
 	passing           bool
 	drain             time.Duration
@@ -121,6 +122,7 @@ func parse(args []string, errors io.Writer) (flags, error) {
 	set.BoolVar(&f.takesOver, "take-over", false, "take the listening socket of the proxy that has the --control socket, if one is "+
 		"there, and let that one drain")
 	set.BoolVar(&f.version, "version", false, "print the version and end")
+	args, f.conditions = without(args, "--conditions")
 	if err := set.Parse(args); err != nil {
 		fmt.Fprint(errors, strings.TrimPrefix(told.String(), err.Error()+"\n"))
 		return f, err
@@ -147,6 +149,21 @@ func parse(args []string, errors io.Writer) (flags, error) {
 		return f, fmt.Errorf("--most-connections and --drain can't be negative")
 	}
 	return f, nil
+}
+
+// without returns the arguments without an option that --help doesn't show, and whether it was given.
+func without(args []string, hidden string) (kept []string, given bool) {
+	for i, one := range args {
+		switch one {
+		case "--":
+			return append(kept, args[i:]...), given
+		case hidden:
+			given = true
+		default:
+			kept = append(kept, one)
+		}
+	}
+	return kept, given
 }
 
 // fromEnvironment fills in what wasn't given as an option. It is no default of the option: --help shows those.
@@ -340,6 +357,9 @@ func look(ctx context.Context, f flags, config *pgconn.Config, options *session.
 	}
 	d := definitions.New(config, f.look, options.Log)
 	d.Only(f.tables)
+	if f.conditions && !f.remote {
+		d.WithConditions()
+	}
 	options.Plans, options.Generation, options.Defined = d, d.Generation, d.Changed
 	failed := func(err error) { options.Log(err.Error() + "; traffic goes on: " + guard.Stack(err)) }
 	options.Plans = newPlanner(d, options.Log)
@@ -378,6 +398,9 @@ func look(ctx context.Context, f flags, config *pgconn.Config, options *session.
 	options.Mark = all.mark.Load
 	d.Follow(options.Mark)
 	all.config.Slot.Marked = all.mark.Store
+	if f.conditions {
+		all.config.Slot.Values, all.config.Join.Shapes = d.FollowsTable, f.redact
+	}
 	hide(f, &shared, options, &all.config)
 	var running sync.WaitGroup
 	if f.audit != "" {

@@ -1,0 +1,168 @@
+package plan
+
+import (
+	"encoding/binary"
+	"math"
+	"strconv"
+
+	"zanteyard/condition"
+	"zanteyard/record"
+)
+
+// follow is what a SELECT asks its only table for, if that is a condition that is followed.
+type follow struct {
+	form      *condition.Form
+	columns   record.Identity
+	constants []int // the token of each of the form's constants: a minus, for a negative number
+	limited   bool
+	limit     askedPart
+}
+
+// Why what a SELECT asks for isn't followed.
+const (
+	severalTables = "several tables"
+	aSetFunction  = "a function that returns any number of rows"
+	writesToo     = "a function that may write"
+	unclearLimit  = "a LIMIT that isn't a number"
+)
+
+// asksBy decides whether what a SELECT asks for is followed: then whatever isn't in its result was passed over.
+func (m *maker) asksBy(p *Plan, body node) {
+	if !m.catalog.WithConditions() || p.Kind != Select || !body.has("fromClause") || p.Asked {
+		return
+	}
+	f, reason := m.follow(p, body)
+	if p.follow = f; f == nil {
+		p.NotFollowed = reason
+	}
+}
+
+func (m *maker) follow(p *Plan, body node) (*follow, string) {
+	switch {
+	case len(p.Unseen) > 0:
+		return nil, p.Unseen[0].Reason
+	case p.MayWriteUnseen:
+		return nil, writesToo
+	case len(p.Sources) != 1 || len(body.list("fromClause")) != 1:
+		return nil, severalTables
+	case body.has("groupClause"):
+		return nil, "GROUP BY"
+	case body.has("distinctClause"):
+		return nil, "DISTINCT"
+	case body.has("havingClause"):
+		return nil, "HAVING"
+	case body.has("limitOffset"):
+		return nil, "OFFSET"
+	case m.setReturning(map[string]any(body)):
+		return nil, aSetFunction
+	}
+	form, err := condition.Make(map[string]any{"SelectStmt": map[string]any(body)}, m.joined, m.catalog)
+	if err != nil {
+		return nil, err.Error()
+	}
+	f := &follow{form: form, columns: form.Table.ColumnsIdentity, limited: body.has("limitCount")}
+	if form.Drops != "" && !f.limited {
+		return nil, form.Drops
+	}
+	if f.columns == 0 {
+		return nil, "unknown table"
+	}
+	for _, at := range form.Constants {
+		token := m.tokenAt(at)
+		if token < 0 {
+			return nil, "a constant in an unknown form"
+		}
+		f.constants = append(f.constants, token)
+	}
+	if f.limited {
+		var ok bool
+		if f.limit, ok = m.valuePart(0, body["limitCount"]); !ok || f.limit.negative {
+			return nil, unclearLimit
+		}
+	}
+	return f, ""
+}
+
+// Follows reports whether what a SELECT asks its table for is followed: Asks returns it.
+func (p *Plan) Follows() bool { return p.follow != nil }
+
+// Question is what a SELECT asks a table for.
+type Question struct {
+	By       *condition.Condition
+	Identity record.Identity // of the table's key
+	Columns  record.Identity // and of its columns
+	// Most is how many rows it returns at most: if it returned as many, others may be missing of which the condition holds.
+	Most uint64
+}
+
+// Asks returns what a SELECT asks for, by the constants of its text and Bind's parameters. The error says why it isn't
+// followed.
+func (p *Plan) Asks(text string, tokens Tokens, with condition.Arguments) (Question, error) {
+	f := p.follow
+	with.Constants = make([]string, len(f.constants))
+	for i := range f.constants {
+		with.Constants[i] = text[tokens.follow[i].from:tokens.follow[i].to]
+	}
+	q := Question{Identity: p.Sources[0].Identity, Columns: f.columns, Most: math.MaxUint64}
+	if f.limited {
+		at := span{}
+		if f.limit.parameter == 0 {
+			at = tokens.follow[len(f.constants)]
+		}
+		most, ok := f.limit.rows(text, at, with)
+		if !ok {
+			return q, condition.Refusal(unclearLimit)
+		}
+		q.Most = most
+	}
+	var err error
+	q.By, err = f.form.Bind(with)
+	return q, err
+}
+
+// rows returns the number of rows that LIMIT allows.
+func (a askedPart) rows(text string, at span, with condition.Arguments) (uint64, bool) {
+	if a.parameter > 0 && a.parameter <= len(with.Parameters) && with.Parameters[a.parameter-1] == nil {
+		return math.MaxUint64, true
+	}
+	value, isBinary, ok := a.value(text, at, with.Parameters, with.Formats, nil)
+	if !ok {
+		return 0, false
+	}
+	if isBinary {
+		switch len(value) {
+		case 2:
+			return uint64(binary.BigEndian.Uint16(value)), true
+		case 4:
+			return uint64(binary.BigEndian.Uint32(value)), true
+		case 8:
+			return binary.BigEndian.Uint64(value), true
+		}
+		return 0, false
+	}
+	n, err := strconv.ParseUint(string(value), 10, 63)
+	return n, err == nil
+}
+
+// places returns where a text has the constants that the condition and LIMIT depend on.
+func (f *follow) places(text string, tokens []token) []span {
+	all := make([]span, 0, len(f.constants)+1)
+	for _, at := range f.constants {
+		its := span{tokens[at].start, tokens[at].last}
+		if text[tokens[at].start] == '-' && at+1 < len(tokens) {
+			its.to = tokens[at+1].last
+		}
+		all = append(all, its)
+	}
+	if f.limited && f.limit.token >= 0 {
+		all = append(all, span{tokens[f.limit.token].start, tokens[f.limit.token].end})
+	}
+	return all
+}
+
+// FollowsTable reports whether a plan was made, by this catalog or an earlier one, that follows a condition on this
+// table's rows.
+func (c *Cache) FollowsTable(relation record.Relation) bool {
+	_, is := c.followed.Load(relation)
+	return is
+}

@@ -1,0 +1,127 @@
+package plan
+
+import (
+	"context"
+	"fmt"
+	"math"
+	"testing"
+	"time"
+
+	"zanteyard/catalog"
+	"zanteyard/cluster"
+	"zanteyard/condition"
+	"zanteyard/record"
+)
+
+// TestFollowed: what each SELECT asks for, from the constants of its own text, though its plan was made for another one.
+func TestFollowed(t *testing.T) {
+	connection := connect(t, fmt.Sprint("followed_", time.Now().UnixNano()), `CREATE TABLE r (id int PRIMARY KEY, a int, b text COLLATE "C", free bool);
+		CREATE TABLE other (id int PRIMARY KEY, a int); CREATE TABLE hidden (a int);
+		CREATE TABLE secret (id int PRIMARY KEY, a int); ALTER TABLE secret ENABLE ROW LEVEL SECURITY`)
+	known, err := catalog.Load(ctx(), cluster.Query(context.Background(), connection), catalog.WithColumns)
+	if err == nil {
+		known, err = known.In(`["public"]`)
+	}
+	if err != nil {
+		t.Fatal(err)
+	}
+	cache := NewCache(known)
+	table, _ := known.Find("", "r")
+	if cache.FollowsTable(record.Relation(table.OID)) {
+		t.Error("nothing was planned yet")
+	}
+	for _, x := range []struct {
+		texts string // one with the same plan, made first; "" for none
+		text  string
+		want  string // the condition, and the most rows; or why not
+	}{
+		{"SELECT * FROM r WHERE a = -1", "SELECT * FROM r WHERE a = - 7", "r WHERE a = -7"},
+		{"SELECT * FROM r WHERE a = 1", "SELECT id FROM r WHERE a=5 -- no more", "r WHERE a = 5"},
+		{"SELECT * FROM r WHERE a IN (1, 2)", "SELECT * FROM r WHERE a IN (-3, 4 , 5)", "r WHERE a IN (-3, 4, 5)"},
+		{"SELECT * FROM r WHERE a IN (1)", "SELECT * FROM r WHERE a IN (1, NULL)", "r WHERE a IN (1, NULL)"},
+		{"SELECT * FROM r WHERE b = 'x'", "SELECT * FROM r WHERE b = 'it''s'", "r WHERE b = 'it''s'"},
+		{"SELECT * FROM r WHERE b = 'x'", `SELECT * FROM r WHERE b = U&'\0061'`, "a constant in an unknown form"},
+		{"SELECT * FROM r WHERE b = 'x'", "SELECT * FROM r WHERE b = X'1F'", "a constant in an unknown form"},
+		{"", "SELECT * FROM r WHERE b = 'x'\n'y'", "a constant in an unknown form"},
+		{"", "SELECT * FROM r WHERE free", "r WHERE free"},
+		{"", "SELECT * FROM r", "r"},
+		{"", "SELECT id FROM r WHERE NOT free OR a BETWEEN 1 AND 3 FOR UPDATE", "r WHERE NOT free OR a >= 1 AND a <= 3"},
+		{"SELECT * FROM r WHERE a = 1 LIMIT 5", "SELECT * FROM r WHERE a = 2 ORDER BY id LIMIT 3", "r WHERE a = 2, most 3"},
+		{"", "SELECT * FROM r WHERE a = $1 LIMIT $2", "r WHERE a = 11, most 12"},
+		{"", "SELECT * FROM r WHERE id = 1 AND a = 2", "r WHERE id = 1 AND a = 2"},
+		{"", "SELECT * FROM r WHERE id = 1", ""}, // if there is no such row, it is reported as absent
+		{"", "SELECT * FROM r LIMIT 1 + 1", "a LIMIT that isn't a number"},
+		{"", "SELECT * FROM r OFFSET 1", "OFFSET"}, {"", "SELECT DISTINCT ON (a) id FROM r LIMIT 3", "DISTINCT"},
+		{"", "SELECT a FROM r GROUP BY id LIMIT 3", "GROUP BY"}, {"", "SELECT generate_series(1, a) FROM r LIMIT 3", aSetFunction},
+		{"", "SELECT count(*) FROM r", "an aggregate"}, {"", "SELECT DISTINCT a FROM r", "DISTINCT"},
+		{"", "SELECT r.id FROM r, other WHERE r.a = other.a", "several tables"}, {"", "SELECT * FROM hidden", "no primary key"},
+		{"", "SELECT * FROM secret", "row security"}, {"", "SELECT * FROM ONLY r", "ONLY"},
+		{"", "SELECT * FROM r TABLESAMPLE system (10)", "TABLESAMPLE"}, {"", "SELECT * FROM r FOR UPDATE SKIP LOCKED", "SKIP LOCKED"},
+		{"", "SELECT * FROM r WHERE a IN (SELECT a FROM other)", "a subquery"}, {"", "SELECT id FROM r UNION SELECT id FROM other", ""},
+		{"", "UPDATE r SET a = 1 WHERE free", ""}, {"", "SELECT 1", ""}, {"", "SELECT now()", ""},
+	} {
+		if x.texts != "" {
+			cache.Plan(x.texts)
+		}
+		p, tokens := cache.Plan(x.text)
+		got := p.NotFollowed
+		if p.Follows() {
+			q, err := p.Asks(x.text, tokens, condition.Arguments{Parameters: [][]byte{[]byte("11"), []byte("12")}})
+			switch {
+			case err != nil:
+				got = err.Error()
+			case q.Most != math.MaxUint64:
+				got = fmt.Sprintf("%v, most %d", q.By, q.Most)
+			default:
+				got = q.By.String()
+			}
+			if err == nil && (q.Columns == 0 || q.Columns != table.ColumnsIdentity || q.Identity != table.Identity) {
+				t.Errorf("%s: %+v", x.text, q)
+			}
+		}
+		if got != x.want {
+			t.Errorf("%s: %q, wanted %q", x.text, got, x.want)
+		}
+	}
+	if !cache.FollowsTable(record.Relation(table.OID)) {
+		t.Error("the table's values aren't wanted")
+	}
+	// Without the columns' identities nothing is followed, and nothing is counted.
+	cache = NewCache(load(t, connection))
+	for _, text := range []string{"SELECT * FROM r WHERE a = 1", "SELECT * FROM r OFFSET 1"} {
+		if p, _ := cache.Plan(text); p.Follows() || p.NotFollowed != "" {
+			t.Errorf("%s: %+v", text, p)
+		}
+	}
+}
+
+// TestColumnsIdentity: each change of what a table's columns mean gives them another identity, and nothing else does.
+func TestColumnsIdentity(t *testing.T) {
+	connection := connect(t, fmt.Sprint("columns_", time.Now().UnixNano()), `CREATE TYPE mood AS ENUM ('a', 'b'); CREATE DOMAIN d AS mood;
+		CREATE TABLE r (id int PRIMARY KEY, a int, e d)`)
+	now := func() record.Identity {
+		known, err := catalog.Load(ctx(), cluster.Query(context.Background(), connection), catalog.WithColumns)
+		if err != nil {
+			t.Fatal(err)
+		}
+		table, _ := known.Find("public", "r")
+		return table.ColumnsIdentity
+	}
+	before := now()
+	for _, x := range []struct {
+		sql  string
+		same bool
+	}{
+		{"INSERT INTO r VALUES (1, 1, 'a')", true}, {"ANALYZE r", true}, {"CREATE INDEX ON r (a)", true}, {"VACUUM FREEZE r", true},
+		{"ALTER TABLE r RENAME a TO b", false}, {"ALTER TABLE r RENAME b TO a", false}, {"ALTER TABLE r ALTER a TYPE bigint", false},
+		{"ALTER TYPE mood ADD VALUE 'c' BEFORE 'a'", false}, {"ALTER TABLE r ENABLE ROW LEVEL SECURITY", false},
+		{"ALTER TABLE r ADD z int", false}, {"ALTER TABLE r DROP z", false},
+	} {
+		run(t, connection, x.sql)
+		after := now()
+		if after == 0 || (after == before) != x.same {
+			t.Errorf("%s: %v and %v", x.sql, before, after)
+		}
+		before = after
+	}
+}

@@ -1,0 +1,126 @@
+package session
+
+import (
+	"time"
+
+	"zanteyard/condition"
+	"zanteyard/plan"
+	"zanteyard/record"
+	"zanteyard/wire"
+)
+
+// Why what a SELECT asks for by a condition isn't followed, other than what the statement itself says.
+const (
+	notRewritten = "its rows aren't seen"
+	aCursor      = "a cursor, or SQL's PREPARE"
+	cutOff       = "LIMIT"
+	tooManyFound = "more rows of one SELECT than are kept"
+	tooManyAsks  = "more conditions of one transaction than are kept"
+	unclearRow   = "a row whose key isn't known"
+	undoneWrite  = "asked after a write that ROLLBACK TO may have undone"
+)
+
+const (
+	mostFound      = 4096 // rows of one SELECT
+	mostConditions = 64   // conditions of one transaction
+)
+
+// asking is what a SELECT asks a table for by a condition, and the rows that it got.
+type asking struct {
+	plan.Question
+	from  time.Time // its snapshot is no older
+	rows  uint64
+	found []record.Key
+	why   string // why it isn't followed
+	done  bool
+}
+
+// asksBy returns what a statement that is sent rewritten asks for, nil if no condition is followed.
+func (s *Session) asksBy(st *statement, with condition.Arguments) *asking {
+	if !st.plan.Follows() {
+		return nil
+	}
+	with.Converts = s.converts()
+	it := &asking{from: s.sent}
+	var err error
+	if it.Question, err = st.plan.Asks(st.text, st.tokens, with); err != nil {
+		it.why = err.Error()
+	}
+	return it
+}
+
+// arguments are what a Bind has in the places of parameters.
+func (s *Session) arguments(b *wire.Bind, st *statement) condition.Arguments {
+	return condition.Arguments{Parameters: b.Parameters, Formats: s.formats(b), Types: declared(st.types)}
+}
+
+// got takes a row that the SELECT returned: it has exactly one read, unless its key can't be told.
+func (a *asking) got(reads []record.Read, failed bool) {
+	a.rows++
+	switch {
+	case a.why != "":
+	case failed || len(reads) != 1:
+		a.why = unclearRow
+	case len(a.found) >= mostFound:
+		a.why, a.found = tooManyFound, nil
+	default:
+		a.found = append(a.found, reads[0].Key)
+	}
+}
+
+// askedBy records what a SELECT that has ended has asked for.
+func (s *Session) askedBy(p *plan.Plan, e *expectation, noted *record.Statement) {
+	t, a := &s.tx, e.asking
+	if p.NotFollowed == "" && !p.Follows() || a != nil && a.done || len(t.Asks) > mostConditions {
+		return
+	}
+	why := p.NotFollowed
+	switch {
+	case why != "":
+	case len(t.Asks) == mostConditions:
+		why = tooManyAsks
+	case e.current() != p:
+		why = aCursor
+	case a == nil:
+		why = notRewritten
+	case a.why != "":
+		why = a.why
+	case a.rows >= a.Most:
+		why = cutOff
+	default:
+		why = t.unreported()
+	}
+	if why != "" {
+		t.Asks = append(t.Asks, record.Ask{Why: why})
+		return
+	}
+	a.done = true
+	wrote := t.Number != 0 || t.wrote || t.MayHaveWritten || len(t.Versions) > 0
+	t.Asks = append(t.Asks, record.Ask{Condition: a.By, Identity: a.Identity, Columns: a.Columns, Found: a.found, From: a.from,
+		Wrote: wrote})
+	if noted != nil {
+		noted.Ask = len(t.Asks)
+	}
+}
+
+// undoAsks leaves out what was asked after a write that may be undone: then the log doesn't show what was seen.
+func (t *transaction) undoAsks() {
+	for i := range t.Asks {
+		if t.Asks[i].Wrote {
+			t.Asks[i] = record.Ask{Why: undoneWrite}
+		}
+	}
+}
+
+// asksSnapshot reports whether it is useful to know the transaction's snapshot, for what it passed over.
+func (t *transaction) asksSnapshot() bool {
+	if t.Level == record.ReadCommitted {
+		return false
+	}
+	for i := range t.Asks {
+		if t.Asks[i].Condition != nil {
+			return true
+		}
+	}
+	return false
+}

@@ -1,0 +1,161 @@
+package session
+
+import (
+	"context"
+	"fmt"
+	"strings"
+	"sync"
+	"testing"
+	"time"
+
+	"github.com/jackc/pgproto3/v2"
+
+	"zanteyard/catalog"
+	"zanteyard/definitions"
+	"zanteyard/record"
+)
+
+var (
+	following     *definitions.Definitions
+	followingOnce sync.Once
+)
+
+// asking connects through a session that follows conditions.
+func throughAsking(t *testing.T) *proxied {
+	t.Helper()
+	followingOnce.Do(func() {
+		var err error
+		following, err = definitions.Open(context.Background(), config(), time.Hour, func(string) {}, catalog.WithColumns)
+		if err != nil {
+			t.Fatal(err)
+		}
+	})
+	return through(t, "postgres", func(o *Options) {
+		o.Plans, o.Generation, o.Shared = following, following.Generation, NewShared()
+	})
+}
+
+func shownAsk(one record.Ask) string {
+	if one.Why != "" {
+		return "not: " + one.Why
+	}
+	var found []string
+	for _, key := range one.Found {
+		found = append(found, string(key))
+	}
+	text := one.Condition.String() + ": " + strings.Join(found, ",")
+	if one.Wrote {
+		text += " wrote"
+	}
+	return text
+}
+
+// TestAsks: what SELECTs asked for by a condition, with the rows that they got, is reported with their transaction.
+func TestAsks(t *testing.T) {
+	needServer(t)
+	sql(t, fill)
+	p := throughAsking(t)
+	texts := []string{"SELECT v FROM t WHERE v < 30", "SELECT v FROM t WHERE v < 40 LIMIT 2", "UPDATE t SET w = 'x' WHERE id = 20",
+		"SELECT v FROM t WHERE v < 10 AND id = 3", "SELECT count(*) FROM t", "SELECT v FROM part WHERE v = 6"}
+	for i := 0; i < 2; i++ {
+		p.warm(texts...)
+	}
+	for _, x := range []struct {
+		name   string
+		texts  []string
+		want   string
+		shows  bool
+		parsed []pgproto3.FrontendMessage
+	}{
+		{name: "one", texts: []string{"SELECT v FROM t WHERE v < 30"}, want: "t WHERE v < 30: 1,2"},
+		{name: "nothing found", texts: []string{"BEGIN", "SELECT v FROM t WHERE v < 10 AND id = 3", "COMMIT"}, want: "t WHERE v < 10 AND id = 3: "},
+		{name: "with its snapshot", texts: []string{"BEGIN ISOLATION LEVEL REPEATABLE READ", "SELECT v FROM t WHERE v < -5", "COMMIT"},
+			want: "t WHERE v < -5: ", shows: true},
+		{name: "a partitioned table", texts: []string{"SELECT v FROM part WHERE v = 6"}, want: "part WHERE v = 6: 120"},
+		{name: "limits", texts: []string{"BEGIN", "SELECT v FROM t WHERE v < 40 LIMIT 2", "SELECT v FROM t WHERE v < 20 LIMIT 2", "COMMIT"},
+			want: "not: LIMIT; t WHERE v < 20: 1"},
+		{name: "after a write", texts: []string{"BEGIN", "SELECT v FROM t WHERE v < 30", "UPDATE t SET w = 'x' WHERE id = 20",
+			"SELECT v FROM t WHERE v < 20", "COMMIT"}, want: "t WHERE v < 30: 1,2; t WHERE v < 20: 1 wrote"},
+		{name: "a write that is undone", texts: []string{"BEGIN", "SELECT v FROM t WHERE v < 30", "SAVEPOINT a",
+			"UPDATE t SET w = 'x' WHERE id = 20", "SELECT v FROM t WHERE v < 20", "ROLLBACK TO a", "SELECT v FROM t WHERE v < 10", "COMMIT"},
+			want: "t WHERE v < 30: 1,2; not: asked after a write that ROLLBACK TO may have undone; t WHERE v < 10:  wrote"},
+		{name: "what isn't followed", texts: []string{"BEGIN", "SELECT count(*) FROM t", "SELECT v FROM t WHERE v < 30", "COMMIT"},
+			want: "not: an aggregate; t WHERE v < 30: 1,2"},
+		{name: "a failure", texts: []string{"BEGIN", "SELECT v FROM t WHERE v < 30", "SELECT 1/0", "COMMIT"}, want: "t WHERE v < 30: 1,2"},
+		{name: "several statements", texts: []string{"SELECT v FROM t WHERE v < 30; SELECT v FROM t WHERE v < 20"}, want: "t WHERE v < 30: 1,2; t WHERE v < 20: 1"},
+		{name: "a cursor", texts: []string{"BEGIN", "DECLARE c CURSOR FOR SELECT v FROM t WHERE v < 30", "FETCH ALL FROM c", "COMMIT"},
+			want: "not: a cursor, or SQL's PREPARE"},
+		{name: "parameters as text", parsed: []pgproto3.FrontendMessage{&pgproto3.Parse{Query: "SELECT v FROM t WHERE v < $1"},
+			&pgproto3.Bind{Parameters: [][]byte{[]byte("30")}}, &pgproto3.Execute{}, &pgproto3.Sync{}}, want: "t WHERE v < 30: 1,2"},
+		{name: "parameters in binary", parsed: []pgproto3.FrontendMessage{&pgproto3.Parse{Query: "SELECT v FROM t WHERE v < $1"},
+			&pgproto3.Bind{ParameterFormatCodes: []int16{1}, Parameters: [][]byte{{0, 0, 0, 20}}}, &pgproto3.Execute{}, &pgproto3.Sync{}},
+			want: "t WHERE v < 20: 1"},
+		{name: "in parts", parsed: []pgproto3.FrontendMessage{&pgproto3.Parse{Query: "SELECT v FROM t WHERE v < $1"},
+			&pgproto3.Bind{Parameters: [][]byte{[]byte("40")}}, &pgproto3.Execute{MaxRows: 1}, &pgproto3.Execute{MaxRows: 1}, &pgproto3.Execute{},
+			&pgproto3.Sync{}}, want: "t WHERE v < 40: 1,2,3"},
+		{name: "a part", parsed: []pgproto3.FrontendMessage{&pgproto3.Parse{Query: "SELECT v FROM t WHERE v < $1"},
+			&pgproto3.Bind{Parameters: [][]byte{[]byte("40")}}, &pgproto3.Execute{MaxRows: 1}, &pgproto3.Sync{}}, want: ""},
+	} {
+		t.Run(x.name, func(t *testing.T) {
+			run := func() {
+				for _, text := range x.texts {
+					p.query(text)
+				}
+				if x.parsed != nil {
+					p.do(messages('Z', x.parsed...))
+				}
+			}
+			for i := 0; i < 2; i++ { // so that all is tried
+				run()
+				p.settle()
+			}
+			p.sink.take()
+			sent := time.Now()
+			run()
+			var got []string
+			shows := false
+			for _, it := range p.sink.take() {
+				shows = shows || it.Snapshot != ""
+				for _, one := range it.Asks {
+					got = append(got, shownAsk(one))
+					if one.Why == "" && (one.From.Before(sent) || one.Identity == 0 || one.Columns == 0) {
+						t.Errorf("%+v", one)
+					}
+				}
+			}
+			if text := strings.Join(got, "; "); text != x.want || shows != x.shows {
+				t.Errorf("%q, wanted %q; its snapshot is known: %v", text, x.want, shows)
+			}
+		})
+	}
+}
+
+// TestManyAsks: what is kept of one transaction is bounded, and the rest is counted.
+func TestManyAsks(t *testing.T) {
+	needServer(t)
+	sql(t, fill+"; DELETE FROM t; INSERT INTO t SELECT i, i FROM generate_series(1, 5000) i")
+	defer sql(t, fill)
+	p := throughAsking(t)
+	p.warm("SELECT id FROM t WHERE v > 1")
+	p.query("BEGIN")
+	for i := 0; i < mostConditions+5; i++ {
+		p.query(fmt.Sprint("SELECT id FROM t WHERE v > ", i*100))
+	}
+	p.query("COMMIT")
+	its := p.sink.take()
+	if len(its) != 1 || len(its[0].Asks) != mostConditions+1 {
+		t.Fatalf("%d transactions", len(its))
+	}
+	for i, one := range its[0].Asks {
+		want := ""
+		switch {
+		case i < 10:
+			want = tooManyFound
+		case i == mostConditions:
+			want = tooManyAsks
+		}
+		if one.Why != want {
+			t.Errorf("%d: %q", i, one.Why)
+		}
+	}
+}
