@@ -181,6 +181,8 @@ class Reports(unittest.TestCase):
                 "  GRANT CONNECT ON DATABASE \"shop\" TO zanteyard (if PUBLIC may not connect)",
                 "  GRANT EXECUTE ON FUNCTION pg_get_wal_record_info(pg_lsn) TO zanteyard (if the "
                 "extension pg_walinspect is there)",
+                "  ALTER ROLE zanteyard SET log_min_messages = error (as a superuser: so that rows of "
+                "tables without a key are counted)",
                 "the tables: 1 of 2 tables can be audited",
                 "  b: no primary key",
                 "    add one",

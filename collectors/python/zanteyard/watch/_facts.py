@@ -67,6 +67,8 @@ def least_role(server: Server) -> list[str]:
     if server.number >= 150000:
         called = f"GRANT EXECUTE ON FUNCTION pg_get_wal_record_info(pg_lsn) TO {AUDITOR}"
         made.append(f"{called} (if the extension pg_walinspect is there)")
+    quiet = f"ALTER ROLE {AUDITOR} SET log_min_messages = error"
+    made.append(f"{quiet} (as a superuser: so that rows of tables without a key are counted)")
     return made
 
 

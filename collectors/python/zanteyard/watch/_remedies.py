@@ -48,6 +48,7 @@ REMEDIES: Sequence[tuple[str, str]] = (
     ("what INSERT selects", "select the rows first"),
     ("COPY TO", "use SELECT"),
     ("MERGE", "use INSERT .. ON CONFLICT, or UPDATE"),
+    ("the hidden columns would make its plan", "more work_mem may help, or an index that sorts"),
     ("an index may answer", "select a column that no index has"),
     ("two tables with the same name", "give each its own alias"),
     ("tables of an UPDATE or DELETE", "select their rows first"),

@@ -115,6 +115,8 @@ type Plan struct {
 	Unseen []record.Unseen
 	// Asked means that the statement asks for one row of Sources[0] by its whole primary key, which AskedKey returns.
 	Asked bool
+	// Widens means that the hidden columns make rows wider that are sorted, joined or grouped.
+	Widens bool
 	// ByKey means that a SELECT asks for the rows of one table by its whole primary key, whatever else it asks.
 	ByKey bool
 	// NotFollowed says why what a SELECT asks tables for by a condition isn't followed; "" if it is, or asks for nothing, or

@@ -1,6 +1,9 @@
 package plan
 
-import "unicode/utf8"
+import (
+	"strings"
+	"unicode/utf8"
+)
 
 const nowhere = -1
 
@@ -60,6 +63,8 @@ type Trial struct {
 	Statements []string
 	// Privileges is a SELECT of one boolean, which must be true; "" if nothing has to be checked.
 	Privileges string
+	// Plain is the statement without the hidden columns, if they may make its plan dearer, and otherwise "".
+	Plain string
 }
 
 // Trial returns how the plan is tried. A plan that inserts nothing needs no trial: both fields are empty.
@@ -67,5 +72,9 @@ func (p *Plan) Trial() Trial {
 	if p.insertion.text == "" {
 		return Trial{}
 	}
-	return Trial{Statements: []string{p.sample}, Privileges: privileges(p.relations)}
+	its := Trial{Statements: []string{p.sample}, Privileges: privileges(p.relations)}
+	if p.Widens || p.Inner != nil && p.Inner.Widens {
+		its.Plain = strings.Replace(p.sample, p.insertion.text, "", 1)
+	}
+	return its
 }

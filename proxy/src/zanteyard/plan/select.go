@@ -37,7 +37,7 @@ func (m *maker) selects(p *Plan, body node, start, end int) {
 	if !body.has("targetList") { // SELECT FROM t
 		groups = groups[len(", "):]
 	}
-	p.insertion = insertion{text: groups + " ", token: word}
+	p.insertion, p.Widens = insertion{text: groups + " ", token: word}, widens(body, f)
 	m.orders(p, body, f.width(body.list("targetList")))
 	m.asks(p, body, found, f)
 }

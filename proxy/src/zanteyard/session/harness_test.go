@@ -44,6 +44,9 @@ CREATE TABLE part_low PARTITION OF part FOR VALUES FROM (0) TO (100);
 CREATE TABLE part_high PARTITION OF part FOR VALUES FROM (100) TO (1000);
 CREATE TABLE changing (id int PRIMARY KEY, v int, w int);
 CREATE TABLE serials (id serial PRIMARY KEY, v int);
+CREATE TABLE sorted (a int, b int, c int, d int, v int, PRIMARY KEY (a, b, c, d));
+INSERT INTO sorted SELECT i, i, i, i, i FROM generate_series(1, 100000) i; ANALYZE sorted;
+CREATE DOMAIN certain AS int NOT NULL;
 CREATE TABLE child (id int PRIMARY KEY, parent int REFERENCES t ON DELETE CASCADE);
 CREATE VIEW seen AS SELECT id, v FROM t WHERE v > 0;
 CREATE FUNCTION bump(i int) RETURNS int LANGUAGE plpgsql AS $$BEGIN UPDATE t SET v = v +

@@ -22,6 +22,7 @@ const (
 	privilegeName = prefix + "privilege"
 	prepareName   = prefix + "prepare"
 	savepointName = prefix + "savepoint"
+	costName      = prefix + "cost"
 )
 
 var (
@@ -30,8 +31,10 @@ var (
 		"pg_catalog.current_setting('transaction_isolation')")
 
 	// A trial that would wait for a lock fails instead, so no client waits for the trial. The setting ends with the
-	// transaction, which is that of the trial's messages up to their Sync.
-	impatientText = own.Guest("SELECT pg_catalog.set_config('lock_timeout', '20ms', true)")
+	// transaction, which is that of the trial's messages up to their Sync. So does the other one, by which plans that are
+	// compared don't depend on parameters.
+	impatientText = own.Guest("SELECT pg_catalog.set_config('lock_timeout', '20ms', true), " +
+		"pg_catalog.set_config('plan_cache_mode', 'force_generic_plan', true)")
 
 	// In a block, a trial is undone: an error in it isn't the block's, and it leaves no lock and no savepoint.
 	savepointText  = own.Guest(`SAVEPOINT "zanteyard.trial"`)

@@ -17,6 +17,7 @@ const (
 	signatureRow
 	privilegeRow
 	trialColumns
+	costRow
 	trialEnd
 	blockPart  // the Sync of a trial in a block, before its savepoint is rolled back
 	reparse    // the original text of an unnamed statement, whose failure goes to the client

@@ -280,6 +280,10 @@ func (s *Session) ownRow(e *expectation, m []byte) {
 		}
 	case privilegeRow:
 		e.use.allowed = len(values[0]) == 1 && (values[0][0] == 't' || values[0][0] == 1)
+	case costRow:
+		if cost, ok := plan.Cost(values[0]); ok {
+			e.use.costs = append(e.use.costs, cost)
+		}
 	}
 }
 

@@ -21,8 +21,11 @@ type Shared struct {
 // kind has what was tried on connections of one signature.
 type kind struct {
 	catalog uint64
-	tried   map[*plan.Plan]int // and how many columns its statement returns, without the hidden ones
+	tried   map[*plan.Plan]int // and how many columns its statement returns, without the hidden ones, or tooDear
 }
+
+// tooDear stands for a plan that isn't used because of its cost.
+const tooDear = -1
 
 const (
 	mostKinds  = 256

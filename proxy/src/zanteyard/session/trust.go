@@ -27,10 +27,13 @@ type use struct {
 	generation uint64 // of trust, when state was reached
 	hidden     int    // number of columns that the plan adds
 	sample     *statement
-	columns    bool // the trial's description had the columns that the plan adds
-	own        int  // number of columns that the statement returns without these
-	allowed    bool // the trial's query of privileges answered yes
-	delays     int  // number of trials that ended for want of a lock
+	columns    bool      // the trial's description had the columns that the plan adds
+	own        int       // number of columns that the statement returns without these
+	allowed    bool      // the trial's query of privileges answered yes
+	costs      []float64 // of the plans with the columns and without them, if the trial compares these
+	compares   bool      // it does
+	compared   bool      // they needn't be compared any more
+	delays     int       // number of trials that ended for want of a lock
 	reason     string
 }
 
@@ -207,10 +210,13 @@ func (t *trust) usable(u *use, sample *statement) bool {
 		if !t.doubt && !t.block.isPrivate {
 			own, is = t.shared.has(t.signature, t.catalog, u.plan)
 		}
-		if is {
+		if is && own == tooDear {
+			u.state, u.generation, u.reason = failed, t.generation, Dear
+		} else if is {
 			u.state, u.generation, u.own = tried, t.generation, own
 		} else {
 			u.state, u.generation, u.sample, u.delays = waiting, t.generation, sample, 0
+			u.compares, u.compared = false, false
 			t.queue = append(t.queue, u)
 			return false
 		}
@@ -244,6 +250,13 @@ func (t *trust) why(u *use) string {
 
 // Elsewhere is why nothing is seen on a connection that a balancer, a name or a failover has led to another server.
 const Elsewhere = "the connection is to another server than the audited one, or to a standby"
+
+// Dear is why a statement is left as it is whose plan would be more than a third dearer with the hidden columns, as when
+// they make the rows of a sort too wide for the memory that it may use.
+const Dear = "the hidden columns would make its plan more than a third dearer"
+
+// dear reports whether the trial found that.
+func (u *use) dear() bool { return len(u.costs) == 2 && plan.Dearer(u.costs[0], u.costs[1]) }
 
 // work reports whether there is something to try at an idle moment.
 func (t *trust) work() bool {
@@ -299,7 +312,7 @@ func (s *Session) try(out []byte) []byte {
 		if u.generation != t.generation || u.state != waiting {
 			continue
 		}
-		u.state, u.columns, u.allowed = trying, false, false
+		u.state, u.columns, u.allowed, u.costs = trying, false, false, nil
 		w.uses = append(w.uses, u)
 		out = s.tryOne(out, u)
 	}
@@ -324,25 +337,52 @@ func (s *Session) tryOne(out []byte, u *use) []byte {
 		u.allowed = true
 	}
 	texts, types := want.Statements, []byte{0, 0}
+	plain := want.Plain
 	if st := u.sample; st != nil && st.text != "" && st.plan == u.plan && rows(u.plan) == u.plan {
-		text, _, _ := u.plan.Rewrite(st.text, st.tokens)
+		text, _, length := u.plan.Rewrite(st.text, st.tokens)
 		texts = []string{text}
+		if plain = st.text; want.Plain == "" || length == 0 {
+			plain = ""
+		}
 		if st.types != nil {
 			types = st.types
 		}
 	}
-	u.sample = nil
-	for _, text := range texts {
-		out = append(out, closeTrial...)
-		out = appendParse(out, trialName, text, types)
-		out = append(out, describeTrial...)
-		out = append(out, closeTrial...)
-		s.queue.step('C', u)
-		s.queue.step('P', u)
-		s.queue.push(expectation{kind: trialColumns, message: 'D', use: u})
-		s.queue.step('C', u)
+	cost := ""
+	if plain != "" && u.compares {
+		cost = plan.Explained(trialName, plain, wire.Int16(types))
 	}
-	return out
+	if u.compares || want.Plain == "" {
+		u.sample = nil
+	}
+	for _, text := range texts {
+		out = s.prepareTrial(out, u, text, types)
+		out = append(out, describeTrial...)
+		s.queue.push(expectation{kind: trialColumns, message: 'D', use: u})
+		out = s.askCost(out, u, cost)
+	}
+	if cost != "" {
+		out = s.prepareTrial(out, u, plain, types)
+		out = s.askCost(out, u, cost)
+	}
+	s.queue.step('C', u)
+	return append(out, closeTrial...)
+}
+
+// prepareTrial prepares a text, in place of the one before.
+func (s *Session) prepareTrial(out []byte, u *use, text string, types []byte) []byte {
+	s.queue.step('C', u)
+	s.queue.step('P', u)
+	return appendParse(append(out, closeTrial...), trialName, text, types)
+}
+
+// askCost asks what the prepared text costs. The server plans it for that, as it does whenever the client runs it.
+func (s *Session) askCost(out []byte, u *use, cost string) []byte {
+	if cost == "" {
+		return out
+	}
+	s.queue.once(expectation{kind: costRow, use: u})
+	return append(out, once(costName, own.Planned(cost))...)
 }
 
 // described checks what a trial's statement returns: the last columns must be those that the plan adds.
@@ -379,6 +419,10 @@ func (s *Session) tryError(e *expectation, m []byte) {
 	if passing(m) && e.use.delays < mostDelays {
 		e.use.delays++
 		return // it waits for another idle moment
+	}
+	if e.use.columns && e.use.compares {
+		e.use.compares, e.use.compared = false, true // all but the comparison has succeeded
+		return
 	}
 	e.use.state = failed
 	e.use.reason = "the audit's columns can't be read on its connection: " + string(wire.Field(m, 'C'))
@@ -472,15 +516,22 @@ func (s *Session) tried(w *trial) {
 		case w.failed:
 			u.state = waiting
 			t.queue = append(t.queue, u)
+		case u.allowed && u.columns && !u.compares && !u.compared && rows(u.plan).Widens:
+			// Only now is it certain that to explain it isn't an error.
+			u.state, u.compares = waiting, true
+			t.queue = append(t.queue, u)
 		case u.allowed && u.columns:
-			u.state = tried
+			u.state, u.compares, u.compared, u.sample = tried, false, false, nil
+			if u.dear() {
+				u.state, u.reason, u.own = failed, Dear, tooDear
+			}
 		case !u.allowed:
 			u.state, u.reason = failed, "the connection's user may not read the audit's columns"
 		default:
 			u.state, u.reason = failed, "names refer to something else on its connection"
 		}
 		u.generation = t.generation
-		if u.state == tried && !t.doubt && !t.block.isPrivate {
+		if (u.state == tried || u.state == failed && u.reason == Dear) && !t.doubt && !t.block.isPrivate {
 			t.shared.add(t.signature, t.catalog, u)
 		}
 	}

@@ -154,6 +154,9 @@ func (c *Control) Place(ctx context.Context) (join.Place, error) {
 			return join.Place{}, errForm
 		}
 		place := join.Place{At: at, Changed: changed, Names: c.tables.Names(), Used: used, Shows: rows[0][2]}
+		if err := c.tables.hides(); err != nil {
+			return join.Place{}, err
+		}
 		switch {
 		case rows[0][1] == c.tables.usedStamp() && !(c.tables.Missing() && c.mayReload()):
 			return place, nil
@@ -352,7 +355,10 @@ const tablesBegin = `SELECT c.oid, n.nspname, c.relname, CASE WHEN c.relispartit
   `
 
 const tablesEnd = `, top.nspname, top.relname, ` + catalog.IdentitySQL + `, NOT i.indimmediate,
-  c.relkind = 'r' AND (c.relreplident = 'n' OR c.relreplident = 'i' AND NOT i.indisreplident)
+  c.relkind = 'r' AND (c.relreplident = 'n' OR c.relreplident = 'i' AND NOT i.indisreplident),
+  c.relkind = 'p' OR c.relreplident = 'f' OR EXISTS (SELECT FROM pg_catalog.pg_index r WHERE r.indrelid = c.oid
+    AND CASE c.relreplident WHEN 'd' THEN r.indisprimary WHEN 'i' THEN r.indisreplident ELSE false END
+    AND r.indisvalid AND r.indimmediate)
 FROM pg_catalog.pg_class c JOIN pg_catalog.pg_namespace n ON n.oid = c.relnamespace
 LEFT JOIN pg_catalog.pg_index i ON i.indrelid = c.oid AND i.indisprimary
 LEFT JOIN LATERAL pg_catalog.unnest(i.indkey) WITH ORDINALITY k(number, place) ON k.place <= i.indnkeyatts
@@ -450,7 +456,7 @@ func (c *Control) table(row []string) (*Table, error) {
 		return nil, fmt.Errorf("read the catalog: %w", err)
 	}
 	its := &Table{Relation: record.Relation(oid), Root: record.Relation(oid), Schema: row[1], Name: row[2], stamp: row[6]}
-	its.deferrable, its.noOldKeys = row[10] == "t", row[11] == "t"
+	its.deferrable, its.noOldKeys, its.identified = row[10] == "t", row[11] == "t", row[12] == "t"
 	if row[9] != "" {
 		its.identity = catalog.IdentityOf(row[9])
 	}

@@ -29,6 +29,7 @@ type Reader struct {
 	conn    *pgconn.PgConn
 	from    string // where the slot begins
 	mark    int64
+	loud    bool // warnings of the connection are written to the server's log
 
 	raw      io.ReadWriteCloser
 	writing  sync.Mutex
@@ -70,6 +71,11 @@ func (r *Reader) begin(ctx context.Context) (err error) {
 	if r.options.Marked != nil {
 		r.options.Marked(r.mark)
 	}
+	quiet, err := r.quiet(ctx)
+	if err != nil {
+		return err
+	}
+	r.loud = !quiet
 	return r.create(ctx)
 }
 
@@ -87,6 +93,7 @@ func connect(ctx context.Context, options Options, replication bool) (*pgconn.Pg
 	}
 	if replication {
 		settings["replication"] = "database"
+		settings["client_min_messages"] = "warning"
 	} else {
 		settings["synchronous_commit"] = "off"
 		settings["default_transaction_isolation"] = "read committed"
@@ -164,13 +171,14 @@ func (r *Reader) Plugin() Plugin { return r.plugin }
 // is lost.
 func (r *Reader) Read(ctx context.Context, to Receiver) error {
 	var its decoder
-	name, from := own.Name{r.options.Name}, own.Word(r.from)
-	command := own.Command("START_REPLICATION SLOT %s LOGICAL %s ("+wal2jsonOptions+")", name, from).String()
+	var command string
 	if r.plugin == Wal2json {
 		its = &wal2json{tables: r.tables, canonical: r.options.Canonical, wanted: r.options.Values}
+		command = r.begins().String()
 	} else {
 		its = &testDecoding{tables: r.tables, canonical: r.options.Canonical}
-		command = own.Command("START_REPLICATION SLOT %s LOGICAL %s ("+testDecodingOptions+")", name, from).String()
+		command = own.Command("START_REPLICATION SLOT %s LOGICAL %s ("+testDecodingOptions+")", own.Name{r.options.Name},
+			own.Word(r.from)).String()
 	}
 	hijacked, err := r.conn.Hijack()
 	if err != nil {
@@ -234,8 +242,12 @@ func (r *Reader) receive(its decoder, to Receiver) error {
 			if err := r.data(body, its, to); err != nil {
 				return err
 			}
+		case 'N':
+			if is, ok := its.(*wal2json); ok {
+				is.warned(body)
+			}
 		case 'E':
-			return fmt.Errorf("%w: %s", ErrEnded, errorText(body))
+			return fmt.Errorf("%w: %s", ErrEnded, textOf(body))
 		case 'c', 'C', 'Z': // the server is shutting down
 			return ErrEnded
 		}
@@ -247,6 +259,9 @@ const large = 1 << 20
 
 // data handles the inside of a CopyData: what the plugin wrote, or how far the server is.
 func (r *Reader) data(body []byte, its decoder, to Receiver) error {
+	if err := r.tables.hides(); err != nil {
+		return err
+	}
 	switch {
 	case len(body) >= 25 && body[0] == 'w':
 		end := binary.BigEndian.Uint64(body[1:])
@@ -318,8 +333,8 @@ func timeOf(microseconds uint64) time.Time {
 	return epoch.Add(time.Duration(microseconds) * time.Microsecond)
 }
 
-// errorText returns an ErrorResponse's message.
-func errorText(body []byte) string {
+// textOf returns the message of an ErrorResponse or a NoticeResponse.
+func textOf(body []byte) string {
 	for len(body) > 1 {
 		field, rest, _ := strings.Cut(string(body[1:]), "\x00")
 		if body[0] == 'M' {

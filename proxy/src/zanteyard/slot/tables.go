@@ -23,6 +23,7 @@ type Table struct {
 	identity     record.Identity // of the key
 	deferrable   bool            // the key is
 	noOldKeys    bool            // the log doesn't have a row's old key
+	identified   bool            // the log identifies its rows that are updated or deleted, or has none of them
 	used         uint32          // atomic: the slot has reported it
 	// columns are those of the topmost partitioned table, by name, and shape is their identity; nil and 0 if values are
 	// never wanted.
@@ -83,6 +84,9 @@ type Tables struct {
 	missing bool                         // an unknown name arrived: the tables have to be read again
 	left    map[left]uint64              // changes that are left out
 	strange map[string]time.Time         // unknown names, and when the tables were last to be read again because of them
+	// hidden are the schemas and names of tables that the slot leaves out, and appeared is 1 once one of them mustn't be.
+	hidden   map[[2]string]bool
+	appeared uint32 // atomic
 }
 
 func newTables(show func(uint32, string) string) *Tables {
@@ -117,6 +121,7 @@ func (t *Tables) set(all []*Table) (changed []record.Relation) {
 	}
 	t.by, t.byName, t.missing = by, names, false
 	t.names++
+	t.appears()
 	t.stampOf()
 	return changed
 }
