@@ -140,11 +140,15 @@ class Worker(threading.Thread):
                 self.results[name] = Ran(*json.loads(answer))
             elif not self.is_stopped:
                 assert self.process is not None
-                ended = f"it hasn't ended in {self.limit:.0f} s"
                 if answer is None:
+                    ended = f"it hasn't ended in {self.limit:.0f} s"
                     self.kill()
                 else:
-                    ended = f"its process ended, with status {self.process.wait()}"
+                    try:
+                        ended = f"its process ended, with status {self.process.wait(ENDING)}"
+                    except subprocess.TimeoutExpired:  # another program runs in its place
+                        ended = "its process became another program"
+                        self.kill()
                 self.results[name] = Ran(0, [], ended, time.monotonic() - began, [])
                 self.process = None
         if self.process is not None and not self.is_stopped:

@@ -28,6 +28,14 @@ class It(unittest.TestCase):
         reads = [sys.executable, "-c", "import sys; sys.stdin.read()"]
         subprocess.Popen(reads, start_new_session=True)
 """
+BECOMES = """
+import os, sys, unittest
+
+
+class It(unittest.TestCase):
+    def test_it(self):
+        os.execv(sys.executable, [sys.executable, "-c", "import time; time.sleep(600)"])
+"""
 HANGS_ONCE = """
 import os, subprocess, sys, time, unittest
 
@@ -89,6 +97,13 @@ class Rerun(unittest.TestCase):
         others = {f"z{at}": 0 for at in range(20)}
         ran = self.run_modules("--module-seconds", "60", "reads_on", **others)
         self.assertEqual((ran.returncode, self.runs("z19")), (0, 1), ran.stdout)
+
+    def test_another_program_in_its_place(self):
+        with open(os.path.join(self.folder, "becomes.py"), "w", encoding="ascii") as file:
+            file.write(BECOMES)
+        ran = self.run_modules("becomes", passes=0)
+        self.assertEqual((ran.returncode, self.runs("passes")), (1, 1), ran.stdout)
+        self.assertIn("FAILED: becomes: its process became another program", ran.stdout)
 
     def test_what_hangs_is_ended_with_what_it_started(self):
         with open(os.path.join(self.folder, "hangs_once.py"), "w", encoding="ascii") as file:

@@ -10,6 +10,7 @@ import tempfile
 import threading
 import time
 import unittest
+from unittest import mock
 
 from zanteyard.cli._main import main
 from zanteyard.program._binaries import PROGRAM
@@ -43,6 +44,13 @@ class Words(unittest.TestCase):
     def setUp(self):
         self.folder = tempfile.mkdtemp()
         self.addCleanup(shutil.rmtree, self.folder)
+        # Other tests of this process may have set what is missing here.
+        its = {name: it for name, it in os.environ.items() if not name.startswith("ZANTEYARD_")}
+        its["ZANTEYARD_PROXY"] = os.path.abspath(proxy_path())
+        run = mock.patch("os.execve", side_effect=AssertionError("it isn't a mistake, and would run"))
+        for each in (mock.patch.dict(os.environ, its, clear=True), run):
+            each.start()
+            self.addCleanup(each.stop)
 
     def key(self, mode, text="0123456789abcdef"):
         path = os.path.join(self.folder, f"key{mode:o}{len(text)}")
