@@ -76,6 +76,22 @@ func TestStories(t *testing.T) {
 			b.tell(1, 0, record.Transaction{Reads: []record.Read{read("b", 1001), read("c", 1005), read("d", 2)}})
 			b.settle()
 		}, []string{`["offer",0,0,[[[[1,"init"]],[]]]]`}, versionUnknown},
+		{"what was over when the audit began is how the rows were at first", func(b *bench) {
+			b.connect(1, 2)
+			b.commit(990, "a")
+			b.commit(1001, "a")
+			b.tell(1, 0, record.Transaction{Number: 990, Reads: []record.Read{read("a", 5)}})
+			b.tell(2, 0, record.Transaction{Number: 1001, Reads: []record.Read{read("a", 991)}})
+			b.settle()
+		}, []string{`["offer",1,0,[[[[1,"init"]],[1]]]]`}, betweenAudits},
+		{"the same, and the slot tells it later", func(b *bench) {
+			b.connect(1, 2)
+			b.tell(1, 0, record.Transaction{Number: 990, Reads: []record.Read{read("a", 5)}})
+			b.commit(990, "a")
+			b.commit(1001, "a")
+			b.tell(2, 0, record.Transaction{Number: 1001, Reads: []record.Read{read("a", 991)}})
+			b.settle()
+		}, []string{`["offer",1,0,[[[[1,"init"]],[1]]]]`}, betweenAudits},
 		{"a subtransaction that RETURNING told", func(b *bench) {
 			b.connect(1, 2)
 			b.commit(1001, "a")

@@ -167,6 +167,11 @@ func (c *core) name(e *entry) {
 	case !c.mayStand(s, &it, follows):
 		c.leave(it, acrossMoment)
 		return
+	case it.Number != 0 && c.isOld(uint32(it.Number)):
+		// It was over, though its client hadn't heard so yet. What it wrote is part of the rows as they were at first: the
+		// version of a subtransaction of its counts as that.
+		c.leave(it, betweenAudits)
+		return
 	}
 	if it.Number != 0 {
 		if e.late = c.unclaim(it.Number, tooLate); e.late != "" && len(it.Reads) == 0 && len(it.Absent) == 0 && len(it.Asks) == 0 {
