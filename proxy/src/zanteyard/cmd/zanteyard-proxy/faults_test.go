@@ -147,7 +147,9 @@ func TestFaults(t *testing.T) {
 	f.untilEnded("the second audit")
 	var places []string
 	for place := range visits {
-		places = append(places, place)
+		if place != "the command restart" { // an audit that has ended reads it only if it comes at once
+			places = append(places, place)
+		}
 	}
 	sort.Strings(places)
 	t.Logf("%d places: %s", len(places), strings.Join(places, ", "))
