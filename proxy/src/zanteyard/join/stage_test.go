@@ -46,6 +46,7 @@ func newStage(t testing.TB, opt Options) *stage {
 	ctx, s.cancel = context.WithCancel(context.Background())
 	go func() { s.ended <- s.joiner.Run(ctx) }()
 	t.Cleanup(s.cancel)
+	s.until("that the audit begins", func() bool { return s.lined("open") > 0 }) // what was over by then isn't offered
 	return s
 }
 

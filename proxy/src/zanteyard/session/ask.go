@@ -14,7 +14,7 @@ import (
 // costs no round trip. It has its own Sync, since otherwise an error in it would make the server skip the COMMIT; that
 // is only possible in a block (T) with nothing under way. After other messages of a pipeline it isn't asked.
 func (s *Session) ask(o *output, p *plan.Plan) {
-	if p.Kind != plan.Commit && p.Kind != plan.PrepareTransaction || s.trust.taken {
+	if p.Kind != plan.Commit && p.Kind != plan.PrepareTransaction || s.trust.taken || s.tx.parted {
 		return
 	}
 	t := &s.tx

@@ -43,7 +43,7 @@ func (t *trust) undoes() {
 // free reports whether a trial may be made or is under way, outside of a block or in one, and the client has nothing under
 // way.
 func (s *Session) free() bool {
-	isBlock := s.status == 'T' && s.tx.block && !s.trust.block.redefined && len(s.owed) == 0
+	isBlock := s.status == 'T' && s.tx.block && !s.tx.parted && !s.trust.block.redefined && len(s.owed) == 0
 	return (isBlock || s.status == 'I') && !s.open && !s.skipping && !s.blind.Load() && !s.owes() &&
 		(s.queue.empty() || s.trial != nil && s.trial.inBlock == isBlock)
 }
@@ -73,6 +73,7 @@ func (s *Session) needsTrial(batch []byte) bool {
 	if !inDoubt && s.status == 'T' && s.tx.calls && !t.block.local {
 		return false
 	}
+	s.runs = runs(batch)
 	for st := (*statement)(nil); len(batch) > 0; {
 		st, batch = s.firstOf(batch, st)
 		if s.status != 'I' || st.kind() != plan.Begin {
@@ -102,6 +103,7 @@ func (s *Session) needs(st *statement, inDoubt bool) bool {
 			return false
 		}
 	}
+	st.use.runs = st.use.runs || s.runs
 	return inDoubt || st.use.waits()
 }
 
@@ -116,9 +118,13 @@ func (s *Session) partsNeed(st *statement, inDoubt bool) bool {
 		if i > 0 && s.status == 'T' && !s.tx.queried {
 			break
 		}
+		if p := part.Plan; p == nil || p.ChangesNames || p.Unknown || p.Kind == plan.Definition {
+			break // what follows isn't rewritten in any case
+		}
 		one := &statement{text: st.text[part.From:part.To], plan: part.Plan, tokens: part.Tokens, looked: s.trust.plans,
 			use: s.trust.of(part.Plan)}
 		if one.use != nil && rewritable(one) && s.understands(one.plan) && !s.usable(one) {
+			one.use.runs = true
 			need = need || inDoubt || one.use.waits()
 		}
 	}
@@ -167,9 +173,19 @@ func (s *Session) firstOf(batch []byte, before *statement) (st *statement, rest 
 	return nil, nil
 }
 
-// tryFirst makes a trial before the client's next statement, or waits for the one that is under way, for the bound at
-// most. Called with writes and state locked, it unlocks both meanwhile.
-func (s *Session) tryFirst() {
+// runs reports whether messages run something, and don't only prepare it.
+func runs(batch []byte) bool {
+	for ; len(batch) > 0; batch = batch[wire.Length(batch):] {
+		if batch[0] == 'Q' || batch[0] == 'B' {
+			return true
+		}
+	}
+	return false
+}
+
+// tryFirst makes a trial before the client's next statement, or waits for the one that is under way, but no longer than
+// until that time. Called with writes and state locked, it unlocks both meanwhile.
+func (s *Session) tryFirst(until time.Time) {
 	var out []byte
 	if s.trial == nil {
 		out = s.try(nil)
@@ -180,7 +196,7 @@ func (s *Session) tryFirst() {
 		s.server.Write(out) // an error shows at the next read
 	}
 	s.writes.Unlock()
-	timer := time.NewTimer(s.options.Bound)
+	timer := time.NewTimer(time.Until(until))
 	defer timer.Stop()
 	isLate := false
 	select {

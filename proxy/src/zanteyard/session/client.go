@@ -39,6 +39,7 @@ func (s *Session) fromClient(o *output, batch []byte) []byte {
 		case 'F':
 			o.pass(at, end)
 			s.trust.changed()
+			s.trust.era++
 			s.begin()
 			s.queue.push(expectation{message: 'F', on: called})
 		case 'c', 'f':
@@ -165,6 +166,9 @@ func (s *Session) query(o *output, m []byte, start, end int) {
 	} else {
 		o.pass(start, end)
 	}
+	if st.use != nil {
+		st.use.runs = true
+	}
 	e.undo, e.previous = undoStatement, s.names.statements[""]
 	s.names.setStatement("", nil) // a Query drops the unnamed statement
 	s.open = false
@@ -254,6 +258,9 @@ func (s *Session) bind(o *output, m []byte, start, end int) {
 		s.fresh(st)
 	}
 	may := s.usable(st)
+	if st.use != nil {
+		st.use.runs = true
+	}
 	if st.name == "" && !st.altered {
 		may = false // it was prepared unchanged: the plan has become usable since
 	}
@@ -412,6 +419,7 @@ func (s *Session) execute(o *output, m []byte, start, end int) {
 	if e.on == nil {
 		e.on = opaque
 		s.trust.changed()
+		s.trust.era++
 	}
 	if e.hides != nil && e.hides.AddsReturning && len(m) >= wire.Header+5 {
 		// The client's statement returned no rows, so its limit meant nothing; now that it returns rows, the limit would mean

@@ -96,6 +96,7 @@ type Session struct {
 	owed     []byte     // the error by which the proxy's own statements have ended a block, until the client gets it
 	ahead    *statement // the client's next one, if it was looked at
 	asked    int        // trials in the block since the client has sent something
+	runs     bool       // what the client sends next runs something
 	charset  string     // the client's encoding, as the server reports it
 	encoding bool       // texts can be looked at: the client's encoding and settings allow it
 	standard bool
@@ -272,6 +273,7 @@ func (s *Session) written() {
 func (s *Session) looked(batch []byte, more int) ([]byte, error) {
 	s.state.Lock()
 	defer s.state.Unlock()
+	var until time.Time // for trials
 	for asks := 0; ; {
 		h := s.holds()
 		switch {
@@ -282,8 +284,10 @@ func (s *Session) looked(batch []byte, more int) ([]byte, error) {
 		case h != nil:
 			s.wait(h)
 		case more == 0 && asks < mostAsks && s.needsTrial(batch):
-			asks++
-			s.tryFirst()
+			if asks++; asks == 1 {
+				until = clock().Add(s.options.Bound)
+			}
+			s.tryFirst(until)
 		default:
 			return s.lookAt(batch, more), nil
 		}

@@ -462,7 +462,7 @@ func number(v []byte) uint64 {
 
 // takeAsk handles the row that was asked for before COMMIT.
 func (s *Session) takeAsk(values [][]byte) {
-	if len(values) != 3 {
+	if len(values) != 3 || s.tx.parted { // what came before may have been another transaction
 		return
 	}
 	t := &s.tx

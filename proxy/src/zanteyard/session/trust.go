@@ -33,6 +33,7 @@ type use struct {
 	costs      []float64 // of the plans with the columns and without them, if the trial compares these
 	compares   bool      // it does
 	compared   bool      // they needn't be compared any more
+	runs       bool      // the client has run it in this generation, or is about to, so that the server plans it anyway
 	delays     int       // number of trials that ended for want of a lock
 	reason     string
 }
@@ -216,7 +217,7 @@ func (t *trust) usable(u *use, sample *statement) bool {
 			u.state, u.generation, u.own = tried, t.generation, own
 		} else {
 			u.state, u.generation, u.sample, u.delays = waiting, t.generation, sample, 0
-			u.compares, u.compared = false, false
+			u.compares, u.compared, u.runs = false, false, false
 			t.queue = append(t.queue, u)
 			return false
 		}
@@ -516,8 +517,9 @@ func (s *Session) tried(w *trial) {
 		case w.failed:
 			u.state = waiting
 			t.queue = append(t.queue, u)
-		case u.allowed && u.columns && !u.compares && !u.compared && rows(u.plan).Widens:
-			// Only now is it certain that to explain it isn't an error.
+		case u.allowed && u.columns && !u.compares && !u.compared && u.runs && rows(u.plan).Widens:
+			// Only now is it certain that to explain it isn't an error. To plan it may call what the table's owner has made: that
+			// must be no more than what the client's own run calls.
 			u.state, u.compares = waiting, true
 			t.queue = append(t.queue, u)
 		case u.allowed && u.columns:
