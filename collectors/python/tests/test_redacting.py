@@ -48,6 +48,7 @@ class Texts(unittest.TestCase):
             ("SELECT 1 /* 4929 */ -- 4929", "SELECT ?"),
             ('SET a.b TO word, "word"', "SET a.b TO ?, ?"),
             ("BEGIN; SET LOCAL a.b = word; UPDATE t SET a = b", "BEGIN; SET LOCAL a.b = ?; UPDATE t SET a = b"),
+            ('SET LOCAL TIME ZONE "word"', "SET LOCAL TIME ZONE ?"),
             ("ALTER ROLE r SET a.b TO word", "ALTER ROLE r SET a.b TO ?"),
             ("CREATE FUNCTION f() SET a.b TO word AS $$1$$", "CREATE FUNCTION f() SET a.b TO ? ? ?"),
             ("CREATE TABLE t (a int CHECK (a = b))", "CREATE TABLE t (a int CHECK (a = b))"),

@@ -58,14 +58,21 @@ class PrivateFiles(unittest.TestCase):
         os.chmod(self.path, 0o666)
         os.chown(self.path, NOBODY, NOBODY)
         link = f"{self.path}.link"
-        own = f"{self.path}.own"
+        own, pipe, hard = f"{self.path}.own", f"{self.path}.pipe", f"{self.path}.hard"
         with open(own, "w", encoding="utf-8") as file:
             file.write("as before")
         os.symlink(own, link)
         os.lchown(link, NOBODY, NOBODY)
-        for path in (self.path, link):
+        os.mkfifo(pipe)
+        os.chown(pipe, NOBODY, NOBODY)
+        for path in (self.path, link, pipe):
             with self.subTest(path=path), self.assertRaisesRegex(PermissionError, "another user"):
                 open(path, "w", encoding="utf-8", opener=private)
+        os.link(own, hard)
+        with self.assertRaisesRegex(PermissionError, "another user"):
+            open(hard, "w", encoding="utf-8", opener=private)
+        os.unlink(hard)
+        for path in (self.path, link):
             with open(path, encoding="utf-8") as file:
                 self.assertEqual(file.read(), "as before")
         os.lchown(link, os.geteuid(), -1)

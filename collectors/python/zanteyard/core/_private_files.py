@@ -1,6 +1,7 @@
 """Files that only their owner may read, since they contain keys, values and statements of an
 application."""
 
+import contextlib
 import errno
 import os
 import stat
@@ -10,22 +11,23 @@ from .errors import FolderUnfitError
 
 def private(path: str, flags: int) -> int:
     """An opener for `open`: only the owner can read and write the file, even if it existed before
-    with other permissions. Raises OSError as `os.open` does, and PermissionError for a file or a
-    link that another user has put there, in a folder that others may write to."""
+    with other permissions. Raises OSError as `os.open` does, and PermissionError for what another
+    user has put there, in a folder that others may write to: a file, a link, or a pipe."""
     opens = (flags & ~os.O_TRUNC) | os.O_CLOEXEC  # what is somebody else's stays as it is
+    with contextlib.suppress(FileNotFoundError):
+        _check_owner(os.lstat(path), path)  # to open another user's pipe would wait for a reader
     try:
         file = os.open(path, opens | os.O_NOFOLLOW, 0o600)
     except OSError as error:
         if error.errno != errno.ELOOP:
             raise
-        if os.lstat(path).st_uid not in (os.geteuid(), 0):  # root's are such as /dev/stdout
-            raise PermissionError(errno.EPERM, "another user's link", path) from error
         file = os.open(path, opens, 0o600)
     try:
         its = os.fstat(file)
+        _check_owner(its, path)
         if stat.S_ISREG(its.st_mode):
-            if its.st_uid != os.geteuid():
-                raise PermissionError(errno.EPERM, "another user's file", path)
+            if its.st_uid != os.geteuid() or its.st_nlink > 1:
+                raise PermissionError(errno.EPERM, "it may be another user's, too", path)
             os.fchmod(file, 0o600)
             if flags & os.O_TRUNC:
                 os.ftruncate(file, 0)
@@ -33,6 +35,11 @@ def private(path: str, flags: int) -> int:
         os.close(file)
         raise
     return file
+
+
+def _check_owner(its: os.stat_result, path: str) -> None:
+    if not stat.S_ISCHR(its.st_mode) and its.st_uid not in (os.geteuid(), 0):
+        raise PermissionError(errno.EPERM, "it is another user's", path)
 
 
 def check_folder(path: str) -> None:

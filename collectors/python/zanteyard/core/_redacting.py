@@ -52,7 +52,7 @@ class Settings:
             self._begin()
         elif self._has_begun:
             return word != "="
-        elif self._sets and word in ("=", "to"):
+        elif self._sets and word in ("=", "to", "zone"):  # as in SET TIME ZONE
             self._has_begun = True
         elif word != "=":
             self._may_set |= not self._is_within and word in ("set", "alter", "create")

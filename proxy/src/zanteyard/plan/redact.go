@@ -42,7 +42,7 @@ func (v *values) is(kind tokenKind, word string) bool {
 		*v = values{}
 	case v.begun && isWord:
 		return true
-	case v.sets && (word == "=" || strings.EqualFold(word, "to")):
+	case v.sets && (word == "=" || strings.EqualFold(word, "to") || strings.EqualFold(word, "zone")): // SET TIME ZONE
 		v.begun = true
 	case kind == wordToken:
 		is := func(other string) bool { return strings.EqualFold(word, other) }

@@ -13,6 +13,7 @@ func TestRedacted(t *testing.T) {
 		"BEGIN; SET LOCAL a.b TO secret; SELEC a = b":                  "BEGIN; SET LOCAL a.b TO ?; SELEC a = b",
 		"CREATE FUNCTION f() RETURNS int SET a.b TO secret AS $$1$$":   "CREATE FUNCTION f() RETURNS int SET a.b TO ? ? ?",
 		"CREATE TABLE t (a int CHECK (a = b))":                         "CREATE TABLE t (a int CHECK (a = b))",
+		"SET SESSION TIME ZONE secret":                                 "SET SESSION TIME ZONE ?",
 		"UPDATE t SET a = b":                                           "UPDATE t SET a = b",
 		"":                                                             "",
 		"SELECT 'unfinished":                                           "(a very long or incomplete statement)",
