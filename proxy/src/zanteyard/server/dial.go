@@ -18,6 +18,9 @@ type target struct {
 	network, address string
 	tls              *tls.Config // nil: none
 	connect          pgconn.DialFunc
+	// plain: if the server doesn't offer TLS, the connection goes on without it. Another connection in its place would cost
+	// the server another process.
+	plain bool
 }
 
 // targets returns the ways to reach the server that a connection string describes, the preferred one first, as in
@@ -29,10 +32,12 @@ func targets(config *pgconn.Config) []target {
 	if connect == nil {
 		connect = (&net.Dialer{}).DialContext
 	}
-	all := []target{{network, address, forClients(config.TLSConfig), connect}}
+	all := []target{{network, address, forClients(config.TLSConfig), connect, false}}
 	for _, f := range config.Fallbacks {
 		network, address := pgconn.NetworkAddress(f.Host, f.Port)
-		all = append(all, target{network, address, forClients(f.TLSConfig), connect})
+		before := &all[len(all)-1]
+		before.plain = f.TLSConfig == nil && before.tls != nil && before.network == network && before.address == address
+		all = append(all, target{network, address, forClients(f.TLSConfig), connect, false})
 	}
 	return all
 }
@@ -74,7 +79,7 @@ func (t target) dial(ctx context.Context) (net.Conn, error) {
 	return secure, nil
 }
 
-// secure asks the server for TLS. Exactly one byte is the answer: anything after it in the clear would be somebody
+// secure asks the server for TLS, and returns the connection as it is then. Exactly one byte is the answer: anything after it in the clear would be somebody
 // else's.
 func (t target) secure(c net.Conn) (net.Conn, error) {
 	var request [8]byte
@@ -86,6 +91,9 @@ func (t target) secure(c net.Conn) (net.Conn, error) {
 	var answer [1]byte
 	if _, err := io.ReadFull(c, answer[:]); err != nil {
 		return nil, err
+	}
+	if answer[0] == 'N' && t.plain {
+		return c, nil
 	}
 	if answer[0] != 'S' {
 		return nil, errNoTLS

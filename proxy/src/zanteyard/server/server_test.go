@@ -486,3 +486,24 @@ func TestServerEnds(t *testing.T) {
 		}
 	}
 }
+
+// TestPreferDialsOnce: with sslmode=prefer, which is the default, a client's connection to a server without TLS is one
+// connection: each further one would cost the server a process.
+func TestPreferDialsOnce(t *testing.T) {
+	needServer(t)
+	var dials atomic.Int64
+	port, _ := proxy(t, url("postgres", theCluster.Port, "sslmode=prefer"), func(o *Options) {
+		o.Server.DialFunc = func(ctx context.Context, network, address string) (net.Conn, error) {
+			dials.Add(1)
+			return (&net.Dialer{}).DialContext(ctx, network, address)
+		}
+	})
+	for i := int64(1); i <= 3; i++ {
+		if v, err := ask(url("scram", port, "sslmode=disable"), "SELECT 7"); err != nil || v != "7" {
+			t.Fatal(v, err)
+		}
+		if n := dials.Load(); n != i {
+			t.Fatalf("%d connections to the server for %d clients", n, i)
+		}
+	}
+}
