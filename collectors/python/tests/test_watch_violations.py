@@ -170,8 +170,9 @@ class Explained(unittest.TestCase):
         passed = "asked for doctor WHERE NOT on_call, and didn't get doctor(id=%d)"
         read = [one.reads for one in found.told]
         self.assertEqual(read, [((passed % 2,), ()), ((passed % 1,), ())])
-        self.assertEqual(found.title, "write skew")
+        self.assertEqual(found.title, "write skew over a condition")
         whole = "\n".join(found.lines())
+        self.assertIn("Adya's G2", whole)
         self.assertIn("wrote whether doctor(id=2) satisfies NOT on_call", whole)
         self.assertIn("didn&#x27;t get doctor(id=2)", violation_page(found, "shop", "proved"))
 

@@ -46,6 +46,10 @@ MEANINGS: Mapping[str, str] = {
     "long fork": "two transactions saw two writes in opposite orders: each saw one and not the "
     "other",
     "write skew": "transactions that each overwrote what another had read, on different keys",
+    "write skew over a condition": "Adya's G2: transactions each of which asked for rows by a "
+    "condition, and was passed by a row that another one of them made satisfy it, or no longer",
+    "phantom": "ANSI's P3, Adya's predicate reads: a transaction asked for rows by a condition, "
+    "and another one, of which it saw something else, changed which rows satisfy it",
     # cycles that match none of the patterns above
     "G-single": "a cycle in which exactly one transaction read what the next one overwrote",
     "G-nonadjacent": "a cycle in which several transactions read what the next one overwrote, but "

@@ -23,12 +23,17 @@ EXCLUDED: Mapping[str, Sequence[Promise]] = {
     "stale read": _IN_ORDER,
     "long fork": _IN_ORDER,
     "write skew": _SERIAL,
+    "write skew over a condition": _SERIAL,
+    "phantom": _SNAPSHOTS,
     "G-single": _SNAPSHOTS,
     "G-nonadjacent": _SNAPSHOTS,
     "G2": _SERIAL,
 }
 # The order in these may be that of time, if the promise asked about includes time.
-BY_TIME = ("fractured read", "stale read", "long fork", "write skew")
+BY_TIME = (
+    *("fractured read", "stale read", "long fork", "write skew"),
+    *("write skew over a condition", "phantom"),
+)
 
 
 def excluded(name: str, promise: Promise = SERIALIZABLE) -> tuple[Promise, ...]:

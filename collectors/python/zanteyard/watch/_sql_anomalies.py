@@ -96,6 +96,28 @@ def _both(
     return Part(txns).history(len(whole))
 
 
+SKEW, PHANTOM = "write skew over a condition", "phantom"
+OVER_CONDITIONS: Mapping[str, str] = {
+    "write skew": SKEW, FRACTURED: PHANTOM, UNREPEATABLE: PHANTOM, "G-single": PHANTOM,
+}
+
+
+def over_conditions(story: Story, small: History, conditions: Container[str]) -> Story:
+    """The story, with the name that its anomaly has if it rests on what a condition passed over:
+    on one of these keys."""
+    anomaly = story.anomaly
+    called = OVER_CONDITIONS.get(anomaly.name) if anomaly is not None else None
+    if anomaly is None or called is None:
+        return story
+    passed = any(
+        key in conditions
+        for session, number in anomaly.transactions
+        for key, _ in small[session][number].reads
+        if key not in small[session][number].writes
+    )
+    return replace(story, anomaly=replace(anomaly, name=called)) if passed else story
+
+
 def named(story: Story, small: History, name: Naming) -> Story:
     """The story, with SQL's name for the anomaly."""
     anomaly = story.anomaly

@@ -19,7 +19,7 @@ from ..promises._kinds import SERIALIZABLE, Promise
 from ._conflicts import READ_BEFORE, Cycle
 from ._described import Described, by_time, clock, lines_of
 from ._kept import Kept, Transaction
-from ._sql_anomalies import LostUpdate, both_replaced, lost_update
+from ._sql_anomalies import LostUpdate, both_replaced, lost_update, over_conditions
 from ._sql_anomalies import named as named_story
 from ._statement_reads import as_shown, by_statement
 
@@ -312,7 +312,8 @@ def explained(
     audited = audited._replace(keys=[shown.get(key, key) for key in audited.keys])
     explanation = explanation_of(audited, renamed, called)
     story = story_of(renamed, called, explanation, audited.script, counts, promise)
-    story = named_story(story, renamed, called)
+    conditions = {shown[key_text(key)] for key, row in answered.keys.items() if row.condition}
+    story = over_conditions(named_story(story, renamed, called), renamed, conditions)
     story = story.with_standing(standing(small, program, promise, seconds))
     gone = next((one for one, there in places.items() if there == (0, 0) and one not in ids), None)
     writers = as_shown({there: one for one, there in ids.items()}, gone, held.base)

@@ -214,6 +214,9 @@ func (c *core) forgetQuestions(old func(*version) bool) {
 			one.trim(old)
 		}
 	}
+	for _, one := range q.of {
+		one.forgetDone()
+	}
 }
 
 // gaps records in which tables a commit changed rows that aren't known, and reports whether there are any.
@@ -353,6 +356,12 @@ func (q *question) await(c *core, began time.Time) []*row {
 	return q.next
 }
 
+// tells reports whether anything is known of the row from which a condition's truth may be told. Of tables that nobody
+// asks by conditions nothing is.
+func (f fresh) tells() bool {
+	return f.version.values != nil || asRow(f.was) != nil || f.before() != nil
+}
+
 // changes makes the versions of one commit write registers.
 func (c *core) changes(its []fresh) {
 	for _, it := range its {
@@ -401,16 +410,24 @@ func asRow(it record.Row) *condition.Row {
 
 // catchUp makes the versions whose writers aren't offered yet write the registers of a new question.
 func (c *core) catchUp(q *question, table *tableAsks) {
-	kept := table.fresh[:0]
+	table.forgetDone()
 	for _, it := range table.fresh {
-		if it.version.writer.done {
-			continue
-		}
-		kept = append(kept, it)
 		c.change(q, it)
 	}
-	for i := len(kept); i < len(table.fresh); i++ {
-		table.fresh[i] = fresh{}
+}
+
+// forgetDone forgets versions whose writers write no more registers.
+func (t *tableAsks) forgetDone() {
+	kept := t.fresh[:0]
+	for _, it := range t.fresh {
+		if w := it.version.writer; !w.done && w.fate != folded {
+			kept = append(kept, it)
+		}
 	}
-	table.fresh = kept
+	for i := len(kept); i < len(t.fresh); i++ {
+		t.fresh[i] = fresh{}
+	}
+	if t.fresh = kept; len(kept) == 0 {
+		t.fresh = nil
+	}
 }

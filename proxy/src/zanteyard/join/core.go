@@ -57,6 +57,10 @@ type core struct {
 	oldest     time.Time // when the first of them was named
 	counts     counts
 	questions  *conditions
+	besides    []besides // oldest first
+	beside     time.Time // what was reported by then waits for nobody any more
+	looked     time.Time // when the last of besides was taken; zero if nobody takes them
+	writes     time.Time // when a writer was reported last
 }
 
 type batchAt struct {
@@ -156,7 +160,9 @@ func (c *core) addVersions(w *writer, it record.Commit) {
 		if !gaps {
 			c.questions.keep(v, one.New, one.Bytes)
 		}
-		news = append(news, fresh{r, v, one.Old})
+		if it := (fresh{r, v, one.Old}); it.tells() {
+			news = append(news, it)
+		}
 		if !v.left {
 			w.addWrite(write{r, v})
 		} else {
@@ -240,6 +246,7 @@ func (c *core) lag() time.Duration {
 func (c *core) step(now time.Time) {
 	c.now = now
 	c.foldLate()
+	c.passBeside()
 	c.giveUpExpected()
 	c.deduce()
 	for moved := true; moved; {

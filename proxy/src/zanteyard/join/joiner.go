@@ -284,6 +284,7 @@ func (j *Joiner) tick(ctx context.Context) error {
 		}
 	}
 	j.core.step(now)
+	j.lookBeside(now)
 	if now.Sub(j.given) >= giveOut {
 		j.given = now
 		j.core.flush()

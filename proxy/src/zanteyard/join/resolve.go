@@ -98,7 +98,7 @@ func (c *core) resolve(e *entry) (resolution, bool) {
 			e.late = betweenAudits
 		}
 	}
-	if !c.resolveWrites(e, &to) {
+	if c.waitsBeside(e) || !c.resolveWrites(e, &to) {
 		return to, false
 	}
 	return to, c.resolveReads(e, &to) && c.resolveAbsent(e, &to) && c.resolveAsks(e, &to)

@@ -60,6 +60,7 @@ type entry struct {
 	name    name
 	writer  *writer     // nil if it wrote nothing that is offered
 	batch   uint64      // what it needs from the slot comes before this batch's place
+	told    time.Time   // when it was reported
 	asked   bool        // subtransactions were asked for because of it
 	late    string      // why its writes are left out, though its number is known, or ""
 	fence   bool        // nobody ran it

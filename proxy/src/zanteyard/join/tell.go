@@ -139,7 +139,10 @@ func (c *core) writer(it record.Transaction) *writer {
 
 // take offers a transaction of a connection that has a session, unless it can't stand there.
 func (c *core) take(it record.Transaction, conn *connection) {
-	e := &entry{its: it, conn: conn, session: conn.session, batch: c.batch}
+	e := &entry{its: it, conn: conn, session: conn.session, batch: c.batch, told: c.now}
+	if it.Number != 0 {
+		c.writes = c.now
+	}
 	c.batched = true
 	for _, one := range it.Reads {
 		c.tables.Use(one.Relation)

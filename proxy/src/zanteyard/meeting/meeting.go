@@ -109,6 +109,16 @@ func (r *Room) Meet(ctx context.Context, connections []uint64, moment func(held 
 	}
 }
 
+// Open returns those of these connections on which a transaction is open, or something is under way.
+func (r *Room) Open(connections []uint64) (open []uint64) {
+	for _, m := range r.those(connections) {
+		if m.State() != Quiet {
+			open = append(open, m.Number())
+		}
+	}
+	return open
+}
+
 // Busy returns on how many of these connections something is under way, and how many are idle in a transaction.
 func (r *Room) Busy(connections []uint64) (underWay, idle int) {
 	for _, m := range r.those(connections) {

@@ -70,6 +70,15 @@ func (m *Meeter) Busy(connections []uint64) (underWay, idle int) {
 	return m.room.Busy(connections)
 }
 
+// Open returns those of these connections on which a transaction is open, among this proxy's own.
+func (m *Meeter) Open(connections []uint64) []uint64 {
+	its, is := m.room.(interface{ Open([]uint64) []uint64 })
+	if !is {
+		return nil
+	}
+	return its.Open(connections)
+}
+
 // participant is a proxy in a meeting: one that attaches again meanwhile takes no part.
 type participant struct {
 	its   *attached

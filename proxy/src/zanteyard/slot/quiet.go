@@ -8,6 +8,7 @@ import (
 	"sync/atomic"
 
 	"zanteyard/own"
+	"zanteyard/record"
 )
 
 // In place of an updated or deleted row of a table without a replica identity, wal2json raises a warning. It comes as a
@@ -127,12 +128,16 @@ func (w *wal2json) warned(body []byte) {
 		n := bytes.Index(name[i:], []byte(between))
 		if n < 0 {
 			w.tables.unknown(name, nil)
+			w.open.gap(record.NoRelation)
 			return
 		}
 		i += n
 		if its := w.tables.named(name[:i], name[i+len(between):]); its != nil {
 			if !w.tables.leaves(its) {
 				w.tables.without(its, noKeyLog)
+			}
+			if len(its.Key) > 0 { // it may be asked for by a condition
+				w.open.gap(its.Root)
 			}
 			return
 		}

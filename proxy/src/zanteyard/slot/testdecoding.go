@@ -59,6 +59,9 @@ func (d *testDecoding) change(text []byte) error {
 		return nil
 	case d.tables.leaves(t):
 		d.open.keyless++
+		if len(t.Key) > 0 { // it may be asked for by a condition
+			d.open.gap(t.Root)
+		}
 		return nil
 	}
 	was, now, err := d.rows(rest, t, string(action))

@@ -105,3 +105,25 @@ func shownValues(it record.Commit) (all []string) {
 	}
 	return all
 }
+
+// TestWarningsAreGaps: wal2json warns of a changed row in place of reporting it. Of a table that may be asked for by a
+// condition a change is missing then.
+func TestWarningsAreGaps(t *testing.T) {
+	for _, x := range []struct{ text, want string }{
+		{`no tuple identifier for UPDATE in table "public"."t"`, "gap 1"},
+		{`no tuple identifier for DELETE in table "public"."part1"`, "gap 9"},
+		{`no tuple identifier for UPDATE in table "public"."keyless"`, ""},
+		{`no tuple identifier for UPDATE in table "public"."new"`, "gap 0"},
+	} {
+		d := &wal2json{tables: someTables(), canonical: plain}
+		d.decode([]byte(`{"action":"B","xid":725,"lsn":"0/15527B8","nextlsn":"0/15527F0"}`), 1)
+		d.warned([]byte("SWARNING\x00M" + x.text + "\x00\x00"))
+		it, is, err := d.decode([]byte(`{"action":"C","xid":725,"lsn":"0/15527B8","nextlsn":"0/15527F0"}`), 1)
+		if err != nil || !is || it.Keyless != 1 {
+			t.Fatalf("%s: %+v %v", x.text, it, err)
+		}
+		if got := strings.Join(shownValues(it), "; "); got != x.want {
+			t.Errorf("%s: %q, wanted %q", x.text, got, x.want)
+		}
+	}
+}

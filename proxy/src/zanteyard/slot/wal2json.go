@@ -225,9 +225,12 @@ func (w *wal2json) change(m *message) {
 		w.open.empty(t.Root)
 		w.tables.without(t, truncated)
 		return
-	case w.tables.leaves(t): // no condition is asked by
+	case w.tables.leaves(t):
 		if m.action != 'T' {
 			w.open.keyless++
+		}
+		if len(t.Key) > 0 { // it may be asked for by a condition
+			w.open.gap(t.Root)
 		}
 		return
 	case !t.sameKey(m.pk):

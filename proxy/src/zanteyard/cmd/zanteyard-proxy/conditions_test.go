@@ -20,6 +20,7 @@ type hearing struct {
 }
 
 type coverageOfConditions struct {
+	At         float64 // seconds since 1970
 	Pending    int
 	Conditions struct {
 		Seen, Followed uint64

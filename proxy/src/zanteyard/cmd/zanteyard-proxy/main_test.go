@@ -87,8 +87,12 @@ func begin(t *testing.T, c *cluster.Cluster, more ...string) *program {
 	p.say, p.cancel = inTo, cancel
 	go func() {
 		defer close(p.lines)
-		for s := bufio.NewScanner(outFrom); s.Scan(); {
+		s := bufio.NewScanner(outFrom)
+		for s.Buffer(nil, 64<<20); s.Scan(); {
 			p.lines <- s.Text()
+		}
+		if err := s.Err(); err != nil {
+			t.Error(err)
 		}
 	}()
 	go func() { p.ended <- serve(ctx, f, outside{in: inFrom, out: outTo}) }()
@@ -122,12 +126,12 @@ func (p *program) until(what string) string {
 	}
 }
 
-func (p *program) connect() *pgconn.PgConn {
+func (p *program) connect(more ...string) *pgconn.PgConn {
 	p.t.Helper()
 	var last error
 	for end := time.Now().Add(5 * time.Minute); time.Now().Before(end); time.Sleep(5 * time.Millisecond) {
 		conn, err := pgconn.Connect(context.Background(),
-			fmt.Sprintf("host=127.0.0.1 port=%d user=postgres dbname=postgres sslmode=disable", p.port))
+			fmt.Sprintf("host=127.0.0.1 port=%d user=postgres dbname=postgres sslmode=disable ", p.port)+strings.Join(more, " "))
 		if err == nil {
 			p.t.Cleanup(func() { conn.Close(context.Background()) })
 			return conn

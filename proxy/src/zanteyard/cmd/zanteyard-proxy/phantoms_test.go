@@ -18,8 +18,9 @@ import (
 )
 
 var (
-	histories   = flag.Int("histories", 0, "how many random histories with conditions are tried at each level (0: none)")
-	historySeed = flag.Int64("history-seed", 1, "of the first one")
+	histories      = flag.Int("histories", 8, "how many random histories with conditions are tried at each level")
+	historySeed    = flag.Int64("history-seed", 1, "of the first one")
+	phantomsMissed = flag.Bool("phantoms-missed", false, "show violated histories that aren't found")
 )
 
 // Four clients ask by conditions and write, through the proxy. Beside what is offered to the auditor there is the truth:
@@ -28,7 +29,7 @@ var (
 const (
 	phantomClients = 4
 	phantomKeys    = 7 // and 0, which nobody writes, and each condition with `OR id = 0` returns
-	phantomSchema  = "CREATE TABLE r (id int PRIMARY KEY, a int, b int NOT NULL, tag text NOT NULL)"
+	phantomSchema  = "CREATE TABLE r%d (id int PRIMARY KEY, a int, b int NOT NULL, tag text NOT NULL)"
 )
 
 // phantomRow is a row's values; a is -1 for NULL.
@@ -40,9 +41,14 @@ type phantomCondition struct {
 	holds func(phantomRow) bool // NULL is no
 }
 
+const phantomKinds = 8
+
 func someCondition(r *rand.Rand) phantomCondition {
-	c, d := r.Intn(3), r.Intn(4)
-	switch r.Intn(8) {
+	return conditionOf(r.Intn(phantomKinds), r.Intn(3), r.Intn(4))
+}
+
+func conditionOf(kind, c, d int) phantomCondition {
+	switch kind {
 	case 0, 1:
 		return phantomCondition{fmt.Sprintf("a = %d", c), func(v phantomRow) bool { return v.a == c }}
 	case 2:
@@ -57,6 +63,16 @@ func someCondition(r *rand.Rand) phantomCondition {
 		return phantomCondition{fmt.Sprintf("NOT a = %d", c), func(v phantomRow) bool { return v.a != -1 && v.a != c }}
 	}
 	return phantomCondition{fmt.Sprintf("(a IS NULL OR b = %d)", d), func(v phantomRow) bool { return v.a == -1 || v.b == d }}
+}
+
+// asks are the SELECT's texts for a condition.
+func (c phantomCondition) asks(table string) (texts []string) {
+	for _, text := range []string{c.text, "(" + c.text + ") OR id = 0"} {
+		for _, more := range []string{"", " ORDER BY id LIMIT 100", " FOR UPDATE"} {
+			texts = append(texts, "SELECT id, tag, pg_current_snapshot() FROM "+table+" WHERE "+text+more)
+		}
+	}
+	return texts
 }
 
 // phantomAsk is a SELECT with what it returned: the tags of versions, by key.
@@ -101,6 +117,7 @@ type phantomClient struct {
 	r      *rand.Rand
 	number int
 	level  string
+	table  string
 	done   []*phantomTxn
 	err    error
 }
@@ -181,17 +198,14 @@ func (c *phantomClient) select_(t *phantomTxn, own map[int]bool) error {
 		return err
 	}
 	it.before = snapOf(rows[0][0])
-	text := it.by.text
-	if c.r.Intn(2) == 0 {
-		text = "(" + text + ") OR id = 0"
-	}
-	text = "SELECT id, tag, pg_current_snapshot() FROM r WHERE " + text
+	texts, which := it.by.asks(c.table), 3*c.r.Intn(2)
 	switch c.r.Intn(8) {
 	case 0:
-		text += " ORDER BY id LIMIT 100"
+		which++
 	case 1:
-		text, it.locks = text+" FOR UPDATE", true
+		which, it.locks = which+2, true
 	}
+	text := texts[which]
 	if rows, err = c.ask(text); err != nil {
 		return err
 	}
@@ -218,15 +232,15 @@ func (c *phantomClient) write(t *phantomTxn, own map[int]bool) error {
 	text := ""
 	switch c.r.Intn(6) {
 	case 0, 1:
-		text = fmt.Sprintf("INSERT INTO r VALUES (%d, %s, %d, '%s') ON CONFLICT DO NOTHING", key, a, b, t.tag)
+		text = fmt.Sprintf("INSERT INTO %s VALUES (%d, %s, %d, '%s') ON CONFLICT DO NOTHING", c.table, key, a, b, t.tag)
 	case 2:
-		text = fmt.Sprintf("UPDATE r SET a = %s, tag = '%s' WHERE id = %d", a, t.tag, key)
+		text = fmt.Sprintf("UPDATE "+c.table+" SET a = %s, tag = '%s' WHERE id = %d", a, t.tag, key)
 	case 3:
-		text = fmt.Sprintf("UPDATE r SET b = %d, tag = '%s' WHERE id = %d", b, t.tag, key)
+		text = fmt.Sprintf("UPDATE "+c.table+" SET b = %d, tag = '%s' WHERE id = %d", b, t.tag, key)
 	case 4:
-		text = fmt.Sprintf("UPDATE r SET b = %d, tag = '%s' WHERE a = %d AND id > 0", b, t.tag, c.r.Intn(3))
+		text = fmt.Sprintf("UPDATE "+c.table+" SET b = %d, tag = '%s' WHERE a = %d AND id > 0", b, t.tag, c.r.Intn(3))
 	default:
-		text = fmt.Sprintf("DELETE FROM r WHERE id = %d", key)
+		text = fmt.Sprintf("DELETE FROM %s WHERE id = %d", c.table, key)
 	}
 	if undone {
 		if _, err := c.ask("SAVEPOINT a"); err != nil {
@@ -274,13 +288,17 @@ var (
 	valuePattern = regexp.MustCompile(`(\w+)\[\w+\]:('[^']*'|\S+)`)
 )
 
-// phantomLog reads what the log has of a history, and adds it to the keys' versions.
-func phantomLog(t *testing.T, direct *pgconn.PgConn, to map[int][]phantomVersion) {
-	t.Helper()
-	results, err := direct.Exec(context.Background(),
+// log reads what the log has of a round's histories, and adds it to their keys' versions.
+func (b *phantomRun) log(of []*phantomHistory) {
+	b.t.Helper()
+	results, err := b.direct.Exec(context.Background(),
 		"SELECT data FROM pg_logical_slot_get_changes('truth', NULL, NULL, 'include-xids', '1')").ReadAll()
 	if err != nil {
-		t.Fatal(err)
+		b.t.Fatal(err)
+	}
+	by := map[string]map[int][]phantomVersion{}
+	for _, one := range of {
+		by[one.group.table] = one.chains
 	}
 	xid := uint64(0)
 	for _, row := range results[0].Rows {
@@ -288,34 +306,39 @@ func phantomLog(t *testing.T, direct *pgconn.PgConn, to map[int][]phantomVersion
 		if its := beganPattern.FindStringSubmatch(line); its != nil {
 			xid, _ = strconv.ParseUint(its[1], 10, 64)
 		}
-		if !strings.HasPrefix(line, "table public.r: ") {
-			continue
+		table, rest, is := strings.Cut(strings.TrimPrefix(line, "table public."), ": ")
+		if to := by[table]; is && to != nil {
+			logged(to, xid, rest)
 		}
-		values := map[string]string{}
-		for _, its := range valuePattern.FindAllStringSubmatch(line, -1) {
-			values[its[1]] = strings.Trim(its[2], "'")
-		}
-		key, _ := strconv.Atoi(values["id"])
-		v := phantomVersion{tag: values["tag"], xid: xid, exists: !strings.Contains(line, ": DELETE:")}
-		v.row.b, _ = strconv.Atoi(values["b"])
-		if v.row.a = -1; values["a"] != "null" {
-			v.row.a, _ = strconv.Atoi(values["a"])
-		}
-		its := to[key]
-		last := len(its) - 1
-		if last >= 0 {
-			if v.which = its[last].which; !its[last].exists {
-				v.which++
-			}
-			if its[last].xid == xid {
-				if v.which = its[last].which; !v.exists {
-					v.tag = its[last].tag
-				}
-				its = its[:last]
-			}
-		}
-		to[key] = append(its, v)
 	}
+}
+
+// logged adds a change of a row to its key's versions.
+func logged(to map[int][]phantomVersion, xid uint64, change string) {
+	values := map[string]string{}
+	for _, its := range valuePattern.FindAllStringSubmatch(change, -1) {
+		values[its[1]] = strings.Trim(its[2], "'")
+	}
+	key, _ := strconv.Atoi(values["id"])
+	v := phantomVersion{tag: values["tag"], xid: xid, exists: !strings.HasPrefix(change, "DELETE:")}
+	v.row.b, _ = strconv.Atoi(values["b"])
+	if v.row.a = -1; values["a"] != "null" {
+		v.row.a, _ = strconv.Atoi(values["a"])
+	}
+	its := to[key]
+	last := len(its) - 1
+	if last >= 0 {
+		if v.which = its[last].which; !its[last].exists {
+			v.which++
+		}
+		if its[last].xid == xid {
+			if v.which = its[last].which; !v.exists {
+				v.tag = its[last].tag
+			}
+			its = its[:last]
+		}
+	}
+	to[key] = append(its, v)
 }
 
 // phantomTruth is whether some order explains what a history's transactions have read of rows, and that and what they
@@ -451,17 +474,19 @@ func acyclic(arcs [][]int) bool {
 	return done == len(arcs)
 }
 
-// since is the graph of what was offered after the first so many transactions. What came before is over.
-func (g *graph) since(n int) *graph {
+// part is the graph of the transactions that are kept. What they have read of others came before and is over.
+func (g *graph) part(keep func(id int) bool) *graph {
 	its := newGraph()
-	for id := n; id < len(g.names); id++ {
-		name := g.names[id]
+	for id, name := range g.names {
+		if !keep(id) {
+			continue
+		}
 		at := len(its.names)
 		its.ids[name] = at
 		its.names, its.after = append(its.names, name), append(its.after, nil)
 		var reads [][3]int
 		for _, read := range g.reads[id] {
-			if earlier, is := g.ids[[2]int{read[1], read[2]}]; is && earlier < n {
+			if earlier, is := g.ids[[2]int{read[1], read[2]}]; is && !keep(earlier) {
 				read = [3]int{read[0], -2, earlier}
 			}
 			reads = append(reads, read)
@@ -478,142 +503,297 @@ func (g *graph) since(n int) *graph {
 // TestPhantoms: random histories with conditions, through the proxy. Nothing is violated that the truth doesn't have
 // violated, and nothing at serializable; of what the truth has violated, most is found.
 func TestPhantoms(t *testing.T) {
-	if *histories == 0 {
-		t.Skip("by hand: -histories 100")
-	}
-	c := start(t, "max_wal_senders=20", "max_replication_slots=20")
+	c := start(t, "max_wal_senders=20", "max_replication_slots=20", "max_connections=150")
 	direct, err := pgconn.Connect(context.Background(), sourceOf(c, "postgres"))
 	if err != nil {
 		t.Fatal(err)
 	}
 	defer direct.Close(context.Background())
-	sql(t, direct, phantomSchema)
-	sql(t, direct, "INSERT INTO r VALUES (0, NULL, -9, 'first')")
+	for i := 0; i < phantomGroups; i++ {
+		sql(t, direct, fmt.Sprintf(phantomSchema, i))
+		sql(t, direct, fmt.Sprintf("INSERT INTO r%d VALUES (0, NULL, -9, 'first')", i))
+	}
 	sql(t, direct, "SELECT pg_create_logical_replication_slot('truth', 'test_decoding')")
-	for _, level := range []string{"READ COMMITTED", "REPEATABLE READ", "SERIALIZABLE"} {
-		t.Run(level, func(t *testing.T) {
-			const room = 200 // histories for which an audit without cuts has room
-			for done := 0; done < *histories; done += room {
+	for _, level := range []struct {
+		name  string
+		least int // of a hundred histories that the truth has violated, so many are found
+	}{{"READ COMMITTED", 85}, {"REPEATABLE READ", 95}, {"SERIALIZABLE", 0}} {
+		t.Run(level.name, func(t *testing.T) {
+			all := &phantomSums{}
+			for done := 0; done < *histories && !t.Failed(); done += phantomRoom {
 				n := *histories - done
-				if n > room {
-					n = room
+				if n > phantomRoom {
+					n = phantomRoom
 				}
-				b := &phantomRun{t: t, direct: direct, level: level, p: begin(t, c, "--conditions", "--between", "10h")}
+				b := &phantomRun{t: t, direct: direct, level: level.name, sums: all, p: begin(t, c, "--conditions", "--between", "10h")}
 				b.all(*historySeed+int64(done), n)
 				b.p.cancel()
+				t.Logf("%+v", *all)
+			}
+			if all.violated >= 100 && all.found*100 < all.violated*level.least {
+				t.Errorf("of %d histories that are violated, %d are found", all.violated, all.found)
 			}
 		})
 	}
 }
 
+const (
+	phantomRoom   = 200 // histories for which an audit without cuts has room
+	phantomGroups = 10  // histories that run at a time, each on a table and connections of its own
+)
+
+// phantomSums are what all histories of a level have shown.
+type phantomSums struct {
+	tried, transactions, lacking                 int
+	violated, byRows, found, foundByRows, unsure int
+	seen, followed, passedOver, dropped          uint64
+	leftOut                                      map[string]uint64
+}
+
 // phantomRun is one audit with many histories.
 type phantomRun struct {
-	t       *testing.T
-	direct  *pgconn.PgConn
-	level   string
-	p       *program
-	h       *hearing
-	clients []*pgconn.PgConn
+	t      *testing.T
+	direct *pgconn.PgConn
+	level  string
+	p      *program
+	h      *hearing
+	groups []*phantomGroup
+	sums   *phantomSums
+}
 
-	violated, byRows, found, foundByRows, unsure, transactions int
+// phantomGroup is a table, and the connections that use it: the last one makes its rows.
+type phantomGroup struct {
+	table    string
+	conns    []*pgconn.PgConn
+	sessions map[int]bool // of the auditor
 }
 
 func (b *phantomRun) all(seed int64, n int) {
 	b.p.until(`["open"`)
 	b.h = &hearing{p: b.p, g: newGraph()}
-	for i := 0; i <= phantomClients; i++ {
-		b.clients = append(b.clients, b.p.connect())
+	groups := phantomGroups
+	if n < groups {
+		groups = n
+	}
+	for i := 0; i < groups; i++ {
+		one := &phantomGroup{table: fmt.Sprint("r", i), sessions: map[int]bool{}}
+		for j := 0; j <= phantomClients; j++ {
+			one.conns = append(one.conns, b.p.connect("application_name="+one.table))
+		}
+		b.groups = append(b.groups, one)
 	}
 	b.warm()
-	tried := 0
-	for ; tried < n && !b.t.Failed(); tried++ {
-		b.one(seed + int64(tried))
+	for tried := 0; tried < n && !b.t.Failed(); tried += groups {
+		b.round(seed+int64(tried), min(groups, n-tried))
 	}
 	b.h.until(func() bool { return b.h.said.Pending == 0 })
-	b.t.Logf("%d transactions; of %d histories the truth has %d violated, %d of them by rows alone; found %d, and %d; "+
-		"in %d it isn't known what was passed over; %s", b.transactions, tried, b.violated, b.byRows, b.found, b.foundByRows, b.unsure,
-		fmt.Sprintf("%+v", b.h.said.Conditions))
-	if its := b.h.said.Conditions; its.Followed < uint64(tried) || its.PassedOver < its.Followed {
+	its, s := b.h.said.Conditions, b.sums
+	s.seen, s.followed, s.passedOver, s.dropped = s.seen+its.Seen, s.followed+its.Followed, s.passedOver+its.PassedOver, s.dropped+its.Dropped
+	if s.leftOut == nil {
+		s.leftOut = map[string]uint64{}
+	}
+	for why, count := range its.LeftOut {
+		s.leftOut[why] += count
+	}
+	if its.Followed < uint64(n) || its.PassedOver < its.Followed {
 		b.t.Errorf("too little was followed: %+v", its)
 	}
 }
 
-// warm runs statements of all shapes on all connections until they are seen.
-func (b *phantomRun) warm() {
-	const unseen = "its rows aren't seen"
-	for before, again := uint64(1), true; again; {
-		for i, conn := range b.clients {
-			c := &phantomClient{conn: conn, r: rand.New(rand.NewSource(int64(i))), number: i, level: b.level}
-			c.run("warm", 12)
-			if c.err != nil {
-				b.t.Fatal(c.err)
-			}
-		}
-		seen := b.h.said.Conditions.Seen
-		b.h.until(func() bool { return b.h.said.Conditions.Seen > seen && b.h.said.Pending == 0 })
-		now := b.h.said.Conditions.LeftOut[unseen]
-		again, before = now != before, now
+func min(a, b int) int {
+	if a < b {
+		return a
 	}
-	b.h.settle()
+	return b
 }
 
-func (b *phantomRun) one(seed int64) {
-	t := b.t
-	history := fmt.Sprint("h", seed)
-	r := rand.New(rand.NewSource(seed))
-	first, fences := len(b.h.g.names), b.h.g.fences
-	offered := 0
+// warm runs statements of all shapes on all tables until they are seen, and learns which session each connection has.
+func (b *phantomRun) warm() {
+	var all sync.WaitGroup
+	errs := make([]error, len(b.groups))
+	for i, group := range b.groups {
+		all.Add(1)
+		go func(i int, group *phantomGroup) {
+			defer all.Done()
+			errs[i] = group.warm(b.level)
+		}(i, group)
+	}
+	all.Wait()
+	for _, err := range errs {
+		if err != nil {
+			b.t.Fatal(err)
+		}
+	}
+	b.h.quiet()
+	last := map[int][2]int{}
+	for id, name := range b.h.g.names {
+		if its := b.h.g.writes[id]; len(its) != 1 || its[0] != 0 {
+			last[name[0]] = name
+		}
+	}
+	for session, name := range last {
+		its := b.described(name)
+		for _, group := range b.groups {
+			if group.table == its.Application {
+				group.sessions[session] = true
+			}
+		}
+	}
+	for _, group := range b.groups {
+		if len(group.sessions) != len(group.conns) {
+			b.t.Fatalf("%s has %d sessions", group.table, len(group.sessions))
+		}
+	}
+}
+
+func (group *phantomGroup) warm(level string) error {
+	first := &phantomClient{conn: group.conns[0], r: rand.New(rand.NewSource(0)), level: level, table: group.table}
+	for i := 0; i < 4; i++ { // in one message, and in several
+		texts := []string{"BEGIN"}
+		for kind := 0; kind < phantomKinds; kind++ {
+			texts = append(texts, conditionOf(kind, 1, 2).asks(group.table)...)
+		}
+		for _, text := range append(texts, "COMMIT") {
+			if _, err := first.ask(text); err != nil {
+				return err
+			}
+		}
+	}
+	for i, conn := range group.conns {
+		c := &phantomClient{conn: conn, r: rand.New(rand.NewSource(int64(i))), number: i, level: level, table: group.table}
+		if c.run("warm", 6); c.err != nil {
+			return c.err
+		}
+	}
+	return nil
+}
+
+// quiet hears until nothing more is offered of what was reported by now.
+func (h *hearing) quiet() {
+	h.p.t.Helper()
+	now := float64(time.Now().UnixMicro()) / 1e6
+	for end, still := time.After(5*time.Minute), 0; still < 2; {
+		if h.next(end) == "coverage" && h.said.At > now {
+			if still++; h.said.Pending > 0 {
+				still = 0
+			}
+		}
+	}
+}
+
+// phantomHistory is one history of a round.
+type phantomHistory struct {
+	seed   int64
+	group  *phantomGroup
+	txns   []*phantomTxn
+	made   int // transactions that made the rows
+	chains map[int][]phantomVersion
+	err    error
+}
+
+// round runs histories at the same time, one on each group.
+func (b *phantomRun) round(seed int64, n int) {
+	first, fences, expected := len(b.h.g.names), b.h.g.fences, 0
+	its := make([]*phantomHistory, n)
+	each := func(do func(*phantomHistory)) {
+		var all sync.WaitGroup
+		for _, one := range its {
+			all.Add(1)
+			go func(one *phantomHistory) {
+				defer all.Done()
+				do(one)
+			}(one)
+		}
+		all.Wait()
+		for _, one := range its {
+			if one.err != nil {
+				b.t.Fatal(one.err)
+			}
+		}
+	}
+	for i := range its {
+		its[i] = &phantomHistory{seed: seed + int64(i), group: b.groups[i], chains: map[int][]phantomVersion{}}
+	}
+	each((*phantomHistory).begin)
+	b.log(its)
+	for _, one := range its { // what the history begins with
+		for key, versions := range one.chains {
+			if v := versions[len(versions)-1]; v.exists {
+				v.which = 0
+				one.chains[key] = []phantomVersion{v}
+			} else {
+				delete(one.chains, key)
+			}
+		}
+	}
+	each(func(one *phantomHistory) { one.run(b.level) })
+	b.log(its)
+	for _, one := range its {
+		b.sums.transactions += len(one.txns)
+		expected += one.made + len(one.txns)
+	}
+	b.sums.lacking += b.hear(first-fences, expected)
+	for _, one := range its {
+		b.judge(one, first)
+	}
+}
+
+// begin makes a history's rows.
+func (one *phantomHistory) begin() {
+	r := rand.New(rand.NewSource(one.seed))
 	var rows []string
 	for k := 1; k <= phantomKeys; k++ {
 		if r.Intn(3) > 0 {
 			rows = append(rows, fmt.Sprintf("(%d, %d, %d, 'first')", k, r.Intn(3), r.Intn(4)))
 		}
 	}
-	for _, text := range []string{"DELETE FROM r WHERE id > 0", "INSERT INTO r VALUES " + strings.Join(rows, ", ")} {
-		if strings.HasSuffix(text, "VALUES ") {
-			continue
-		}
-		results, err := b.clients[phantomClients].Exec(context.Background(), text).ReadAll()
+	texts := []string{"BEGIN", "DELETE FROM " + one.group.table + " WHERE id > 0"} // a block's number is known
+	if len(rows) > 0 {
+		texts = append(texts, "INSERT INTO "+one.group.table+" VALUES "+strings.Join(rows, ", "))
+	}
+	written := int64(0)
+	for _, text := range append(texts, "COMMIT") {
+		results, err := one.group.conns[phantomClients].Exec(context.Background(), text).ReadAll()
 		if err != nil {
-			t.Fatal(err)
+			one.err = err
+			return
 		}
-		if results[0].CommandTag.RowsAffected() > 0 {
-			offered++
-		}
-	}
-	chains := map[int][]phantomVersion{}
-	phantomLog(t, b.direct, chains)
-	for key, its := range chains { // what the history begins with
-		if v := its[len(its)-1]; v.exists {
-			v.which = 0
-			chains[key] = []phantomVersion{v}
-		} else {
-			delete(chains, key)
+		if text != "COMMIT" {
+			written += results[0].CommandTag.RowsAffected()
 		}
 	}
+	if written > 0 {
+		one.made = 1
+	}
+}
+
+// run lets all clients of a history do their transactions.
+func (one *phantomHistory) run(level string) {
 	var all sync.WaitGroup
 	clients := make([]*phantomClient, phantomClients)
 	for i := range clients {
-		clients[i] = &phantomClient{conn: b.clients[i], r: rand.New(rand.NewSource(seed*100 + int64(i))), number: i, level: b.level}
+		clients[i] = &phantomClient{conn: one.group.conns[i], r: rand.New(rand.NewSource(one.seed*100 + int64(i))), number: i, level: level,
+			table: one.group.table}
 		all.Add(1)
 		go func(c *phantomClient) {
 			defer all.Done()
-			c.run(history, 3)
+			c.run(fmt.Sprint("h", one.seed), 3)
 		}(clients[i])
 	}
 	all.Wait()
-	var txns []*phantomTxn
 	for _, c := range clients {
 		if c.err != nil {
-			t.Fatal(c.err)
+			one.err = c.err
 		}
-		txns = append(txns, c.done...)
+		one.txns = append(one.txns, c.done...)
 	}
-	phantomLog(t, b.direct, chains)
-	b.transactions += len(txns)
-	b.hear(first - fences + offered + len(txns))
-	byRows, whole, unsure := phantomTruth(txns, chains)
-	cycle, told := b.h.g.since(first).violation(false)
+}
+
+// judge compares what was offered of a history with the truth.
+func (b *phantomRun) judge(one *phantomHistory, first int) {
+	byRows, whole, unsure := phantomTruth(one.txns, one.chains)
+	mine := func(id int) bool { return id >= first && one.group.sessions[b.h.g.names[id][0]] }
+	cycle, told := b.h.g.part(mine).violation(false)
 	var wrong []string
 	for _, text := range told {
 		if !strings.Contains(text, "overwrite") { // at read committed a transaction may read a version, and overwrite a later one
@@ -625,73 +805,89 @@ func (b *phantomRun) one(seed int64) {
 			*to++
 		}
 	}
-	count(&b.violated, !whole)
-	count(&b.byRows, !byRows)
-	count(&b.found, !whole && cycle != "")
-	count(&b.foundByRows, !byRows && cycle != "")
-	count(&b.unsure, unsure)
+	b.sums.tried++
+	count(&b.sums.violated, !whole)
+	count(&b.sums.byRows, !byRows)
+	count(&b.sums.found, !whole && cycle != "")
+	count(&b.sums.foundByRows, !byRows && cycle != "")
+	count(&b.sums.unsure, unsure)
 	if len(wrong) > 0 || cycle != "" && (b.level == "SERIALIZABLE" || whole && !unsure) {
-		t.Errorf("history %d: %v; a violation is offered that nobody made: %s\n%s", seed, wrong, cycle, shownHistory(txns, chains))
-		b.describe(first)
+		b.t.Errorf("history %d: %v; a violation is offered that nobody made: %s\n%s", one.seed, wrong, cycle,
+			shownHistory(one.txns, one.chains))
+		b.describe(mine)
+	}
+	if *phantomsMissed && !whole && cycle == "" {
+		b.t.Logf("history %d is violated, and that isn't found\n%s", one.seed, shownHistory(one.txns, one.chains))
+		b.describe(mine)
 	}
 }
 
 // describe shows what the keys of a history's transactions stand for.
-func (b *phantomRun) describe(first int) {
+func (b *phantomRun) describe(mine func(int) bool) {
 	b.t.Helper()
-	for id := first; id < len(b.h.g.names); id++ {
-		b.describeOne(b.h.g.names[id : id+1])
+	for id := range b.h.g.names {
+		if mine(id) {
+			b.describeOne(b.h.g.names[id])
+		}
 	}
 }
 
-func (b *phantomRun) describeOne(name [][2]int) {
-	b.t.Helper()
-	text, _ := json.Marshal(map[string]any{"command": "describe", "id": 1, "transactions": name})
-	fmt.Fprintln(b.p.say, string(text))
-	line := b.p.until("transactions")
-	var it struct {
-		Transactions []struct {
-			Session, Number int
-			Xid             uint64
-			Reads           [][]any
-			Writes          []int
-			Keys            []struct {
-				Key            int
-				Row, Condition string
-			}
-		}
+// phantomDescription is what the feed says of a transaction.
+type phantomDescription struct {
+	Session, Number int
+	Application     string `json:"application_name"`
+	Xid             uint64
+	Reads           [][]any
+	Writes          []int
+	Keys            []struct {
+		Key            int
+		Row, Condition string
 	}
-	if err := json.Unmarshal([]byte(line), &it); err != nil {
+}
+
+func (b *phantomRun) described(name [2]int) phantomDescription {
+	b.t.Helper()
+	text, _ := json.Marshal(map[string]any{"command": "describe", "id": 1, "transactions": [][2]int{name}})
+	fmt.Fprintln(b.p.say, string(text))
+	var it struct{ Transactions []phantomDescription }
+	if err := json.Unmarshal([]byte(b.p.until("transactions")), &it); err != nil || len(it.Transactions) != 1 {
 		b.t.Fatal(err)
 	}
-	for _, one := range it.Transactions {
-		names := map[int]string{}
-		for _, key := range one.Keys {
-			names[key.Key] = fmt.Sprintf("%d (%s %s)", key.Key, key.Row, key.Condition)
-		}
-		b.t.Logf("%d %d is %d", one.Session, one.Number, one.Xid)
-		for _, read := range one.Reads {
-			b.t.Logf("  read %s: %v", names[int(read[0].(float64))], read[1:])
-		}
-		for _, key := range one.Writes {
-			b.t.Logf("  wrote %s", names[key])
-		}
+	return it.Transactions[0]
+}
+
+func (b *phantomRun) describeOne(name [2]int) {
+	b.t.Helper()
+	one := b.described(name)
+	names := map[int]string{}
+	for _, key := range one.Keys {
+		names[key.Key] = fmt.Sprintf("%d (%s %s)", key.Key, key.Row, key.Condition)
+	}
+	b.t.Logf("%d %d is %d", one.Session, one.Number, one.Xid)
+	for _, read := range one.Reads {
+		b.t.Logf("  read %s: %v", names[int(read[0].(float64))], read[1:])
+	}
+	for _, key := range one.Writes {
+		b.t.Logf("  wrote %s", names[key])
 	}
 }
 
-// hear waits until so many transactions are offered, other than fences: each has asked something, or made rows.
-func (b *phantomRun) hear(n int) {
+// hear waits until so many transactions are offered, other than fences and the first ones: each has asked something, or
+// made rows. It returns how many are lacking, if some are left out.
+func (b *phantomRun) hear(from, n int) int {
 	b.t.Helper()
-	said := 0
-	for end := time.After(5 * time.Minute); len(b.h.g.names)-b.h.g.fences < n; {
-		if b.h.next(end) != "coverage" {
+	now := float64(time.Now().UnixMicro()) / 1e6
+	for end, still := time.After(5*time.Minute), 0; len(b.h.g.names)-b.h.g.fences-from < n; {
+		if b.h.next(end) != "coverage" || b.h.said.At < now {
 			continue
 		}
-		if said++; said > 3 && b.h.said.Pending == 0 {
-			b.h.settle() // some are left out
-			return
+		if still++; b.h.said.Pending > 0 {
+			still = 0
+		} else if still > 2 {
+			return n - (len(b.h.g.names) - b.h.g.fences - from)
 		}
 	}
+	return 0
 }
 
 // shownHistory writes a history for people.
