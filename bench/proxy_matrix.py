@@ -22,6 +22,7 @@ import asyncio
 import importlib.util
 import json
 import os
+import resource
 import shutil
 import signal
 import socket
@@ -163,12 +164,13 @@ class Client:
 class Watch:
     """The audit, and with it the proxy."""
 
-    def __init__(self, its, *more):
+    def __init__(self, its, *more, room=None):
         call = [sys.executable, "-m", "zanteyard", "watch", its.where, "--trust-clients", "--json",
                 "--listen", f"127.0.0.1:{its.listen}", "--tls-cert", its.cert, "--tls-key", its.key, *more]
         self.process = subprocess.Popen(
             call, env=its.environment, stdin=subprocess.DEVNULL, stdout=subprocess.DEVNULL,
             stderr=subprocess.PIPE, text=True, start_new_session=True,
+            preexec_fn=room and (lambda: resource.setrlimit(resource.RLIMIT_FSIZE, (room, room))),
         )
         self.log, self.world = [], its
         threading.Thread(target=lambda: self.log.extend(iter(self.process.stderr.readline, "")), daemon=True).start()
@@ -256,8 +258,8 @@ class World:
                     pass
         return None
 
-    def again(self, *more):
-        """Another watch in place of this one, and of its proxy."""
+    def again(self, *more, room=None):
+        """Another watch in place of this one, and of its proxy. A file of it has at most so much room."""
         self.watch.process.send_signal(signal.SIGTERM)
         self.watch.process.wait(LIMIT)
         if number := self.proxy():
@@ -268,7 +270,7 @@ class World:
                     break
                 time.sleep(0.2)
             until("the proxy has ended", lambda: not os.path.exists(f"/proc/{number}"))
-        self.watch = Watch(self, *more).audits()
+        self.watch = Watch(self, *more, room=room).audits()
 
     def terminate(self, *sides, where="true"):
         for side in sides or (0, 1):
@@ -496,12 +498,34 @@ def redis_gone(world, cells):
     world.again()
 
 
+def journal_full(world, cells):
+    """The audit's journal can't be written any more. A file that may not grow stands for the disk."""
+    its = os.path.join(world.folder, "journal")
+    os.mkdir(its, 0o700)
+    world.again("--journal", os.path.join(its, "audit.journal"), room=1 << 13)
+    cells.connect()
+    cells.do("ask", "begin", "write")
+    with psycopg2.connect(f"host=127.0.0.1 port={world.listen} user=postgres dbname=postgres") as busy:
+        def has_said():
+            for _ in range(10):
+                busy.cursor().execute("UPDATE matrix SET n = n + 1 WHERE id = 1999")
+                busy.commit()
+            return world.watch.says("can't be written") or world.watch.says("can't be rewritten")
+
+        until("the journal is full", has_said)
+    busy.close()
+    cells.do("ask", "commit", "ask")
+    cells.connect()
+    cells.do("ask", "write")
+    world.again()
+
+
 ACCIDENTS = {
     "terminated in a statement": terminated, "terminated while idle": terminated_idle, "cancelled": cancelled,
     "COPY cut off": copy_cut_off, "network stands still for 1 s": stands_still(1),
     "network stands still for 30 s": stands_still(30), "network breaks": breaks, "slot dropped": slot_dropped,
     "server restarted": restarted, "server crashed": crashed, "audit killed": audit_killed, "proxy drained": drained,
-    "certificate renewed": renewed, "Redis gone": redis_gone,
+    "certificate renewed": renewed, "journal's disk full": journal_full, "Redis gone": redis_gone,
 }
 
 

@@ -10,9 +10,11 @@ end by SIGINT.
 
 A client counts each transaction that it was told is committed, and each error of any kind. A line a
 minute, and one at the end, has these sums, what the rows say, and for each audit what its status
-last said (`/status.json`) beside what the clients had committed meanwhile. The exit status is 1 if
-a client saw an error, if the rows aren't what was committed, if the proxy was ever another process,
-or if an audit that had time to settle left a transaction uncounted.
+last said (`/status.json`) beside what the clients had committed meanwhile. Before each kill the
+clients pause until that audit has counted what they committed, and then go on for two seconds: what
+is committed from then on, until the next audit runs, is no audit's, and has a sum of its own. The
+exit status is 1 if a client saw an error, if the rows aren't what was committed, if the proxy was
+ever another process, or if an audit left a transaction uncounted.
 
 It needs PostgreSQL, psycopg2, a built proxy (ZANTEYARD_PROXY, or Go) and the auditor.
 """
@@ -23,6 +25,7 @@ import json
 import multiprocessing
 import os
 import random
+import re
 import shutil
 import signal
 import socket
@@ -41,7 +44,8 @@ from proxy_pair import Server, postgres_program, proxy_program
 
 PROCESSES = 4  # that the clients are spread over
 LIMIT = 120.0  # seconds for whatever has to happen
-SETTLED = 8.0  # seconds for which an audit's sums stay the same before they are compared
+PAUSE = 8.0  # seconds before a kill at which the clients pause
+SETTLED = 30.0  # seconds for which an audit's sums stay the same, if it hasn't counted everything
 
 
 def free_port():
@@ -146,6 +150,11 @@ class Watch:
             pass
         return self.status
 
+    def unaudited(self):
+        """How many transactions ended before it, while nothing was audited, as the proxy says."""
+        found = [re.search(r"(\d+) transactions ended while nothing was audited", line) for line in self.log]
+        return sum(int(each[1]) for each in found if each)
+
     def ended(self):
         self.process.wait(LIMIT)
         for each in self.readers:
@@ -168,14 +177,16 @@ def counted(status):
     return its["all"], {"checked": its["checked"], **reasons}
 
 
-def settle(watch):
-    """Waits until an audit has counted what there is, and is idle."""
+def settle(watch, committed):
+    """Waits until an audit has counted what was committed, or its sums don't change any more."""
     ends, before, since = time.monotonic() + LIMIT, None, time.monotonic()
     while time.monotonic() < min(ends, since + SETTLED):
         time.sleep(0.5)
         now = counted(watch.look())
         if now != before:
             before, since = now, time.monotonic()
+        elif now[0] >= committed() and time.monotonic() > since + 2:
+            break
 
 
 def proxy_of(folder):
@@ -233,9 +244,9 @@ def run(options, folder):
     is_over, rests = multiprocessing.Event(), multiprocessing.Event()
     parts, pipes = [], []
     for i in range(PROCESSES):
-        share = range(options.clients)[i::PROCESSES]
+        first, beyond = (options.clients * each // PROCESSES for each in (i, i + 1))
         mine, theirs = multiprocessing.Pipe(duplex=False)
-        clients = Clients(i * (options.clients // PROCESSES), len(share), listen, options.rate / PROCESSES)
+        clients = Clients(first, beyond - first, listen, options.rate / PROCESSES)
         part = multiprocessing.Process(target=clients.run, args=(theirs, is_over, rests))
         part.start()
         theirs.close()
@@ -252,17 +263,17 @@ def run(options, folder):
                 pass
         return sum((collections.Counter(each) for each in sums), collections.Counter())
 
-    failed, kills, told = False, 0, 0
+    failed, kills, told, during, accounted, said = False, 0, 0, 0, 0, 0
     began = time.monotonic()
     at_begin = 0  # committed when the audit had begun, and nothing was under way
     while time.monotonic() - began < 60 * options.minutes:
         until = time.monotonic() + options.every
-        while time.monotonic() < until - SETTLED:
+        while time.monotonic() < until - PAUSE:
             time.sleep(0.5)
             read()
             watch.look()
         rests.set()  # nothing is committed for a while, so that sums can be compared
-        settle(watch)
+        settle(watch, lambda: read()["committed"] - at_begin)
         now, (all_, by) = read(), counted(watch.status)
         committed = now["committed"] - at_begin
         # Each transaction of a client is one; those before its audit began are in the one before.
@@ -270,6 +281,7 @@ def run(options, folder):
                 f"{now['committed']:,} committed, {now['errors']} errors, {kills} kills; "
                 f"this audit: {committed:,} committed, {all_:,} counted {by}")
         print(line, flush=True)
+        during, accounted = during + committed, accounted + min(all_, committed)
         if all_ < committed:
             failed = True
             print("      not all that was committed is counted", flush=True)
@@ -281,6 +293,7 @@ def run(options, folder):
         time.sleep(2)  # killed with everybody at work
         watch.process.send_signal(signal.SIGKILL)
         watch.ended()
+        said += watch.unaudited()
         kills += 1
         watch = Watch(call, environment, page)
         watch.audits()
@@ -297,9 +310,11 @@ def run(options, folder):
     rows = cursor.fetchone()[0]
     watch.process.send_signal(signal.SIGINT)
     status = watch.ended()
+    said += watch.unaudited()
     outcome = json.loads(watch.out[-1]) if watch.out else {}
     print(f"{kills} kills of watch; {now['connections']:,} connections; {now['committed']:,} committed, as clients "
-          f"were told, {rows:,} in the rows; {now['errors']} errors; {told:,} committed while no audit ran; "
+          f"were told, {rows:,} in the rows; {now['errors']} errors; {accounted:,} counted of {during:,} "
+          f"committed before the audits' pauses, {told:,} after them or while no audit ran ({said:,} then, as the proxy says); "
           f"{len(proxies)} proxy; the last outcome: {outcome.get('verdict')}, status {status}", flush=True)
     for each in errors:
         for line in each[:20]:
