@@ -1,10 +1,7 @@
 package plan
 
 import (
-	"strings"
-
 	"zanteyard/catalog"
-	"zanteyard/keys"
 	"zanteyard/record"
 )
 
@@ -151,14 +148,12 @@ func (m *maker) newItem(r node, t *catalog.Table, at place, sampled bool) *item 
 	return it
 }
 
-// groups returns the SQL of the hidden columns of all tables that can be seen, and counts the others.
-func (f *fromClause) groups() (string, []*item) {
+// groups returns the tables that can be seen, and counts the others.
+func (f *fromClause) groups() (seen []*item) {
 	named := map[string]int{}
 	for _, it := range f.found {
 		named[it.name]++
 	}
-	var out strings.Builder
-	var seen []*item
 	for _, it := range f.found {
 		switch {
 		case named[it.name] > 1, it.name == f.taken:
@@ -170,11 +165,10 @@ func (f *fromClause) groups() (string, []*item) {
 		case f.indexOnly(it):
 			f.plan.leaveOut("an index may answer without the table")
 		default:
-			it.write(&out)
 			seen = append(seen, it)
 		}
 	}
-	return out.String(), seen
+	return seen
 }
 
 // grouped reports whether GROUP BY names a table's whole key: then each group has one row of it, and SQL allows its
@@ -194,14 +188,6 @@ func (f *fromClause) grouped(it *item) bool {
 		}
 	}
 	return true
-}
-
-func (it *item) write(out *strings.Builder) {
-	table := quote(it.name)
-	out.WriteString(", " + table + ".xmin AS " + alias + ", " + table + ".tableoid AS " + alias)
-	for _, column := range it.table.Key {
-		out.WriteString(", " + keys.Expression(column.Type, table+"."+quote(column.Name), it.converts) + " AS " + alias)
-	}
 }
 
 func (it *item) source() Source {

@@ -22,7 +22,7 @@ func (m *maker) selects(p *Plan, body node, start, end int) {
 	word := m.fromWord(start, end)
 	f := &fromClause{maker: m, plan: p, with: withNames(body)}
 	f.read(body, "fromClause")
-	groups, found := f.groups()
+	found := f.groups()
 	if len(found) == 0 {
 		return
 	}
@@ -30,12 +30,15 @@ func (m *maker) selects(p *Plan, body node, start, end int) {
 		p.leaveOut("unknown form of statement")
 		return
 	}
+	h := &hiding{sole: f.items == 1}
 	for _, source := range found {
+		h.reads(source)
 		p.Sources = append(p.Sources, source.source())
 		p.relations = append(p.relations, source.relation())
 	}
-	if !body.has("targetList") { // SELECT FROM t
-		groups = groups[len(", "):]
+	groups := h.text()
+	if body.has("targetList") {
+		groups = ", " + groups
 	}
 	p.insertion, p.Widens = insertion{text: groups + " ", token: word}, widens(body, f)
 	m.orders(p, body, f.width(body.list("targetList")))

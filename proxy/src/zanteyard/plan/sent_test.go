@@ -305,6 +305,8 @@ func TestAddedTexts(t *testing.T) {
 				"SELECT v FROM " + table, "SELECT x.v FROM " + table + " x, " + table + " y ORDER BY 1",
 				"SELECT v FROM " + table + " WHERE " + quote(column) + " = '1'", "UPDATE " + table + " SET v = 1",
 				"INSERT INTO " + table + " (v) VALUES (1)", "DELETE FROM " + table + " RETURNING v",
+				"UPDATE " + table + " x SET v = 1 FROM " + table + " y RETURNING x.v",
+				"DELETE FROM " + table + " x USING " + table + " y RETURNING x.v",
 				"SELECT v FROM " + table + " FOR UPDATE", "DECLARE c CURSOR FOR SELECT v FROM " + table,
 			} {
 				for _, path := range []string{"", Converting} {
@@ -338,9 +340,61 @@ func check(t *testing.T, of, text string) {
 	if err != nil || len(trees) != 1 {
 		t.Fatalf("%s: %d statements, %v: %s", of, len(trees), err, text)
 	}
+	looked := lookedUp(trees[0])
+	visit(trees[0], func(kind string, body node) bool {
+		if fields := names(body.list("fields")); kind == "ColumnRef" && len(fields) > 1 && !looked[fields[len(fields)-1]] {
+			t.Errorf("%s: %s may become a call: %s", of, strings.Join(fields, "."), text)
+		}
+		return true
+	})
 	for _, one := range unqualified(trees, true) {
 		t.Errorf("%s: %s isn't qualified: %s", of, one, text)
 	}
+}
+
+// lookedUp returns the columns that a text also looks up by their names alone, in queries of the client's tables that are
+// never run, and takes these queries out of the tree. They may have nothing else in them.
+func lookedUp(tree node) map[string]bool {
+	looked := map[string]bool{}
+	visit(tree, func(kind string, body node) bool {
+		args := body.list("args")
+		if kind != "BoolExpr" || body.text("boolop") != "AND_EXPR" || len(args) != 2 {
+			return true
+		}
+		if constant, _ := only(args[0]); constant != "TypeCast" && constant != "A_Const" { // as they write false
+			return true
+		}
+		_, outer := only(args[1])
+		_, query := only(outer["subselect"])
+		walls := map[string]int{"xmin": 2, "tableoid": 2}
+		for _, from := range query.list("fromClause") {
+			_, table := only(from)
+			if table.text("schemaname") != "pg_catalog" || table.text("relname") != "pg_am" {
+				return true
+			}
+			for _, name := range names(table.node("alias").list("colnames")) {
+				walls[name]++
+			}
+		}
+		for _, exists := range conjuncts(query["whereClause"]) {
+			_, link := only(exists)
+			_, inner := only(link["subselect"])
+			if link.text("subLinkType") != "EXISTS_SUBLINK" || len(inner.list("fromClause")) != 1 || inner.has("whereClause") {
+				return true
+			}
+			for _, target := range inner.list("targetList") {
+				_, its := only(target)
+				fields := names(its.as("val", "ColumnRef").list("fields"))
+				if len(fields) != 1 || walls[fields[0]] != 2 {
+					return true
+				}
+				looked[fields[0]] = true
+			}
+		}
+		delete(body, "args")
+		return true
+	})
+	return looked
 }
 
 // kindOf is a catalog with one table, whose key is one column.

@@ -1,11 +1,9 @@
 package plan
 
-import "strings"
-
 // Writes are asked for their transaction's number by RETURNING, if that returns few rows or the client asked for rows
 // itself. A statement that may write any number of rows is asked for it at COMMIT.
 
-const numberColumn = "pg_catalog.pg_current_xact_id_if_assigned() AS " + alias
+const numberColumn = "pg_catalog.pg_current_xact_id_if_assigned()"
 
 func (m *maker) inserts(p *Plan, body node, end int) {
 	target := m.target(p, body.node("relation"))
@@ -26,7 +24,7 @@ func (m *maker) inserts(p *Plan, body node, end int) {
 	if !m.mayReturn(p, body, target, few) {
 		return
 	}
-	m.returns(p, body, target, !target.table.Partitioned(), nil, "", end)
+	m.returns(p, body, target, !target.table.Partitioned(), nil, true, end)
 }
 
 // changes plans UPDATE and DELETE, which have their other tables in a field.
@@ -48,8 +46,7 @@ func (m *maker) changes(p *Plan, body node, end int, others string) {
 	}
 	f := &fromClause{maker: m, plan: p, with: withNames(body), taken: target.name}
 	f.read(body, others)
-	groups, found := f.groups()
-	m.returns(p, body, target, others == "fromClause" && !target.table.Partitioned(), found, groups, end)
+	m.returns(p, body, target, others == "fromClause" && !target.table.Partitioned(), f.groups(), f.items == 0, end)
 }
 
 // target finds the table that is written to, or nil if nothing can be asked of it.
@@ -89,33 +86,30 @@ func (m *maker) mayReturn(p *Plan, body node, target *item, few bool) bool {
 
 // returns adds what RETURNING should report: the number, the version that was written, and the rows that were read:
 // those of other tables, and the one that a DELETE removed.
-func (m *maker) returns(p *Plan, body node, target *item, version bool, found []*item, groups string, end int) {
-	var out strings.Builder
+func (m *maker) returns(p *Plan, body node, target *item, version bool, found []*item, sole bool, end int) {
 	p.AddsReturning = !body.has("returningList")
+	begin := ", "
 	if p.AddsReturning {
-		out.WriteString(" RETURNING ")
-	} else {
-		out.WriteString(", ")
+		begin = " RETURNING "
 	}
-	out.WriteString(numberColumn)
+	h := &hiding{sole: sole}
+	h.value(numberColumn)
 	p.TellsNumber, p.TellsVersion = true, version
-	if version {
-		out.WriteString(", " + quote(target.name) + ".xmin AS " + alias)
-	}
-	deleted := !version && m.deletes(body)
 	wanted := relation{name: target.written, oid: target.table.OID}
-	if deleted {
-		target.write(&out)
+	if version {
+		h.version(target)
+	} else if m.deletes(body) {
+		h.reads(target)
 		p.Sources = append(p.Sources, target.source())
 		wanted.columns = keyNumbers(target.table)
 	}
 	p.relations = append(p.relations, wanted)
 	for _, it := range found {
+		h.reads(it)
 		p.Sources = append(p.Sources, it.source())
 		p.relations = append(p.relations, it.relation())
 	}
-	out.WriteString(groups)
-	p.insertion = insertion{text: out.String(), token: end - 1, behind: true}
+	p.insertion = insertion{text: begin + h.text(), token: end - 1, behind: true}
 }
 
 // deletes distinguishes DELETE from the others: it has no list of columns, values or rows.

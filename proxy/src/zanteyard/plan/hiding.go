@@ -1,0 +1,118 @@
+package plan
+
+import (
+	"strconv"
+	"strings"
+
+	"zanteyard/keys"
+)
+
+// Hidden columns are written so that none of their names can come to mean a function. If a table has no column c any
+// more, the server takes t.c for a call of the function c(t), which anybody may have put into the search path, and which
+// then runs with the client's rights. It doesn't do so for a name without a table. So a statement's only table isn't
+// named.
+//
+// Where there are several, each column is also looked up by its name alone, in a query of this table alone: if it isn't
+// there, the server goes on outwards, to two tables that both have a column of this name, and so refuses the whole
+// statement before it runs any of it. The planner drops these queries, since they come after false.
+
+// hiding writes a statement's hidden columns.
+type hiding struct {
+	sole   bool // the statement has no other table
+	values []string
+	proofs []string // queries that are refused if a column isn't there
+	names  []string // of the columns that are looked up, except for the system's
+	proved int      // the value that the proofs are put in front of
+}
+
+// value adds a hidden column that depends on no table.
+func (h *hiding) value(text string) { h.values = append(h.values, text) }
+
+// version adds which transaction wrote a row.
+func (h *hiding) version(it *item) { h.system(it, nil) }
+
+// reads adds a row's version, its table and its key.
+func (h *hiding) reads(it *item) {
+	var names []string
+	for _, column := range it.table.Key {
+		names = append(names, quote(column.Name))
+	}
+	h.system(it, names)
+	h.value(h.of(it, "tableoid"))
+	for i, column := range it.table.Key {
+		h.value(keys.Expression(column.Type, h.of(it, names[i]), it.converts))
+	}
+}
+
+func (h *hiding) system(it *item, names []string) {
+	if !h.sole {
+		h.proves(it.written, names)
+	}
+	h.value(h.of(it, "xmin"))
+}
+
+// of names a column of a table.
+func (h *hiding) of(it *item, column string) string {
+	if h.sole {
+		return column
+	}
+	return quote(it.name) + "." + column
+}
+
+// proves adds the query of one table.
+func (h *hiding) proves(table string, columns []string) {
+	if len(h.proofs) == 0 {
+		h.proved = len(h.values)
+	}
+	proof := "EXISTS (SELECT " + strings.Join(append([]string{"xmin, tableoid"}, columns...), ", ") + " FROM " + table +
+		" AS " + alias + ")"
+	if !contains(h.proofs, proof) {
+		h.proofs = append(h.proofs, proof)
+	}
+	for _, column := range columns {
+		if !contains(h.names, column) {
+			h.names = append(h.names, column)
+		}
+	}
+}
+
+func contains(all []string, one string) bool {
+	for _, other := range all {
+		if other == one {
+			return true
+		}
+	}
+	return false
+}
+
+// wall is a list of the server's own tables in which each column has two: by their own names, or by these.
+func (h *hiding) wall() string {
+	const table, columns = "pg_catalog.pg_am AS " + alias, 4
+	var its []string
+	for at := 0; at == 0 || at < len(h.names); at += columns {
+		names := h.names[at:]
+		if len(names) > columns {
+			names = names[:columns]
+		}
+		as := ""
+		if len(names) > 0 {
+			as = " (" + strings.Join(names, ", ") + ")"
+		}
+		for range [2]int{} {
+			its = append(its, table+strconv.Itoa(len(its))+as)
+		}
+	}
+	return strings.Join(its, ", ")
+}
+
+// text returns all hidden columns.
+func (h *hiding) text() string {
+	for i, value := range h.values {
+		if i == h.proved && len(h.proofs) > 0 {
+			value = "CASE WHEN false AND EXISTS (SELECT FROM " + h.wall() + " WHERE " +
+				strings.Join(h.proofs, " AND ") + ") THEN NULL ELSE " + value + " END"
+		}
+		h.values[i] = value + " AS " + alias
+	}
+	return strings.Join(h.values, ", ")
+}
