@@ -42,6 +42,7 @@ type Hub struct {
 	who      identity
 	mark     int64 // 0 while there is none
 	proxies  map[string]*attached
+	past     map[string]past // those that fell silent long ago
 	epochs   uint64
 	numbers  uint64            // connections
 	of       map[uint64]remote // by our numbers for them
@@ -70,6 +71,13 @@ type attached struct {
 	holds       uint64            // the last meeting for which it has held its clients
 }
 
+// past is what is remembered of a proxy that has been silent for an hour, as long as the watch runs: its hello may be
+// played again, and it may come back with what was held back.
+type past struct{ try, received, dropped uint64 }
+
+// mostProxies limits the proxies that are remembered. Others can't feed the audit.
+const mostProxies = 100_000
+
 type remote struct{ epoch, connection uint64 }
 
 // firstConnection is above all numbers of this proxy's own connections.
@@ -82,7 +90,8 @@ func NewHub(options Options, sink Sink, running func() bool) (*Hub, error) {
 		return nil, err
 	}
 	return &Hub{options: options, sink: sink, running: running, logs: complaints{log: options.Log}, run: run, base: time.Now(),
-		out: make(chan fromHub, 256), changed: make(chan struct{}), proxies: map[string]*attached{}, of: map[uint64]remote{}}, nil
+		out: make(chan fromHub, 256), changed: make(chan struct{}), proxies: map[string]*attached{},
+		past: map[string]past{}, of: map[uint64]remote{}}, nil
 }
 
 // Run receives messages until ctx ends. If something in it panics, it returns that.
@@ -165,11 +174,17 @@ func (h *Hub) takeOne(one entry, now time.Time) {
 // greet answers a hello. Called with lock held.
 func (h *Hub) greet(m *toHub, now time.Time) {
 	its := m.Hello
-	a := h.proxies[m.Proxy]
-	if a != nil && its.Try <= a.try {
+	a, before := h.proxies[m.Proxy], h.past[m.Proxy]
+	if a != nil {
+		before.try = a.try
+	}
+	if before.try != 0 && its.Try <= before.try {
 		return // a repeated one
 	}
 	reply := answer{Proxy: m.Proxy, Try: its.Try, Mark: h.mark, Redacts: h.options.Redacts, Refused: h.refuses(its)}
+	if a == nil && before.try == 0 && len(h.proxies)+len(h.past) >= mostProxies {
+		reply.Refused = "too many proxies have fed this watch: it has to be started again"
+	}
 	if reply.Refused != "" || h.mark == 0 {
 		if reply.Refused != "" {
 			h.logs.say("the proxy " + its.Name + " was refused: " + reply.Refused)
@@ -177,10 +192,15 @@ func (h *Hub) greet(m *toHub, now time.Time) {
 		}
 		return
 	}
-	if a == nil {
+	switch {
+	case a != nil:
+	case before.try != 0:
+		a = &attached{id: m.Proxy, received: before.received, dropped: before.dropped}
+	default:
 		a = &attached{id: m.Proxy, received: m.Sent, dropped: m.Dropped}
-		h.proxies[m.Proxy] = a
 	}
+	delete(h.past, m.Proxy)
+	h.proxies[m.Proxy] = a
 	h.end(a, "")
 	if m.Sent > a.received {
 		h.sink.Lose(lostOnTheWay, m.Sent-a.received)
@@ -312,10 +332,9 @@ func (h *Hub) look(ctx context.Context) {
 	for ctx.Err() == nil {
 		h.lock.Lock()
 		wait := seldom
-		for id, a := range h.proxies {
+		h.retire(time.Now())
+		for _, a := range h.proxies {
 			switch {
-			case a.epoch == 0 && time.Since(a.heard) > time.Hour:
-				delete(h.proxies, id)
 			case a.epoch == 0:
 			case time.Since(a.heard) > silence:
 				h.end(a, "it fell silent")
@@ -328,6 +347,16 @@ func (h *Hub) look(ctx context.Context) {
 		}
 		h.lock.Unlock()
 		pause(ctx, wait)
+	}
+}
+
+// retire keeps of proxies that have been silent for an hour only what has to be remembered. Called with lock held.
+func (h *Hub) retire(now time.Time) {
+	for id, a := range h.proxies {
+		if a.epoch == 0 && now.Sub(a.heard) > time.Hour {
+			h.past[id] = past{a.try, a.received, a.dropped}
+			delete(h.proxies, id)
+		}
 	}
 }
 

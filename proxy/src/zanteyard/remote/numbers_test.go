@@ -3,6 +3,7 @@ package remote
 import (
 	"context"
 	"fmt"
+	"strconv"
 	"testing"
 	"time"
 )
@@ -50,5 +51,54 @@ func TestPlayedAgainAfterSilence(t *testing.T) {
 	}
 	if len(p.numbers.last) != mostRuns || len(p.numbers.runs) != mostRuns {
 		t.Errorf("%d runs are remembered, of which %d in order", len(p.numbers.last), len(p.numbers.runs))
+	}
+}
+
+// TestSilentForHours: a proxy falls silent, and more than an hour later its hello is played again. It isn't shown as
+// feeding. When it really comes back, what was held back meanwhile is counted.
+func TestSilentForHours(t *testing.T) {
+	to := newHeard()
+	h := newTestHub(t, to)
+	hello := someHello(h, "p", 1)
+	h.greet(hello, time.Now())
+	h.one(&toHub{Run: h.run, Proxy: "p", Epoch: 1, Sent: 3}, time.Now())
+	h.end(h.proxies["p"], "it fell silent")
+	h.retire(time.Now().Add(2 * time.Hour))
+	for len(h.out) > 0 {
+		<-h.out
+	}
+	h.greet(hello, time.Now())
+	for _, its := range h.Remotes().Proxies {
+		if its.Feeds {
+			t.Errorf("it is shown as feeding after its hello was played again: %+v", its)
+		}
+	}
+	if len(h.out) > 0 {
+		t.Errorf("the hello was answered: %+v", <-h.out)
+	}
+	again := someHello(h, "p", 2)
+	again.Sent, again.Dropped = 10, 4
+	h.greet(again, time.Now())
+	if its := h.Remotes().Proxies; len(its) != 1 || !its[0].Feeds {
+		t.Errorf("it doesn't feed the audit again: %+v", its)
+	}
+	if to.lost[lostOnTheWay] != 7 || to.lost[noRoomThere] != 4 {
+		t.Errorf("counted as lost: %v", to.lost)
+	}
+}
+
+// TestProxiesAreBounded: what is remembered of them is.
+func TestProxiesAreBounded(t *testing.T) {
+	h := newTestHub(t, newHeard())
+	for n := 0; n < mostProxies; n++ {
+		h.past[strconv.Itoa(n)] = past{try: 1}
+	}
+	h.greet(someHello(h, "one more", 1), time.Now())
+	if reply := (<-h.out).Answer; reply.Refused == "" {
+		t.Errorf("%+v", reply)
+	}
+	h.greet(someHello(h, "7", 2), time.Now())
+	if reply := (<-h.out).Answer; reply.Refused != "" {
+		t.Errorf("%+v", reply)
 	}
 }
