@@ -76,6 +76,7 @@ type lockstepper struct {
 
 	leaves        bool // reads of savepoints' versions are left out
 	left, counted int
+	exact         int // reads of the table that TRUNCATE empties, offered as wanted
 }
 
 // step is a version: the number of its commit, and its writer.

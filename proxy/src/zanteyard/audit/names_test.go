@@ -151,6 +151,24 @@ func hearSlot(t *testing.T, plugin slot.Plugin) {
 	if it := expect("INSERT INTO a VALUES (9)", record.Write{Relation: b, Key: "9", Inserted: true}); it.Names != after.Names || it.LSN <= after.At {
 		t.Errorf("what was written behind the change is told as %+v", it)
 	}
+	must(t, conn, "BEGIN; ALTER TABLE a RENAME TO c; ALTER TABLE b RENAME TO a; INSERT INTO a VALUES (77); "+
+		"ALTER TABLE a RENAME TO b; ALTER TABLE c RENAME TO a; COMMIT")
+	swapped := h.next(t) // by the wrong name
+	place, err := control.Place(ctx)
+	by := map[record.Relation]uint32{}
+	for _, one := range place.Rewritten {
+		by[one.Relation] = one.By
+	}
+	if err != nil || len(place.Changed) != 0 || len(by) != 2 || by[a] != swapped.Number || by[b] != swapped.Number || place.Names != after.Names {
+		t.Errorf("two tables' names were changed and changed back by %d, and the place is %+v (%v)", swapped.Number, place, err)
+	}
+	must(t, conn, "ALTER TABLE full_row REPLICA IDENTITY NOTHING; ALTER TABLE full_row REPLICA IDENTITY FULL")
+	if place, err := control.Place(ctx); err != nil || len(place.Changed) != 0 || len(place.Rewritten) != 1 || place.Rewritten[0].Relation != oid("full_row") {
+		t.Errorf("a replica identity was changed and changed back, and the place is %+v (%v)", place, err)
+	}
+	if place, err := control.Place(ctx); err != nil || len(place.Changed)+len(place.Rewritten) != 0 {
+		t.Errorf("nothing has changed, and the place is %+v (%v)", place, err)
+	}
 	if kept, err := control.Health(ctx, "names"); err != nil || kept.Lost || kept.Kept > 1<<30 {
 		t.Errorf("the slot is %+v (%v)", kept, err)
 	}

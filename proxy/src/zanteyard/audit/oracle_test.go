@@ -115,7 +115,7 @@ func runLockstep(t *testing.T, s *server, seed int64, commits int, plugin slot.P
 	}
 	for _, row := range must(t, l.observer, "SELECT c.relname, "+catalog.IdentitySQL+
 		" FROM pg_class c JOIN pg_index i ON i.indrelid = c.oid AND i.indisprimary") {
-		l.identities[row[0]] = catalog.IdentityOf(row[1])
+		l.identities[row[0]] = catalog.KeyIdentity("public", row[0], row[1])
 	}
 	for _, number := range []uint64{1, 2, 3, 0} {
 		l.connect(s, number)
@@ -211,8 +211,18 @@ func (l *lockstepper) judge(given []join.Description) {
 	for i := range given {
 		it := byPlace[[2]uint64{given[i].Its.Connection, given[i].Its.Place}]
 		got, wrote := l.got(&given[i])
-		want := l.want(it, names)
+		want, folds := l.want(it, names)
 		reads, writes = reads+len(got), writes+len(wrote)
+		for one := range folds {
+			switch {
+			case got[one] && !want[one]:
+				delete(got, one)
+			case want[one] && !got[one]:
+				delete(want, one)
+			case want[one]:
+				l.exact++
+			}
+		}
 		if l.leaves { // then it has to be counted
 			for one := range want {
 				if !got[one] {
@@ -226,7 +236,7 @@ func (l *lockstepper) judge(given []join.Description) {
 			l.t.Errorf("%s (%s): %s\n%s", names[it.tag], it.tag, text, l.story(it, text, names))
 		}
 		for at := range it.wrote {
-			if !wrote[at] && !l.emptied(at, it) {
+			if !wrote[at] && at.table != "whole" {
 				l.t.Errorf("%s (%s): its write of %v isn't offered", names[it.tag], it.tag, at)
 			}
 		}
@@ -237,7 +247,8 @@ func (l *lockstepper) judge(given []join.Description) {
 	if l.left > l.counted {
 		l.t.Errorf("%d reads were left out, and %d are counted", l.left, l.counted)
 	}
-	l.t.Logf("compared %d transactions, %d reads, %d writes", len(given), reads, writes)
+	l.t.Logf("compared %d transactions, %d reads, %d writes; of the table that is emptied %d reads were as wanted", len(given),
+		reads, writes, l.exact)
 }
 
 // addUnseen adds the versions that nobody can see: rows that a transaction made and deleted again. Such a row didn't
@@ -290,10 +301,20 @@ func (l *lockstepper) got(it *join.Description) (map[string]bool, map[cell]bool)
 	return reads, writes
 }
 
-// want is what has to be offered, according to the rows' tags and the order of the commits.
-func (l *lockstepper) want(it *done, names map[string]string) map[string]bool {
-	want := map[string]bool{}
+// want is what has to be offered, according to the rows' tags and the order of the commits. Of the table that TRUNCATE
+// empties more is folded: what was committed shortly before, since its definition has been written. So the read of an
+// earlier version may be offered there, or of none; folds has all of these.
+func (l *lockstepper) want(it *done, names map[string]string) (want, folds map[string]bool) {
+	want, folds = map[string]bool{}, map[string]bool{}
 	add := func(at cell, upTo int) { // the row's last offered version among the first upTo ones
+		if at.table == "whole" {
+			folds[fmt.Sprint(at, " from init")] = true
+			for _, v := range l.history[at][:upTo] {
+				if name, offered := names[v.tag]; offered {
+					folds[fmt.Sprint(at, " from ", name)] = true
+				}
+			}
+		}
 		from := "init"
 		for _, v := range l.history[at][l.began(at, upTo):upTo] {
 			if name, offered := names[v.tag]; offered && !(v.deleted && l.emptied(at, l.owned[v.tag])) {
@@ -319,6 +340,9 @@ func (l *lockstepper) want(it *done, names map[string]string) map[string]bool {
 			}
 			if l.began(at, i+1) == i {
 				want[fmt.Sprint(at, " from init")] = true
+				if at.table == "whole" {
+					folds[fmt.Sprint(at, " from init")] = true
+				}
 			} else {
 				add(at, i)
 			}
@@ -336,7 +360,7 @@ func (l *lockstepper) want(it *done, names map[string]string) map[string]bool {
 			want[fmt.Sprint(at, " from init")] = true // of the row that comes next
 		}
 	}
-	return want
+	return want, folds
 }
 
 // began returns where the row began that had the key last among the first upTo versions: its first version's place. What

@@ -184,7 +184,7 @@ func TestSoak(t *testing.T) {
 	conn := s.connect(t)
 	must(t, conn, "CREATE TABLE t (id int PRIMARY KEY, tag text NOT NULL);"+
 		"INSERT INTO t SELECT i, '' FROM generate_series(0, 999) i")
-	identity := catalog.IdentityOf(must(t, conn, "SELECT "+catalog.IdentitySQL+
+	identity := catalog.KeyIdentity("public", "t", must(t, conn, "SELECT "+catalog.IdentitySQL+
 		" FROM pg_index i WHERE i.indisprimary AND i.indrelid = 't'::regclass")[0][0])
 	for _, one := range []struct {
 		name, level string

@@ -46,6 +46,8 @@ type Table struct {
 	Rules bool
 	// Triggers says that user triggers may write when the table is written to.
 	Triggers bool
+	// Foreign says that writing to the table may call what others have made: triggers, or functions of defaults and the like.
+	Foreign bool
 	// Indexes are the sets of columns, by number, that a single index can return.
 	Indexes [][]int16
 
@@ -99,6 +101,8 @@ type Catalog struct {
 
 	// Levels says that there is a function which may set the level that transactions begin at.
 	Levels bool
+	// Foreign says that any statement may call what others have made: an operator, a cast, the check of a domain.
+	Foreign bool
 	// Converts makes plans ask for texts in the server's encoding.
 	Converts bool
 
@@ -106,7 +110,8 @@ type Catalog struct {
 	names     map[string]map[string]*Table // by schema and name
 	sole      map[string]*Table            // by name, nil if several schemas have it
 	functions map[string]*functions
-	operators map[string]bool // names of operators whose functions aren't pure
+	cascades  map[uint32][]uint32 // tables whose rows change with those of another one
+	operators map[string]bool     // names of operators whose functions aren't pure
 	elsewhere *elsewhere
 	columns   map[uint32]record.Identity // of tables
 }
@@ -128,6 +133,7 @@ func Load(ctx context.Context, query Query, options ...Option) (*Catalog, error)
 		sole:      map[string]*Table{},
 		functions: map[string]*functions{},
 		operators: map[string]bool{},
+		cascades:  map[uint32][]uint32{},
 	}
 	for _, option := range options {
 		option(c)
@@ -151,6 +157,8 @@ func Load(ctx context.Context, query Query, options ...Option) (*Catalog, error)
 		{"what columns mean", meaningsSQL, meanings.takeColumn},
 		{"indexes", indexesSQL, c.takeIndex}, // whose columns are copies
 		{"triggers", triggersSQL, c.takeTrigger},
+		{"what tables call", callsSQL, c.takeCall},
+		{"what statements call", foreignSQL, c.takeForeign},
 		{"functions", functionsSQL, c.takeFunction},
 		{"operators", operatorsSQL, c.takeOperator},
 		{"what has names of the server's own", elsewhereSQL, meanings.takeElsewhere},
@@ -236,11 +244,39 @@ func (c *Catalog) judge() {
 		}
 		root.Triggers = root.Triggers || t.Triggers
 	}
+	for more := true; more; {
+		more = false
+		for _, t := range c.tables {
+			more = c.spreads(t) || more
+		}
+	}
 	for _, t := range c.tables { // a partition is written through its parents, of which there may be several
 		if root, ok := c.tables[t.Root]; ok && t.Kind == 'p' && root != t {
 			t.Hidden, t.Triggers = root.Hidden, root.Triggers
 		}
 	}
+}
+
+// spreads makes a table one that calls what others have made if writing to it writes to such a one, and reports whether it
+// has become one.
+func (c *Catalog) spreads(t *Table) bool {
+	if root, ok := c.tables[t.Root]; ok && t.Foreign && !root.Foreign {
+		root.Foreign = true
+		return true
+	}
+	if t.Foreign {
+		return false
+	}
+	t.Foreign = t.Triggers || t.Rules || t.RowSecurity
+	if root, ok := c.tables[t.Root]; ok && root.Foreign {
+		t.Foreign = true
+	}
+	for _, oid := range c.cascades[t.OID] {
+		if child, ok := c.tables[oid]; ok && child.Foreign {
+			t.Foreign = true
+		}
+	}
+	return t.Foreign
 }
 
 func (t *Table) reason() string {

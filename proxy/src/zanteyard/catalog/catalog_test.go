@@ -15,6 +15,7 @@ import (
 	"zanteyard/cluster"
 	"zanteyard/keys"
 	"zanteyard/own"
+	"zanteyard/record"
 )
 
 const schema = `
@@ -240,5 +241,17 @@ func TestLoadFails(t *testing.T) {
 	cancel()
 	if _, err := catalog.Load(ended, func(own.Text) ([][]string, error) { return nil, nil }); !errors.Is(err, context.Canceled) {
 		t.Errorf("%v", err)
+	}
+}
+
+// TestKeyIdentity: a table by another name has another identity, since a statement may mean another table by it.
+func TestKeyIdentity(t *testing.T) {
+	seen := map[record.Identity]bool{}
+	for _, it := range [][3]string{{"a", "b", "c"}, {"a", "bc", ""}, {"ab", "", "c"}, {"a", "b", "d"}, {"b", "a", "c"}, {`a"`, `b`, "c"}} {
+		identity := catalog.KeyIdentity(it[0], it[1], it[2])
+		if identity == 0 || seen[identity] || identity != catalog.KeyIdentity(it[0], it[1], it[2]) {
+			t.Errorf("%q: %d", it, identity)
+		}
+		seen[identity] = true
 	}
 }

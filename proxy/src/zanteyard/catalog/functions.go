@@ -12,6 +12,7 @@ type Function struct {
 	Writes    bool // it may write
 	Made      bool // it isn't the server's own, and may do more than compute a value
 	Names     bool // it may change the meaning of names: SET search_path, SET ROLE, temporary tables
+	Foreign   bool // it isn't the server's own, nor written in C, so it may run any statement
 }
 
 // functions are those of one name: the server's own, and those of other schemas.
@@ -25,7 +26,7 @@ type functions struct {
 func (c *Catalog) Function(schema, name string) Function {
 	found, ok := c.functions[name]
 	if !ok || schema == "pg_catalog" && !found.isOwn || schema != "" && schema != "pg_catalog" && !found.isOther {
-		return Function{Reads: true, Writes: true, Names: true, Set: true, Made: true}
+		return Function{Reads: true, Writes: true, Names: true, Set: true, Made: true, Foreign: true}
 	}
 	switch schema {
 	case "pg_catalog":
@@ -39,6 +40,7 @@ func (c *Catalog) Function(schema, name string) Function {
 			Writes:    found.own.Writes || found.other.Writes,
 			Names:     found.own.Names || found.other.Names,
 			Made:      found.other.Made,
+			Foreign:   found.other.Foreign,
 		}
 	}
 	return found.other
@@ -48,7 +50,7 @@ func (c *Catalog) Function(schema, name string) Function {
 func (c *Catalog) PureOperator(name string) bool { return !c.operators[name] }
 
 func (c *Catalog) takeFunction(row []string) error {
-	if err := width(row, 8); err != nil {
+	if err := width(row, 9); err != nil {
 		return err
 	}
 	c.Levels = c.Levels || row[7] == "true"
@@ -61,6 +63,7 @@ func (c *Catalog) takeFunction(row []string) error {
 		f.Names = name == "set_config"
 	} else {
 		f.Reads, f.Writes, f.Made, f.Names = !pure, !pure, !pure, row[6] == "true"
+		f.Foreign = row[8] == "true"
 	}
 	all, ok := c.functions[name]
 	if !ok {
@@ -77,6 +80,7 @@ func (c *Catalog) takeFunction(row []string) error {
 	all.other.Reads = all.other.Reads || f.Reads
 	all.other.Writes = all.other.Writes || f.Writes
 	all.other.Names = all.other.Names || f.Names
+	all.other.Foreign = all.other.Foreign || f.Foreign
 	all.other.Made = all.other.Made || f.Made
 	all.isOther = true
 	return nil

@@ -51,6 +51,30 @@ WHERE i.indisvalid`)
 
 var triggersSQL = own.SQL(`SELECT DISTINCT tgrelid::pg_catalog.text FROM pg_catalog.pg_trigger WHERE NOT tgisinternal AND tgenabled <> 'D'`)
 
+// What writing to a table may call of what others have made: functions and operators of defaults, constraints, indexes
+// and partition keys. Two columns are tables, of which the second one's rows change with the first one's, by a foreign key.
+var callsSQL = own.SQL(`SELECT DISTINCT x.relation::pg_catalog.text, '0' FROM (
+  SELECT adrelid AS relation, 'pg_catalog.pg_attrdef'::pg_catalog.regclass AS class, oid AS object FROM pg_catalog.pg_attrdef
+  UNION ALL SELECT conrelid, 'pg_catalog.pg_constraint'::pg_catalog.regclass, oid FROM pg_catalog.pg_constraint WHERE conrelid <> 0
+  UNION ALL SELECT indrelid, 'pg_catalog.pg_class'::pg_catalog.regclass, indexrelid FROM pg_catalog.pg_index
+    WHERE indexprs IS NOT NULL OR indpred IS NOT NULL
+  UNION ALL SELECT partrelid, 'pg_catalog.pg_class'::pg_catalog.regclass, partrelid FROM pg_catalog.pg_partitioned_table) x
+JOIN pg_catalog.pg_depend d ON d.classid = x.class AND d.objid = x.object
+WHERE d.refclassid IN ('pg_catalog.pg_proc'::pg_catalog.regclass, 'pg_catalog.pg_operator'::pg_catalog.regclass)
+UNION ALL SELECT DISTINCT tgrelid::pg_catalog.text, '0' FROM pg_catalog.pg_trigger WHERE NOT tgisinternal
+UNION ALL SELECT DISTINCT confrelid::pg_catalog.text, conrelid::pg_catalog.text FROM pg_catalog.pg_constraint
+WHERE contype = 'f' AND (confupdtype IN ('c', 'n', 'd') OR confdeltype IN ('c', 'n', 'd'))`)
+
+// Whether any statement may call what others have made, without naming it: operators, casts, and domains that are
+// checked by functions.
+var foreignSQL = own.SQL(`SELECT (EXISTS (SELECT FROM pg_catalog.pg_operator o JOIN pg_catalog.pg_proc p ON p.oid = o.oprcode
+    JOIN pg_catalog.pg_language l ON l.oid = p.prolang WHERE o.oid >= 16384 AND l.lanname NOT IN ('c', 'internal'))
+  OR EXISTS (SELECT FROM pg_catalog.pg_cast c JOIN pg_catalog.pg_proc p ON p.oid = c.castfunc
+    JOIN pg_catalog.pg_language l ON l.oid = p.prolang WHERE c.oid >= 16384 AND l.lanname NOT IN ('c', 'internal'))
+  OR EXISTS (SELECT FROM pg_catalog.pg_constraint k JOIN pg_catalog.pg_depend d ON d.objid = k.oid
+    AND d.classid = 'pg_catalog.pg_constraint'::pg_catalog.regclass WHERE k.contypid <> 0
+    AND d.refclassid IN ('pg_catalog.pg_proc'::pg_catalog.regclass, 'pg_catalog.pg_operator'::pg_catalog.regclass)))::pg_catalog.text`)
+
 // A function of an extension is trusted about itself if it is written in C; in another language it may call anything.
 // The last columns say whether the function may change the meaning of names, and the level of later transactions.
 var functionsSQL = own.SQL(`SELECT p.proname::pg_catalog.text, n.nspname::pg_catalog.text, pg_catalog.bool_or(p.prokind = 'a')::pg_catalog.text,
@@ -59,7 +83,8 @@ var functionsSQL = own.SQL(`SELECT p.proname::pg_catalog.text, n.nspname::pg_cat
   pg_catalog.bool_or(l.lanname NOT IN ('c', 'internal')
     AND p.prosrc ~* 'set_config|search_path|\mrole\M|authorization|\mtemp|\mcreate\M|\malter\M|\mdrop\M|\mexecute\M|\mprepare\M|\mdeallocate\M')::pg_catalog.text,
   pg_catalog.bool_or(l.lanname NOT IN ('c', 'internal')
-    AND p.prosrc ~* 'transaction_isolation|characteristics|set_config|\mreset\M|\mexecute\M')::pg_catalog.text
+    AND p.prosrc ~* 'transaction_isolation|characteristics|set_config|\mreset\M|\mexecute\M')::pg_catalog.text,
+  pg_catalog.bool_or(l.lanname NOT IN ('c', 'internal') OR p.prokind = 'a')::pg_catalog.text
 FROM pg_catalog.pg_proc p JOIN pg_catalog.pg_namespace n ON n.oid = p.pronamespace
   JOIN pg_catalog.pg_language l ON l.oid = p.prolang
 GROUP BY p.proname, n.nspname`)

@@ -196,7 +196,7 @@ func (c *Catalog) takeIndex(row []string) error {
 		return nil
 	}
 	t.system.primary, t.system.identity = true, row[2] == "true"
-	t.Identity, t.system.deferrable = IdentityOf(row[6]), row[7] != "true"
+	t.Identity, t.system.deferrable = KeyIdentity(t.Schema, t.Name, row[6]), row[7] != "true"
 	for _, at := range columns[:keyColumns] {
 		for _, column := range t.Columns {
 			if column.Number == at {
@@ -210,7 +210,13 @@ func (c *Catalog) takeIndex(row []string) error {
 	return nil
 }
 
-// IdentityOf returns the identity that IdentitySQL's text stands for. It is never 0.
+// KeyIdentity returns the identity of a table's key, from the table's name and IdentitySQL's text: by another name
+// statements may mean another table.
+func KeyIdentity(schema, table, text string) record.Identity {
+	return IdentityOf(strconv.Quote(schema) + strconv.Quote(table) + text)
+}
+
+// IdentityOf returns the identity that a text stands for. It is never 0.
 func IdentityOf(text string) record.Identity {
 	sum := sha256.Sum256([]byte(text))
 	return record.Identity(binary.BigEndian.Uint64(sum[:]) | 1)
@@ -225,4 +231,29 @@ func (c *Catalog) takeTrigger(row []string) error {
 		t.Triggers = true
 	}
 	return nil
+}
+
+func (c *Catalog) takeCall(row []string) error {
+	if err := width(row, 2); err != nil {
+		return err
+	}
+	oid, err := number(row, 0)
+	if err != nil {
+		return err
+	}
+	by, err := number(row, 1)
+	if err != nil {
+		return err
+	}
+	if by != 0 {
+		c.cascades[oid] = append(c.cascades[oid], by)
+	} else if t, ok := c.tables[oid]; ok {
+		t.Foreign = true
+	}
+	return nil
+}
+
+func (c *Catalog) takeForeign(row []string) error {
+	c.Foreign = len(row) == 1 && row[0] == "true"
+	return width(row, 1)
 }

@@ -24,7 +24,7 @@ var markText = own.SQL("SELECT pg_catalog.concat_ws('|'" +
 	newest + "pg_catalog.pg_attribute WHERE attrelid >= 16384 AND attrelid NOT IN" + temporary +
 	newest + "pg_catalog.pg_namespace WHERE nspname NOT LIKE 'pg\\_%temp\\_%')" +
 	newest + "pg_catalog.pg_auth_members)" + newest + "pg_catalog.pg_enum)" +
-	(newest + "pg_catalog.pg_index WHERE indrelid NOT IN" + temporary + newestMade) +
+	(newest + "pg_catalog.pg_index WHERE indrelid NOT IN" + temporary + newestMade + newestCalls) +
 	// Settings that begin to count change what transactions begin at.
 	", pg_catalog.pg_conf_load_time()" +
 	// A view, without an xmin: reading pg_authid needs a right.
@@ -36,6 +36,10 @@ const (
 	temporary = " (SELECT oid FROM pg_catalog.pg_class WHERE relpersistence = 't'))"
 	// newestMade is about what gives the server's own names another meaning.
 	newestMade = newest + "pg_catalog.pg_operator WHERE oid >= 16384)" + newest + "pg_catalog.pg_cast WHERE oid >= 16384)"
+	// newestCalls is about what tables call when they are written to.
+	newestCalls = newest + "pg_catalog.pg_trigger WHERE NOT tgisinternal AND tgrelid NOT IN" + temporary +
+		newest + "pg_catalog.pg_attrdef WHERE adrelid NOT IN" + temporary +
+		newest + "pg_catalog.pg_constraint WHERE contype IN ('c', 'f') AND conrelid NOT IN" + temporary
 )
 
 // How often to look, and to load.

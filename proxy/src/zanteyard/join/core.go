@@ -293,12 +293,7 @@ func (c *core) giveUpExpected() {
 
 // forgetTable forgets a table's rows, since their names or keys have another meaning from now on.
 func (c *core) forgetTable(relation record.Relation) {
-	for id := range c.rows.by {
-		if id.relation == relation {
-			delete(c.rows.by, id)
-		}
-	}
-	c.rows.lose(c.now.Sub(c.began))
+	c.rows.forgetTable(relation, c.now.Sub(c.began))
 	c.questions.forgetTable(c.tables.Root(relation), c.commits)
 }
 

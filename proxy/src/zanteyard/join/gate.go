@@ -16,9 +16,22 @@ type gate struct {
 	used     uint64 // so many tables were looked at
 	shows    snapshot
 	changed  map[record.Relation]change
+	awaited  int // of these, how many wait for a commit
 }
 
-type change struct{ names, place uint64 }
+// change says of a table up to where its name may have had another meaning.
+type change struct {
+	names, place uint64
+	// Its definition was written before this place, by this transaction: after its commit the name is right.
+	rewritten uint64
+	by        uint32
+	isOver    bool
+}
+
+// isUnsure reports whether the table's name in a commit may have had another meaning.
+func (c change) isUnsure(it *record.Commit) bool {
+	return it.Names < c.names || it.LSN <= c.place || it.LSN <= c.rewritten && !c.isOver
+}
 
 // mostHeld is how many commits may wait before the slot has to.
 const mostHeld = 20_000
@@ -29,12 +42,23 @@ func (g *gate) waits() bool     { return len(g.queue) > 0 }
 
 // verify records what names mean at a place, and releases what comes before it.
 func (g *gate) verify(place Place, to *core) {
+	if g.changed == nil {
+		g.changed = map[record.Relation]change{}
+	}
 	for _, relation := range place.Changed {
-		if g.changed == nil {
-			g.changed = map[record.Relation]change{}
-		}
-		g.changed[relation] = change{place.Names, place.At}
+		its := g.changed[relation]
+		its.names, its.place = place.Names, place.At
+		g.changed[relation] = its
 		to.forgetTable(relation)
+	}
+	for _, one := range place.Rewritten {
+		its := g.changed[one.Relation]
+		if its.by == 0 || its.isOver {
+			g.awaited++
+		}
+		its.rewritten, its.by, its.isOver = place.At, one.By, false
+		g.changed[one.Relation] = its
+		to.forgetTable(one.Root)
 	}
 	if shows, ok := snapshotOf(place.Shows); ok && !place.Unsure && place.At >= g.verified {
 		g.verified, g.used, g.shows = place.At, place.Used, shows
@@ -59,6 +83,7 @@ func (g *gate) release(to *core) {
 			break
 		}
 		to.commit(g.sure(*it.commit))
+		g.passes(it.commit.Number)
 		to.advance(it.commit.LSN)
 	}
 	if n < len(g.queue) && g.queue[n].after(g.verified) {
@@ -71,6 +96,20 @@ func (g *gate) release(to *core) {
 	g.queue = append(g.queue[:0], g.queue[n:]...)
 }
 
+// passes notices the commit of a transaction that wrote definitions.
+func (g *gate) passes(number uint32) {
+	if g.awaited == 0 {
+		return
+	}
+	for relation, its := range g.changed {
+		if its.by == number && !its.isOver {
+			its.isOver = true
+			g.changed[relation] = its
+			g.awaited--
+		}
+	}
+}
+
 // sure returns the commit without the writes of tables that may be others, which are counted.
 func (g *gate) sure(it record.Commit) record.Commit {
 	if len(g.changed) == 0 {
@@ -78,7 +117,7 @@ func (g *gate) sure(it record.Commit) record.Commit {
 	}
 	kept := it.Writes[:0]
 	for _, one := range it.Writes {
-		if by, is := g.changed[one.Relation]; !is || it.Names >= by.names && it.LSN > by.place {
+		if by, is := g.changed[one.Relation]; !is || !by.isUnsure(&it) {
 			kept = append(kept, one)
 		} else {
 			it.Gaps = append(it.Gaps, one.Relation)

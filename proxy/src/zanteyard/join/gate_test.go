@@ -3,6 +3,7 @@ package join
 import (
 	"reflect"
 	"testing"
+	"time"
 
 	"zanteyard/record"
 )
@@ -50,6 +51,39 @@ func TestRenamedTables(t *testing.T) {
 	}
 	if !reflect.DeepEqual(got, want) {
 		t.Errorf("the rows' versions are %v, and should be %v", got, want)
+	}
+}
+
+// A table's definition was written, and its name is as it was. What was committed up to then may have another table's
+// rows under its name; what comes after it is right.
+func TestRewrittenTables(t *testing.T) {
+	b := newBench(t, Options{})
+	b.connect(1)
+	var g gate
+	tell := func(number uint32, place uint64, key record.Key) {
+		g.put(fromSlot{commit: &record.Commit{Number: number, LSN: place, Writes: []record.Write{{Relation: 1, Key: key}, {Relation: 3, Key: key}}}})
+	}
+	tell(1001, 100, "before")
+	g.verify(Place{At: 150, Shows: all}, b.core)
+	tell(1002, 200, "between")
+	tell(1003, 300, "by it")
+	tell(1004, 400, "after it")
+	g.verify(Place{At: 500, Shows: all, Rewritten: []Rewritten{{Relation: 1, Root: 1, By: 1003}}}, b.core)
+	g.verify(Place{At: 600, Shows: all, Rewritten: []Rewritten{{Relation: 1, Root: 1, By: 1009}}}, b.core) // which isn't reported
+	tell(1005, 590, "before another one")
+	tell(1006, 610, "after that")
+	g.verify(Place{At: 700, Shows: all}, b.core)
+	var keys []string
+	for id := range b.core.rows.by {
+		if id.relation == 1 {
+			keys = append(keys, string(id.key))
+		}
+	}
+	if !reflect.DeepEqual(keys, []string{"after that"}) || len(b.core.rows.by) != 1+6 {
+		t.Errorf("the table has the rows %q, and all have %d", keys, len(b.core.rows.by))
+	}
+	if began := b.core.now.Add(-time.Second); !b.core.isFromBefore(1, &record.Transaction{Began: began, Ended: began}) {
+		t.Error("who began before it was seen may count")
 	}
 }
 

@@ -33,9 +33,18 @@ type Place struct {
 	// (record.Commit) has them right, if it comes after this place.
 	Changed []record.Relation
 	Names   uint64
+	// Rewritten has those whose definitions have been written since, though their names and keys are the same.
+	Rewritten []Rewritten
 	// Used is how many tables were looked at (record.Commit). Unsure: names may have changed once more since.
 	Used   uint64
 	Unsure bool
+}
+
+// Rewritten is a table whose definition was written, or one of its indexes' or its schema's: names may have been changed,
+// and changed back. By is who wrote the table's own row last: what is committed after that has the right names.
+type Rewritten struct {
+	Relation, Root record.Relation
+	By             uint32
 }
 
 // Meeter makes the proxy's sessions meet. Other connections than those that are named wait for nothing, and are waited

@@ -137,6 +137,10 @@ func (c *core) resolveReads(e *entry, to *resolution) bool {
 			continue
 		}
 		id := rowID{c.tables.Root(one.Relation), one.Key}
+		if c.isFromBefore(id.relation, &e.its) {
+			to.leave(i+1, keyChanged)
+			continue
+		}
 		r := c.rows.by[id]
 		at, v := r.find(one.Version)
 		switch {
@@ -149,7 +153,7 @@ func (c *core) resolveReads(e *entry, to *resolution) bool {
 			}
 			to.add(e, at, from, i+1, foundIn(v))
 		case c.isOld(one.Version):
-			if at = c.rows.before(id); at == nil || c.missed(&e.its) {
+			if at = c.rows.before(id); at == nil || c.missed(id.relation, &e.its) {
 				to.leave(i+1, versionUnknown)
 				continue
 			}
@@ -188,9 +192,21 @@ const visible = 2 * time.Second
 
 // missed reports whether the transaction may have begun before an insertion or deletion that is forgotten: then a row
 // that it found, or didn't find, may have been another one than that which has the key now.
-func (c *core) missed(it *record.Transaction) bool {
+func (c *core) missed(of record.Relation, it *record.Transaction) bool {
 	began, _ := span(it)
-	return c.rows.lost > 0 && !began.After(c.began.Add(c.rows.lost+visible))
+	lost := c.rows.lost
+	if its := c.rows.forgotten[of]; its > lost {
+		lost = its
+	}
+	return lost > 0 && !began.After(c.began.Add(lost+visible))
+}
+
+// isFromBefore reports whether the transaction may have begun before it was seen that a table's definition had been
+// written: what it read by the table's name may have been something else.
+func (c *core) isFromBefore(table record.Relation, it *record.Transaction) bool {
+	at, is := c.rows.forgotten[table]
+	began, _ := span(it)
+	return is && !began.After(c.began.Add(at))
 }
 
 // resolveAbsent finds the versions that made rows absent. At read committed each statement has its own snapshot, which
@@ -212,6 +228,10 @@ func (c *core) resolveAbsent(e *entry, to *resolution) bool {
 			continue
 		}
 		id := rowID{c.tables.Root(one.Relation), one.Key}
+		if c.isFromBefore(id.relation, &e.its) {
+			to.leave(-i-1, keyChanged)
+			continue
+		}
 		if c.rows.by[id].wrote(e.writer) {
 			to.leave(-i-1, absentOwn)
 			continue
@@ -243,7 +263,7 @@ func (c *core) absence(e *entry, to *resolution, id rowID, shows snapshot, at in
 			next, gone = gone, gone.earlier
 		}
 	}
-	if last != nil && !last.deleted || last == nil && c.missed(&e.its) {
+	if last != nil && !last.deleted || last == nil && c.missed(id.relation, &e.its) {
 		to.leave(at, absentUnknown)
 		return true
 	}

@@ -17,6 +17,8 @@ type rows struct {
 	fence   *row   // which nobody writes: its key is 0
 	// lost is just after the slot reported the last insertion or deletion that is forgotten; 0 for none.
 	lost time.Duration
+	// forgotten are tables whose rows were forgotten, and when.
+	forgotten map[record.Relation]time.Duration
 }
 
 func newRows(most int) *rows {
@@ -77,6 +79,26 @@ func (r *rows) succeed(old *row) *row {
 	r.by[it.id] = it
 	r.read, r.many = append(r.read, it), append(r.many, it)
 	return it
+}
+
+// mostForgotten limits the tables that are remembered as forgotten.
+const mostForgotten = 100_000
+
+// forgetTable forgets a table's rows.
+func (r *rows) forgetTable(relation record.Relation, now time.Duration) {
+	for id := range r.by {
+		if id.relation == relation {
+			delete(r.by, id)
+		}
+	}
+	if len(r.forgotten) >= mostForgotten {
+		r.forgotten = nil
+		r.lose(now)
+	}
+	if r.forgotten == nil {
+		r.forgotten = map[record.Relation]time.Duration{}
+	}
+	r.forgotten[relation] = now
 }
 
 // write returns the row that a transaction wrote.

@@ -8,6 +8,16 @@ import (
 
 // plan determines what a statement is, and analyses those that read or write rows.
 func (m *maker) plan(stmt statement) *Plan {
+	p, foreign := m.planned(stmt), m.foreign(stmt.tree)
+	for _, its := range []*Plan{p, p.Inner, p.misplaced} {
+		if its != nil {
+			its.Foreign = foreign
+		}
+	}
+	return p
+}
+
+func (m *maker) planned(stmt statement) *Plan {
 	name, body := only(stmt.tree)
 	p := &Plan{Shape: m.shape}
 	switch name {

@@ -95,7 +95,8 @@ func (c *Cache) make(state *cached, s *scanner) *Plan {
 	case err != nil && s.popped: // some lists of constants have a length that matters, as NULLIF's
 		p = &Plan{apart: true}
 	case err != nil:
-		p = &Plan{Kind: Other, Shape: m.shape, Unknown: true, MayWriteUnseen: true, MayCommit: true, ChangesNames: true}
+		p = &Plan{Kind: Other, Shape: m.shape, Unknown: true, MayWriteUnseen: true, MayCommit: true, ChangesNames: true,
+			Foreign: true}
 		p.leaveOut("it can't be parsed")
 	case len(stmts) == 0:
 		p = &Plan{Kind: Empty}
@@ -142,7 +143,7 @@ func (p *Plan) stamp(generation uint64) {
 func unknownPlan(generation uint64) *Plan {
 	p := &Plan{
 		Shape: "(a very long or incomplete statement)", Generation: generation,
-		Unknown: true, MayWriteUnseen: true, MayCommit: true, ChangesNames: true,
+		Unknown: true, MayWriteUnseen: true, MayCommit: true, ChangesNames: true, Foreign: true,
 	}
 	p.leaveOut("a very long or incomplete statement")
 	return p
@@ -158,6 +159,7 @@ func (c *Cache) several(state *cached, m *maker, stmts []statement) *Plan {
 		p.ranges = append(p.ranges, tokenRange{stmt.from, stmt.to})
 		p.MayWriteUnseen = p.MayWriteUnseen || part.MayWriteUnseen
 		p.ChangesNames = p.ChangesNames || part.ChangesNames
+		p.Foreign = p.Foreign || part.Foreign
 	}
 	return p
 }

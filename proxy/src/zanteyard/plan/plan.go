@@ -103,6 +103,10 @@ type Plan struct {
 	// Calls means that the statement calls a function or an operator that isn't the server's own, and may do more than
 	// compute a value.
 	Calls bool
+	// Foreign means that the statement may run what others have made, which may run any statement: functions that aren't
+	// the server's own or written in C, also those of triggers, views, policies, defaults and the like. FETCH and EXECUTE
+	// may, if what they run does.
+	Foreign bool
 	// Resets are the parts of a connection's state that the statement sets to what they were when the connection began, and
 	// all that it does to names and rights.
 	Resets Parts

@@ -26,13 +26,10 @@ func (s *Session) ask(o *output, p *plan.Plan) {
 		s.trust.wanted = true
 		return
 	}
-	to := o.own()
-	if !s.trust.prepared {
-		to = append(append(to, closeAsk...), askPrepare...)
-		s.queue.step('C', nil)
-		s.queue.step('P', nil)
-		s.trust.prepared = true
-	}
+	// It is prepared each time: what a trigger or a function may have put in its place isn't run.
+	to := append(append(o.own(), closeAsk...), askPrepare...)
+	s.queue.step('C', nil)
+	s.queue.step('P', nil)
 	o.buf = append(append(to, askRun...), syncMessage...)
 	s.queue.again(expectation{kind: askRow})
 	s.queue.push(expectation{kind: askEnd, message: 'S'})

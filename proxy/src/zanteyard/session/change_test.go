@@ -135,21 +135,18 @@ func TestTrialDoesNotWait(t *testing.T) {
 // error, not an answer that drivers take for success.
 func TestCancelOfTheQuestion(t *testing.T) {
 	needServer(t)
+	sql(t, "DROP ROLE IF EXISTS unasking; CREATE ROLE unasking LOGIN; GRANT ALL ON t TO unasking")
+	defer sql(t, "DROP OWNED BY unasking; DROP ROLE unasking")
 	for _, commit := range []step{query("COMMIT"), extended("COMMIT", nil)} {
 		sql(t, fill)
-		p := through(t, "postgres", nil)
-		p.warm("BEGIN", "UPDATE t SET v = 1 WHERE v > 20", "COMMIT")
+		p := through(t, "unasking", nil)
+		p.warm("BEGIN", "UPDATE t SET v = v + 1 WHERE id > 3", "COMMIT")
+		// The question is made to fail by a right that it needs.
+		sql(t, "REVOKE EXECUTE ON FUNCTION pg_current_snapshot() FROM PUBLIC")
 		p.query("BEGIN")
-		p.query("UPDATE t SET v = 1 WHERE v > 20")
-		// The question is made to fail by dropping its statement, which would be prepared again at once if it was wanted.
-		p.session.state.Lock()
-		p.session.trust.wanted = false
-		p.session.state.Unlock()
-		p.query("DO $$BEGIN EXECUTE 'DEALLOCATE \"zanteyard.ask\"'; END$$")
-		p.session.state.Lock()
-		p.session.trust.doubt, p.session.trust.asks, p.session.trust.prepared = false, true, true
-		p.session.state.Unlock()
+		p.query("UPDATE t SET v = v + 1 WHERE id > 3")
 		got := p.do(commit)
+		sql(t, "GRANT EXECUTE ON FUNCTION pg_current_snapshot() TO PUBLIC")
 		if len(got) != 2 || got[0][0] != 'E' || string(got[1]) != "Z\x00\x00\x00\x05I" {
 			t.Errorf("got %s", show(got))
 		}

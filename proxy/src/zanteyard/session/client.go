@@ -34,12 +34,13 @@ func (s *Session) fromClient(o *output, batch []byte) []byte {
 			s.close(o, m, at, end)
 		case 'S':
 			o.pass(at, end)
+			s.trust.syncs(s.status)
 			s.queue.push(expectation{message: 'S'})
 			s.open, s.skipping = false, false
 		case 'F':
 			o.pass(at, end)
 			s.trust.changed()
-			s.trust.era++
+			s.trust.runsForeign()
 			s.begin()
 			s.queue.push(expectation{message: 'F', on: called})
 		case 'c', 'f':
@@ -171,6 +172,7 @@ func (s *Session) query(o *output, m []byte, start, end int) {
 	}
 	e.undo, e.previous = undoStatement, s.names.statements[""]
 	s.names.setStatement("", nil) // a Query drops the unnamed statement
+	s.trust.syncs(s.status)
 	s.open = false
 	s.queue.push(e)
 }
@@ -279,7 +281,7 @@ func (s *Session) bind(o *output, m []byte, start, end int) {
 		s.bindHidden(o, b, st, p)
 	case st.kind() == plan.Fetch && s.names.cursors[st.plan.Name] != nil:
 		p.binary = b.Binary()
-		o.buf = b.Append(o.own(), st.name, hiddenColumns(s.names.cursors[st.plan.Name]))
+		o.buf = b.Append(o.own(), st.name, hiddenColumns(s.names.cursors[st.plan.Name].plan))
 	default:
 		o.pass(start, end)
 	}
@@ -419,7 +421,7 @@ func (s *Session) execute(o *output, m []byte, start, end int) {
 	if e.on == nil {
 		e.on = opaque
 		s.trust.changed()
-		s.trust.era++
+		s.trust.runsForeign()
 	}
 	if e.hides != nil && e.hides.AddsReturning && len(m) >= wire.Header+5 {
 		// The client's statement returned no rows, so its limit meant nothing; now that it returns rows, the limit would mean

@@ -61,11 +61,17 @@ type names struct {
 	statements map[string]*statement
 	portals    map[string]*portal
 	// cursors has the cursors that DECLARE made with a rewritten query, prepared the statements of SQL's PREPARE.
-	cursors  map[string]*plan.Plan
+	cursors  map[string]*cursor
 	prepared map[string]*statement
 	// unread says of other cursors why their rows aren't seen; "" if they are of no table.
 	unread map[string]string
 	twins  int // made so far
+}
+
+// cursor is a cursor whose rows have hidden columns.
+type cursor struct {
+	plan *plan.Plan
+	era  uint64 // of trust, when it was declared
 }
 
 // mostUnread is how many cursors that aren't rewritten are known by name.
@@ -79,7 +85,7 @@ func (n *names) unseen(cursor, reason string) {
 }
 
 func newNames() names {
-	return names{map[string]*statement{}, map[string]*portal{}, map[string]*plan.Plan{},
+	return names{map[string]*statement{}, map[string]*portal{}, map[string]*cursor{},
 		map[string]*statement{}, map[string]string{}, 0}
 }
 

@@ -30,25 +30,27 @@ type expectation struct {
 	kind purpose
 	// message is the message's type: P B D E C S Q F; H is a malformed Flush; c is the end of a copy, which is owed
 	// nothing.
-	message byte
-	mute    bool // the answer isn't passed on, though the message is the client's
-	binary  bool // hidden columns come as binary
-	cleared bool // the unnamed statement is gone, even if this one fails
-	changed bool // the statement was rewritten
-	hidden  int  // number of hidden columns in the answer
-	part    int  // which of several statements is being answered
-	pieces  []piece
-	rows    int        // rows of the statement that is being answered
-	loose   int        // of these, how many have no version
-	from    int        // number of reads before its first row
-	levels  uint64     // what trust.levels counted when it was sent
-	doubts  uint64     // and trust.doubts
-	sent    time.Time  // when the client's message was sent, or the one before it
-	hides   *plan.Plan // the plan that added the hidden columns
-	on      *statement
-	at      *portal
-	use     *use
-	asking  *asking // what it asks for by a condition, nil if that isn't followed
+	message  byte
+	mute     bool // the answer isn't passed on, though the message is the client's
+	binary   bool // hidden columns come as binary
+	cleared  bool // the unnamed statement is gone, even if this one fails
+	changed  bool // the statement was rewritten
+	hidden   int  // number of hidden columns in the answer
+	part     int  // which of several statements is being answered
+	pieces   []piece
+	rows     int        // rows of the statement that is being answered
+	loose    int        // of these, how many have no version
+	from     int        // number of reads before its first row
+	levels   uint64     // what trust.levels counted when it was sent
+	doubts   uint64     // and trust.doubts
+	era      uint64     // and trust.era (before)
+	sent     time.Time  // when the client's message was sent, or the one before it
+	hides    *plan.Plan // the plan that added the hidden columns
+	on       *statement
+	at       *portal
+	use      *use
+	replaced bool    // the cursor may be another one than that which is known
+	asking   *asking // what it asks for by a condition, nil if that isn't followed
 	// What names stood for before this message, if it changes that: restored if the server doesn't get to it.
 	undo     undo
 	name     string
@@ -71,6 +73,7 @@ type queue struct {
 	list []expectation
 	head int
 	sent time.Time // when the client's messages that are added now were sent
+	era  uint64
 	// levels and doubts are what trust counts now.
 	levels, doubts *uint64
 }
@@ -80,6 +83,9 @@ func (q *queue) size() int   { return len(q.list) - q.head }
 
 func (q *queue) push(e expectation) {
 	e.sent, e.levels, e.doubts = q.sent, *q.levels, *q.doubts
+	if len(e.pieces) == 0 { // each has its own
+		e.era = q.era
+	}
 	q.list = append(q.list, e)
 }
 

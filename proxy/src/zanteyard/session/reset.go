@@ -151,7 +151,5 @@ func (t *trust) changed() {
 
 // discarded is called before all prepared statements are dropped, the proxy's own, too. If they aren't, no harm is done.
 func (t *trust) discarded() {
-	t.prepared = false
-	t.discards++
 	t.orphans = t.orphans[:0]
 }

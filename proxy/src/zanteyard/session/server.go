@@ -183,7 +183,7 @@ func (s *Session) fetched(e *expectation) {
 		return
 	}
 	if p := s.names.cursors[fetch.Name]; p != nil {
-		e.hides, e.hidden = p, hiddenColumns(p)
+		e.hides, e.hidden, e.replaced = p.plan, hiddenColumns(p.plan), p.era != e.era
 	}
 }
 
@@ -240,7 +240,11 @@ func (s *Session) hidden(e *expectation, values [][]byte) {
 		e.asking.got(reads, err != nil)
 	}
 	counts := p.Kind == plan.Select && len(p.Unseen) == 0
-	if reason := s.tx.unreported(); reason != "" && len(reads) > 0 {
+	reason := s.tx.unreported()
+	if e.replaced {
+		reason = "a cursor that may be another one by now: what others have made has run since it was declared"
+	}
+	if reason != "" && len(reads) > 0 {
 		s.notSeen(p.Shape, reason, true)
 	} else {
 		s.tx.read(reads, s.options.ReadLimit, counts)
@@ -316,6 +320,7 @@ func (s *Session) failed(o *output, e *expectation, m []byte, start, end int, pa
 		return
 	}
 	s.tx.failed = true
+	s.trust.begun = false
 	switch e.kind {
 	case clients, reparse, twin:
 		s.tx.erred = true

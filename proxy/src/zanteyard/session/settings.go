@@ -9,14 +9,25 @@ import (
 // before handles a statement that is about to be sent: whatever it may change isn't relied on from here on, whether or
 // not it succeeds.
 func (s *Session) before(p *plan.Plan) {
+	was := s.trust.era
+	s.changes(p)
+	if s.queue.era = s.trust.era; p != nil && p.Kind == plan.Fetch {
+		s.queue.era = was // a cursor can't be replaced while its rows are fetched
+	}
+}
+
+func (s *Session) changes(p *plan.Plan) {
 	t := &s.trust
 	if p == nil {
 		t.block.murky = true
 		t.changed()
-		t.era++
+		t.runsForeign()
 		return
 	}
 	s.uses(p.Name)
+	if s.isForeign(p) {
+		t.runsForeign()
+	}
 	b := &t.block
 	b.murky = b.murky || p.Unknown || p.ChangesNames && !p.Settings
 	switch p.Kind {
@@ -28,6 +39,7 @@ func (s *Session) before(p *plan.Plan) {
 	case plan.Commit, plan.Rollback, plan.PrepareTransaction:
 		t.undoes()
 		b.murky, b.redefined = false, false
+		t.foreign, t.begun = false, p.Chain
 	case plan.RollbackTo:
 		t.undoes()
 	case plan.Definition:
@@ -39,7 +51,7 @@ func (s *Session) before(p *plan.Plan) {
 	case plan.Deallocate:
 		s.deallocated(p.Name)
 	case plan.Begin:
-		t.wanted = true
+		t.wanted, t.begun = true, true
 	}
 	if p.Resets != 0 {
 		s.reset(p.Resets)
@@ -54,9 +66,40 @@ func (s *Session) before(p *plan.Plan) {
 	if p.ChangesNames || p.Unknown || p.Kind == plan.Set {
 		t.changed()
 	}
-	if p.Unknown || p.ChangesNames && p.Kind != plan.Set && p.Kind != plan.TemporaryDefinition {
-		t.era++ // a function may have prepared something by the same name
+}
+
+// isForeign reports whether a statement may run what others have made.
+func (s *Session) isForeign(p *plan.Plan) bool {
+	switch p.Kind {
+	case plan.Fetch:
+		of := s.names.cursors[p.Name]
+		return of == nil || of.plan.Foreign
+	case plan.Execute:
+		of := s.names.prepared[p.Name]
+		return of == nil || of.plan == nil || of.plan.Foreign
+	case plan.Commit, plan.PrepareTransaction:
+		return s.trust.foreign // by triggers that are deferred
+	case plan.Several:
+		return false // each part is asked for
 	}
+	return p.Foreign
+}
+
+// runsForeign is called before something that may run any statement: it could put another statement in the place of one
+// of the proxy's own, and another cursor in the place of one that is known. So the former are prepared again before they
+// are used, and what the latter return isn't reported.
+func (t *trust) runsForeign() {
+	t.era++
+	t.foreign = true
+}
+
+// syncs is called before a Sync. If it ends a transaction, deferred triggers run.
+func (t *trust) syncs(status byte) {
+	if !t.foreign || t.begun {
+		return
+	}
+	t.era++
+	t.foreign = status == 'T'
 }
 
 // uses notices a name that the client uses. By one of the proxy's own it could replace what the proxy asks, and so have

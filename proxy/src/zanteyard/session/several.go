@@ -16,6 +16,7 @@ type piece struct {
 	changed    bool
 	at, length int // of the insertion, in the rewritten text of all
 	asking     *asking
+	era        uint64
 }
 
 // pieces rewrites those of several statements that may be rewritten. Whatever one of them may change isn't relied on
@@ -44,6 +45,7 @@ func (s *Session) pieces(st *statement) (string, []piece) {
 			to = append(to, one.text...)
 		}
 		s.before(p)
+		it.era = s.queue.era
 		last, begins = part.To, behind
 		all = append(all, it)
 	}
@@ -73,7 +75,7 @@ func (e *expectation) piece(i int) {
 		return
 	}
 	it := &e.pieces[i]
-	e.use, e.changed, e.asking = it.use, it.changed, it.asking
+	e.use, e.changed, e.asking, e.era, e.replaced = it.use, it.changed, it.asking, it.era, false
 	if it.changed && it.plan.Kind != plan.Declare {
 		e.hides, e.hidden = it.plan, it.use.hidden
 	}

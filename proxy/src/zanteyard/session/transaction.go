@@ -331,7 +331,7 @@ func (s *Session) did(p *plan.Plan, e *expectation, tag []byte) {
 		return
 	case plan.Declare:
 		if e.changed {
-			s.names.cursors[p.Name] = p.Inner
+			s.names.cursors[p.Name] = &cursor{p.Inner, e.era}
 		} else {
 			delete(s.names.cursors, p.Name)
 		}

@@ -46,6 +46,8 @@ type trust struct {
 	generations map[string]uint64
 	newest      uint64 // of all generations
 	era         uint64 // what the proxy prepared in an older one may be something else by now
+	foreign     bool   // others' statements may have run in the transaction, so that deferred triggers may, too
+	begun       bool   // it is a block, which a Sync doesn't end
 	catalog     uint64 // the catalog's generation, as last looked at
 	path        string // the search path for resolving names, "" for the catalog's own
 	plans       uint64 // counts changes of these two: plans from before aren't used any more
@@ -62,8 +64,6 @@ type trust struct {
 	back      plan.Parts // these are as at its beginning, or after a reset
 	fresh     bool       // nothing may have been changed since its beginning
 	asks      bool       // the ask has run in this generation
-	prepared  bool       // and is still prepared
-	discards  uint64     // counts what drops prepared statements
 	wanted    bool       // the ask is worth preparing
 	broken    bool       // not even the proxy's own questions work here
 	pooled    bool       // there is a pooler between proxy and server: statements may reach one backend after another
@@ -79,7 +79,6 @@ type trust struct {
 // trial is one series of messages that was sent at an idle moment.
 type trial struct {
 	generation, doubts uint64
-	discards           uint64
 	back               plan.Parts
 	uses               []*use
 	signature          []byte
@@ -172,7 +171,7 @@ func (t *trust) planAnew() {
 
 func (t *trust) doubtful() {
 	t.doubt = true
-	t.asks, t.prepared = false, false // a function may have dropped it
+	t.asks = false
 	t.doubts++
 	t.levels++
 }
@@ -279,7 +278,7 @@ func rows(p *plan.Plan) *plan.Plan {
 // try appends a trial's messages, and records what is expected for them.
 func (s *Session) try(out []byte) []byte {
 	t := &s.trust
-	w := &trial{generation: t.generation, doubts: t.doubts, discards: t.discards, back: t.back, levels: t.levels, mark: t.mark,
+	w := &trial{generation: t.generation, doubts: t.doubts, back: t.back, levels: t.levels, mark: t.mark,
 		done: make(chan struct{})}
 	s.trial = w
 	if s.status == 'T' {
@@ -298,7 +297,7 @@ func (s *Session) try(out []byte) []byte {
 	}
 	out = append(out, signatureOf(w.mark)...)
 	s.queue.once(expectation{kind: signatureRow})
-	if !t.asks || !t.prepared {
+	if !t.asks {
 		// An ask that fails in a transaction would abort it, so it has to run here first.
 		out = append(append(out, closeAsk...), askPrepare...)
 		s.queue.step('C', nil)
@@ -467,7 +466,7 @@ func (s *Session) tryEnd() {
 		isSame = false
 	}
 	if w.asked && !w.failed && isSame {
-		t.asks, t.prepared = true, w.discards == t.discards
+		t.asks = true
 	}
 	switch {
 	case w.signature == nil || bytes.Equal(w.signature, t.signature) && path == t.path:

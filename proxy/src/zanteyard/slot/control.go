@@ -140,13 +140,14 @@ func (c *Control) one(ctx context.Context, text own.Text) (string, error) {
 // the catalog is read again, and all is asked again.
 func (c *Control) Place(ctx context.Context) (join.Place, error) {
 	var changed []record.Relation
+	var rewritten []join.Rewritten
 	for again := 0; ; again++ {
 		oids, used := c.tables.usedText()
 		rows, err := c.where(ctx, oids)
 		if err != nil {
 			return join.Place{}, err
 		}
-		if len(rows) != 1 || len(rows[0]) != 3 {
+		if len(rows) != 1 || len(rows[0]) != 4 {
 			return join.Place{}, errForm
 		}
 		at, ok := parsePlace(rows[0][0])
@@ -159,16 +160,17 @@ func (c *Control) Place(ctx context.Context) (join.Place, error) {
 		}
 		switch {
 		case rows[0][1] == c.tables.usedStamp() && !(c.tables.Missing() && c.mayReload()):
+			place.Rewritten = append(rewritten, c.tables.versions(rows[0][3])...)
 			return place, nil
 		case again == mostReloads: // somebody changes one table after the other: nothing is verified for now
-			place.Unsure = true
+			place.Unsure, place.Rewritten = true, rewritten
 			return place, nil
 		}
-		more, err := c.reload(ctx)
+		more, also, err := c.reload(ctx)
 		if err != nil {
 			return join.Place{}, err
 		}
-		changed = append(changed, more...)
+		changed, rewritten = append(changed, more...), append(rewritten, also...)
 	}
 }
 
@@ -182,24 +184,30 @@ func (c *Control) mayReload() bool {
 	return time.Since(c.reloaded) > 250*time.Millisecond
 }
 
-// stampSQL returns a text that changes with a table's name or key.
-const stampSQL = `SELECT pg_catalog.string_agg(` + stampOfOne + `, '; ' ORDER BY c.oid)
-  FROM pg_catalog.pg_class c JOIN pg_catalog.pg_namespace n ON n.oid = c.relnamespace
-  LEFT JOIN pg_catalog.pg_index i ON i.indrelid = c.oid AND i.indisprimary `
+// versionOfOne is a text that changes whenever what decides a table's name or its replica identity is written, also if it
+// is the same afterwards, and with TRUNCATE and the like. The second part is who wrote the table's own row last.
+const versionOfOne = `pg_catalog.concat_ws(' ', c.oid, c.xmin, n.xmin, (SELECT pg_catalog.string_agg(x.xmin::pg_catalog.text, ','
+  ORDER BY x.indexrelid) FROM pg_catalog.pg_index x WHERE x.indrelid = c.oid))`
 
+// stampOfOne is a text that changes with a table's name or key.
 const stampOfOne = "pg_catalog.concat_ws(' ', c.oid, n.nspname, c.relname, c.relispartition, c.relreplident, i.indisreplident, " + catalog.IdentitySQL + ")"
 
-var placeSQL = own.SQL("SELECT pg_catalog.pg_current_wal_insert_lsn(), (" + stampSQL +
-	"WHERE c.oid = ANY($1::pg_catalog.oid[])), pg_catalog.pg_current_snapshot()")
+const (
+	placeBegin = "SELECT pg_catalog.pg_current_wal_insert_lsn(), s.stamps, pg_catalog.pg_current_snapshot(), s.versions " +
+		"FROM (SELECT pg_catalog.string_agg("
+	placeEnd = ", '; ' ORDER BY c.oid) AS stamps, pg_catalog.string_agg(" + versionOfOne + `, '; ' ORDER BY c.oid) AS versions
+  FROM pg_catalog.pg_class c JOIN pg_catalog.pg_namespace n ON n.oid = c.relnamespace
+  LEFT JOIN pg_catalog.pg_index i ON i.indrelid = c.oid AND i.indisprimary
+  WHERE c.oid = ANY($1::pg_catalog.oid[])) s`
+)
+
+var placeSQL = own.SQL(placeBegin + stampOfOne + placeEnd)
 
 // The same for an audit that wants rows' values: a stamp then changes with each column.
 const valuesStampOfOne = "pg_catalog.concat_ws(' ', c.oid, n.nspname, c.relname, c.relispartition, c.relreplident, i.indisreplident, " + catalog.IdentitySQL + ", " +
 	catalog.ColumnsSQL + ")"
 
-var valuesPlaceSQL = own.SQL("SELECT pg_catalog.pg_current_wal_insert_lsn(), (SELECT pg_catalog.string_agg(" + valuesStampOfOne +
-	", '; ' ORDER BY c.oid) FROM pg_catalog.pg_class c JOIN pg_catalog.pg_namespace n ON n.oid = c.relnamespace " +
-	"LEFT JOIN pg_catalog.pg_index i ON i.indrelid = c.oid AND i.indisprimary " +
-	"WHERE c.oid = ANY($1::pg_catalog.oid[])), pg_catalog.pg_current_snapshot()")
+var valuesPlaceSQL = own.SQL(placeBegin + valuesStampOfOne + placeEnd)
 
 // columnsSQL returns the columns of tables, other than partitions, whose rows' values may be wanted.
 var columnsSQL = own.SQL(`SELECT c.oid, ` + catalog.ColumnsSQL + `, ` + valuesStampOfOne + `, a.attname, a.attnum,
@@ -358,7 +366,7 @@ const tablesEnd = `, top.nspname, top.relname, ` + catalog.IdentitySQL + `, NOT 
   c.relkind = 'r' AND (c.relreplident = 'n' OR c.relreplident = 'i' AND NOT i.indisreplident),
   c.relkind = 'p' OR c.relreplident = 'f' OR EXISTS (SELECT FROM pg_catalog.pg_index r WHERE r.indrelid = c.oid
     AND CASE c.relreplident WHEN 'd' THEN r.indisprimary WHEN 'i' THEN r.indisreplident ELSE false END
-    AND r.indisvalid AND r.indimmediate)
+    AND r.indisvalid AND r.indimmediate), ` + versionOfOne + `
 FROM pg_catalog.pg_class c JOIN pg_catalog.pg_namespace n ON n.oid = c.relnamespace
 LEFT JOIN pg_catalog.pg_index i ON i.indrelid = c.oid AND i.indisprimary
 LEFT JOIN LATERAL pg_catalog.unnest(i.indkey) WITH ORDINALITY k(number, place) ON k.place <= i.indnkeyatts
@@ -375,19 +383,19 @@ ORDER BY c.oid, k.place`
 
 // Load reads the catalog.
 func (c *Control) Load(ctx context.Context) error {
-	_, err := c.reload(ctx)
+	_, _, err := c.reload(ctx)
 	return err
 }
 
-// reload reads the catalog again, and returns the tables that have changed.
-func (c *Control) reload(ctx context.Context) ([]record.Relation, error) {
+// reload reads the catalog again, and returns the tables that have changed, and those whose definitions have been written.
+func (c *Control) reload(ctx context.Context) ([]record.Relation, []join.Rewritten, error) {
 	text := tablesSQL
 	if c.options.Values != nil {
 		text = valuesTablesSQL
 	}
 	rows, err := c.ask(ctx, text)
 	if err != nil {
-		return nil, fmt.Errorf("read the catalog: %w", err)
+		return nil, nil, fmt.Errorf("read the catalog: %w", err)
 	}
 	c.lock.Lock()
 	c.reloaded = time.Now()
@@ -397,7 +405,7 @@ func (c *Control) reload(ctx context.Context) ([]record.Relation, error) {
 		if len(all) == 0 || strconv.FormatUint(uint64(all[len(all)-1].Relation), 10) != row[0] {
 			one, err := c.table(row)
 			if err != nil {
-				return nil, err
+				return nil, nil, err
 			}
 			all = append(all, one)
 		}
@@ -406,17 +414,18 @@ func (c *Control) reload(ctx context.Context) ([]record.Relation, error) {
 		}
 		number, err := strconv.ParseUint(row[5], 10, 32)
 		if err != nil {
-			return nil, fmt.Errorf("read the catalog: %w", err)
+			return nil, nil, fmt.Errorf("read the catalog: %w", err)
 		}
 		last := all[len(all)-1]
 		last.Key = append(last.Key, Column{Name: row[4], Type: uint32(number)})
 	}
 	if c.options.Values != nil {
 		if err := c.columns(ctx, all); err != nil {
-			return nil, err
+			return nil, nil, err
 		}
 	}
-	return c.tables.set(all), nil
+	changed, rewritten := c.tables.set(all)
+	return changed, rewritten, nil
 }
 
 // columns reads the tables' columns.
@@ -457,8 +466,9 @@ func (c *Control) table(row []string) (*Table, error) {
 	}
 	its := &Table{Relation: record.Relation(oid), Root: record.Relation(oid), Schema: row[1], Name: row[2], stamp: row[6]}
 	its.deferrable, its.noOldKeys, its.identified = row[10] == "t", row[11] == "t", row[12] == "t"
+	its.version = row[13]
 	if row[9] != "" {
-		its.identity = catalog.IdentityOf(row[9])
+		its.identity = catalog.KeyIdentity(its.Schema, its.Name, row[9])
 	}
 	if root, err := strconv.ParseUint(row[3], 10, 32); err == nil {
 		its.Root = record.Relation(root)

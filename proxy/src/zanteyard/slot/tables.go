@@ -9,6 +9,7 @@ import (
 	"time"
 
 	"zanteyard/catalog"
+	"zanteyard/join"
 	"zanteyard/record"
 )
 
@@ -20,6 +21,7 @@ type Table struct {
 	Key          []Column        // in the key's order; none without a primary key
 	unasked      bool            // it isn't among those to audit
 	stamp        string          // changes with the table's name or key
+	version      string          // changes with each write to its definition (versionOfOne)
 	identity     record.Identity // of the key
 	deferrable   bool            // the key is
 	noOldKeys    bool            // the log doesn't have a row's old key
@@ -81,6 +83,7 @@ type Tables struct {
 	uses    uint64                       // atomic: how many have been used
 	oids    string                       // of the tables that are used, as an array's text
 	stamp   string                       // their stamps
+	version string                       // and versions
 	missing bool                         // an unknown name arrived: the tables have to be read again
 	left    map[left]uint64              // changes that are left out
 	strange map[string]time.Time         // unknown names, and when the tables were last to be read again because of them
@@ -93,8 +96,8 @@ func newTables(show func(uint32, string) string) *Tables {
 	return &Tables{show: show, left: map[left]uint64{}, strange: map[string]time.Time{}}
 }
 
-// set replaces all tables, and returns those that have changed.
-func (t *Tables) set(all []*Table) (changed []record.Relation) {
+// set replaces all tables, and returns those that have changed, and those whose definitions have been written since.
+func (t *Tables) set(all []*Table) (changed []record.Relation, rewritten []join.Rewritten) {
 	by, names := make(map[record.Relation]*Table, len(all)), map[string]map[string]*Table{}
 	for _, one := range all {
 		by[one.Relation] = one
@@ -109,6 +112,8 @@ func (t *Tables) set(all []*Table) (changed []record.Relation) {
 		is := by[relation]
 		if is == nil || is.stamp != was.stamp || is.Root != was.Root {
 			changed = append(changed, relation, was.Root)
+		} else if is.version != was.version {
+			rewritten = append(rewritten, is.rewritten())
 		}
 		if is != nil {
 			is.used = atomic.LoadUint32(&was.used)
@@ -123,7 +128,36 @@ func (t *Tables) set(all []*Table) (changed []record.Relation) {
 	t.names++
 	t.appears()
 	t.stampOf()
-	return changed
+	return changed, rewritten
+}
+
+// rewritten says who wrote its definition last.
+func (t *Table) rewritten() join.Rewritten {
+	its := join.Rewritten{Relation: t.Relation, Root: t.Root}
+	if parts := strings.Fields(t.version); len(parts) > 1 {
+		number, _ := strconv.ParseUint(parts[1], 10, 32)
+		its.By = uint32(number)
+	}
+	return its
+}
+
+// versions takes over the versions of used tables, and returns those that have changed.
+func (t *Tables) versions(text string) (rewritten []join.Rewritten) {
+	t.lock.Lock()
+	defer t.lock.Unlock()
+	if text == t.version {
+		return nil
+	}
+	for _, version := range strings.Split(text, "; ") {
+		oid, _, _ := strings.Cut(version, " ")
+		number, _ := strconv.ParseUint(oid, 10, 32)
+		if one := t.by[record.Relation(number)]; one != nil && one.version != version {
+			one.version = version
+			rewritten = append(rewritten, one.rewritten())
+		}
+	}
+	t.stampOf()
+	return rewritten
 }
 
 // stampOf joins the stamps that are expected of the tables in use. Called with lock held.
@@ -135,11 +169,11 @@ func (t *Tables) stampOf() {
 		}
 	}
 	sort.Slice(its, func(i, j int) bool { return its[i].Relation < its[j].Relation })
-	oids, stamps := make([]string, len(its)), make([]string, len(its))
+	oids, stamps, versions := make([]string, len(its)), make([]string, len(its)), make([]string, len(its))
 	for i, one := range its {
-		oids[i], stamps[i] = strconv.FormatUint(uint64(one.Relation), 10), one.stamp
+		oids[i], stamps[i], versions[i] = strconv.FormatUint(uint64(one.Relation), 10), one.stamp, one.version
 	}
-	t.oids, t.stamp = "{"+strings.Join(oids, ",")+"}", strings.Join(stamps, "; ")
+	t.oids, t.stamp, t.version = "{"+strings.Join(oids, ",")+"}", strings.Join(stamps, "; "), strings.Join(versions, "; ")
 }
 
 // usedText returns the used tables as an array's text, and how many these are at least; usedStamp is what is expected of

@@ -95,3 +95,67 @@ func warm(t *testing.T, conn *pgconn.PgConn, texts ...string) {
 		}
 	}
 }
+
+// TestNamesThatChangeAndBack: a table's owner makes its name stand for something else for a while: for another table,
+// within a transaction that writes to it; or for a view, whose columns are called like a table's own. Nothing of that is
+// taken for the table's.
+func TestNamesThatChangeAndBack(t *testing.T) {
+	c := start(t)
+	beside := directly(t, c)
+	sql(t, beside, `CREATE TABLE o (id int PRIMARY KEY, v int); INSERT INTO o VALUES (1, 0);
+		CREATE TABLE swapped (id int PRIMARY KEY, v int); INSERT INTO swapped VALUES (5, 0);
+		CREATE TABLE other (id int PRIMARY KEY, v int); INSERT INTO other VALUES (5, 0);
+		CREATE TABLE viewed (id int PRIMARY KEY, v int); INSERT INTO viewed VALUES (5, 0)`)
+	p := begin(t, c, "--look", "1h")
+	p.until(`["open"`)
+	w := &watched{program: p}
+	reader, writer := p.connect(), p.connect()
+	const o = "UPDATE o SET v = v + 1 WHERE id = 1"
+	texts := []string{"SELECT v FROM swapped WHERE id = 5", "SELECT v FROM viewed WHERE id = 5", "SELECT v FROM o WHERE id = 1",
+		"UPDATE viewed SET v = v + 1 WHERE id = 5", "UPDATE swapped SET v = v + 1 WHERE id = 5", "UPDATE account SET balance = balance WHERE id = 2", o}
+	const view = "ALTER TABLE viewed RENAME TO kept; CREATE VIEW viewed AS SELECT id, v, '2'::xid AS xmin, 'kept'::regclass::oid AS tableoid FROM kept"
+	const back = "DROP VIEW viewed; ALTER TABLE kept RENAME TO viewed"
+	for _, name := range []string{"another table", "a view", "a view, and back"} {
+		warm(t, reader, texts...)
+		warm(t, writer, texts...)
+		offered := false
+		for try := 1; try <= mostTries && !offered; try++ {
+			one, two := fmt.Sprint("reads, ", name, try), fmt.Sprint("writes, ", name, try)
+			sql(t, writer, "BEGIN /*tag='"+two+"'*/")
+			sql(t, writer, o)
+			if name == "another table" {
+				sql(t, writer, "ALTER TABLE swapped RENAME TO x; ALTER TABLE other RENAME TO swapped; ALTER TABLE x RENAME TO other")
+				sql(t, writer, "UPDATE swapped SET v = v + 1 WHERE id = 5")
+				sql(t, writer, "ALTER TABLE swapped RENAME TO x; ALTER TABLE other RENAME TO swapped; ALTER TABLE x RENAME TO other")
+			} else {
+				sql(t, writer, "UPDATE viewed SET v = v + 1 WHERE id = 5")
+			}
+			sql(t, writer, "COMMIT")
+			if name != "another table" {
+				sql(t, beside, "BEGIN; "+view+"; COMMIT")
+			}
+			sql(t, reader, "BEGIN /*tag='"+one+"'*/")
+			if name != "another table" {
+				sql(t, reader, "SELECT v FROM viewed WHERE id = 5")
+			}
+			sql(t, reader, "SELECT v FROM o WHERE id = 1")
+			sql(t, reader, "COMMIT")
+			if name == "a view, and back" {
+				sql(t, beside, "BEGIN; "+back+"; COMMIT")
+			}
+			its := w.tagged(reader, writer)
+			reads, there := its[one]
+			written, also := its[two]
+			offered = there && also && strings.Contains(reads.reads(its), "o 1 from "+two)
+			if offered && (reads.reads(its) != "o 1 from "+two || strings.Contains(written.reads(its), "swapped")) {
+				t.Errorf("%s: they are offered with reads of %s, and %s", name, reads.reads(its), written.reads(its))
+			}
+			if name == "a view" {
+				sql(t, beside, "BEGIN; "+back+"; COMMIT")
+			}
+		}
+		if !offered {
+			t.Errorf("%s: nothing was offered", name)
+		}
+	}
+}
