@@ -34,7 +34,7 @@ const (
 // undoes is called before something that ends a block or undoes a part of it.
 func (t *trust) undoes() {
 	t.block.ends++
-	if t.block.local {
+	if t.block.local || t.block.isPrivate {
 		t.block.local = false
 		t.changed()
 	}
@@ -48,12 +48,13 @@ func (s *Session) free() bool {
 		(s.queue.empty() || s.trial != nil && s.trial.inBlock == isBlock)
 }
 
-// pauses reports whether there is something to try in a block while its client is silent.
+// pauses reports whether there is something to ask in a block while its client is silent. No plan is tried then: that
+// locks tables, which the block may never use.
 func (s *Session) pauses() bool {
 	t := &s.trust
 	return s.status == 'T' && s.tx.queried && s.queue.empty() && s.asked < mostAsks && s.free() &&
 		!t.broken && !t.taken && !t.elsewhere && (t.doubt || t.block.local || !s.tx.calls) &&
-		(len(t.queue) > 0 || t.wanted && (t.doubt || !t.asks || !t.here))
+		t.wanted && (t.doubt || !t.asks || !t.here)
 }
 
 // needsTrial reports whether a batch of messages begins with a statement that is seen only if a trial is made first, or
@@ -61,7 +62,7 @@ func (s *Session) pauses() bool {
 // with state locked.
 func (s *Session) needsTrial(batch []byte) bool {
 	t := &s.trust
-	s.ahead = nil
+	s.ahead, s.next = nil, s.next[:0]
 	if !s.free() || s.options.Bound <= 0 || !s.slow.IsZero() && clock().Before(s.slow) {
 		return false
 	}
@@ -104,6 +105,7 @@ func (s *Session) needs(st *statement, inDoubt bool) bool {
 		}
 	}
 	st.use.runs = st.use.runs || s.runs
+	s.next = append(s.next, st.use)
 	return inDoubt || st.use.waits()
 }
 
@@ -125,6 +127,7 @@ func (s *Session) partsNeed(st *statement, inDoubt bool) bool {
 			use: s.trust.of(part.Plan)}
 		if one.use != nil && rewritable(one) && s.understands(one.plan) && !s.usable(one) {
 			one.use.runs = true
+			s.next = append(s.next, one.use)
 			need = need || inDoubt || one.use.waits()
 		}
 	}

@@ -98,7 +98,7 @@ func (s *Session) useIdle() []byte {
 	defer s.state.Unlock()
 	switch {
 	case s.pauses() && s.looking():
-		s.asked++
+		s.asked, s.next = s.asked+1, s.next[:0]
 		return s.try(nil)
 	case !s.idle():
 	case s.draining.Load():

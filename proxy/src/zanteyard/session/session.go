@@ -97,6 +97,7 @@ type Session struct {
 	ahead    *statement // the client's next one, if it was looked at
 	asked    int        // trials in the block since the client has sent something
 	runs     bool       // what the client sends next runs something
+	next     []*use     // the plans that it needs
 	charset  string     // the client's encoding, as the server reports it
 	encoding bool       // texts can be looked at: the client's encoding and settings allow it
 	standard bool

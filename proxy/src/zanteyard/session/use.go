@@ -1,0 +1,119 @@
+package session
+
+import "zanteyard/plan"
+
+// state is how far a plan has come on a connection.
+type state uint8
+
+const (
+	untried state = iota
+	waiting       // for the next idle moment
+	trying        // its trial was sent
+	tried         // it may be used
+	failed        // it isn't used here until something changes
+)
+
+// use is what a connection knows about a plan.
+type use struct {
+	plan       *plan.Plan
+	state      state
+	generation uint64 // of trust, when state was reached
+	hidden     int    // number of columns that the plan adds
+	sample     *statement
+	columns    bool      // the trial's description had the columns that the plan adds
+	own        int       // number of columns that the statement returns without these
+	allowed    bool      // the trial's query of privileges answered yes
+	costs      []float64 // of the plans with the columns and without them, if the trial compares these
+	compares   bool      // it does
+	compared   bool      // they needn't be compared any more
+	runs       bool      // the client has run it in this generation, or is about to, so that the server plans it anyway
+	delays     int       // number of trials that ended for want of a lock
+	reason     string
+}
+
+// of returns what is known about a plan, or nil if the plan adds nothing.
+func (t *trust) of(p *plan.Plan) *use {
+	u := t.uses[p]
+	if u == nil {
+		n := hiddenColumns(p)
+		if n == 0 {
+			return nil
+		}
+		if len(t.uses) >= mostUses {
+			t.forget()
+			t.uses = map[*plan.Plan]*use{}
+		}
+		u = &use{plan: p, hidden: n}
+		t.uses[p] = u
+	}
+	return u
+}
+
+// usable reports whether a plan may be used now. If it wasn't tried, it is queued for a trial, with a text to try.
+func (t *trust) usable(u *use, sample *statement) bool {
+	if u == nil {
+		return false
+	}
+	if u.generation != t.generation || u.state == untried {
+		own, is := 0, false
+		if !t.doubt && !t.block.isPrivate {
+			own, is = t.shared.has(t.signature, t.catalog, u.plan)
+		}
+		if is && own == tooDear {
+			u.state, u.generation, u.reason = failed, t.generation, Dear
+		} else if is {
+			u.state, u.generation, u.own = tried, t.generation, own
+		} else {
+			u.state, u.generation, u.sample, u.delays = waiting, t.generation, sample, 0
+			u.compares, u.compared, u.runs = false, false, false
+			t.queue = append(t.queue, u)
+			return false
+		}
+	}
+	if u.state != tried {
+		return false
+	}
+	sure := !t.doubt && t.asks && t.here
+	t.wanted = t.wanted || !sure
+	return sure
+}
+
+// why returns why a plan isn't used.
+func (t *trust) why(u *use) string {
+	switch {
+	case t.taken:
+		return "the client uses names that begin with zanteyard"
+	case t.pooled:
+		return "a pooler between proxy and server"
+	case t.elsewhere:
+		return Elsewhere
+	case t.broken:
+		return "the connection's user may not run the proxy's queries"
+	case u.state == failed:
+		return u.reason
+	case u.state == tried:
+		return "something may have changed what names refer to"
+	}
+	return "not tried on its connection yet"
+}
+
+// Elsewhere is why nothing is seen on a connection that a balancer, a name or a failover has led to another server.
+const Elsewhere = "the connection is to another server than the audited one, or to a standby"
+
+// Dear is why a statement is left as it is whose plan would be more than a third dearer with the hidden columns, as when
+// they make the rows of a sort too wide for the memory that it may use.
+const Dear = "the hidden columns would make its plan more than a third dearer"
+
+// dear reports whether the trial found that.
+func (u *use) dear() bool { return len(u.costs) == 2 && plan.Dearer(u.costs[0], u.costs[1]) }
+
+// hiddenColumns returns how many columns a plan adds to what its statement returns, or to the rows of its cursor.
+func hiddenColumns(p *plan.Plan) int { return rows(p).Hidden() }
+
+// rows returns the plan of the query whose rows have the hidden columns.
+func rows(p *plan.Plan) *plan.Plan {
+	if (p.Kind == plan.Declare || p.Kind == plan.Prepare) && p.Inner != nil {
+		return p.Inner
+	}
+	return p
+}
