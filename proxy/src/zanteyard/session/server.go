@@ -320,7 +320,7 @@ func (s *Session) failed(o *output, e *expectation, m []byte, start, end int, pa
 		return
 	}
 	s.tx.failed = true
-	s.trust.begun = false
+	s.trust.begun, s.trust.declared = false, nil
 	switch e.kind {
 	case clients, reparse, twin:
 		s.tx.erred = true

@@ -39,7 +39,7 @@ func (s *Session) changes(p *plan.Plan) {
 	case plan.Commit, plan.Rollback, plan.PrepareTransaction:
 		t.undoes()
 		b.murky, b.redefined = false, false
-		t.foreign, t.begun = false, p.Chain
+		t.foreign, t.begun, t.declared = false, p.Chain, nil
 	case plan.RollbackTo:
 		t.undoes()
 	case plan.Definition:
@@ -50,6 +50,10 @@ func (s *Session) changes(p *plan.Plan) {
 		t.discarded()
 	case plan.Deallocate:
 		s.deallocated(p.Name)
+	case plan.Declare:
+		if !p.Foreign {
+			t.declares(p.Name)
+		}
 	case plan.Begin:
 		t.wanted, t.begun = true, true
 	}
@@ -73,7 +77,7 @@ func (s *Session) isForeign(p *plan.Plan) bool {
 	switch p.Kind {
 	case plan.Fetch:
 		of := s.names.cursors[p.Name]
-		return of == nil || of.plan.Foreign
+		return !s.trust.declared[p.Name] && (of == nil || of.plan.Foreign)
 	case plan.Execute:
 		of := s.names.prepared[p.Name]
 		return of == nil || of.plan == nil || of.plan.Foreign
@@ -90,7 +94,18 @@ func (s *Session) isForeign(p *plan.Plan) bool {
 // are used, and what the latter return isn't reported.
 func (t *trust) runsForeign() {
 	t.era++
-	t.foreign = true
+	t.foreign, t.declared = true, nil
+}
+
+// mostDeclared limits the cursors that are known before they are declared.
+const mostDeclared = 256
+
+// declares is called before a cursor is declared that doesn't run what others have made.
+func (t *trust) declares(name string) {
+	if t.declared == nil || len(t.declared) >= mostDeclared {
+		t.declared = map[string]bool{}
+	}
+	t.declared[name] = true
 }
 
 // syncs is called before a Sync. If it ends a transaction, deferred triggers run.

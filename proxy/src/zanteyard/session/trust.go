@@ -12,11 +12,13 @@ type trust struct {
 	era         uint64 // what the proxy prepared in an older one may be something else by now
 	foreign     bool   // others' statements may have run in the transaction, so that deferred triggers may, too
 	begun       bool   // it is a block, which a Sync doesn't end
-	catalog     uint64 // the catalog's generation, as last looked at
-	path        string // the search path for resolving names, "" for the catalog's own
-	plans       uint64 // counts changes of these two: plans from before aren't used any more
-	uses        map[*plan.Plan]*use
-	queue       []*use // those that wait for a trial
+	// declared are the cursors of the transaction, as it was sent, that don't run what others have made.
+	declared map[string]bool
+	catalog  uint64 // the catalog's generation, as last looked at
+	path     string // the search path for resolving names, "" for the catalog's own
+	plans    uint64 // counts changes of these two: plans from before aren't used any more
+	uses     map[*plan.Plan]*use
+	queue    []*use // those that wait for a trial
 	// doubt means that something happened which may have changed names or rights. Nothing is used until the signature has
 	// been compared; doubts counts them, so that an answer to one isn't taken for an answer to a later one.
 	doubt     bool

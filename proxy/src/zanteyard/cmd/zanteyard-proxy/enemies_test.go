@@ -406,9 +406,19 @@ func (b *battlefield) define(t *testing.T, conn *pgconn.PgConn, r *rand.Rand, pa
 			"CREATE TABLE brief (id int PRIMARY KEY); INSERT INTO brief VALUES (1); DROP TABLE brief",
 			"ALTER TABLE one ADD more int; ALTER TABLE one DROP more",
 			"REINDEX TABLE one",
+			"ALTER TABLE one RENAME TO aside; ALTER TABLE tally RENAME TO one; UPDATE one SET tag = tag WHERE id < 2; " +
+				"ALTER TABLE one RENAME TO tally; ALTER TABLE aside RENAME TO one",
+			"ALTER TABLE part DETACH PARTITION part0",
 		}
 		conn.Exec(ctx, "SET lock_timeout = '100ms'; BEGIN; "+texts[r.Intn(len(texts))]+"; COMMIT").ReadAll()
 		conn.Exec(ctx, "ROLLBACK").ReadAll()
+		for isApart := true; isApart; { // for some time
+			time.Sleep(time.Duration(r.Int63n(int64(20 * time.Millisecond))))
+			results, err := conn.Exec(ctx, "SELECT FROM pg_class WHERE oid = 'part0'::regclass AND NOT relispartition").ReadAll()
+			if isApart = err == nil && len(results) == 1 && len(results[0].Rows) == 1; isApart {
+				conn.Exec(ctx, "ALTER TABLE part ATTACH PARTITION part0 FOR VALUES IN (0, 2)").ReadAll()
+			}
+		}
 	}
 }
 
