@@ -291,10 +291,15 @@ func (c *core) giveUpExpected() {
 	}
 }
 
-// forgetTable forgets a table's rows, since their names or keys have another meaning from now on.
-func (c *core) forgetTable(relation record.Relation) {
-	c.rows.forgetTable(relation, c.now.Sub(c.began))
-	c.questions.forgetTable(c.tables.Root(relation), c.commits)
+// forgetTables forgets tables' rows, since their names or keys have another meaning from now on, or may have had one.
+func (c *core) forgetTables(its map[record.Relation]bool) {
+	if len(its) == 0 {
+		return
+	}
+	c.rows.forgetTables(its, c.now.Sub(c.began))
+	for relation := range its {
+		c.questions.forgetTable(c.tables.Root(relation), c.commits)
+	}
 }
 
 // forget drops versions that were overwritten long ago, which nobody is expected to read any more.

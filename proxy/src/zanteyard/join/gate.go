@@ -45,11 +45,11 @@ func (g *gate) verify(place Place, to *core) {
 	if g.changed == nil {
 		g.changed = map[record.Relation]change{}
 	}
+	forgotten := map[record.Relation]bool{}
 	for _, relation := range place.Changed {
 		its := g.changed[relation]
 		its.names, its.place = place.Names, place.At
-		g.changed[relation] = its
-		to.forgetTable(relation)
+		g.changed[relation], forgotten[relation] = its, true
 	}
 	for _, one := range place.Rewritten {
 		its := g.changed[one.Relation]
@@ -57,9 +57,9 @@ func (g *gate) verify(place Place, to *core) {
 			g.awaited++
 		}
 		its.rewritten, its.by, its.isOver = place.At, one.By, false
-		g.changed[one.Relation] = its
-		to.forgetTable(one.Root)
+		g.changed[one.Relation], forgotten[one.Root] = its, true
 	}
+	to.forgetTables(forgotten)
 	if shows, ok := snapshotOf(place.Shows); ok && !place.Unsure && place.At >= g.verified {
 		g.verified, g.used, g.shows = place.At, place.Used, shows
 	}

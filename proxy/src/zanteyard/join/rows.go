@@ -84,21 +84,23 @@ func (r *rows) succeed(old *row) *row {
 // mostForgotten limits the tables that are remembered as forgotten.
 const mostForgotten = 100_000
 
-// forgetTable forgets a table's rows.
-func (r *rows) forgetTable(relation record.Relation, now time.Duration) {
+// forgetTables forgets the rows of tables.
+func (r *rows) forgetTables(its map[record.Relation]bool, now time.Duration) {
 	for id := range r.by {
-		if id.relation == relation {
+		if its[id.relation] {
 			delete(r.by, id)
 		}
 	}
-	if len(r.forgotten) >= mostForgotten {
+	if len(r.forgotten)+len(its) > mostForgotten {
 		r.forgotten = nil
 		r.lose(now)
 	}
 	if r.forgotten == nil {
 		r.forgotten = map[record.Relation]time.Duration{}
 	}
-	r.forgotten[relation] = now
+	for relation := range its {
+		r.forgotten[relation] = now
+	}
 }
 
 // write returns the row that a transaction wrote.

@@ -337,7 +337,7 @@ func TestRowsBeforeAreForgotten(t *testing.T) {
 		}, `[[1,1,0],[2,"init"]]`},
 		{"of a table whose rows were forgotten", func(b *bench) {
 			b.commit(1001, "-k")
-			b.core.forgetTable(1)
+			b.core.forgetTables(map[record.Relation]bool{1: true})
 			b.tell(1, 0, old)
 		}, `[]`},
 		{"of a row that may be among those of which too many were written", func(b *bench) {
