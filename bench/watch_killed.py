@@ -153,7 +153,7 @@ class Watch:
     def unaudited(self):
         """How many transactions ended before it, while nothing was audited, as the proxy says."""
         found = [re.search(r"(\d+) transactions ended while nothing was audited", line) for line in self.log]
-        return sum(int(each[1]) for each in found if each)
+        return next((int(each[1]) for each in reversed(found) if each), 0)  # earlier lines are shown again
 
     def ended(self):
         self.process.wait(LIMIT)

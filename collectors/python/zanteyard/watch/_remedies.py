@@ -53,6 +53,7 @@ REMEDIES: Sequence[tuple[str, str]] = (
     ("two tables with the same name", "give each its own alias"),
     ("tables of an UPDATE or DELETE", "select their rows first"),
     ("not tried on its connection yet", "it was a first run: the next one is seen"),
+    ("a new statement, where statements", "don't make up names in statements: use parameters"),
     ("something may have changed what names", "wait for the answer to SET, set_config or DO"),
     ("the audit's columns can't be read", "grant SELECT on the table's key columns"),
     ("the connection's user may not read", "grant SELECT on the table's key columns"),

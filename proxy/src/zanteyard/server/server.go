@@ -150,6 +150,9 @@ func (s *Server) end() {
 	for _, c := range s.conns {
 		c.Close()
 	}
+	for one := range s.sessions {
+		go one.End() // what waits for the server doesn't see that its client's connection was closed
+	}
 }
 
 // guarded serves a connection. A panic ends that connection alone.

@@ -106,7 +106,7 @@ func (s *Session) needs(st *statement, inDoubt bool) bool {
 	}
 	st.use.runs = st.use.runs || s.runs
 	s.next = append(s.next, st.use)
-	return inDoubt || st.use.waits()
+	return inDoubt && st.use.state != putOff || st.use.waits()
 }
 
 // waits reports whether the plan is seen after the next trial, as far as is known.
@@ -128,7 +128,7 @@ func (s *Session) partsNeed(st *statement, inDoubt bool) bool {
 		if one.use != nil && rewritable(one) && s.understands(one.plan) && !s.usable(one) {
 			one.use.runs = true
 			s.next = append(s.next, one.use)
-			need = need || inDoubt || one.use.waits()
+			need = need || inDoubt && one.use.state != putOff || one.use.waits()
 		}
 	}
 	return need

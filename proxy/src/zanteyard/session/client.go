@@ -45,7 +45,7 @@ func (s *Session) fromClient(o *output, batch []byte) []byte {
 			s.queue.push(expectation{message: 'F', on: called})
 		case 'c', 'f':
 			o.pass(at, end)
-			if !s.queue.empty() {
+			if !s.queue.empty() && s.queue.last().message != 'c' {
 				s.queue.push(expectation{message: 'c'})
 			}
 		case 'H':
@@ -121,7 +121,7 @@ func (s *Session) fresh(st *statement) {
 // usable reports whether a statement may be rewritten now.
 func (s *Session) usable(st *statement) bool {
 	return st.use != nil && s.looking() && rewritable(st) && !s.replay.plain && s.understands(st.plan) &&
-		s.trust.usable(st.use, st)
+		(st.plan.Kind != plan.Declare || len(s.names.cursors) < mostCursors) && s.trust.usable(st.use, st)
 }
 
 // rewritable excludes cursors that return their rows outside their own transaction, or in another format than was asked
@@ -248,9 +248,10 @@ func (s *Session) bind(o *output, m []byte, start, end int) {
 	if len(b.Portal) > 0 {
 		p.name = string(b.Portal)
 	}
+	beyond := s.names.isBeyond(p.name)
 	if st == nil {
 		o.pass(start, end)
-		s.bindTo(p)
+		s.bindTo(p, beyond)
 		return
 	}
 	if k := st.kind(); k == plan.Commit || k == plan.PrepareTransaction {
@@ -260,6 +261,7 @@ func (s *Session) bind(o *output, m []byte, start, end int) {
 		s.fresh(st)
 	}
 	may := s.usable(st)
+	may = may && !beyond
 	if st.use != nil {
 		st.use.runs = true
 	}
@@ -280,20 +282,24 @@ func (s *Session) bind(o *output, m []byte, start, end int) {
 	case st.altered || may:
 		s.bindHidden(o, b, st, p)
 	case st.kind() == plan.Fetch && s.names.cursors[st.plan.Name] != nil:
-		p.binary = b.Binary()
+		p.binary, beyond = b.Binary(), false // its rows have hidden columns
 		o.buf = b.Append(o.own(), st.name, hiddenColumns(s.names.cursors[st.plan.Name].plan))
 	default:
 		o.pass(start, end)
 	}
-	if s.options.Policy.Parameters && !s.options.Policy.Redacts && st.plan != nil {
+	if s.options.Policy.Parameters && !s.options.Policy.Redacts && st.plan != nil && !beyond {
 		p.parameters, p.more = texts(b, st.types)
 	}
-	s.bindTo(p)
+	s.bindTo(p, beyond)
 }
 
-// bindTo records a portal that was bound.
-func (s *Session) bindTo(p *portal) {
+// bindTo records a portal that was bound; beyond the bound for portals it isn't known.
+func (s *Session) bindTo(p *portal, beyond bool) {
 	s.open = true
+	if beyond {
+		s.queue.push(expectation{message: 'B', on: p.on})
+		return
+	}
 	s.queue.push(expectation{message: 'B', undo: undoPortal, name: p.name, before: s.names.portals[p.name], on: p.on,
 		changed: p.changed})
 	s.names.setPortal(p.name, p)

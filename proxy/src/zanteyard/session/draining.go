@@ -16,6 +16,13 @@ func (s *Session) Drain() {
 	}
 }
 
+// End closes the session at once, whatever it waits for.
+func (s *Session) End() {
+	s.client.Close()
+	s.server.Close()
+	s.deserted()
+}
+
 var (
 	terminate = encoded(&pgproto3.Terminate{})
 	goodbye   = (&pgproto3.ErrorResponse{Severity: "FATAL", SeverityUnlocalized: "FATAL", Code: "57P01",

@@ -38,6 +38,7 @@ CREATE TABLE t (id int PRIMARY KEY, v int, w text);
 CREATE TABLE u (a int, b text, v int, PRIMARY KEY (a, b));
 CREATE TABLE big (id bigint PRIMARY KEY, body text);
 CREATE TABLE beyond ("é" int PRIMARY KEY, v int); INSERT INTO beyond VALUES (1, 1);
+CREATE TABLE wide (name text PRIMARY KEY, v int);
 CREATE TABLE keyless (a int, b int);
 CREATE TABLE part (id int PRIMARY KEY, v int) PARTITION BY RANGE (id);
 CREATE TABLE part_low PARTITION OF part FOR VALUES FROM (0) TO (100);

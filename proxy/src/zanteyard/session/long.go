@@ -35,7 +35,7 @@ func (s *Session) long(begin []byte) []byte {
 		if st != nil && st.altered {
 			s.original(o, st) // the formats of its columns come last, but the length, which includes them, first
 		}
-		s.bindTo(&portal{name: string(portalName), on: st})
+		s.bindTo(&portal{name: string(portalName), on: st}, s.names.isBeyond(string(portalName)))
 	case 'F':
 		s.begin()
 		s.trust.changed()

@@ -66,6 +66,7 @@ type names struct {
 	// unread says of other cursors why their rows aren't seen; "" if they are of no table.
 	unread map[string]string
 	twins  int // made so far
+	bytes  int // of the texts of statements and prepared
 }
 
 // cursor is a cursor whose rows have hidden columns.
@@ -86,16 +87,27 @@ func (n *names) unseen(cursor, reason string) {
 
 func newNames() names {
 	return names{map[string]*statement{}, map[string]*portal{}, map[string]*cursor{},
-		map[string]*statement{}, map[string]string{}, 0}
+		map[string]*statement{}, map[string]string{}, 0, 0}
 }
 
-func (n *names) setStatement(name string, s *statement) {
-	if s == nil {
-		delete(n.statements, name)
-	} else {
-		n.statements[name] = s
+// setStatement records what a name stands for; beyond the bound it stands for nothing that is known.
+func (n *names) setStatement(name string, s *statement) { n.set(n.statements, name, s) }
+
+func (n *names) set(in map[string]*statement, name string, s *statement) {
+	if before := in[name]; before != nil {
+		n.bytes -= before.size()
+		delete(in, name)
 	}
+	isOne := name == "" // there is one of this name
+	if s == nil || !isOne && (len(n.statements)+len(n.prepared) >= mostNamed || n.bytes+s.size() > mostNamedBytes) {
+		return
+	}
+	in[name] = s
+	n.bytes += s.size()
 }
+
+// size returns about how many bytes a statement takes.
+func (s *statement) size() int { return 512 + len(s.name) + len(s.text) + len(s.types) }
 
 func (n *names) setPortal(name string, p *portal) {
 	if p == nil {
@@ -103,6 +115,11 @@ func (n *names) setPortal(name string, p *portal) {
 	} else {
 		n.portals[name] = p
 	}
+}
+
+// isBeyond reports whether there are too many portals for one more of this name.
+func (n *names) isBeyond(name string) bool {
+	return name != "" && len(n.portals) >= mostPortals && n.portals[name] == nil
 }
 
 // back undoes what a message changed that the server didn't run.
@@ -134,10 +151,12 @@ func (n *names) ended() {
 
 // discarded forgets all named statements; the unnamed one stays.
 func (n *names) discarded() {
-	n.prepared = map[string]*statement{}
+	for k := range n.prepared {
+		n.set(n.prepared, k, nil)
+	}
 	for k := range n.statements {
 		if k != "" {
-			delete(n.statements, k)
+			n.setStatement(k, nil)
 		}
 	}
 }

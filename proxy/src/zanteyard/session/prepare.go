@@ -132,7 +132,7 @@ func (s *Session) madeBySQL(p *plan.Plan, of *statement) {
 	if of.plan != p || p.Inner == nil { // one of several statements
 		of = &statement{plan: p}
 	}
-	s.names.prepared[p.Name] = of
+	s.names.set(s.names.prepared, p.Name, of)
 	if of.use != nil && s.looking() && s.understands(of.plan) {
 		s.trust.usable(of.use, of)
 	}

@@ -70,10 +70,11 @@ const (
 
 // queue is a list of expectations, oldest first, in memory that is reused.
 type queue struct {
-	list []expectation
-	head int
-	sent time.Time // when the client's messages that are added now were sent
-	era  uint64
+	list   []expectation
+	head   int
+	pieces int       // of the statements in it
+	sent   time.Time // when the client's messages that are added now were sent
+	era    uint64
 	// levels and doubts are what trust counts now.
 	levels, doubts *uint64
 }
@@ -87,7 +88,11 @@ func (q *queue) push(e expectation) {
 		e.era = q.era
 	}
 	q.list = append(q.list, e)
+	q.pieces += len(e.pieces)
 }
+
+// last returns the youngest expectation. There must be one.
+func (q *queue) last() *expectation { return &q.list[len(q.list)-1] }
 
 // next returns when the first of the client's unanswered messages was sent, or zero if all are answered.
 func (q *queue) next() time.Time {
@@ -108,6 +113,7 @@ func (q *queue) first() *expectation {
 }
 
 func (q *queue) pop() {
+	q.pieces -= len(q.list[q.head].pieces)
 	q.list[q.head] = expectation{} // lets go of what it points to
 	q.head++
 	switch {

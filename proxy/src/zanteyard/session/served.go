@@ -61,6 +61,7 @@ func (s *Session) served(client, server *loop.Conn) error {
 		case err = <-forth.ended:
 			s.sendEnds(err)
 		case backErr = <-back.ended:
+			s.deserted()
 			s.sayGoodbye()
 			client.Close()
 			server.Close()
@@ -73,22 +74,27 @@ func (s *Session) served(client, server *loop.Conn) error {
 
 // take is called by the loop when there is something to read.
 func (d *direction) take() error {
-	batch, more, err := d.in.Whole()
-	if err == loop.ErrWait {
-		return nil
+	for {
+		batch, more, err := d.in.Whole()
+		if err == loop.ErrWait {
+			return nil
+		}
+		if err != nil {
+			return err
+		}
+		left, err := d.now(d, batch, more)
+		if err == nil && left == nil && d.session.blind.Load() {
+			left = func() error { return nil }
+		}
+		if left != nil {
+			d.from.Leave()
+			go d.away(left)
+			return nil
+		}
+		if err != nil || !d.in.Waiting() {
+			return err
+		}
 	}
-	if err != nil {
-		return err
-	}
-	left, err := d.now(d, batch, more)
-	if err == nil && left == nil && d.session.blind.Load() {
-		left = func() error { return nil }
-	}
-	if left != nil {
-		d.from.Leave()
-		go d.away(left)
-	}
-	return err
 }
 
 // away does what has to wait. It gives the direction back to the loop when there is nothing left to read.

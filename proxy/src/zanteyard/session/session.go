@@ -48,6 +48,7 @@ type Options struct {
 	ReadLimit  int           // how many reads of a transaction are kept
 	Auditing   func() bool   // whether statements are looked at
 	Generation func() uint64 // the catalog's generation, which rises with each change
+	Unaudited  func()        // a transaction has ended that isn't reported, since nothing is audited; may be nil
 	Defined    func()        // a session is about to change a definition
 	Log        func(string)  // for the people who run the proxy
 	Bound      time.Duration // how long a meeting holds a client's messages
@@ -88,6 +89,9 @@ type Session struct {
 	open     bool // messages of the extended protocol were sent since the last Sync
 	skipping bool // after an error, the server skips everything up to the next Sync, which hasn't been sent yet
 	partial  bool // the server has part of a message
+	stalled  bool // the client's direction waits until the server has answered
+	gone     bool // the server has ended
+	confused bool // an answer wasn't expected
 	backend  int  // the server's process, from the beginning of the connection
 	early    bool // the client sent something before the server was ready for it
 	copying  bool
@@ -129,7 +133,7 @@ func New(number uint64, client, server Conn, options *Options) *Session {
 	s.waiting.L = &s.state
 	s.encoding, s.standard, s.plain = true, true, true
 	s.queue.levels, s.queue.doubts = &s.trust.levels, &s.trust.doubts
-	s.trust.uses, s.trust.shared = map[*plan.Plan]*use{}, options.Shared
+	s.trust.uses, s.trust.shared, s.trust.accounted = map[*plan.Plan]*use{}, options.Shared, clock()
 	s.trust.doubtful()
 	s.trust.generations = map[string]uint64{}
 	s.trust.renew()
@@ -156,6 +160,7 @@ func (s *Session) Run() error {
 	ended := make(chan error, 1)
 	go func() {
 		err := s.guarded(s.back)
+		s.deserted()
 		s.sayGoodbye()
 		s.client.Close()
 		s.server.Close()
@@ -278,9 +283,12 @@ func (s *Session) looked(batch []byte, more int) ([]byte, error) {
 	for asks := 0; ; {
 		h := s.holds()
 		switch {
-		case s.left.Load():
+		case s.left.Load() || s.gone:
 			return nil, io.EOF
 		case s.replay.running:
+			s.waiting.Wait()
+		case s.isFull():
+			s.stalled = true
 			s.waiting.Wait()
 		case h != nil:
 			s.wait(h)
@@ -302,7 +310,7 @@ func (s *Session) lookedNow(batch []byte) (out []byte, ok bool) {
 		return nil, false
 	}
 	defer s.state.Unlock()
-	if s.replay.running || s.holds() != nil || s.needsTrial(batch) {
+	if s.replay.running || s.gone || s.isFull() || s.holds() != nil || s.needsTrial(batch) {
 		return nil, false
 	}
 	return s.lookAt(batch, 0), true
@@ -399,6 +407,7 @@ func (s *Session) answers(batch []byte) (out []byte, again, rest bool) {
 	}
 	out = s.fromServer(batch)
 	s.queue.copied()
+	s.eased()
 	if h := s.hold.Load(); h != nil && s.between() {
 		h.end()
 	}
@@ -436,7 +445,11 @@ func (s *Session) backLong(in *wire.Reader, begin []byte, more int) error {
 		if err != nil {
 			return err
 		}
-		return s.pass(all)
+		err = s.pass(all)
+		s.state.Lock()
+		s.values, s.columns = nil, nil // these are parts of it
+		s.state.Unlock()
+		return err
 	}
 	_, err := s.client.Write(begin)
 	for err == nil && more > 0 {
@@ -466,6 +479,6 @@ func (s *Session) unseen(to, from Conn, in *wire.Reader) error {
 func (s *Session) lost(answer, message byte) {
 	go s.options.Log("connection " + itoa(s.number) + ": an answer of type " + string(rune(answer)) +
 		" to a message of type " + string(rune(message)) + "; it is passed on without looking from here on")
-	s.trust.broken = true
+	s.trust.broken, s.confused = true, true
 	s.plain, s.encoding = false, false
 }

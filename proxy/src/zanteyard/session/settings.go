@@ -135,8 +135,8 @@ func (s *Session) deallocated(name string) {
 	if st == nil || name == "" {
 		return
 	}
-	delete(s.names.statements, name)
-	delete(s.names.prepared, name)
+	s.names.setStatement(name, nil)
+	s.names.set(s.names.prepared, name, nil)
 	if st.twin != "" {
 		s.trust.orphans = append(s.trust.orphans, st.twin)
 		st.twin = ""

@@ -13,9 +13,11 @@ import (
 // same, a plan that was tried on one connection may be used on another, which may be too short-lived to try it.
 // Connections that have temporary objects share nothing. Safe for use by many goroutines.
 type Shared struct {
-	lock   sync.RWMutex
-	kinds  map[string]*kind // by signature
-	paused time.Time        // until then no new connection is asked for its signature
+	lock     sync.RWMutex
+	kinds    map[string]*kind // by signature's digest
+	paused   time.Time        // until then no new connection is asked for its signature
+	entries  int              // plans of all kinds
+	patience patience
 }
 
 // kind has what was tried on connections of one signature.
@@ -30,10 +32,11 @@ const tooDear = -1
 const (
 	mostKinds  = 256
 	mostShared = 4096 // plans of a kind
+	mostOfAll  = 16384
 )
 
 // NewShared returns a Shared that knows nothing.
-func NewShared() *Shared { return &Shared{kinds: map[string]*kind{}} }
+func NewShared() *Shared { return &Shared{kinds: map[string]*kind{}, patience: newPatience()} }
 
 // shareable reports whether a signature says everything: there are no temporary objects.
 func shareable(signature []byte) bool { return bytes.HasSuffix(signature, []byte(`, ""]`)) }
@@ -45,16 +48,24 @@ func (s *Shared) add(signature []byte, catalog uint64, u *use) {
 	}
 	s.lock.Lock()
 	defer s.lock.Unlock()
-	k := s.kinds[string(signature)]
+	k := s.kinds[digest(signature)]
 	switch {
 	case k != nil && catalog < k.catalog:
 		return // from an old plan
 	case k == nil || catalog > k.catalog || len(k.tried) >= mostShared:
-		if len(s.kinds) >= mostKinds {
-			s.kinds = map[string]*kind{}
+		if k != nil {
+			s.entries -= len(k.tried)
+		} else if len(s.kinds) >= mostKinds {
+			s.kinds, s.entries = map[string]*kind{}, 0
 		}
 		k = &kind{catalog: catalog, tried: map[*plan.Plan]int{}}
-		s.kinds[string(signature)] = k
+		s.kinds[digest(signature)] = k
+	}
+	if _, is := k.tried[u.plan]; !is {
+		if s.entries++; s.entries > mostOfAll {
+			k = &kind{catalog: catalog, tried: map[*plan.Plan]int{}}
+			s.kinds, s.entries = map[string]*kind{digest(signature): k}, 1
+		}
 	}
 	k.tried[u.plan] = u.own
 }
@@ -66,8 +77,11 @@ func (s *Shared) drop(signature []byte, p *plan.Plan) {
 	}
 	s.lock.Lock()
 	defer s.lock.Unlock()
-	if k := s.kinds[string(signature)]; k != nil {
-		delete(k.tried, p)
+	if k := s.kinds[digest(signature)]; k != nil {
+		if _, is := k.tried[p]; is {
+			delete(k.tried, p)
+			s.entries--
+		}
 	}
 }
 
@@ -78,7 +92,7 @@ func (s *Shared) has(signature []byte, catalog uint64, p *plan.Plan) (own int, i
 	}
 	s.lock.RLock()
 	defer s.lock.RUnlock()
-	k := s.kinds[string(signature)]
+	k := s.kinds[digest(signature)]
 	if k == nil || k.catalog != catalog {
 		return 0, false
 	}

@@ -2,6 +2,7 @@ package session
 
 import (
 	"strconv"
+	"strings"
 	"time"
 
 	"zanteyard/plan"
@@ -27,6 +28,7 @@ type transaction struct {
 	record.Transaction
 	seen    map[record.Read]int32 // at which place in Reads each is, once there are more than a few
 	kept    int                   // bytes of its statements
+	keys    int                   // and of the keys of its reads
 	wrote   bool                  // by a statement that didn't report the number
 	failed  bool
 	leaving bool // COMMIT or PREPARE TRANSACTION was sent
@@ -83,11 +85,12 @@ func (t *transaction) read(reads []record.Read, limit int, counts bool) {
 		switch at := t.find(r); {
 		case at >= 0:
 			t.Did.Repeated(at, len(t.Reads), n)
-		case len(t.Reads) >= limit:
+		case len(t.Reads) >= limit || t.keys+len(r.Key) > mostKeys:
 			t.Beyond++
 			t.Did.Beyond += uint64(n)
 		default:
 			t.Reads = append(t.Reads, r)
+			t.keys += len(r.Key)
 			t.Did.Added(len(t.Reads), n)
 			if t.seen != nil && len(t.Reads) > fewReads {
 				t.seen[r] = int32(len(t.Reads) - 1)
@@ -163,6 +166,9 @@ func (s *Session) note(e *expectation) *record.Statement {
 	if len(st.Text) > mostText {
 		st.Text = st.Text[:mostText]
 	}
+	if len(st.Text) < len(e.on.text) {
+		st.Text = strings.Clone(st.Text) // a part would keep the whole text
+	}
 	if p := e.current(); p != nil {
 		st.Unseen = p.Unseen
 	}
@@ -203,6 +209,8 @@ func (s *Session) finish(outcome record.Outcome) {
 		t.MayHaveWritten = t.Number == 0 && (t.MayHaveWritten || t.wrote)
 		if s.options.Auditing() {
 			s.report(&t.Transaction)
+		} else if s.options.Unaudited != nil {
+			s.options.Unaudited()
 		}
 	}
 	s.set(outcome)
@@ -416,6 +424,9 @@ func (s *Session) leftOut(p *plan.Plan, e *expectation, noted *record.Statement,
 			s.notSeen(p.Shape, reason, !isWrite)
 		}
 	}
+	if e.use != nil {
+		s.trust.ran(e.use, e.changed)
+	}
 	s.sums(p, e, tag, reason)
 	s.askedBy(rows(p), e, noted)
 	if e.hidden > 0 && p.Asked && e.rows == 0 {
@@ -441,12 +452,14 @@ func (s *Session) absent(p *plan.Plan, e *expectation, noted *record.Statement) 
 		s.tx.Did.Leave(foundNoRow, false, 1, 0, 0)
 		return
 	}
-	if len(s.tx.Absent) >= s.options.ReadLimit {
+	if len(s.tx.Absent) >= s.options.ReadLimit || s.tx.keys+len(its.key) > mostKeys {
 		s.tx.Beyond++
 		s.tx.Did.Leave(foundNoRow, false, 1, 0, 0)
 		return
 	}
-	s.tx.Absent = append(s.tx.Absent, record.Absence{Relation: p.Sources[0].Relation, Key: its.key,
+	s.tx.keys += len(its.key)
+	key := record.Key(strings.Clone(string(its.key))) // it may be a part of the statement's text
+	s.tx.Absent = append(s.tx.Absent, record.Absence{Relation: p.Sources[0].Relation, Key: key,
 		Identity: p.Sources[0].Identity})
 	s.tx.Did.Selects = append(s.tx.Did.Selects, record.Select{Absent: int32(len(s.tx.Absent))})
 	if noted != nil {

@@ -2,6 +2,7 @@ package session
 
 import (
 	"bytes"
+	"time"
 
 	"zanteyard/own"
 	"zanteyard/plan"
@@ -11,6 +12,7 @@ import (
 
 // trial is one series of messages that was sent at an idle moment.
 type trial struct {
+	began              time.Time
 	generation, doubts uint64
 	back               plan.Parts
 	uses               []*use
@@ -34,7 +36,7 @@ type trial struct {
 // try appends a trial's messages, and records what is expected for them.
 func (s *Session) try(out []byte) []byte {
 	t := &s.trust
-	w := &trial{generation: t.generation, doubts: t.doubts, back: t.back, levels: t.levels, mark: t.mark,
+	w := &trial{began: clock(), generation: t.generation, doubts: t.doubts, back: t.back, levels: t.levels, mark: t.mark,
 		done: make(chan struct{})}
 	s.trial = w
 	if s.status == 'T' {
@@ -195,7 +197,7 @@ func (s *Session) tryError(e *expectation, m []byte) {
 		e.use.compares, e.use.compared = false, true // all but the comparison has succeeded
 		return
 	}
-	e.use.state = failed
+	e.use.state, e.use.sample = failed, nil
 	e.use.reason = "the audit's columns can't be read on its connection: " + string(wire.Field(m, 'C'))
 }
 
@@ -216,6 +218,7 @@ func (s *Session) tryEnd() {
 		return
 	}
 	defer close(w.done)
+	t.spent(w)
 	if w.failed && w.signature == nil { // the next one would fail, too
 		s.slow = clock().Add(greetingPause)
 	}
@@ -301,9 +304,9 @@ func (s *Session) tried(w *trial) {
 				u.state, u.reason, u.own = failed, Dear, tooDear
 			}
 		case !u.allowed:
-			u.state, u.reason = failed, "the connection's user may not read the audit's columns"
+			u.state, u.sample, u.reason = failed, nil, "the connection's user may not read the audit's columns"
 		default:
-			u.state, u.reason = failed, "names refer to something else on its connection"
+			u.state, u.sample, u.reason = failed, nil, "names refer to something else on its connection"
 		}
 		u.generation = t.generation
 		if (u.state == tried || u.state == failed && u.reason == Dear) && !t.doubt && !t.block.isPrivate {

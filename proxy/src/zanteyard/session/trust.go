@@ -1,6 +1,10 @@
 package session
 
-import "zanteyard/plan"
+import (
+	"time"
+
+	"zanteyard/plan"
+)
 
 // trust records which plans may be used on a connection: those tried there since the last event that may have changed
 // what a name means or what its user may do.
@@ -37,6 +41,7 @@ type trust struct {
 	taken     bool       // the client has used names that are the proxy's own
 	mark      int64      // of the audit that the connection was last asked about
 	here      bool       // it is to that audit's server
+	accounted time.Time  // the connection's time up to then was accounted for, in what trials may cost
 	elsewhere bool       // it isn't
 	shared    *Shared
 	block     block
@@ -44,7 +49,7 @@ type trust struct {
 
 const (
 	trialsAtOnce = 8
-	mostUses     = 4096
+	mostUses     = 2048
 	mostDelays   = 20
 	mostOrphans  = 16
 	mostStates   = 256 // signatures whose generations are known
@@ -87,7 +92,7 @@ func (t *trust) moves(signature []byte, path string, isPrivate bool) {
 	}
 	t.leaveQueue()
 	t.broken = t.pooled
-	known, is := t.generations[string(signature)]
+	known, is := t.generations[digest(signature)]
 	if is && !isPrivate {
 		t.generation = known
 		return
@@ -103,7 +108,7 @@ func (t *trust) knows(signature []byte) {
 	if len(t.generations) >= mostStates {
 		t.generations = map[string]uint64{}
 	}
-	t.generations[string(signature)] = t.generation
+	t.generations[digest(signature)] = t.generation
 }
 
 // planAnew makes all statements be planned and tried again.

@@ -11,6 +11,7 @@ const (
 	trying        // its trial was sent
 	tried         // it may be used
 	failed        // it isn't used here until something changes
+	putOff        // it isn't tried before its statement's next run
 )
 
 // use is what a connection knows about a plan.
@@ -27,6 +28,8 @@ type use struct {
 	compares   bool      // it does
 	compared   bool      // they needn't be compared any more
 	runs       bool      // the client has run it in this generation, or is about to, so that the server plans it anyway
+	ran        bool      // its statement was seen here, or tried on another connection
+	repeats    bool      // and was seen here again
 	delays     int       // number of trials that ended for want of a lock
 	reason     string
 }
@@ -62,9 +65,15 @@ func (t *trust) usable(u *use, sample *statement) bool {
 		if is && own == tooDear {
 			u.state, u.generation, u.reason = failed, t.generation, Dear
 		} else if is {
-			u.state, u.generation, u.own = tried, t.generation, own
+			u.state, u.generation, u.own, u.ran = tried, t.generation, own, true
+		} else if !t.affords(u.plan) {
+			u.state, u.generation = putOff, t.generation
+			return false
 		} else {
-			u.state, u.generation, u.sample, u.delays = waiting, t.generation, sample, 0
+			u.state, u.generation, u.sample, u.delays = waiting, t.generation, nil, 0
+			if sample != nil && len(sample.text) <= mostSample && len(t.queue) < mostSamples {
+				u.sample = sample
+			}
 			u.compares, u.compared, u.runs = false, false, false
 			t.queue = append(t.queue, u)
 			return false
@@ -91,6 +100,8 @@ func (t *trust) why(u *use) string {
 		return "the connection's user may not run the proxy's queries"
 	case u.state == failed:
 		return u.reason
+	case u.state == putOff:
+		return Seldom
 	case u.state == tried:
 		return "something may have changed what names refer to"
 	}

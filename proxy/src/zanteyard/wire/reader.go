@@ -17,6 +17,8 @@ const (
 	keptBuffer  = 64 << 10
 	// Limit is the largest size of messages that are returned whole. Longer ones are streamed.
 	Limit = 1 << 20
+	// mostMessages is how many messages are returned together.
+	mostMessages = 4096
 )
 
 // ErrFrame means that what was read can't be a message.
@@ -71,7 +73,7 @@ func (r *Reader) Whole() (messages []byte, more int, err error) {
 // whole returns the length of all whole messages at the beginning of b. If there is none, need is the length of the
 // first one, as far as known.
 func whole(b []byte) (n, need int, err error) {
-	for len(b)-n >= Header {
+	for count := 0; len(b)-n >= Header && count < mostMessages; count++ {
 		l := Length(b[n:])
 		if l < Header {
 			return 0, 0, ErrFrame
@@ -155,6 +157,12 @@ func (r *Reader) Rest(begin []byte) ([]byte, error) {
 	}
 	r.rest = 0
 	return all, nil
+}
+
+// Waiting reports whether a message that was read whole waits to be returned.
+func (r *Reader) Waiting() bool {
+	b := r.buf[r.start:r.end]
+	return r.rest == 0 && len(b) >= Header && Length(b) <= len(b)
 }
 
 // Buffered returns the bytes that were read and not returned, for a connection that is passed on without looking from

@@ -25,6 +25,8 @@ type audits struct {
 	mark    atomic.Int64 // of the audit that runs
 	log     func(string)
 
+	unaudited atomic.Uint64 // transactions that have ended while no audit ran, since the last one
+
 	lock    sync.Mutex
 	current *current // nil if no audit runs
 	its     atomic.Pointer[audit.Audit]
@@ -207,6 +209,9 @@ func (a *audits) one(ctx context.Context, lines <-chan []byte) (left []byte, aga
 	a.sink.use(it.Sink())
 	a.running.Store(true)
 	defer a.running.Store(false)
+	if n := a.unaudited.Swap(0); n > 0 {
+		a.log(fmt.Sprintf("%d transactions ended while nothing was audited", n))
+	}
 	now := &current{drained: it.Drained, over: make(chan struct{})}
 	a.set(now)
 	defer now.end()

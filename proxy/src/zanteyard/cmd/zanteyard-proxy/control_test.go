@@ -14,6 +14,7 @@ import (
 	"errors"
 	"fmt"
 	"io"
+	"log"
 	"math/big"
 	"net"
 	"os"
@@ -144,6 +145,38 @@ func TestAttach(t *testing.T) {
 	if line := attach(t, path, "dance").until("refused"); !strings.Contains(line, "unknown command") {
 		t.Error(line)
 	}
+}
+
+// TestUnauditedIsCounted: whoever begins to audit is told how many transactions ended while nobody did.
+func TestUnauditedIsCounted(t *testing.T) {
+	c := start(t)
+	path := filepath.Join(folder(t), "control")
+	s := serveAt(t, c, freePort(t), "--control", path)
+	log.SetOutput(s.words)
+	defer log.SetOutput(os.Stderr)
+	conn := s.connect()
+	for _, text := range []string{"SELECT balance FROM account WHERE id = 1", "UPDATE account SET balance = 100 WHERE id = 1",
+		"BEGIN", "UPDATE account SET balance = 1 WHERE id = 1", "ROLLBACK", "BEGIN", "SELECT 1", "COMMIT"} {
+		sql(t, conn, text)
+	}
+	hears := func(its *attached, want string) {
+		for !strings.Contains(its.until("logged"), want) {
+		}
+	}
+	first := attach(t, path, "attach")
+	hears(first, "4 transactions ended while nothing was audited")
+	first.until(`["open"`)
+	sql(t, conn, "SELECT balance FROM account WHERE id = 1")
+	first.Close()
+	for end := time.Now().Add(5 * time.Minute); !strings.Contains(attach(t, path, "who").until("proxy"), `"parent":0}`); {
+		if time.Now().After(end) {
+			t.Fatal("the audit of a parent that is gone goes on")
+		}
+	}
+	for i := 0; i < 7; i++ {
+		sql(t, conn, "UPDATE account SET balance = 100 WHERE id = 1")
+	}
+	hears(attach(t, path, "attach"), "7 transactions ended while nothing was audited")
 }
 
 // TestTakeOver: a proxy takes the place of another one. No client is refused, and those that are idle are told to connect

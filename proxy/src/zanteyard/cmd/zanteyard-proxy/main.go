@@ -395,6 +395,7 @@ func look(ctx context.Context, f flags, config *pgconn.Config, options *session.
 	options.Sink = sink
 	sink.fail, failed = all.fail, all.fail
 	options.Auditing = func() bool { return loaded.Load() && all.running.Load() }
+	options.Unaudited = func() { all.unaudited.Add(1) }
 	options.Mark = all.mark.Load
 	d.Follow(options.Mark)
 	all.config.Slot.Marked = all.mark.Store
