@@ -235,8 +235,10 @@ func TestBoundsOfPlans(t *testing.T) {
 	p.session.state.Lock()
 	defer p.session.state.Unlock()
 	its := &p.session.trust
-	for i := 0; i < 2*mostOfAll; i++ {
-		made, _ := definitions_.PlanIn("", fmt.Sprintf("SELECT v AS a%d FROM t WHERE id = 1", i))
+	one, _ := definitions_.PlanIn("", "SELECT v FROM t WHERE id = 1")
+	for i := 0; i < mostOfAll+mostUses; i++ {
+		copied := *one
+		made := &copied
 		u := its.of(made)
 		shared.add([]byte(fmt.Sprintf(`["%d", ""]`, i/mostShared)), 1, u)
 		shared.patience.meets(made)
