@@ -15,12 +15,8 @@ from zanteyard.core._own_keys import FENCE, FLAG
 from zanteyard.program._auditor import PROGRAM
 from zanteyard.cli._main import main
 from zanteyard.core._window import Coverage
-from zanteyard.core.errors import JournalError, ProgramTooOldError
-from zanteyard.journal._file import EARLIER, FIRST_LINE
-from zanteyard.journal._records import record, records
 from zanteyard.trial.lockstep import SESSIONS, run_lockstep
 from zanteyard.stores.memory import MemoryStore
-from zanteyard.explain._graphviz import dot_text
 from zanteyard.core._records import MOST, as_bytes, undone, unpacked
 from zanteyard.stores.sqlite import SQLiteStore
 from zanteyard.stores.sqlite import prepare as prepare_sqlite
@@ -30,9 +26,6 @@ from .test_restarting import WithJournal
 from .waiting import SOON
 
 UNDONE = Logged((), (), "aborted", tried_reads=[("y", "init")], tried_writes=["x", "y"])
-OLD = """#!/bin/sh
-while read -r line; do echo '["no",1,"BadLine"]'; done
-"""
 
 
 class WithFolder(unittest.TestCase):
@@ -166,12 +159,6 @@ class Told(WithFolder):
         small = smaller(history, seconds=SOON)
         self.assertEqual(find_anomaly(small).name, "lost update")
         self.assertNotIn("aborted", "\n".join(words(small)))
-
-    def test_drawn(self):
-        text = dot_text(self.HISTORY)
-        self.assertIn('"0.1" [label="0.1\\nread y as it was at first\\nwrote x\\nwrote y\\naborted", ', text)
-        self.assertEqual(text.count("style=dashed"), 2)
-        self.assertIn('"0.1" -> "1.0" [label="read x", style=dashed]', text)
 
     def told(self, command, *more):
         out, err = io.StringIO(), io.StringIO()
@@ -394,57 +381,6 @@ class Kept(WithJournal):
             history, name = from_start(auditor)
             told = reasons(smaller(history, seconds=SOON), name)
         self.assertEqual(told, ["of new, 1.2 read what 0.5 wrote, which had aborted"])
-
-    def test_a_journal_of_an_earlier_version_is_gone_on_with(self):
-        """An earlier version's journal has no aborted attempts; from then on it may have some."""
-        with self.auditor() as auditor:
-            auditor.offer(0, 0, Logged((), ("x",)))
-        texts = [text for text, _ in records(self.bytes(), len(FIRST_LINE))]
-        begins = b'S["resume",3,512'
-        self.assertEqual([text for text in texts if text.startswith(begins)], [begins + b",2]"])
-        texts = [begins + b"]" if text.startswith(begins) else text for text in texts]
-        self.overwrite(EARLIER + b"".join(map(record, texts)))
-        with self.resumed() as auditor:
-            auditor.offer(0, 1, UNDONE)
-            self.assertEqual(auditor.round().kind, "serial")
-        self.assertTrue(self.bytes().startswith(FIRST_LINE))
-        with self.resumed() as auditor:
-            self.assertEqual([one.outcome for one in auditor.history[0]], ["committed", "aborted"])
-
-    def test_a_program_that_is_too_old(self):
-        with self.auditor() as auditor:
-            auditor.offer(0, 0, Logged((), ("x",)))
-        old = os.path.join(self.folder, "old")
-        with open(old, "w", encoding="utf-8") as file:
-            file.write(OLD)
-        os.chmod(old, 0o755)
-        with self.assertRaisesRegex(JournalError, "older than this package"):
-            Auditor.resumed(self.path, old)
-
-
-class TooOld(WithFolder):
-    """A program that doesn't know version 2 is reported as such."""
-
-    def setUp(self):
-        super().setUp()
-        self.old = os.path.join(self.folder, "old")
-        with open(self.old, "w", encoding="utf-8") as file:
-            file.write(OLD)
-        os.chmod(self.old, 0o755)
-
-    def test_auditors(self):
-        for kind in (Auditor, AuditorApart):
-            with self.subTest(kind=kind.__name__), self.assertRaisesRegex(ProgramTooOldError, "version 2"):
-                kind(3, 64, self.old)
-
-    def test_scripts(self):
-        with open(self.path, "w", encoding="utf-8") as file:
-            file.write('["open",2,8,2]\n')
-        out = io.StringIO()
-        with mock.patch.dict(os.environ, COBRA_AUDIT=self.old), redirect_stdout(out), redirect_stderr(out):
-            status = main(["check", self.path])
-        self.assertEqual(status, 2)
-        self.assertIn("older than this package", out.getvalue())
 
 
 if __name__ == "__main__":

@@ -514,7 +514,7 @@ class Signals(unittest.TestCase):
         with tempfile.TemporaryDirectory() as folder:
             path = os.path.join(folder, "violation")
             self.assertEqual(audit._unused(path), path)
-            for name, wanted in (("violation.jsonl", "-2"), ("violation-2.dot", "-3"), ("violation-4.txt", "-3")):
+            for name, wanted in (("violation.jsonl", "-2"), ("violation-2.html", "-3"), ("violation-4.txt", "-3")):
                 with open(os.path.join(folder, name), "w", encoding="utf-8"):
                     pass
                 self.assertEqual(audit._unused(path), path + wanted)

@@ -84,11 +84,10 @@ class Examples(unittest.TestCase):
             status, lines, _ = self.told("postgres_live.py", "--clients", count)
             self.assertEqual(status, wanted)
             self.assertIn("--clients", lines[-1])
-        for name in ("postgres_live.py", "postgres_episodes.py"):
-            status, lines, _ = self.told(name, "--help")
-            self.assertEqual(status, 0)
-            about = " ".join(" ".join(lines).split("options:")[0].split("\n")).strip()
-            self.assertTrue(about.endswith("."), about)  # a whole sentence
+        status, lines, _ = self.told("postgres_live.py", "--help")
+        self.assertEqual(status, 0)
+        about = " ".join(" ".join(lines).split("options:")[0].split("\n")).strip()
+        self.assertTrue(about.endswith("."), about)  # a whole sentence
 
     def test_clients_keep_to_their_rate(self):
         sys.path.insert(0, EXAMPLES)
@@ -103,22 +102,9 @@ class Examples(unittest.TestCase):
         # 0.5 s of 25 a second each, the first at once and one more at the end
         self.assertLessEqual(clients.committed, 4 * 14)
 
-    def test_postgres_episodes(self):
-        self.postgres_is_there()
-        few = ("--episodes", "5", "--transactions", "80")
-        status, lines, files = self.told("postgres_episodes.py", *few)
-        self.assertEqual((status, files), (0, []))
-        self.assertIn("5 serial", lines[-1])
-        status, lines, files = self.told(
-            "postgres_episodes.py", "--level", "committed", "--workload", "counter", *few
-        )
-        self.assertEqual((status, files[-1].split(".")[-1] in ("jsonl", "svg")), (1, True))
-        self.assertIn("violated", lines[0])
-
     def test_a_violation_is_told_where_the_disk_is_full(self):
         self.postgres_is_there()
-        for name in ("violation.jsonl", "violation.dot"):
-            os.symlink("/dev/full", f"{self.folder}/work/{name}")
+        os.symlink("/dev/full", f"{self.folder}/work/violation.jsonl")
         status, lines, _ = self.told(
             *("postgres_live.py", "--level", "committed", "--workload", "counter", "--clients", "4"),
             *("--seconds", "120", "--unaudited", "0", "--rather-wait"),

@@ -22,7 +22,6 @@ from zanteyard.core._outcome import Outcome
 from zanteyard.core._records import Logged, Pending
 from zanteyard.core._visible import shown, shown_lines
 from zanteyard.core.errors import ScriptMistakeError, ZanteyardError
-from zanteyard.explain._graphviz import quoted
 from zanteyard.explain._html import page_of
 from zanteyard.explain._reasons import explain_history
 from zanteyard.explain._report import story_of
@@ -124,9 +123,6 @@ class Functions(unittest.TestCase):
                     if "html" in names:
                         found.append(f"{path}:{node.lineno}: html")
         self.assertEqual(found, [])
-
-    def test_graphviz_reads_no_entity_and_no_escape(self):
-        self.assertEqual(quoted('a"&#x202e;\\N', "\x1b"), '"a\\"&amp;#x202e;\\\\N\\n\\\\x1b"')
 
 
 class Values(Outputs):
@@ -300,10 +296,7 @@ class Audits(Outputs):
         for line in lines:
             self.assertNotIn("\n", line)
         self.check("\n".join(lines))
-        for end in ("jsonl", "dot"):
-            self.check_file(self.path(f"violation.{end}"), names_it=end == "dot")
-        if os.path.exists(self.path("violation.svg")):
-            self.check_file(self.path("violation.svg"))
+        self.check_file(self.path("violation.jsonl"), names_it=False)
         self.check(page_of(self.story(auditor.history, EVIL), EVIL, EVIL))
 
     def test_statements(self):
@@ -314,7 +307,6 @@ class Audits(Outputs):
         lines = []
         tell_violation(history, self.path("violation"), tell=lines.append)
         self.check("\n".join(lines))
-        self.check_file(self.path("violation.dot"))
         self.check(page_of(self.story(history, ""), "a", "b"))
 
     def test_a_journal(self):

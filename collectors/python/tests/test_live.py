@@ -9,14 +9,13 @@ import time
 import unittest
 
 from zanteyard import FENCE, AbortedError, Auditor, AuditorApart, ProgramEndedError, FullError, LiveAuditor, Logged, NoCutError
-from zanteyard import Explanation, NoMemoryError, Policy, ProgramTooOldError, RefusedError, audited, dot_text, draw
-from zanteyard import explain_history, from_start, reasons, smaller, words
+from zanteyard import NoMemoryError, Policy, RefusedError, audited
+from zanteyard import from_start, reasons, smaller, words
 from zanteyard.core._own_keys import FLAG, MARK
 from zanteyard.program._auditor import PROGRAM
 from zanteyard.live._fragments import fragments
 from zanteyard.stores.memory import MemoryStore
 
-from .killing import PLAIN
 from .waiting import SOON
 
 
@@ -493,31 +492,6 @@ class MadeUp(unittest.TestCase):
         self.assertEqual(auditor.round(((1, 0, 1), (8, 2, 4))).number, 2)
         self.assertEqual(auditor.effort, (8, 2, 4))
         self.assertEqual(auditor.round().kind, "spent")
-
-    def test_a_program_that_can_not_search_beside_its_lines(self):
-        auditor = self.auditor(1, {"search": [["no", 1, "BadLine"]]})
-        with self.assertRaisesRegex(ProgramTooOldError, "older than the package"):
-            auditor.round()
-
-
-class Pictures(unittest.TestCase):
-    def test_the_text(self):
-        lost = Logged((("x", "init"),), ("x",))
-        with tempfile.TemporaryDirectory() as folder:
-            explanation = explain_history([[lost], [lost]], program=PLAIN)
-            path = os.path.join(folder, "lost")
-            files = draw([[lost], [lost]], path, explanation=explanation)
-            with open(files[0]) as file:
-                text = file.read()
-            self.assertTrue(all(os.path.getsize(name) for name in files))
-        self.assertIn('"0.0" [label="0.0\\nread x as it was at first\\nwrote x", group=session0];', text)
-        self.assertIn('"0.0" -> "1.0" [label="0.0 read x as it was at first, and 1.0 wrote it", color=red, penwidth=2];', text)
-        self.assertEqual(text.count("->"), 2)
-
-    def test_statements_are_in_the_tooltip(self):
-        wrote = Logged((), ("x",), "committed", ((("x",), "UPDATE \"t\""),))
-        text = dot_text([[wrote]], explanation=Explanation("so"))
-        self.assertIn('group=session0, tooltip="wrote x: UPDATE \\"t\\""];', text)
 
 
 if __name__ == "__main__":

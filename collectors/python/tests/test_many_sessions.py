@@ -6,13 +6,12 @@ judges many transactions without a search (`plain_auditor.py`)."""
 import json
 import os
 import random
-import stat
 import subprocess
 import unittest
 
 from zanteyard import Auditor, LiveAuditor, Logged
 from zanteyard.core._own_keys import FENCE
-from zanteyard.core.errors import ImportRefusedError, ProgramTooOldError, RefusedError
+from zanteyard.core.errors import ImportRefusedError, RefusedError
 from zanteyard.explain._audited import audited_apart
 from zanteyard.explain._levels import Levels
 from zanteyard.explain._shrinking import smaller
@@ -22,16 +21,6 @@ from zanteyard.promises._kinds import GENERALIZED, SERIALIZABLE, SESSIONLESS, SN
 from .test_many_transactions import AUDITOR, ROUND, WithFolder, run
 
 HEAD = "session,number,operation,key,value\n"
-# A program that knows version 3 as it was with 64 sessions, and without snapshot isolation.
-OLD = """#!/bin/sh
-while read -r line; do
-    case $line in
-        *3,\\ \\"snapshot\\"]|*3,\\"snapshot\\"]) echo '["no",1,"BadLine"]' ;;
-        *open*,65,*|*resume*,65,*|*open*,\\ 65,*|*resume*,\\ 65,*) echo '["no",2,"BadSession"]' ;;
-        *) echo '["ok"]' ;;
-    esac
-done
-"""
 
 
 def rows(sessions, ends=""):
@@ -239,23 +228,6 @@ class Sessions(WithFolder):
                     text = json.dumps([word, sessions, 8, *form]) + "\n"
                     done = subprocess.run([AUDITOR], input=text, capture_output=True, text=True, check=True)
                     self.assertEqual(json.loads(done.stdout), reply)
-
-    def test_a_program_of_before(self):
-        """Is said to be too old, and no mistake of the script."""
-        old = os.path.join(self.folder, "old")
-        with open(old, "w", encoding="utf-8") as file:
-            file.write(OLD)
-        os.chmod(old, stat.S_IRWXU)
-        too_old = "older than this package: it doesn't read scripts of version 3"
-        for sessions, limit, promise in ((65, 8, "serializable"), (2, 5000, "snapshot")):
-            with self.assertRaisesRegex(ProgramTooOldError, too_old):
-                Auditor(sessions, limit, old, promise=promise)
-        for opening in (["open", 65, 8, 3], ["resume", 65, 8, 3], ["open", 2, 8, 3, "snapshot"]):
-            with self.subTest(opening=opening):
-                self.written(opening)
-                status, _, err = run("check", self.script, program=old)
-                self.assertEqual(status, 2)
-                self.assertIn(too_old, err)
 
 
 class Snapshots(WithFolder):

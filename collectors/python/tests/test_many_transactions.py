@@ -7,7 +7,6 @@ import io
 import json
 import os
 import random
-import stat
 import subprocess
 import tempfile
 import time
@@ -16,7 +15,7 @@ from unittest import mock
 
 from zanteyard import Auditor, Logged
 from zanteyard.cli._main import main
-from zanteyard.core.errors import ImportRefusedError, ProgramTooOldError
+from zanteyard.core.errors import ImportRefusedError
 from zanteyard.explain import _shrinking as shrinking
 from zanteyard.explain._audited import audited_apart, without_idle
 from zanteyard.explain._levels import Levels
@@ -35,11 +34,6 @@ from .killing import PLAIN
 AUDITOR = PROGRAM if os.path.isfile(PROGRAM) else PLAIN
 COUNT = 4200
 ROUND = ["round", 4096, 0, 1]
-OLD = """#!/bin/sh
-while read -r line; do
-    case $line in *3]) echo '["no",1,"BadLine"]' ;; *) echo '["ok"]' ;; esac
-done
-"""  # a program that knows only versions 1 and 2
 
 
 def line(process, type, time_, micros):
@@ -256,20 +250,6 @@ class Openings(WithFolder):
         self.assertIn("4,096 transactions remain at a time; if it", run("check", self.script)[2])
         self.written(["open", 1, 5000, 3], *offers, ROUND)
         self.assertEqual(run("check", self.script)[0], 0)
-
-    def test_a_program_that_is_too_old(self):
-        old = os.path.join(self.folder, "old")
-        with open(old, "w", encoding="utf-8") as file:
-            file.write(OLD)
-        os.chmod(old, stat.S_IRWXU)
-        with self.assertRaisesRegex(ProgramTooOldError, "version 3, which have room for more than 4,096"):
-            Auditor(2, 5000, old)
-        for opening in (["open", 2, 5000, 3], ["resume", 2, 5000, 3]):
-            self.written(opening)
-            err = io.StringIO()
-            with mock.patch.dict(os.environ, COBRA_AUDIT=old), contextlib.redirect_stderr(err):
-                self.assertEqual(main(["check", self.script]), 2)
-            self.assertIn("is older than this package: it doesn't read scripts of version 3", err.getvalue())
 
     def test_more_than_that(self):
         """Is refused, with how many there are and what can be done."""

@@ -1,7 +1,6 @@
 """Audits for snapshot isolation with a journal: the history is kept as it was offered, with the
 promise."""
 import contextlib
-import json
 import os
 import random
 import unittest
@@ -120,35 +119,6 @@ class Killed(OfSnapshots):
             auditor.offer(1, 2, Logged([("x", "init")], ()))
             self.assertEqual(auditor.last_round().kind, "violated")
 
-    def test_journals_of_an_earlier_version(self):
-        """Its programs were asked about transactions in two: marks named what had begun, and a line
-        could have 256 transactions."""
-        head = _entries.Head(3, 4096, "run", promise="snapshot")
-        fence, idle = [[[0, 0, 1]], [0]], [[], []]
-        saved = [
-            ["resume", 3, 4096, 2], ["marks", [2, 0, 0], [False, False, True], [[2, 0]]],
-            ["last", [[0, 0, 1], [1, 0, 0]]], ["offer", 0, 2, [[[[2, 2, 0]], [3]]]],
-            ["offer", 1, 0, [fence]], ["offer", 2, 0, [[[], [2]]]], ["resumed"],
-        ]
-        lines = [["offer", 1, 1, [[[[1, 0, 0], [2, "init"]], []], *[idle] * 199]], ["close", 0]]
-        texts = [json.dumps(line).encode() for line in saved]
-        journal = Journal(self.path)
-        names = _entries.keys(0, [FENCE, "x", "y", "z"])
-        journal.begin_anew(
-            [*_entries.checkpoint(head, names, (), texts),
-             *(_entries.line(json.dumps(line).encode()) for line in lines)]
-        )
-        journal.close()
-        with self.resumed(promise="snapshot") as auditor:
-            self.assertEqual((auditor.received, auditor.marks), ([3, 201, 1], [2, 0, 0]))
-            self.assertEqual(auditor.closed, [True, False, True])
-            self.assertEqual(auditor.base, {FENCE: (0, 1), "x": (0, 0)})
-            self.assertEqual(plain(auditor)[2], [[[], [2]]])
-            self.assertEqual(auditor.limit, 2048)
-            self.assertEqual(auditor.last_round().kind, "serial")
-            auditor.offer(1, 201, Logged([("x", "init")], ()))
-            self.assertEqual(auditor.last_round().kind, "violated")
-
 
 class Promises(OfSnapshots):
     def test_another_promise_is_refused(self):
@@ -162,15 +132,9 @@ class Promises(OfSnapshots):
                 self.assertEqual(auditor.promise.name, ours)
                 self.assertEqual(auditor.received, [1, 0, 0])
 
-    def test_earlier_journals(self):
-        """Journals without a promise are for serializability; an unknown promise is refused."""
-        with self.auditor(promise="serializable"):
-            pass
-        with open(self.path, "rb") as file:
-            self.assertNotIn(b"promise", file.read())
+    def test_an_unknown_promise_is_refused(self):
         head = _entries.Head(2, 16, "run", promise="causal")
         lines = [b'["resume",2,16,2]', b'["marks",[0,0],[false,false]]', b'["resumed"]']
-        self.path += " of another"
         journal = Journal(self.path)
         journal.begin_anew(_entries.checkpoint(head, _entries.keys(0, ["fence"]), (), lines))
         journal.close()

@@ -159,7 +159,7 @@ class Serving(unittest.TestCase):
             self.assertTrue(os.path.exists(f"{self.folder}/audit/violation.jsonl"))
 
     def test_a_violation_that_can_not_be_written_ends_it_with_its_status(self):
-        for place in ("violation.txt", "violation.jsonl", "violation.dot"):
+        for place in ("violation.txt", "violation.jsonl"):
             with self.subTest(place):
                 shutil.rmtree(f"{self.folder}/audit", ignore_errors=True)
                 os.mkdir(f"{self.folder}/audit", 0o700)

@@ -6,7 +6,7 @@ import sys
 import time
 import unittest
 
-from zanteyard import AbortedError, Logged, Session, audited, dot_text, smaller, tell_violation
+from zanteyard import AbortedError, Logged, Session, audited, smaller, tell_violation
 from zanteyard.explain import _shrinking as shrinking
 from zanteyard.explain._audited import named, refuted
 from zanteyard.program._auditor import PROGRAM
@@ -98,8 +98,6 @@ class Shrinking(unittest.TestCase):
         self.assertLessEqual(len(explanation.lines), 20)
         self.assertTrue(explanation.lines[-1].endswith(" can come first"))
         self.check_least(small)
-        picture = dot_text(small, explanation=explanation)
-        self.assertEqual(picture.count("color=red"), len(explanation.arcs))
 
     def check_least(self, small):
         """Violated, and not violated without any one of its transactions."""
@@ -168,14 +166,13 @@ class Shrinking(unittest.TestCase):
                 "so neither 0.0 nor 0.6 can come first",
             ),
         )
-        self.assertEqual(dot_text([txns], explanation=explanation).count("->"), 2)
 
     def test_what_cant_be_written_is_told_behind_the_violation(self):
         lost = Logged((("x", "init"),), ("x",))
         told = []
         tell_violation([[lost], [lost]], "/nowhere/violation", tell=told.append)
         self.assertEqual(told[0].split(":")[0], "violated")
-        self.assertEqual([line.split(":")[0] for line in told[-2:]], ["(/nowhere/violation can't be written"] * 2)
+        self.assertEqual(told[-1].split(":")[0], "(/nowhere/violation can't be written")
 
     def test_a_long_statement_is_told_with_its_place(self):
         place = "/a/long/way" * 8 + "/bank.py:104"

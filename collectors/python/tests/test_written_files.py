@@ -13,10 +13,7 @@ from unittest import mock
 from zanteyard.cli._main import main
 from zanteyard.core._private_files import check_folder, private
 from zanteyard.core._prometheus import text_of
-from zanteyard.core._records import Logged
 from zanteyard.core.errors import FolderUnfitError, JournalError
-from zanteyard.explain._explanation import Explanation
-from zanteyard.explain._graphviz import draw
 from zanteyard.journal._file import Journal
 from zanteyard.remote._connecting import SocketDoor
 from zanteyard.remote._server import AuditServer
@@ -87,19 +84,6 @@ class PrivateFiles(unittest.TestCase):
         with open(os.devnull, "w", encoding="utf-8", opener=private) as file:
             file.write("a value")
         self.assertEqual(os.stat(os.devnull).st_mode, before)
-
-
-class Pictures(unittest.TestCase):
-    def test_they_are_their_owners_alone(self):
-        """Including the one that `dot` makes."""
-        before = os.umask(0)
-        self.addCleanup(os.umask, before)
-        with tempfile.TemporaryDirectory() as folder:
-            names = draw([[Logged([], ["k"])]], f"{folder}/violation", explanation=Explanation("so"))
-            self.assertEqual(len(names), 2 if shutil.which("dot") else 1)
-            for name in names:
-                self.assertEqual(os.stat(name).st_mode & 0o777, 0o600, name)
-                self.assertGreater(os.path.getsize(name), 50)
 
 
 class Folders(unittest.TestCase):

@@ -17,7 +17,7 @@
   after the end of its process.
 - The result is an Outcome, with the Report of the last round and what is Pending.
 - To explain a violation: tell_violation does everything. Its parts are from_start, smaller, words,
-  explain_history, reasons, audited, dot_text and draw.
+  explain_history, reasons and audited.
 - All errors are ZanteyardErrors. An error after a commit is never raised in the client's calls:
   outcomes report it, and so does the log `zanteyard`.
 
@@ -56,7 +56,6 @@ if TYPE_CHECKING:
         ProgramEndedError,
         ProgramLateError,
         ProgramMissingError,
-        ProgramTooOldError,
         RefusedError,
         ScriptMistakeError,
         StoreLateError,
@@ -64,7 +63,6 @@ if TYPE_CHECKING:
         ZanteyardError,
     )
     from .explain._audited import audited, from_start
-    from .explain._graphviz import dot_text, draw
     from .explain._reasons import Explanation, explain_history, reasons
     from .explain._shrinking import smaller
     from .explain._violation_text import tell_violation
@@ -91,11 +89,10 @@ _PLACES = {
         "AbortedError AuditLostError FolderUnfitError FullError JournalDamagedError "
         "JournalError JournalInUseError JournalVersionError NameTakenError NoCutError "
         "NoMemoryError OtherVersionError OutcomeUnknownError ProgramEndedError "
-        "ProgramLateError ProgramMissingError ProgramTooOldError RefusedError "
+        "ProgramLateError ProgramMissingError RefusedError "
         "ScriptMistakeError StoreLateError StoreUnfitError ZanteyardError"
     ),
     "explain._audited": "audited from_start",
-    "explain._graphviz": "dot_text draw",
     "explain._reasons": "Explanation explain_history reasons",
     "explain._shrinking": "smaller",
     "explain._violation_text": "tell_violation",
@@ -132,14 +129,14 @@ __all__ = [
     # outcomes
     *("Outcome", "Pending", "Report", "RoundTold", "ClientTold"),
     # explanations of violations
-    *("Explanation", "audited", "dot_text", "draw", "explain_history", "from_start", "reasons"),
+    *("Explanation", "audited", "explain_history", "from_start", "reasons"),
     *("smaller", "tell_violation", "words"),
     # errors
     *("AbortedError", "AuditLostError", "FolderUnfitError", "FullError", "NameTakenError"),
     *("JournalError", "JournalDamagedError", "JournalInUseError", "JournalVersionError"),
     *("NoCutError", "NoMemoryError", "OtherVersionError", "OutcomeUnknownError"),
     "ProgramEndedError",
-    *("ProgramLateError", "ProgramMissingError", "ProgramTooOldError"),
+    *("ProgramLateError", "ProgramMissingError"),
     *("RefusedError", "ScriptMistakeError"),
     *("StoreLateError", "StoreUnfitError", "ZanteyardError"),
     "__version__",

@@ -16,11 +16,6 @@ class ProgramMissingError(ZanteyardError):
     built."""
 
 
-class ProgramTooOldError(ZanteyardError):
-    """The program is an earlier version, which doesn't know lines that this package writes. Nothing
-    has begun."""
-
-
 class ProgramEndedError(ZanteyardError):
     """The program ended or can't be reached, and its state is lost."""
 

@@ -4,7 +4,7 @@ from collections.abc import Iterator, Sequence
 from dataclasses import dataclass, field
 
 from ..core._records import History, Naming
-from ..core.errors import CantBeAskedError, ProgramTooOldError, ScriptMistakeError
+from ..core.errors import CantBeAskedError, ScriptMistakeError
 from ..promises._kinds import (
     ALL,
     GENERALIZED,
@@ -85,7 +85,7 @@ class Levels:
             level = self._by_lines(promise) if promise in BY_LINES else self._by_history(promise)
         except CantBeAskedError as error:
             level = Level(promise, UNKNOWN, str(error))
-        except (ProgramTooOldError, ScriptMistakeError) as error:
+        except ScriptMistakeError as error:
             if promise == SERIALIZABLE:
                 raise
             level = self._by_few(promise) or Level(promise, UNKNOWN, str(error))

@@ -16,13 +16,11 @@ from ..core._tenancy import Tenancy
 from ..core.errors import (
     CantBeAskedError,
     ProgramEndedError,
-    ProgramTooOldError,
     ScriptMistakeError,
 )
 from ..program._intake import EFFORTS, GUIDED, never_came
-from ..program._lines import too_old
 from ..promises._asking import KEYS, LIMIT, MOST, MOST_SESSIONS, SESSIONS, Asking, asked_in
-from ..promises._asking import begun_in, most_remaining, most_sessions
+from ..promises._asking import begun_in, most_remaining
 from ..promises._kinds import SERIALIZABLE, SNAPSHOT, Promise
 from ._line_forms import mistake_of
 from ._script_names import NamedTransaction, ScriptNames
@@ -35,7 +33,6 @@ WAITS = (0.1, 0.5)  # seconds until a line that was answered NoMemory is sent ag
 SAVE_MARKS = b'["save","marks"]'
 SEARCHES = re.compile(rb'\s*\[\s*"(?:round|finish|collect)"')  # whose reply may take long
 # An opening of a later version than the first, which an earlier program may not read.
-OPENS_FORM = re.compile(rb'\["(?:open|resume)", ?(\d+), ?\d+, ?([23])(?:, ?"snapshot")?\]$')
 LARGE_OPEN = f'["open",sessions,limit,{LARGE_FORM}]'
 MOST_OPEN = (
     f"a script has 1 to {SESSIONS} sessions, and at most {LIMIT:,} transactions remain at a time; "
@@ -362,8 +359,6 @@ class ScriptRun:
             reply = self._reply_to(text)
             if reply[0] != "no" or reply[2] == "NoCut":
                 return reply
-            if reply[2] in ("BadLine", "BadSession") and not self._is_open:
-                self._check_age(reply[2])
             if reply[2] != "NoMemory":
                 raise ScriptMistakeError(number, reply[2], self._advice(reply[2], text))
             if self._search and _parts_of(text)[0] == "collect":  # the refusal has ended the search
@@ -371,15 +366,6 @@ class ScriptRun:
             if wait:
                 time.sleep(wait)
         raise ProgramEndedError(f"line {number} was refused memory, also when it was given again")
-
-    def _check_age(self, refusal: str) -> None:
-        """Raises ProgramTooOldError if the line that was refused is an opening of a version that
-        the program should know."""
-        opens = OPENS_FORM.match(self._given)
-        if opens and not mistake_of(self._given):
-            sessions, form = int(opens[1]), int(opens[2])
-            if refusal == "BadLine" or 1 <= sessions <= most_sessions(form):
-                raise ProgramTooOldError(too_old(self.path, form))
 
     def _advice(self, refusal: str, text: bytes) -> str:
         if self.promise.asks_itself and refusal in OF_SNAPSHOTS:

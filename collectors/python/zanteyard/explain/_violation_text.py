@@ -10,7 +10,6 @@ from ..core._visible import say, shown
 from ..program._binaries import PROGRAM
 from ..promises._kinds import SERIALIZABLE, Promise
 from ._audited import audited_apart
-from ._graphviz import draw
 from ._reasons import explanation_of
 from ._report import Story, story_of
 from ._shrinking import SECONDS, smaller
@@ -29,8 +28,8 @@ def tell_violation(
     promise: Promise = SERIALIZABLE,
 ) -> History:
     """Describes a violated history: a minimal violated part of it, why no order explains that, and
-    which promises it breaks. Then writes the part as path.jsonl for cobra_audit, and draws it. If
-    writing fails, that is reported last. Returns the small history. `known` is what a refutation of
+    which promises it breaks. Then writes the part as path.jsonl for cobra_audit. If writing fails,
+    that is reported last. Returns the small history. `known` is what a refutation of
     the history names, if there is one. Each line passed to `tell` is safe to show."""
     return tell_story(history, path, called, tell, seconds, program, known, promise)[0]
 
@@ -67,14 +66,10 @@ def tell_story(
     story = story.with_standing(standing(small, program, promise, left))
     told(*story.standing.lines())
 
-    def drawn() -> str:
-        return f"(drawn: {', '.join(draw(small, path, called, explanation))})"
-
-    for write in (lambda: write_script(story, path), drawn):
-        try:
-            told(write())
-        except Exception as error:  # such as a full disk: what was found has been reported
-            told(f"({path} can't be written: {error})")
+    try:
+        told(write_script(story, path))
+    except Exception as error:  # such as a full disk: what was found has been reported
+        told(f"({path} can't be written: {error})")
     return small, story
 
 

@@ -14,15 +14,13 @@ from dataclasses import dataclass, field
 from typing import Any, NamedTuple
 
 from ..core.errors import JournalDamagedError
-from ..promises._kinds import ASKED, SERIALIZABLE, SNAPSHOT
-from ._earlier import asking_itself
+from ..promises._kinds import ASKED, SERIALIZABLE
 from ._file import Journal
 from ._records import record, records
 
 HEAD, KEYS, SAVED, WHOLE = b"H", b"K", b"S", b"W"
 LINE, FIGURES, VIOLATED, CHECKPOINT = b"L", b"F", b"V", b"C"
 UNDONE = b"A"
-RESUME, FORM = b'["resume",', b",2]"  # an earlier version's journals lack the latter
 
 
 class Violation(NamedTuple):
@@ -60,10 +58,10 @@ class Head:
         rounds: int,
         left_out: int,
         is_of_sessions: bool,
-        from_before: int = 0,
-        store: list[str] | None = None,
+        from_before: int,
+        store: list[str] | None,
     ) -> None:
-        """Takes the values of a later record. An earlier version's journals lack the last two."""
+        """Takes the values of a later record."""
         self.rounds, self.left_out, self.is_of_sessions = rounds, left_out, is_of_sessions
         self.from_before, self.store = from_before, store
 
@@ -86,7 +84,7 @@ class Kept:
         if (kind == SAVED) == self.is_whole and kind in (SAVED, LINE):
             raise ValueError("a line is in the wrong place")
         if kind == SAVED or kind == LINE:
-            self.lines.append(_of_this_version(text))
+            self.lines.append(text)
         elif kind == UNDONE:
             self.undone += json.loads(text)
         elif kind == KEYS:
@@ -125,9 +123,6 @@ def kept_in(journal: Journal, has_names: bool = True) -> Kept:
                 kept.take(text[:1], text[1:])
         if not kept.is_whole:
             raise ValueError("the checkpoint is cut off")
-        if kept.head.promise == SNAPSHOT.name:
-            kept.lines, kept.saved = asking_itself(kept.lines, kept.saved)
-            kept.head.limit = json.loads(kept.lines[0])[2]  # an earlier version's head has twice it
     except (ValueError, TypeError, LookupError) as error:
         message = f"{journal.path}: its records contradict one another, so none is used: {error}"
         raise JournalDamagedError(message) from error
@@ -143,13 +138,6 @@ def _each(texts: Iterable[bytes]) -> Iterator[bytes]:
             yield text
 
 
-def _of_this_version(line: bytes) -> bytes:
-    """The line in this version's form, so that lines after it may list aborted attempts."""
-    if line.startswith(RESUME) and line.count(b",") == 2:
-        return line[:-1] + FORM
-    return line
-
-
 def checkpoint(
     head: Head,
     names: bytes,
@@ -160,21 +148,13 @@ def checkpoint(
     """A checkpoint, as the texts of its records. `names` is the record of the key names that no
     earlier record has."""
     return [
-        HEAD + _text(_plain(head)),
+        HEAD + _text(vars(head)),
         names,
         *map(violated, violations),
         *([UNDONE + _text(undone)] if undone else []),
         *(SAVED + line for line in saved),
         WHOLE + _text(len(saved)),
     ]
-
-
-def _plain(head: Head) -> dict[str, Any]:
-    """The head as earlier versions can read it, too, if they know its promise."""
-    its = {**vars(head)}
-    if head.promise == SERIALIZABLE.name:
-        del its["promise"]
-    return its
 
 
 def later(texts: Iterable[bytes]) -> bytes:

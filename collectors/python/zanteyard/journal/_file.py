@@ -25,7 +25,6 @@ from ._records import record, records
 VERSION = 2
 NAME = b"zanteyard journal "
 FIRST_LINE = NAME + b"%d\n" % VERSION
-EARLIER = NAME + b"1\n"  # doesn't record what was aborted; has the same length
 FLAGS = os.O_RDWR | os.O_APPEND | os.O_CLOEXEC
 logger = logging.getLogger("zanteyard")
 
@@ -70,7 +69,7 @@ class Journal:
                 content = file.read()
         except OSError as error:
             self._fail("can't be read", error)
-        if not content.startswith((FIRST_LINE, EARLIER)):
+        if not content.startswith(FIRST_LINE):
             raise JournalVersionError(f"{self.path} {_other_version(content)}")
         texts, self.size = [], len(FIRST_LINE)
         try:

@@ -18,16 +18,14 @@ from ..core._window import Coverage
 from ..core.errors import (
     AuditLostError,
     FullError,
-    NoMemoryError,
     ProgramEndedError,
-    ProgramTooOldError,
     RefusedError,
 )
 from ..journal._entries import Head
-from ..promises._asking import begun_in, form_of, is_opening
+from ..promises._asking import begun_in, form_of
 from ._binaries import PROGRAM as PROGRAM
 from ._intake import Fragment
-from ._lines import ENDED, too_old, written
+from ._lines import ENDED, written
 from ._pipes import Pipes
 from ._resuming import Reopened, journaled, reopened
 from ._rounds import Rounds
@@ -113,16 +111,8 @@ class Auditor(Rounds):
         self._open()
 
     def _open(self) -> None:
-        """Raises ProgramTooOldError if the program can't read such scripts."""
         form = form_of(self.promise, self.sessions, self.limit)
-        try:
-            self.ask(["open", self.sessions, self.limit, *form])
-        except NoMemoryError:
-            raise
-        except RefusedError as error:
-            if is_opening(self.promise, self.sessions, self.limit):
-                raise ProgramTooOldError(too_old(self.path, form[0])) from error
-            raise
+        self.ask(["open", self.sessions, self.limit, *form])
 
     def _started(self, journal: str | Reopened | None) -> Pipes | SupervisedProgram:
         if journal is None:

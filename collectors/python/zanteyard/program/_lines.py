@@ -6,7 +6,6 @@ import time
 from collections.abc import Mapping, Sequence
 from typing import Any
 
-from ..core._own_keys import LARGE_FORM
 from ..core._private_files import private
 from ..core.errors import (
     BadLineError,
@@ -20,7 +19,6 @@ from ..core.errors import (
     ProgramLateError,
     RefusedError,
 )
-from ..promises._asking import LIMIT, SESSIONS
 from ._intake import SECONDS, Intake
 from ._pipes import Pipes
 from ._supervised import SupervisedProgram
@@ -37,20 +35,6 @@ KINDS: Mapping[str, type[RefusedError]] = {
     "NoRound": NoRoundError,
     "NotAnchored": NotAnchoredError,
 }
-
-
-def too_old(path: str, form: int) -> str:
-    """Says that the program doesn't read scripts of this version."""
-    what = "name aborted writers"
-    if form == LARGE_FORM:
-        what = (
-            f"have room for more than {LIMIT:,} transactions and {SESSIONS} sessions, also under "
-            "snapshot isolation"
-        )
-    return (
-        f"{path} is older than this package: it doesn't read scripts of version {form}, which "
-        f"{what}. Rebuild it, or name another program"
-    )
 
 
 def written(line: Sequence[Any]) -> str:

@@ -4,17 +4,13 @@ import time
 from collections.abc import Callable, Sequence
 from typing import Any
 
-from ..core.errors import BadLineError, NoMemoryError, ProgramTooOldError
+from ..core.errors import NoMemoryError
 from ._intake import pause_after
 
 Ask = Callable[[Sequence[Any]], list[Any]]  # returns the reply to a line; raises RefusedError
 BEGIN, COLLECT, SKIP = ["begin"], ["collect"], ["skip"]
 REPORT = "report"
 WAITS = (0.1, 0.5)  # seconds until a search that ran out of memory is tried again
-TOO_OLD = (
-    "this cobra_audit is older than the package and can't search while it reads lines: rebuild it, "
-    "or name another program"
-)
 
 
 class SearchedRound:
@@ -27,10 +23,7 @@ class SearchedRound:
         self._waits, self.is_skipped, self._is_late = [*WAITS], False, False
         self._began = time.monotonic()
         ask(BEGIN)
-        try:
-            ask(self._search)
-        except BadLineError as error:
-            raise ProgramTooOldError(TOO_OLD) from error
+        ask(self._search)
 
     def look(self) -> list[Any] | None:
         """The report, if the search has ended. A search that takes too long is skipped; then the

@@ -45,11 +45,6 @@ def form_of(promise: Promise, sessions: int, limit: int) -> list[Any]:
     return [form, SNAPSHOT.name] if promise.asks_itself else [form]
 
 
-def is_opening(promise: Promise, sessions: int, limit: int) -> bool:
-    """Whether a script may begin with so much room."""
-    return 1 <= sessions <= MOST_SESSIONS and 1 <= limit <= most_remaining(promise)
-
-
 def asked_in(line: Sequence[Any]) -> Promise | None:
     """The promise that a script is about if this is its first line; None if it is no such line."""
     if not line or line[0] not in OPENS or len(line) < 3:
