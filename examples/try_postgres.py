@@ -203,6 +203,8 @@ def main(zanteyard: str, folder: str) -> int:
         print(lacks)
         return MISSING
     os.environ["PGPASSWORD"] = PASSWORD
+    # Shells start background commands with SIGINT ignored, and `watch` would inherit that.
+    signal.signal(signal.SIGINT, signal.default_int_handler)
     server = Server(free_ports(1)[0])
     with server:
         server.prepare()

@@ -62,7 +62,8 @@ class Try(unittest.TestCase):
             file.write("tiny:\n")
 
     def try_it(self, *words):
-        ended = self.run_it("./try.sh", *words)
+        """As a background command of a script, which a shell starts with SIGINT ignored."""
+        ended = self.run_it("sh", "-c", 'trap "" INT; exec ./try.sh "$@"', "sh", *words)
         self.assertEqual(ended.returncode, 0, ended.stdout)
         self.assertRegex(ended.stdout, "(?m)^[| ]* so n.* can come first$")
         (page,) = re.findall("(?m)^The violation's page is (.*): open it in", ended.stdout)
