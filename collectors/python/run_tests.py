@@ -35,7 +35,7 @@ HERE = os.path.dirname(os.path.abspath(__file__))
 LONG = [
     f"tests.test_{each}"
     for each in (
-        *("machines", "stores", "killed", "journal_kills", "streams", "faults"),
+        *("stores", "killed", "journal_kills", "faults"),
         *("restarting", "postgres_live", "bank", "shrinking", "examples", "live", "no_harm"),
         *("rounds", "proxy_drivers", "watch_whole"),
     )

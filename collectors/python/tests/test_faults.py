@@ -16,9 +16,7 @@ from zanteyard import FENCE, AbortedError, AuditClient, AuditorApart, AuditServe
 from zanteyard import StoreUnfitError
 from zanteyard.program._auditor import PROGRAM
 from zanteyard.trial.postgres_server import PostgresServer, program
-from zanteyard.trial.redis_server import RedisServer, redis_server
 
-from . import shared_key  # noqa: F401  (whose key clients over a Redis have)
 from .lateness import BOUND, Lateness
 from .test_standby import Standby
 
@@ -28,12 +26,6 @@ try:
     from zanteyard.stores.postgres import PostgresStore, prepare
 except ImportError:
     psycopg2 = None
-try:
-    import redis
-
-    from zanteyard.remote.streams import StreamServer
-except ImportError:
-    redis = None
 
 LACKING = [
     name
@@ -402,34 +394,6 @@ class Faults(unittest.TestCase):
             self.assertTrue(all(isinstance(error, psycopg2.Error) for error in application.seen))
             fault, saw = "a standby that lags answers in the primary's place", "the store's own errors, meanwhile"
             self.ended(application, fault, None, saw)
-
-    @unittest.skipUnless(redis and redis_server(), "Redis or redis-py isn't installed (nobody wrote to it)")
-    def test_a_stranger_writes_to_the_redis(self):
-        with RedisServer() as server, redis.Redis(unix_socket_path=server.socket) as stranger:
-            self.audit()
-            streams = StreamServer(self.live, server.dsn, silence=SOON)
-            self.addCleanup(streams.close, 0.0)
-            client = AuditClient(server.dsn)
-            self.addCleanup(client.leave)
-            application = self.application(PACE, live=client)
-            self.wait_for(self.is_audited)
-            up = streams.names.up(client._messages.client)
-            for turn in range(50):
-                entries = stranger.xrevrange(up, count=3)
-                texts = [fields for _, fields in entries] + [{b"m": b'["lost","for a test"]', b"s": b"?" * 32}]
-                for at, fields in enumerate(texts if entries else ()):
-                    with suppress(redis.ResponseError):  # the client has sent more by then
-                        stranger.xadd(up, fields, id=b"%s-%d" % (entries[0][0].split(b"-")[0], 1 + at))
-                stranger.hset(streams.names.clients, f"{turn:016x}", "here")
-                stranger.xadd(streams.names.up(f"{turn:016x}"), {"m": b'["hello","host",1]', "s": b""})
-                time.sleep(PACE)
-            self.wait_for(lambda: streams.refused.total >= 60)
-            done = application.done
-            self.wait_for(lambda: application.done > done + 10)
-            application.end()
-            client.leave()
-            streams.close()
-            self.ended(application, "a stranger writes to the audit's Redis, and sends entries of it again", "serial")
 
     # clients in processes of their own
 

@@ -11,13 +11,12 @@ import unittest
 from contextlib import ExitStack, contextmanager
 from unittest import mock
 
-from zanteyard import FENCE, AbortedError, Auditor, AuditorApart, LiveAuditor, Logged, OutcomeUnknownError
+from zanteyard import FENCE, AbortedError, Auditor, AuditorApart, Logged
 from zanteyard import AuditClient, AuditServer, Policy, RefusedError, from_start
 from zanteyard.live._audit import Audit
 from zanteyard.live._figures import Figures
 from zanteyard.live._told import Teller
 from zanteyard.core._own_keys import FLAG
-from zanteyard.program._auditor import PROGRAM
 from zanteyard.live._backlog import Backlog
 from zanteyard.core._window import Coverage
 from zanteyard.live._audit_start import coverage_from_now
@@ -31,19 +30,8 @@ from zanteyard.session._place import Place
 from zanteyard.session._session import Session
 from zanteyard.core._tenancy import Tenancy
 
-from zanteyard.trial.redis_server import redis_server
-
-from . import shared_key  # noqa: F401  (whose key all have)
 from .test_live import WithProgram, add_one
 from .waiting import SOON
-
-try:
-    import redis
-
-    from zanteyard.trial.redis_server import RedisServer
-    from zanteyard.remote.streams import StreamServer
-except ImportError:
-    redis = None
 
 PLACE = os.path.join(os.path.dirname(os.path.abspath(__file__)), "..")
 
@@ -790,49 +778,6 @@ class Elsewhere(WithProgram):
         stays.leave(), comes.leave()
         self.server.close()
         self.assertEqual((self.ended(live).kind, live.cuts), ("serial", 1))
-
-
-@unittest.skipUnless(redis and redis_server(), "Redis or redis-py isn't installed")
-class GoneOnWith(WithProgram):
-    """Continued by another process of the auditor, behind streams."""
-
-    def setUp(self):
-        super().setUp()
-        logging.getLogger("zanteyard").setLevel(logging.CRITICAL)
-        self.addCleanup(logging.getLogger("zanteyard").setLevel, logging.NOTSET)
-
-    def begun(self, auditor):
-        self.addCleanup(auditor.end)
-        policy = {"policy": Policy(60.0, False), "patience": 10.0}
-        live = LiveAuditor(auditor, every=12, elsewhere=True, **policy)
-        server = StreamServer(live, self.url, "bank", silence=60.0)
-        self.addCleanup(server.close, 0.0)
-        return live, server
-
-    def test_sessions_that_joined_go_on(self):
-        with tempfile.TemporaryDirectory() as folder, RedisServer(keeps=True) as server:
-            self.url = server.dsn
-            journal, store = f"{folder}/journal", MemoryStore()
-            live, serves = self.begun(Auditor(1, journal=journal))
-            with AuditClient(self.url, "bank") as client:
-                stays = client.session(store.connect())
-                sessions = [client.session(store.connect()) for _ in range(2)]
-                for session in (stays, *sessions) * 4:
-                    session.run(add_one("x"))
-                sessions[0].close()
-                sessions.append(client.session(store.connect()))
-                for session in (stays, *sessions[1:]) * 2:
-                    session.run(add_one("x"))
-                serves.leave()
-                serves._live.auditor.end()
-                live, serves = self.begun(Auditor.resumed(journal))
-                sessions.append(client.session(store.connect()))
-                for session in (stays, *sessions[1:]) * 4:
-                    session.run(add_one("x"))
-                self.assertEqual(len({session.number for session in (stays, *sessions[1:])}), 4)
-            serves.close()
-            outcome = live.stop()
-            self.assertEqual((outcome.kind, outcome.failure), ("serial", None))
 
 
 class Explained(WithProgram):

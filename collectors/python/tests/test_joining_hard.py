@@ -2,28 +2,20 @@
 import logging
 import os
 import tempfile
-import threading
 import time
 import unittest
 from unittest import mock
 
 from zanteyard import FENCE, AuditClient, AuditServer, Logged, OutcomeUnknownError, Policy
-from zanteyard.core._own_keys import FLAG
 from zanteyard.live._backlog import Backlog
 from zanteyard.core.errors import AuditLostError
 from zanteyard.remote._crash_recovery import CrashedProcess
-from zanteyard.remote._listed_stores import ListedStores
 from zanteyard.stores.memory import MemoryStore
 from zanteyard.core._crash_notes import CrashNote
 from zanteyard.live._session_pool import SessionPool
 from zanteyard.core._records import as_bytes
 from zanteyard.session._place import Place
 from zanteyard.session._session import Session
-
-try:
-    from zanteyard.remote._stream_process import StreamProcess
-except ImportError:
-    StreamProcess = None
 
 from .test_live import WithProgram, add_one
 from .waiting import SOON
@@ -392,23 +384,6 @@ class Harmless(WithProgram):
         self.assertIn("no session is free for a client: 33 clients", str(outcome.failure))
 
 
-@unittest.skipUnless(StreamProcess, "redis-py isn't installed")
-class HeardAgain(unittest.TestCase):
-    def test_who_has_joined_by_the_journal_has_joined(self):
-        """Another process of the auditor continues from what was written before that."""
-        for begun, must_join in ((4, False), (5, True)):  # the latter from a later place
-            backlog, ends = Backlog(8), mock.Mock()
-            backlog.begin_behind(3, 5, 5)
-            live = mock.Mock(next_number=backlog.next_number, is_taken=backlog.is_taken)
-            more = (threading.RLock(), bool, 8, ListedStores())
-            process = StreamProcess(live, ends, 10.0, *more)
-            process.group.add(Place(3, begun, must_join=True))
-            process._at = 1
-            process._take_logged([(0.0, 3, 4, (), b"")], 0)
-            self.assertEqual([it.must_join for it in process.group.places()], [must_join])
-            self.assertEqual(process.group.has_sessions, not must_join)
-
-
 class UsedAgain(WithProgram):
     """Cases that could give one name to two transactions."""
 
@@ -428,19 +403,6 @@ class UsedAgain(WithProgram):
                 killed = CrashedProcess({4: [(note, None) for note in notes]}, "run", Backlog(8).next_number)
                 self.assertEqual(killed.told(place), ())
             self.assertEqual((place.begun, place.must_join, place.is_ended), (begun, True, is_ended))
-
-    def test_a_flag_of_a_killed_process_that_nobody_reads_any_more_is_not_in_the_log(self):
-        """Even if the store knows it: nothing would determine its place in the order, and no fence
-        would be settled."""
-        flag, done = Logged([(f"{FLAG}4", "init")], [f"{FLAG}4"]), Logged([("x", (0, 1))], ["x"])
-        for outcome in ("committed", "aborted", "unknown"):
-            told = lambda how, ticket, *_: ("committed", None) if ticket == "its" else (outcome, [("run", 4, 1)])
-            notes = [CrashNote(4, 7, None, as_bytes(done), "its"), CrashNote(4, 8, None, as_bytes(flag._replace(reads=[])), "flag", False)]
-            with mock.patch("zanteyard.remote._crash_recovery.find_out", told):
-                place = Place(4, 7)
-                killed = CrashedProcess({4: [(note, None) for note in notes]}, "run", Backlog(8).next_number, is_dead=False)
-                self.assertEqual([number for number, _ in killed.told(place)], [7])
-            self.assertTrue(place.is_ended)
 
     def test_a_client_that_comes_as_its_process_leaves(self):
         live, store = self.live(1, every=1000), MemoryStore()

@@ -76,6 +76,15 @@ class Json(unittest.TestCase):
         found = {each["promise"]: each["answer"] for each in its["levels"]}
         self.assertEqual((found["serializable"], found["snapshot"]), ("no", "yes"))
 
+    def test_a_level_that_is_expected(self):
+        """A job of continuous integration fails if the history doesn't meet it."""
+        path = os.path.join(SAMPLES, "registers.edn")
+        for level, wanted in (("serializable", 1), ("snapshot", 0), ("strict", 1)):
+            self.assertEqual(ran("levels", path, "--expect", level, "--json")[0], wanted, level)
+        self.write('["open",1,8]\n["offer",0,0,[[[[5,0,7]],[]]]]\n')
+        for level, wanted in (("serializable", 3), ("strict", 4)):  # the script has no times
+            self.assertEqual(ran("levels", self.script, "--expect", level)[0], wanted, level)
+
     def test_names_that_xml_lacks(self):
         from zanteyard.cli._junit import junit_report
         from zanteyard.explain._report import Story

@@ -179,32 +179,6 @@ class Noted(unittest.TestCase):
         found, place = self.told(Place(0, must_join=True))
         self.assertEqual((found, place.begun, place.is_ended, place.unknown), ([], 0, False, ()))
 
-    def told_of_the_living(self, come=0):
-        """What is recovered from a process that can't be heard, and may go on."""
-        backlog, place = Backlog(8), Place(0)
-        if come:
-            backlog.count(0, come - 1)
-        crashed = CrashedProcess(in_files({self.path: None}), "run", backlog.next_number, is_dead=False)
-        return [*crashed.told(place)], place
-
-    def test_what_a_process_may_do_behind_its_notes_is_left_open(self):
-        for number in range(2):
-            self.before(number)
-            self.notes.write(0, number, "committed", None)
-        found, place = self.told_of_the_living()
-        self.assertEqual((found, place.begun), ([(0, DID), (1, DID)], 2))
-        self.assertEqual((place.is_ended, place.unknown), (True, ((2, 3),)))
-        found, place = self.told_of_the_living(come=2)
-        self.assertEqual((found, place.begun, place.is_ended, place.unknown), ([], 2, True, ((2, 3),)))
-
-    def test_what_a_living_process_was_not_answered_is_left_open(self):
-        self.before(0)
-        self.notes.write(0, 0, "committed", None)
-        self.before(1)
-        found, place = self.told_of_the_living()
-        self.assertEqual([(number, logged.outcome) for number, logged in found], [(0, "committed"), (1, "unknown")])
-        self.assertEqual((place.begun, place.is_ended, place.unknown), (2, True, ((1, 2),)))
-
     def test_of_what_can_not_be_found_out_the_writes_alone_are_told(self):
         read, wrote = (("x", "init"), "SELECT x"), (("y",), "UPDATE y")
         did = Logged([("x", "init")], ["y"], statements=[read, wrote], values=[("read", "x", "1"), ("wrote", "y", "2")])

@@ -1,6 +1,5 @@
 """No session is ever given to two clients, in whatever order it is given back."""
 import os
-import tempfile
 import threading
 import time
 import unittest
@@ -8,7 +7,7 @@ from contextlib import suppress
 from dataclasses import fields
 from unittest import mock
 
-from zanteyard import AbortedError, Auditor, LiveAuditor, Session
+from zanteyard import AbortedError, Auditor, LiveAuditor
 from zanteyard.program._auditor import PROGRAM
 from zanteyard.live._backlog import Backlog
 from zanteyard.live._audit_start import coverage_from_now
@@ -94,29 +93,6 @@ class Added(unittest.TestCase):
             self.assertEqual((live._pool.taken, live._pool.numbers()), (0, [0]))
             self.assertEqual(live.session(MemoryStore().connect()).number, 0)
             live.stop()
-
-    def test_an_audit_of_other_processes_notes_its_own_first_session(self):
-        """If this process ends, that session's last transactions are unknown."""
-        with Auditor(2) as auditor:
-            live, noted = LiveAuditor(auditor, seconds=3600.0, elsewhere=True), []
-            self.assertFalse(auditor.has_sessions)
-            note = auditor.note_sessions
-            auditor.note_sessions = lambda: noted.append(note())
-            for count in range(2):
-                live.session(MemoryStore().connect())
-                self.assertEqual((auditor.has_sessions, len(noted)), (True, 1))
-            live.stop()
-
-    def test_what_came_before_an_audit_goes_on_is_no_reason_to_meet(self):
-        with tempfile.TemporaryDirectory() as folder:
-            with Auditor(1, journal=f"{folder}/journal") as auditor:
-                session = Session(auditor, 0, MemoryStore().connect())
-                for _ in range(3):
-                    session.run(add_one("x"))
-            with Auditor.resumed(f"{folder}/journal") as auditor:
-                live = LiveAuditor(auditor, seconds=3600.0, elsewhere=True)
-                self.assertEqual((sum(auditor.received), live._coordinator.new), (3, 0))
-                live.stop()
 
     def test_a_session_that_comes_as_its_process_leaves_hands_nothing_in(self):
         class Leaving(LiveAuditor):

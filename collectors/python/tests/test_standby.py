@@ -82,9 +82,8 @@ class Lagging(unittest.TestCase):
         self.assertEqual(find_out(("postgres", self.words(self.primary.dsn), {}, *table), ticket, SOON)[0], "committed")
         store._its_dsn = self.standby.dsn
         self.assertEqual(store.outcome(), "unknown")
-        for is_dead in (True, False):
-            asks = ("postgres", self.words(self.standby.dsn), {}, *table)
-            self.assertEqual(find_out(asks, ticket, SOON, is_dead), UNKNOWN)
+        asks = ("postgres", self.words(self.standby.dsn), {}, *table)
+        self.assertEqual(find_out(asks, ticket, SOON), UNKNOWN)
 
     def test_nor_is_a_flag_of_the_collectors_own(self):
         """The standby has no process of the client, and no row yet: that says nothing."""

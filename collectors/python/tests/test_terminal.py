@@ -90,6 +90,18 @@ class OnATerminal(unittest.TestCase):
                 self.assertIn("at the end: violated: no serial order", text)
                 self.assertNotIn("\x1b[1", text)
 
+    def test_as_asked(self):
+        for how, wanted in (("always", f"{RED}violated{PLAIN}"), ("never", "violated")):
+            for words, more in ((["--color", how], {}), ([], {"ZANTEYARD_COLOR": how})):
+                with self.subTest(how=how, words=words):
+                    ended = subprocess.run(
+                        [sys.executable, "-m", "zanteyard", "check", "-", *words], input=LOST,
+                        capture_output=True, text=True,
+                        env={**os.environ, "COBRA_AUDIT": os.path.abspath(PROGRAM), **more},
+                    )
+                    self.assertEqual((ended.returncode, ended.stderr), (1, ""))
+                    self.assertIn(f"at the end: {wanted}: no serial order", ended.stdout)
+
     def test_none_on_a_pipe(self):
         ended = subprocess.run(
             [sys.executable, "-m", "zanteyard", "check", "-"], input=LOST, capture_output=True,

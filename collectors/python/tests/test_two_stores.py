@@ -15,14 +15,12 @@ from zanteyard import StoreUnfitError
 from zanteyard.core._store_identity import LONGEST, UNSURE, UNTOLD, AuditedStore, StoreIdentity
 from zanteyard.core._store_identity import checked, identity_of
 from zanteyard.core.errors import AuditLostError
-from zanteyard.remote._live_state import StateFile
 from zanteyard.stores import sqlite
 from zanteyard.stores.memory import MemoryStore
-from zanteyard.trial.mariadb_server import OPTIONS, MariaDBServer, mariadbd
+from zanteyard.trial.mariadb_server import MariaDBServer, mariadbd
 from zanteyard.trial.postgres_server import STARTING, PostgresServer, program
 from zanteyard.trial.redis_server import RedisServer, redis_server
 
-from . import shared_key  # noqa: F401  (whose key both processes have)
 from .store_client import count, store_of
 from .waiting import SOON, at_a_free_port, wait_until
 
@@ -34,8 +32,6 @@ except ImportError:
     psycopg2 = None
 try:
     import redis
-
-    from zanteyard.remote.streams import StreamServer
 except ImportError:
     redis = None
 try:
@@ -103,15 +99,6 @@ class Pairs:
                 address = f"{self.folder}/audit {name}"
                 with AuditServer(live, address):
                     self.see_two(live, address, first, second)
-
-    @unittest.skipUnless(redis and redis_server(), "Redis or redis-py isn't installed (no client came in by streams)")
-    def test_a_second_one_is_refused_over_a_redis(self):
-        with RedisServer() as server:
-            for name, (first, second) in self.pairs().items():
-                with self.subTest(pair=name):
-                    live = self.live()
-                    with StreamServer(live, server.dsn, silence=SOON):
-                        self.see_two(live, server.dsn, first, second)
 
     def see_two(self, live, address, first, second):
         with AuditClient(address) as client:
@@ -778,36 +765,6 @@ class OverJournals(Quiet):
         resumed = Auditor.resumed(path, PLAIN)
         self.addCleanup(resumed.end)
         self.assertIsNone(resumed.audited_store.identity)
-
-    @unittest.skipUnless(redis and redis_server(), "Redis or redis-py isn't installed (no auditor went on)")
-    def test_a_process_that_goes_on_refuses_another_store(self):
-        """Even if nothing of the first one's was taken in yet."""
-        for takes in (False, True):
-            path = f"{self.folder}/journal {takes}"
-            with self.subTest(takes=takes), RedisServer(keeps=True) as server:
-                live = self.live(self.auditor(journal=path), elsewhere=True)
-                streams = StreamServer(live, server.dsn, silence=SOON)
-                with AuditClient(server.dsn) as client:
-                    store = MemoryStore()
-                    session = client.session(store.connect())
-                    session.begin().rollback()
-                    self.assertEqual(StateFile(path).read().store, store.identity)  # before it was answered
-                    if takes:
-                        session.run(count)
-                        self.assertTrue(wait_until(lambda: live.taken_in == 2))
-                    streams.leave()
-                    live.auditor.end()
-                    again = self.live(Auditor.resumed(path, PLAIN), elsewhere=True)
-                    self.addCleanup(again.auditor.end)
-                    with StreamServer(again, server.dsn, silence=SOON), AuditClient(server.dsn) as other:
-                        with self.assertRaisesRegex(StoreUnfitError, "the in-memory store"):
-                            other.session(MemoryStore().connect()).run(count)
-                        session.run(count)
-                        self.assertTrue(wait_until(lambda: again.taken_in == session.begun))
-                        client.leave()
-                    outcome = again.stop()
-                    self.assertEqual(outcome.kind, "serial", outcome)
-
 
 if __name__ == "__main__":
     unittest.main()

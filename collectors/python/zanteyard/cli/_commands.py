@@ -42,7 +42,10 @@ def _levels(command: argparse.ArgumentParser) -> None:
     from ._scripts import add_levels
 
     add_levels(command)
-    command.epilog = "Exit status: 0 if they could be determined, 2 if the script is wrong."
+    command.epilog = (
+        "Exit status: 0 if they could be determined, 2 if the script is wrong; with --expect also "
+        "1, 3 and 4."
+    )
 
 
 def _demo(command: argparse.ArgumentParser) -> None:

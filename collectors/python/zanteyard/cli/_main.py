@@ -7,6 +7,7 @@ import sys
 from collections.abc import Sequence
 from typing import Any
 
+from ..core import _visible
 from ..core._command_start import is_over
 from ..core.errors import ImportRefusedError, ProgramEndedError, ZanteyardError
 from ._statuses import MISTAKE, UNDECIDED, complain
@@ -28,6 +29,7 @@ def main(words: Sequence[str] | None = None) -> int:
             parser("").print_help(sys.stderr)
             return MISTAKE
         asked = parser(command_of(words), words).parse_args(words)
+        _visible.colours = getattr(asked, "color", _visible.AUTO)
         status: int = asked.run(asked)
         asked.status = status
         sys.stdout.flush()

@@ -2,7 +2,6 @@
 
 import time
 from collections.abc import Callable, Iterator
-from typing import Any
 
 from ..core._prometheus import TEXT, Family, text_of
 from ..core._version import VERSION
@@ -13,12 +12,8 @@ from ..watch._web import Answer, WebServer
 KINDS = ("serial", "pending", "violated", "spent")
 
 
-def families(
-    live: LiveAuditor, clients: int = 0, redis_up: Any = None, refused: int = 0
-) -> Iterator[Family]:
-    """The metrics. `clients` is the number of connected client processes, `redis_up` says whether
-    the Redis can be reached (None if there is none), and `refused` counts messages that were
-    refused."""
+def families(live: LiveAuditor, clients: int = 0) -> Iterator[Family]:
+    """The metrics. `clients` is the number of connected client processes."""
     outcome, figures, auditor = live.outcome, live.figures, live.auditor
     whole = sum(outcome_before.audited for outcome_before in live.earlier)
 
@@ -70,20 +65,12 @@ def families(
     yield one("sessions_left", "gauge", about, live.sessions_left)
     yield one("clients", "gauge", "Client processes that are connected.", clients)
     yield one("violated", "gauge", "1 if the audit found a violation.", live.is_violated)
-    is_missing = live.missing is not None
-    yield one(
-        "missing", "gauge", "1 if a client may have done something that never arrived.", is_missing
-    )
     is_lost = outcome.whole.kind == "incomplete" or bool(live.earlier)
     yield one("incomplete", "gauge", "1 if something wasn't audited.", is_lost)
     restarts, about = getattr(getattr(auditor, "program", None), "restarts", 0), (
         "Auditor programs that were replaced."
     )
     yield one("program_restarts_total", "counter", about, restarts)
-    if redis_up is not None:
-        yield one("redis_up", "gauge", "1 if Redis can be reached.", bool(redis_up))
-        about = "Messages and clients in Redis that weren't signed with the key."
-        yield one("redis_refused_total", "counter", about, refused)
 
 
 class MetricsServer(WebServer):

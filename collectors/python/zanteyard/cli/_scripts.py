@@ -9,22 +9,23 @@ from ..core._visible import say
 from ..core.errors import CantBeAskedError, ScriptMistakeError
 from ..explain._html import page_of
 from ..explain._json import levels_json, say_json, story_json
-from ..explain._levels import Levels, levels_lines
+from ..explain._levels import NO, PENDING, UNKNOWN, YES, Levels, levels_lines
 from ..explain._report import EXPLAINED, Story, verdict_story, violation_story
 from ..explain._script_names import ScriptNames, read_names
 from ..explain._script_times import ScriptTimes, read_times
 from ..explain._scripts import MORE, ScriptRun, Verdict
 from ..program import _check_report
 from ..program._binaries import find_program
-from ..promises._kinds import ASKED, STRICT
+from ..promises._kinds import ALL, ASKED, STRICT
 from ._given import FOR_HISTORIES, add_file, given, is_journal, refuse_options
 from ._journal import run_journal
 from ._junit import junit_report
-from ._parsing import add_old_name
+from ._parsing import add_old_name, one_of
 from ._progress import Progress
 from ._told import STATUSES, origin, tell, tell_with_page, write
 
 
+OF_LEVELS = {YES: 0, NO: 1, PENDING: 3, UNKNOWN: 4}  # statuses, with --expect
 READING, EXPLAINING = "reading", "explaining"  # what progress shows
 OF_VERDICTS = ("promise", "all", "html", "json", "junit", *FOR_HISTORIES)
 
@@ -83,6 +84,11 @@ def add_explain(command: argparse.ArgumentParser) -> None:
 def add_levels(command: argparse.ArgumentParser) -> None:
     _add_script(command)
     _add_json(command, "one line of JSON")
+    command.add_argument(
+        "--expect", choices=[each.name for each in ALL], metavar="LEVEL",
+        help="end with status 1 if the history doesn't meet this level, 3 if only so far, 4 if "
+        "that is unknown: " + one_of([each.name for each in ALL]),
+    )
     command.set_defaults(run=levels)
 
 
@@ -226,12 +232,13 @@ def levels(asked: Any) -> int:
         names, times = _names(its.script), _times(its.script)
         found = Levels(find_program(), lines, names, times, asked.nodes, asked.shrink_seconds)
         progress.doing = found.doing
+        answers = {each.promise.name: each.answer for each in found.found()}
         if asked.json:
             say_json({**its.as_json(), "levels": levels_json(found.found())})
-            return 0
-        for line in levels_lines(found.found()):
-            say(line)
-    return 0
+        else:
+            for line in levels_lines(found.found()):
+                say(line)
+    return 0 if asked.expect is None else OF_LEVELS[answers[asked.expect]]
 
 
 def _story(verdict: Verdict, run: ScriptRun, seconds: float) -> Story:

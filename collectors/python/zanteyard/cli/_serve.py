@@ -1,10 +1,10 @@
 """`zanteyard serve`: an audit as a daemon, for clients that come and go.
 
 docs/OPERATION.md says how to run it. The exit status says why it ended: 0 it was stopped, and
-everything was serial; 1 the audit is violated; 2 it can't begin or continue, because of a mistake
-in the call, the journal or the Redis, or because another auditor has the audit; 3 it was stopped,
-and was pending; 4 something wasn't audited or decided, it ended by a fault of its own, or only the
-collector's own transactions have no order.
+everything was serial; 1 the audit is violated; 2 it can't begin, because of a mistake in the call
+or the folder, or because another daemon uses it; 3 it was stopped, and was pending; 4 something
+wasn't audited or decided, it ended by a fault of its own, or only the collector's own transactions
+have no order.
 """
 
 import argparse
@@ -30,8 +30,7 @@ from ..core._outcome import (
     Outcome,
 )
 from ..core._private_files import private
-from ..core._shared_key import ENVIRONMENT as KEY
-from ..core.errors import AuditTakenError, FolderUnfitError, StrangeRedisError, ZanteyardError
+from ..core.errors import FolderUnfitError, ZanteyardError
 from ..explain._audited import from_start, refuted
 from ..explain._violation_text import tell_violation
 from ..journal._file import Journal
@@ -41,6 +40,7 @@ from ..program._binaries import find_program
 from ..promises._kinds import LIVE as PROMISES
 from ..promises._kinds import SERIALIZABLE
 from ..remote._server import AuditServer
+from ..watch._options import FORM, add_logging, address, least_of, whole_of
 from ._metrics import MetricsServer, families, text_of
 from ._parsing import add_old_name
 
@@ -51,47 +51,18 @@ STATUS_WORDS = (
     "audit; 3 stopped, and pending; 4 something wasn't audited or decided, or the collector's own "
     "transactions have no order."
 )
+UNKNOWN = 4  # the status if the audit ended by a fault
 LOOKS = 0.2  # seconds between two checks whether it is over
 TELLING = 30.0  # seconds that reducing a violation may take
-FORM = "%(asctime)s %(levelname)s %(message)s"
 logger = logging.getLogger("zanteyard")
 
 
 def add_arguments(command: argparse.ArgumentParser) -> None:
     command.add_argument(
-        "--folder", metavar="DIR", help="the audit's folder, created if missing"
+        "--folder", metavar="DIR",
+        help=f"the audit's folder, created if missing; clients connect by DIR/{SOCKET} in it",
     )
     add_old_name(command, "--journal", "--folder", metavar="DIR")
-    command.add_argument(
-        "--redis",
-        metavar="URL",
-        help="a redis:// or rediss:// URL (or the environment's ZANTEYARD_REDIS): clients on any "
-        "machine connect by streams in this Redis; without it, clients on this machine connect by "
-        f"the socket DIR/{SOCKET}",
-    )
-    command.add_argument(
-        "--audit", metavar="NAME", default="audit", help="the audit's name in Redis (audit)"
-    )
-    command.add_argument(
-        "--key",
-        metavar="FILE",
-        help=f"with --redis: the key file that the clients have too (or the environment's {KEY}); "
-        "`zanteyard key FILE` makes one",
-    )
-    command.add_argument(
-        "--store",
-        metavar="DSN",
-        action="append",
-        default=[],
-        help="with --redis: the clients' PostgreSQL, to look up the last commit of a lost client; "
-        "may be repeated",
-    )
-    command.add_argument(
-        "--store-table",
-        metavar="TABLE",
-        default="zanteyard",
-        help="the collector's table in that database (zanteyard)",
-    )
     command.add_argument(
         "--sessions",
         type=int,
@@ -106,20 +77,16 @@ def add_arguments(command: argparse.ArgumentParser) -> None:
     )
     command.add_argument(
         "--metrics",
-        type=_address,
+        type=address,
         metavar="HOST:PORT",
         help="serve Prometheus metrics at http://HOST:PORT/metrics",
     )
     command.add_argument(
-        "--every", type=int, default=LiveAuditor.EVERY, metavar="N",
+        "--every", type=whole_of(1), default=LiveAuditor.EVERY, metavar="N",
         help=f"transactions between two meetings ({LiveAuditor.EVERY})",
     )
     command.add_argument(
-        "--silence", type=float, default=10.0, metavar="S",
-        help="seconds without a message after which a client process counts as lost (10)",
-    )
-    command.add_argument(
-        "--round-seconds", type=float, default=60.0, metavar="S",
+        "--round-seconds", type=least_of(0.0), default=60.0, metavar="S",
         help="seconds that the search of a round may take before the round is skipped (60)",
     )
     command.add_argument(
@@ -133,23 +100,7 @@ def add_arguments(command: argparse.ArgumentParser) -> None:
         "--script", metavar="FILE",
         help="write each line sent to the auditor to FILE; if FILE exists, to another name",
     )
-    command.add_argument(
-        "--log", type=_level, metavar="LEVEL", default="INFO", help="the log level (INFO)"
-    )
-
-
-def _address(text: str) -> str:
-    host, colon, port = text.rpartition(":")
-    if not (colon and port.isdecimal() and int(port) < 1 << 16):
-        raise argparse.ArgumentTypeError("give HOST:PORT, such as 127.0.0.1:9464")
-    return text
-
-
-def _level(text: str) -> int:
-    level = logging.getLevelName(text.upper())
-    if not isinstance(level, int):
-        raise argparse.ArgumentTypeError("give DEBUG, INFO, WARNING or ERROR")
-    return level
+    add_logging(command, "log more")
 
 
 def run(asked: Any) -> int:
@@ -171,38 +122,31 @@ def run(asked: Any) -> int:
 def _audit(asked: Any, stack: contextlib.ExitStack, stopped: threading.Event) -> int:
     auditor = stack.enter_context(_auditor(asked))
     policy = RATHER_WAIT if asked.rather_wait else RATHER_LOSE_THE_AUDIT
-    more = {"elsewhere": asked.redis is not None, "redacts": asked.redact}
-    live = LiveAuditor(auditor, every=asked.every, policy=policy, **more)
+    live = LiveAuditor(auditor, every=asked.every, policy=policy, redacts=asked.redact)
     live.count_awaited()
     server = _server(asked, live)
     if asked.metrics is not None:
-        metrics = MetricsServer(asked.metrics, lambda: _figures(live, server))
+        metrics = MetricsServer(asked.metrics, lambda: text_of(families(live, server.clients)))
         stack.callback(metrics.close)
         logger.info("serving metrics on port %d", metrics.port)
-    how = "continues" if auditor.is_resumed else "begins"
     about = auditor.promise.title
-    logger.info("audit %s for %s %s; its folder is %s", live.name, about, how, asked.folder)
+    logger.info("audit %s for %s begins; its folder is %s", live.name, about, asked.folder)
     faults: list[str] = []
     _end_at_faults(faults)
-    while not (live.is_over or _failure(server) or faults or stopped.wait(LOOKS)):
+    while not (live.is_over or faults or stopped.wait(LOOKS)):
         pass
-    outcome = _end(server, live)
+    server.close(5.0)
+    outcome = live.stop()
     logger.info("%s", outcome)
     if outcome.handed_in == 0:
         logger.warning("nothing was handed in: no client ran a transaction")
     if outcome.is_violated:
         _tell(asked, auditor, outcome)
         return STATUSES[VIOLATED]
-    if _failure(server) or faults:
-        logger.error("ending: %s", faults[0] if faults else _failure(server))
-        return 2 if isinstance(_failure(server), (AuditTakenError, StrangeRedisError)) else 4
-    return STATUSES.get(outcome.whole.kind, 4)
-
-
-def _failure(server: Any) -> Exception | None:
-    """Why the server has ended, if it has."""
-    failure: Exception | None = getattr(server, "failure", None)
-    return failure
+    if faults:
+        logger.error("ending: %s", faults[0])
+        return UNKNOWN
+    return STATUSES.get(outcome.whole.kind, UNKNOWN)
 
 
 def _end_at_faults(faults: list[str]) -> None:
@@ -218,15 +162,12 @@ def _end_at_faults(faults: list[str]) -> None:
 
 
 def _auditor(asked: Any) -> Auditor:
-    """An auditor that continues the existing journal, if clients' streams have the rest; else a new
-    one."""
+    """A new auditor. No client has a session of the run before, and what was in flight when that
+    ended is unknown: its journal is kept under another name."""
     path = os.path.join(asked.folder, JOURNAL)
     settings: Any = {"program": find_program(), "script": _unused(asked.script)}
     settings["round_seconds"] = asked.round_seconds
     if os.path.lexists(path):
-        if asked.redis is not None and os.path.lexists(f"{path}.live"):
-            return Auditor.resumed(path, promise=asked.promise, **settings)
-        # No client had a session, or what was in flight when the process ended is unknown.
         journal = Journal(path)  # another daemon may be using it
         try:
             os.replace(path, f"{path}.old")
@@ -241,36 +182,13 @@ def _unused(script: str | None) -> str | None:
     return script and next(script + name for name in names if not os.path.isfile(script + name))
 
 
-def _server(asked: Any, live: LiveAuditor) -> Any:
+def _server(asked: Any, live: LiveAuditor) -> AuditServer:
     try:
-        if asked.redis is None:
-            return AuditServer(live, os.path.join(asked.folder, SOCKET))
-        # only here, since redis-py is optional
-        from ..remote._listed_stores import ListedStores
-        from ..remote.streams import StreamServer
-
-        stores = ListedStores(asked.store, [asked.store_table])
-        more: Any = {"key": asked.key, "stores": stores}
-        return StreamServer(live, asked.redis, asked.audit, asked.silence, **more)
+        return AuditServer(live, os.path.join(asked.folder, SOCKET))
     except BaseException:
         live.lose(ZanteyardError("clients can't connect"))
         live.stop(1.0)
         raise
-
-
-def _figures(live: LiveAuditor, server: Any) -> str:
-    if isinstance(server, AuditServer):
-        return text_of(families(live, server.clients))
-    refused = server.refused.total
-    return text_of(families(live, len(server.heard), server.is_up, refused))
-
-
-def _end(server: Any, live: LiveAuditor) -> Outcome:
-    if isinstance(server, AuditServer) or live.is_over:
-        server.close(5.0)
-        return live.stop()
-    outcome: Outcome = server.leave()
-    return outcome
 
 
 def _tell(asked: Any, auditor: Auditor, outcome: Outcome) -> None:

@@ -11,6 +11,7 @@ import tomllib
 from collections.abc import Mapping, Sequence
 from typing import Any
 
+from ..core import _visible
 from ..core.errors import ZanteyardError
 from ._parsing import Parser, did_you_mean
 
@@ -18,6 +19,7 @@ PREFIX = "ZANTEYARD_"
 OPTION = "--config"
 YES, NO = ("1", "true", "yes", "on"), ("0", "false", "no", "off")
 NEVER = ("help", "version", "config")
+WHEN = (_visible.AUTO, _visible.ALWAYS, _visible.NEVER)
 
 
 class SettingError(ZanteyardError):
@@ -28,7 +30,11 @@ def settle(
     command: Parser, name: str, words: Sequence[str], environment: Mapping[str, str] = os.environ
 ) -> None:
     """Gives the command's options the values that these words leave to the environment and to the
-    file. Adds --config. Raises SettingError."""
+    file. Adds the options of all commands, --color and --config. Raises SettingError."""
+    command.add_argument(
+        "--color", choices=WHEN, default=WHEN[0],
+        help="colour verdicts: auto (on a terminal, unless NO_COLOR is set), always or never",
+    )
     command.add_argument(
         OPTION, metavar="FILE",
         help=f"a TOML file with values of options, in a table [{name}]; each may also be in the "

@@ -31,6 +31,7 @@ from ..trial._throwaway_folder import ThrowawayFolder
 from ..trial.postgres_server import ended_by_signals
 from ..trial.store_kinds import POSTGRES, MakesStore, StoreKind
 from ..trial.store_kinds import CantAuditError as CantAuditError
+from ..watch._options import least_of, whole_of
 from ..trial.workloads import EVERY_WORKLOAD, ChurningClients, ClientProcesses, Clients, Nothing
 
 STAYING, CHURNING = 8, 16  # clients at a time, by default
@@ -221,9 +222,9 @@ def add_arguments(asked: argparse.ArgumentParser, kind: StoreKind = POSTGRES) ->
     about = "what the clients do (mixed)"
     asked.add_argument("--workload", choices=EVERY_WORKLOAD, default="mixed", help=about)
     about = "how many seconds to run with the auditor (10)"
-    asked.add_argument("--seconds", type=float, default=10.0, help=about)
+    asked.add_argument("--seconds", type=least_of(0.0), default=10.0, metavar="S", help=about)
     about = "seconds to run without the auditor first, for comparison; 0 for none (3)"
-    asked.add_argument("--unaudited", type=float, default=3.0, help=about)
+    asked.add_argument("--unaudited", type=least_of(0.0), default=3.0, metavar="S", help=about)
     asked.add_argument(
         "--clients", type=count_of_clients, help="clients at a time, 2 to 64 (8, or 16 with "
         "--churn)"
@@ -233,9 +234,10 @@ def add_arguments(asked: argparse.ArgumentParser, kind: StoreKind = POSTGRES) ->
     about = (
         "at most this many transactions a second from all clients together (no limit)"
     )
-    asked.add_argument("--rate", type=float, help=about)
+    asked.add_argument("--rate", type=least_of(0.01), metavar="N", help=about)
     about = f"transactions between two meetings ({LiveAuditor.EVERY})"
-    asked.add_argument("--every", type=int, default=LiveAuditor.EVERY, help=about)
+    every = LiveAuditor.EVERY
+    asked.add_argument("--every", type=whole_of(1), default=every, metavar="N", help=about)
     about = "run each client in its own process instead of a thread"
     asked.add_argument("--processes", action="store_true", help=about)
     about = (

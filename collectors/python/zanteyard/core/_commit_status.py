@@ -28,38 +28,18 @@ MODULES = {  # where each kind of store looks up an outcome
 }
 
 
-def find_out(asks: Any, ticket: Any, seconds: float, is_dead: bool = True) -> CommitStatus:
-    """Returns UNKNOWN instead of raising. If the client may still be alive (`is_dead` is false), it
-    ends nothing that the client may be using."""
-    more: dict[str, Any] = {}
-    if not is_dead:
-        ticket, more = harmlessly(asks, ticket)
+def find_out(asks: Any, ticket: Any, seconds: float) -> CommitStatus:
+    """Returns UNKNOWN instead of raising."""
     if asks is None or ticket is None:
         return UNKNOWN
     kind, *how = asks
-    if len(how) == 1 and isinstance(how[0], list):  # several stores: one at most is the client's
-        for one in how[0]:
-            its = find_out(one, ticket, seconds / len(how[0]), is_dead)
-            if its != UNKNOWN:
-                return its
-        return UNKNOWN
     try:
         module = importlib.import_module(MODULES[kind])
-        status: CommitStatus = module.asked(*how, ticket=ticket, seconds=seconds, **more)
+        status: CommitStatus = module.asked(*how, ticket=ticket, seconds=seconds)
         return status
     except Exception as error:
         logger.warning("can't find out whether a transaction was committed: %s", error)
         return UNKNOWN
-
-
-def harmlessly(asks: Any, ticket: Any) -> tuple[Any, dict[str, Any]]:
-    """The ticket, or None, and the further arguments for a client that may still be alive.
-    PostgreSQL can be asked without ending a statement that is still on its way and without
-    mistaking another server for the client's. The other stores can't: looking there aborts what
-    hasn't arrived yet."""
-    if asks is not None and asks[0] == "postgres":
-        return ticket, {"ends_it": False}
-    return None, {}
 
 
 def kept(overwritten: Name | None) -> str:

@@ -1,11 +1,10 @@
 """The outcome of an audit, and the policy for an audit that can't keep up with its clients."""
 from collections.abc import Sequence
-from dataclasses import dataclass, replace
+from dataclasses import dataclass
 from typing import Any
 
 from ._records import Pending, Report
 from ._visible import shown
-from .errors import MissingError
 
 SERIAL, PENDING, VIOLATED, UNDECIDED = "serial", "pending", "violated", "undecided"
 INCOMPLETE = "incomplete"  # something that clients did wasn't audited
@@ -34,9 +33,8 @@ class Outcome:
     order.
 
     `kind` is "running" while more may arrive, and then one of these. "serial". "pending":
-    everything was audited, but some reads name transactions that never arrived, or sessions may
-    have done more that never arrived (then `failure` says so). "violated", which stays true
-    whatever is missing. "the collector's own violation": its own transactions alone have no order.
+    everything was audited, but some reads name transactions that never arrived. "violated", which
+    stays true whatever is missing. "the collector's own violation": its own transactions alone have no order.
     "undecided": the search was given up. "incomplete": something wasn't audited, and `failure` says
     why.
 
@@ -95,9 +93,6 @@ class Outcome:
             sum(outcome.from_before for outcome in every),
         )
 
-    def _alone(self) -> "Outcome":
-        return replace(self, earlier=())
-
     def __str__(self) -> str:
         parts = [f"{self.kind}: {self.audited} of {self.handed_in} transactions were audited"]
         if self.earlier:
@@ -130,6 +125,4 @@ def kind_of(report: Report | None, failure: Exception | None, is_whole: bool) ->
     kind = KINDS.get(report.kind, report.kind) if report else INCOMPLETE
     if kind == VIOLATED:
         return kind
-    if isinstance(failure, MissingError) and is_whole and kind in (SERIAL, PENDING):
-        return PENDING
     return kind if is_whole and failure is None else INCOMPLETE

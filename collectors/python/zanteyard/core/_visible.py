@@ -35,6 +35,8 @@ COLOURS = {
     **dict.fromkeys(("violated", "mistake"), "31"),  # red
     **dict.fromkeys(("pending", "spent", "undecided", "incomplete"), "33"),  # yellow
 }
+AUTO, ALWAYS, NEVER = "auto", "always", "never"
+colours = AUTO  # when there are colours; --color sets it
 VERDICT = re.compile(f"({'|'.join(COLOURS)})(?=[:;,]|$)")
 
 
@@ -55,7 +57,9 @@ def is_terminal(file: TextIO | None) -> bool:
 
 
 def has_colours(file: TextIO | None) -> bool:
-    """Whether to use colours, by the rules of no-color.org."""
+    """Whether to use colours: as --color says, or else by the rules of no-color.org."""
+    if colours != AUTO:
+        return colours == ALWAYS
     if os.environ.get("NO_COLOR") or os.environ.get("TERM", "dumb") == "dumb":
         return False
     return is_terminal(file)

@@ -95,21 +95,8 @@ class AuditLostError(ZanteyardError):
     """The audit ended, and why. The clients go on."""
 
 
-class AuditTakenError(AuditLostError):
-    """Another auditor runs the audit of this name."""
-
-
-class StrangeRedisError(AuditLostError):
-    """The Redis has foreign data under a name that the audit uses."""
-
-
 class KeyFileError(ZanteyardError, OSError):
     """The file with the key that clients and the auditor share can't be used."""
-
-
-class MissingError(AuditLostError):
-    """The audit goes on, without what a vanished client process may have done. The message says
-    which sessions these are, and from which transactions on."""
 
 
 class ElsewhereError(ZanteyardError):

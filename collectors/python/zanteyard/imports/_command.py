@@ -62,7 +62,7 @@ def add_arguments(command: argparse.ArgumentParser) -> None:
         "file", metavar="FILE", help="the history, in UTF-8; it may be compressed by gzip"
     )
     command.add_argument(
-        "-o", dest="script", metavar="SCRIPT", required=True, help="the script to write"
+        "-o", "--output", dest="script", metavar="SCRIPT", required=True, help="the script to write"
     )
     add_history_options(command)
     _add_strict(command)

@@ -11,7 +11,7 @@ from ..core._own_keys import FENCE, LONGEST
 from ..core._records import AuditId, Cut, Pending, Report, StoreId, unpacked
 from ..core._tenancy import Tenancy
 from ..core._window import SESSIONS, Coverage
-from ..core.errors import AuditLostError, FullError, MissingError, NoCutError, NotAnchoredError
+from ..core.errors import AuditLostError, FullError, NoCutError, NotAnchoredError
 from ..explain._shrinking import is_collectors_own
 from ..program._auditor import Auditor
 from ..program._intake import Fragment, never_came
@@ -58,7 +58,6 @@ class Audit:
         self.from_before = 0  # reads of versions from before this audit
         self._pending: tuple[Pending, ...] = ()
         self._is_collectors_own = False
-        self.missing: MissingError | None = None  # what may have been done and will never arrive
         self._tenancy = tenancy or Tenancy()
         self._closed: set[int] = {*closed}
         # By session, what waits for the session to join after a fence that isn't taken in yet.
@@ -83,14 +82,14 @@ class Audit:
         audited = sum(self.report.counts) if self.report else 0
         kind, handed_in = RUNNING, self.handed_in
         if self.is_violated or has_ended:
-            kind = kind_of(self.report, failure or self.missing, audited >= handed_in)
+            kind = kind_of(self.report, failure, audited >= handed_in)
         if self._is_collectors_own:
             kind = COLLECTOR
         return Outcome(
             kind,
             audited,
             max(audited, handed_in),
-            failure or self.missing,
+            failure,
             self._pending,
             self.report,
             self.name,

@@ -92,12 +92,6 @@ class Backlog:
             return session in self._closed
         return self._taken.get(session, 0) > number
 
-    def begin_behind(self, session: int, number: int, count: int) -> None:
-        """Continues from an earlier process, which took in `count` transactions of this session,
-        all with numbers below `number`."""
-        self._next_numbers[session] = self._taken[session] = number
-        self._counts[session] = count
-
     def clear(self) -> None:
         while len(self):
             _, session, number, _ = self._waiting.get()

@@ -9,9 +9,8 @@ from ..core._forks import is_forked
 from ..core._records import unpacked
 from ..core._redacting import redacted_bytes
 from ..core._store_identity import AuditedStore, StoreIdentity
-from ..core.errors import AuditLostError, MissingError
+from ..core.errors import AuditLostError
 from ..session._place import Place
-from ._backlog import keys_written_unseen
 from ._crash_searches import CrashSearches
 from ._live_figures import LiveFigures
 from ._quiesce_coordinator import QuiesceGroup
@@ -35,15 +34,6 @@ class ForProcesses(LiveFigures):
         if self._lost is None:
             self._lost = error
             logger.error("audit %s ends: %s", self.name, error)
-
-    def note_missing(self, error: MissingError) -> None:
-        """Records that something is missing: the audit goes on, but can't become serial."""
-        logger.error("%s", error)
-        self._audit.missing = self._audit.missing or error
-
-    def covers(self, session: int, number: int) -> bool:
-        """Whether this audit covers the transaction."""
-        return self._audit.covers(session, number)
 
     def call_at_end(self, call: Callable[[], object]) -> None:
         """Registers a function that the audit's thread calls when nothing more is audited."""
@@ -133,11 +123,6 @@ class ForProcesses(LiveFigures):
         """The number after the session's last transaction that was handed in."""
         return self._backlog.next_number(session)
 
-    def is_taken(self, session: int, number: int | None) -> bool:
-        """Whether neither this transaction nor an earlier one is needed any more; without a number,
-        whether the session's end isn't."""
-        return self._backlog.is_taken(session, number)
-
     # sessions
 
     def take_place(self, seconds: float) -> Place | None:
@@ -188,35 +173,3 @@ class ForProcesses(LiveFigures):
             return f"{count} clients have one each, which is the limit"
         message = f"{count} clients have one each, and the next meeting must free one"
         return f"{message}; the last meeting freed none: {why}" if why else message
-
-    # continuing in another process of the auditor
-
-    def numbers_here(self) -> set[int]:
-        """The sessions that clients of this process have."""
-        return {*self._group.numbers()}
-
-    def places_left(self) -> tuple[list[Place], int]:
-        """The places that no client has, and the number of the next one that no audit covers."""
-        return self._pool.nobodys_by_now()
-
-    def go_on_behind(self, token: str, is_named: bool, meetings: int) -> None:
-        """Continues as the run with this token, after this many meetings."""
-        self.token = self.auditor.token = token
-        self.is_named = is_named
-        self._coordinator.meetings = meetings
-
-    def go_on_with(
-        self, left: Iterable[Place], taken: Iterable[int], lent: Iterable[Place], unaudited: int
-    ) -> None:
-        """Continues with exactly these sessions, before any client connects."""
-        self._pool.go_on(left, taken, lent, unaudited)
-
-    def note_unseen(self) -> None:
-        """Counts what remains in the auditor as written without being read, which it may be."""
-        history: Any = self.auditor.history
-        for logged in (logged for txns in history for logged in txns):
-            self._backlog.put_unseen(keys_written_unseen(logged))
-
-    def let_meet(self) -> None:
-        """Allows meetings from now on."""
-        self._coordinator.go_on(self.auditor.remaining)

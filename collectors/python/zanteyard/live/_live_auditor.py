@@ -14,15 +14,14 @@ import threading
 import time
 from collections.abc import Callable
 from dataclasses import replace
-from typing import Any
 
 from ..core._forks import is_forked
-from ..core._outcome import INCOMPLETE, RATHER_LOSE_THE_AUDIT, Outcome, Policy
-from ..core._own_keys import FENCE, LONGEST
+from ..core._outcome import RATHER_LOSE_THE_AUDIT, Outcome, Policy
+from ..core._own_keys import LONGEST
 from ..core._records import AuditId, Logged
 from ..core._stores import Store
 from ..core._window import SESSIONS, Coverage
-from ..core.errors import AuditLostError, MissingError
+from ..core.errors import AuditLostError
 from ..program._binaries import slowness_of
 from ..program._subprocess import AuditorApart
 from ..session._local_sessions import PATIENCE
@@ -48,7 +47,6 @@ SOON, SOON_AGAIN = 0.05, 0.5
 LONGEST_PAUSE = 30.0  # seconds between two attempts to start an auditor
 STOPPING = 120.0  # seconds for auditing the rest when it is stopped
 GIVING_UP = 1.0  # the same if an exception ends it
-EARLIER = "an earlier audit of this run ended in a process that no longer exists"
 
 
 class LiveAuditor(ForProcesses):
@@ -68,8 +66,6 @@ class LiveAuditor(ForProcesses):
 
     `journal` and `round_seconds` are as in Auditor, for an auditor that has no journal yet. The
     auditor also determines the promise; under snapshot isolation there are twice as many meetings.
-    Set `elsewhere` if all sessions are in other processes, which keep what they did until it is
-    taken in, as with a StreamServer: then the auditor may be one that continues a journal.
 
     With `redacts`, reports of violations have keys and the form of statements, but no constants and
     no values, and this process's sessions keep none. AuditClient has the same option for what
@@ -96,19 +92,17 @@ class LiveAuditor(ForProcesses):
         policy: Policy = RATHER_LOSE_THE_AUDIT,
         journal: str | None = None,
         round_seconds: float | None = None,
-        elsewhere: bool = False,
         redacts: bool = False,
         on_round: Callable[[RoundTold], object] | None = None,
         on_client: Callable[[ClientTold], object] | None = None,
     ) -> None:
-        if auditor.is_resumed and not elsewhere:
+        if auditor.is_resumed:
             raise ValueError("a live audit can't continue from a journal: begin another run")
         if auditor.sessions > SESSIONS:
             raise ValueError(f"a live audit has at most {SESSIONS} sessions")
         if journal is not None:
             auditor.keep_journal(journal, round_seconds)
-        if not elsewhere:
-            auditor.note_sessions()
+        auditor.note_sessions()
         super().__init__(run_name if run_name is not None else auditor.run_name, policy)
         self.auditor = auditor
         self.is_named = run_name is not None or auditor.is_named
@@ -124,7 +118,7 @@ class LiveAuditor(ForProcesses):
         self._coordinator = QuiesceCoordinator([self._group], self._pool, self._backlog)
         now = time.monotonic()
         self._figures = Figures(told_at=now, cut_at=now)
-        self._audit = self._resumed_audit() if auditor.is_resumed else self._first_audit()
+        self._audit = self._next_audit(Coverage.of_all(auditor.sessions))
         auditor.live_called = self._called
         self._cuts_seen, self._may_meet_at = self.cuts, 0.0
         self._in_vain = 0  # meetings since the last cut
@@ -141,8 +135,6 @@ class LiveAuditor(ForProcesses):
         handler of SIGALRM."""
         if is_forked(self):  # the threads that hold its locks don't exist here
             return Session(self, 0, store, self.run_name, patience)
-        if not self.auditor.has_sessions:
-            self.auditor.note_sessions()
         owed: list[Place] = []  # places that no session has yet
         try:
             place = self._pool.take(self.policy.wait, owed) or self._without_place()
@@ -242,8 +234,7 @@ class LiveAuditor(ForProcesses):
             self.lose(error)
         finally:
             self._failure, self._has_ended = (None if self.is_violated else self._lost), True
-            if not self._is_stopping:  # else another process may continue with them
-                self._pool.end()
+            self._pool.end()
             self._group.end()
             for call in self._at_end:
                 call()
@@ -318,31 +309,6 @@ class LiveAuditor(ForProcesses):
         self._guarded(audit.find_held)
         self._guarded(audit.find_pending)
         self._guarded(audit.find_whose)
-
-    def _first_audit(self) -> Audit:
-        return self._next_audit(Coverage.of_all(self.auditor.sessions))
-
-    def _resumed_audit(self) -> Audit:
-        """The audit of a journal that another process has begun."""
-        auditor: Any = self.auditor
-        coverage = auditor.coverage or Coverage.of_all(auditor.sessions)
-        for session, count in enumerate(auditor.received):
-            self._backlog.begin_behind(session, (coverage.first[session] or 0) + count, count)
-            if auditor.closed[session]:
-                self._backlog.note_taken(session, None)
-        earlier = (
-            (Outcome(INCOMPLETE, failure=AuditLostError(EARLIER)),) if auditor.audits > 1 else ()
-        )
-        shared = (self._backlog, self._figures, self._teller, self.run_name, coverage, 0, earlier)
-        closed = [session for session, is_closed in enumerate(auditor.closed) if is_closed]
-        audit = Audit(auditor, *shared, tenancy=self._pool.tenancy, closed=closed)
-        if FENCE in auditor.base:
-            self._pool.let_join()
-        audit.taken_in, audit.report = sum(auditor.received), auditor.violation
-        if auditor.failure is not None:  # its sessions were in the process that is gone
-            audit.missing = MissingError(str(auditor.failure))
-        self._coordinator.start_anew()
-        return audit
 
     # another audit
 

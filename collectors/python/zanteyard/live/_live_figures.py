@@ -3,7 +3,6 @@
 
 from ..core._outcome import Outcome
 from ..core._records import Report
-from ..core.errors import MissingError
 from ..session._local_sessions import LocalSessions
 from ._audit import AnyAuditor, Audit
 from ._backlog import Backlog
@@ -120,11 +119,6 @@ class LiveFigures(LocalSessions):
     def sessions_left(self) -> int:
         """How many more clients may have a session now."""
         return self._pool.free
-
-    @property
-    def missing(self) -> MissingError | None:
-        """What may have been done in this audit and will never arrive."""
-        return self._audit.missing
 
     @property
     def lost(self) -> Exception | None:

@@ -274,33 +274,6 @@ class SessionPool:
             places = [*self._left, *self._back, *filter(_is_over, self._ended.values())]
             return [(place.number, place.begun, place.begun, place.unknown) for place in places]
 
-    # continuing in another process of the auditor
-
-    def nobodys_by_now(self) -> tuple[list[Place], int]:
-        """The free places and the lent ones that no process has been told about, or that were
-        answered for; and the number of the next place that no audit covers."""
-        with self._changed:
-            lent = [place for place in self._lent.values() if not place.is_lent]
-            places = [*self._left, *self._back, *self._ended.values(), *lent]
-            return places, self._next_unaudited
-
-    def go_on(
-        self, left: Iterable[Place], taken: Iterable[int], lent: Iterable[Place], unaudited: int
-    ) -> None:
-        """Continues with exactly these, before any client connects."""
-        with self._changed:
-            places = [*left]
-            self._left = deque(place for place in places if not (place.is_ended or place.must_join))
-            self._back = deque(place for place in places if place.must_join and not place.is_ended)
-            self._ended = {place.number: place for place in places if place.is_ended}
-            self._taken, self._lent = {*taken}, {place.number: place for place in lent}
-            self._next_unaudited = unaudited
-            joined = self.sessions
-            numbers = [*self._taken, *self._lent, *(place.number for place in places)]
-            self.sessions = max([joined, *(number + 1 for number in numbers if number < SESSIONS)])
-            if self.sessions > joined:
-                self._new = self.sessions - 1
-
     # the caller holds the lock
 
     def _is_any_left(self) -> bool:

@@ -21,7 +21,7 @@ from ..session._local_sessions import PATIENCE, LocalSessions
 from ..session._place import Place
 from ..session._session import Session
 from ..session._store_calls import StoreCalls
-from ._connecting import ANSWERING, door_to
+from ._connecting import ANSWERING, Door
 from ._outbox import Outbox
 from ._quiesce_calls import QuiesceCalls
 from ._session_requests import SessionRequests
@@ -32,29 +32,19 @@ LEAVING = 30.0  # seconds for sessions to end their transactions
 
 
 class AuditClient(LocalSessions):
-    """Stands in for a LiveAuditor in a process of clients. `address` is the path of an
-    AuditServer's socket; or a redis:// or rediss:// URL, for the StreamServer of the audit with
-    this name in that Redis. The latter needs the server's `key`: the path of a file, by default the
-    value of the environment variable ZANTEYARD_KEY. Call `leave` when the sessions do nothing more.
-    If the process is killed, its last transactions are recovered from its notes
-    (`core/_crash_notes.py`, `_stream_client.py`).
+    """Stands in for a LiveAuditor in another process of the same machine. `path` is that of an
+    AuditServer's socket. Call `leave` when the sessions do nothing more. If the process is killed,
+    its last transactions are recovered from its notes (`core/_crash_notes.py`).
 
     Raises OSError if there is no server, ProgramEndedError if it doesn't answer, OtherVersionError
-    if the versions of the two processes don't fit, FolderUnfitError if another user listens at the
-    path or has the notes' folder, and KeyFileError, an OSError, if the key can't be used. With
-    `redacts`, neither values nor constants of statements leave this process or get into its notes.
-    Safe for use by several threads.
+    if the versions of the two processes don't fit, and FolderUnfitError if another user listens at
+    the path or has the notes' folder. With `redacts`, neither values nor constants of statements
+    leave this process or get into its notes. Safe for use by several threads.
     """
 
-    def __init__(
-        self,
-        address: str,
-        audit: str = "audit",
-        redacts: bool = False,
-        key: str | None = None,
-    ) -> None:
+    def __init__(self, path: str, redacts: bool = False) -> None:
         self.redacts = redacts
-        self._door = door_to(address, audit, key)
+        self._door = Door(path)
         self._messages = self._door.messages
         run_name, self.is_named, self.token, most, policy = self._door.welcome()
         super().__init__(run_name, Policy(*policy))
@@ -262,7 +252,7 @@ class AuditClient(LocalSessions):
             self._messages.tell("unnoted", seconds=ANSWERING)
             return None
         self._notes[notes] = which
-        asks = self._door.asks(StoreCalls(store).asks())
+        asks = StoreCalls(store).asks()
         if not self._messages.tell("noted", which, asks, seconds=ANSWERING):
             self._messages.tell("noted", which, None, seconds=ANSWERING)  # `asks` can't be sent
         if self._is_gone:

@@ -23,11 +23,8 @@ logger = logging.getLogger("zanteyard")
 
 class ClientProcess:
     """A process of clients. A thread of its own takes in what it sends, in the order in which it
-    was sent, and ends after the process has left. Each kind of connection has its own class, with
-    its `messages` and its way of noticing that the process is dead."""
-
-    is_dead = True  # once nothing arrives any more, the process is known to be dead
-    is_left_to_others = False  # another process of the auditor is to continue with it
+    was sent, and ends after the process has left. `SocketProcess` says what its connection is, and
+    how it is noticed that the process is dead."""
 
     def __init__(self, live: LiveAuditor, messages: Any) -> None:
         self._live, self.messages = live, messages
@@ -81,11 +78,6 @@ class ClientProcess:
 
     notes_path = ""  # the path of its notes' files
 
-    @property
-    def is_given_up(self) -> bool:
-        """Whether only what it has sent so far is taken in, and nothing more."""
-        return False
-
     def tell_end(self) -> None:
         """Tells it that nothing more is audited. Nobody waits for a process that is stuck."""
         if not self.group.has_left:
@@ -104,11 +96,8 @@ class ClientProcess:
             self._welcome()
             if live.has_ended:
                 self.messages.send("over")
-            if not self.is_given_up:  # else it answers no meeting
-                live.add_group(self.group)
+            live.add_group(self.group)
             while not self.group.has_left:
-                if self.is_left_to_others:
-                    return
                 self._take_next()
         except (EOFError, OSError) as error:
             with live.finding_out:
@@ -136,9 +125,7 @@ class ClientProcess:
             noted = self._noted()
             if not self._has_all_noted:
                 raise LostError("some of its transactions couldn't be noted")
-            killed = CrashedProcess(
-                noted, self._live.run_name, self._live.next_number, self.is_dead
-            )
+            killed = CrashedProcess(noted, self._live.run_name, self._live.next_number)
             for place in [*places, *lent]:
                 if place.is_audited and place.number not in ended:
                     self._hand_in(place.number, killed.told(place))

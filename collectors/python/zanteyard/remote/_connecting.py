@@ -1,15 +1,13 @@
-"""Connects a process of clients to the auditor's process, over a local socket or over streams of a
-Redis."""
+"""Connects a process of clients to the auditor's process, over a socket in the file system."""
 
 import contextlib
 import functools
 import os
 from multiprocessing.connection import Client
-from typing import Any, Protocol
+from typing import Any
 
 from ..core._crash_notes import FORKED, CrashNotes
 from ..core._private_files import check_folder
-from ..core._shared_key import shared_key
 from ..core._version import FORM, VERSION
 from ..core.errors import OtherVersionError, ProgramEndedError
 from ._messages import Messages
@@ -19,38 +17,8 @@ from ._peer import refuse_others
 ANSWERING = 5.0  # seconds for an answer of the auditor's process
 
 
-class Door(Protocol):
-    """A connection to the auditor's process. `messages` go both ways; the first one that arrives is
-    the auditor's welcome."""
-
-    messages: Any
-
-    def welcome(self) -> Any:
-        """The auditor's welcome. Raises ProgramEndedError if nobody answers, and
-        OtherVersionError."""
-
-    def notes(self, which: int, outbox: Outbox) -> Any:
-        """The notes of a session, with the calls of CrashNotes. Raises OSError."""
-
-    def asks(self, asks: Any) -> Any:
-        """What to tell the auditor's process about asking a store, as plain values."""
-
-    def note_fork(self) -> None:
-        """Records a fork before it happens. Raises OSError if that fails."""
-
-
-def door_to(address: str, audit: str, key: str | None) -> Door:
-    """Connects to the audit of this name in the Redis if `address` is a URL, and else to the socket
-    at this path. Raises OSError if there is no server, and KeyFileError if the key's file can't be
-    used, and FolderUnfitError if another user has the socket."""
-    if "://" in address:
-        from ._stream_client import StreamDoor  # only here, since redis-py is optional
-
-        return StreamDoor(address, audit, shared_key(key))
-    return SocketDoor(address)
-
-
 def welcomed(messages: Any) -> Any:
+    """The auditor's welcome. Raises ProgramEndedError if nobody answers, and OtherVersionError."""
     if not messages.comes(ANSWERING):
         message = f"the auditor's process didn't answer for {ANSWERING:g} s"
         raise ProgramEndedError(message)
@@ -64,7 +32,11 @@ def welcomed(messages: Any) -> Any:
     return welcome
 
 
-class SocketDoor:
+class Door:
+    """A connection to the auditor's process. `messages` go both ways; the first one that arrives is
+    the auditor's welcome. Raises OSError if there is no server, and FolderUnfitError if another
+    user has the socket."""
+
     def __init__(self, path: str) -> None:
         connection: Any = Client(path, "AF_UNIX")
         try:
@@ -76,6 +48,7 @@ class SocketDoor:
         self._notes_path = ""
 
     def welcome(self) -> Any:
+        """Raises what `welcomed` raises."""
         try:
             *welcome, self._notes_path = welcomed(self.messages)
             with contextlib.suppress(OSError):  # a missing one makes notes fail, which is reported
@@ -86,15 +59,13 @@ class SocketDoor:
         return welcome
 
     def notes(self, which: int, outbox: Outbox) -> CrashNotes:
-        """Notes in files. If writing them fails, that is reported without waiting; the missing
-        files say the same."""
+        """The notes of a session, in files. If writing them fails, that is reported without
+        waiting; the missing files say the same. Raises OSError."""
         tell = functools.partial(outbox.put_behind, "unnoted")
         sent: dict[int, int] = outbox.sent
         return CrashNotes(f"{self._notes_path}-{which}", sent, tell)
 
-    def asks(self, asks: Any) -> Any:
-        return asks
-
     def note_fork(self) -> None:
+        """Records a fork before it happens. Raises OSError if that fails."""
         flags = os.O_WRONLY | os.O_CREAT | os.O_CLOEXEC
         os.close(os.open(f"{self._notes_path}{FORKED}", flags, 0o600))

@@ -15,7 +15,7 @@ from typing import Any
 
 from ..core._commit_status import find_out
 from ..core._crash_notes import CrashNote, notes_of
-from ..core._own_keys import FENCE, FLAG
+from ..core._own_keys import FENCE
 from ..core._records import Logged, StoreId, as_bytes, undone, unpacked
 from ..live._backlog import keys_written_unseen
 from ..session._place import Place
@@ -31,18 +31,13 @@ class LostError(Exception):
 
 
 class CrashedProcess:
-    """A process that was killed. `notes` are its notes by session, each with how to ask the store.
-    If the process may still be alive (`is_dead` is false) and merely doesn't answer, nothing in the
-    store is ended, and what it may have begun after its notes is left open."""
+    """A process that was killed. `notes` are its notes by session, each with how to ask the
+    store."""
 
     def __init__(
-        self,
-        notes: Noted,
-        run_name: str,
-        next_number: Callable[[int], int],
-        is_dead: bool = True,
+        self, notes: Noted, run_name: str, next_number: Callable[[int], int]
     ) -> None:
-        self.notes, self.run_name, self.is_dead = notes, run_name, is_dead
+        self.notes, self.run_name = notes, run_name
         self.next_number = next_number  # of a session, after what was handed in
         # Transactions that were noted before they were sent, and weren't answered.
         self._unanswered: set[StoreId] = set()
@@ -58,7 +53,7 @@ class CrashedProcess:
         if transactions and transactions[0][1].outcome == "committed":
             place.must_join = False
             return transactions
-        if self.is_dead and not place.is_ended:  # aborted attempts have left nothing
+        if not place.is_ended:  # aborted attempts have left nothing
             place.begun = max(begun, transactions[0][0]) if transactions else begun
             # Without a noted answer, nobody else may get this name: the store's answer may be about
             # an earlier attempt, and others may have overwritten the fence since.
@@ -92,11 +87,7 @@ class CrashedProcess:
                     raise LostError(
                         "its notes continue after a transaction whose outcome can't be found out"
                     )
-                return transactions if self.is_dead else without_end(transactions)
-        if not self.is_dead:
-            place.leave_open(last + 1)
-            place.is_ended = True
-            return without_end(transactions)
+                return transactions
         # One more may have begun whose commit wasn't sent.
         place.begun = last + 2
         return [*transactions, (last + 1, NOTHING)]
@@ -148,7 +139,7 @@ class CrashedProcess:
         logged = unpacked(note.packed)
         if not logged.writes:
             return NOTHING  # whether its reads should be checked is unknown
-        outcome, overwritten = find_out(how, note.ticket, SECONDS, self.is_dead)
+        outcome, overwritten = find_out(how, note.ticket, SECONDS)
         called = f"transaction {note.session}.{note.number} of a killed process"
         logger.info("%s was %s, says the store", called, outcome)
         if outcome == "aborted":
@@ -184,20 +175,6 @@ def in_files(asks: dict[str, Any]) -> Noted:
         for note in notes:
             noted.setdefault(note.session, []).append((note, how))
     return noted
-
-
-def without_end(transactions: list[tuple[int, Logged]]) -> list[tuple[int, Logged]]:
-    """Drops the last transactions of a session that is closed after them, if they did nothing or
-    only touched flags that nobody will read. They would add nothing, and nothing would determine
-    their place in the order. A flag that exists has only read the flag before it."""
-    while transactions and is_without_use(transactions[-1][1]):
-        transactions.pop()
-    return transactions
-
-
-def is_without_use(logged: Logged) -> bool:
-    keys = (*logged.writes, *(key for key, _ in logged.reads))
-    return all(key.startswith(FLAG) for key in keys)
 
 
 def undone_alone(id: StoreId, logged: Logged) -> Logged:

@@ -85,21 +85,6 @@ class RemoteGroup:
         with self._changed:
             return [place for call in self._calls.values() for place in call.lent]
 
-    # continuing in another process of the auditor
-
-    @property
-    def asked(self) -> int:
-        """How many calls there were."""
-        return self._asked
-
-    def open_calls(self) -> list[tuple[int, str, list[tuple[Any, ...]]]]:
-        """The unanswered calls: number, name, and the places that are lent for each."""
-        with self._changed:
-            return [
-                (asked, call.name, [astuple(place) for place in call.lent])
-                for asked, call in self._calls.items()
-            ]
-
     def given_back(self) -> list[Place]:
         """Its places that came back in answers that weren't used yet."""
         with self._changed:
@@ -107,22 +92,6 @@ class RemoteGroup:
                 call.answer[0] for call in self._unread if call.name == "gather" and call.answer
             ]
         return [Place(*place) for result in answers if result for place in result[1]]
-
-    def go_on(
-        self,
-        asked: int,
-        places: Iterable[Place],
-        ended: Iterable[int],
-        calls: Iterable[tuple[int, str, Sequence[Place]]],
-    ) -> None:
-        """Continues with these places, and with these calls, whose answers nobody waits for."""
-        self._asked = asked
-        for place in places:
-            self.add(place)
-        self.ended.update(ended)
-        self._calls.update(
-            (which, _OutgoingCall(name, lent, None, True)) for which, name, lent in calls
-        )
 
     def leave(self) -> None:
         """Ends it; nothing more is answered."""

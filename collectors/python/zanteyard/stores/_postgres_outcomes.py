@@ -22,7 +22,7 @@ MAKES = FIRST[: FIRST.index(TRANSACTION)].rstrip()
 HAS = "pg_catalog.strpos(query, %s) OPERATOR(pg_catalog.>) 0"
 RUNS_STILL = f"""SELECT state {IS} 'idle', {HAS}, {HAS}
     FROM pg_catalog.pg_stat_activity WHERE pid {IS} %s AND {AGE} {IS} %s"""
-WHOSE, ITS = f"SELECT {LIVES}", f"SELECT {WHICH}"
+ITS = f"SELECT {WHICH}"
 WHAT_BECAME = f"""SELECT {XACT_STATUS}, {LIVES}"""
 ITS_ROW = f"SELECT value FROM {{table}} WHERE {NAMED}"
 THE_ROW = f"""SELECT (run, session, number) {IS}
@@ -43,26 +43,16 @@ def statements_of(table: str, key: str, run: str, session: int, number: int) -> 
 
 
 def asked(
-    dsn: dict[str, str],
-    around: dict[str, str],
-    table: str,
-    *,
-    ticket: Any,
-    seconds: float,
-    ends_it: bool = True,
+    dsn: dict[str, str], around: dict[str, str], table: str, *, ticket: Any, seconds: float
 ) -> CommitStatus:
     """The outcome of a transaction whose client process was killed. If the client's server process
-    is still working on it, this waits for half of the time, and then, if `ends_it`, ends that
-    process. If the words lead to another server, for example from another machine, or because they
-    name several, the outcome is unknown."""
+    is still working on it, this waits for half of the time, and then ends that process. If the
+    words lead to another server, for example because they name several, the outcome is unknown."""
     transaction_id, pid, since, life, key, run, session, number = ticket
     words, which = reached(dsn, around), which_of(life)
     if words is None or which is None:
         return UNKNOWN
     asks = Asks(extensions.make_dsn(**words), table, time.monotonic() + seconds, which)
-    asks.ends_it = ends_it
-    if not ends_it and asks.row(WHOSE, ()) != (life,):
-        return UNKNOWN
     row_name = (key, run, session, number)
     if transaction_id is None:
         statements = statements_of(table, *row_name)
@@ -109,8 +99,6 @@ class Asks:
     """Queries until the time `ends` of the monotonic clock. Raises psycopg2's errors, also if
     another server or database answers."""
 
-    ends_it = True  # ends what isn't over after half of the time
-
     def __init__(self, dsn: str, table: str, ends: float, which: str) -> None:
         self.dsn, self.table, self.ends, self.which = dsn, table, ends, which
 
@@ -126,7 +114,7 @@ class Asks:
     ) -> bool:
         """Whether there is time to ask again, after a pause."""
         left = self.ends - time.monotonic()
-        if left < seconds / 2 and since is not None and self.ends_it:
+        if left < seconds / 2 and since is not None:
             is_alone = transaction_id is None
             self.row(END_IT, (pid, since, is_alone, *statements, transaction_id or "0"))
         time.sleep(min(0.02, max(0.0, left)))

@@ -19,7 +19,7 @@ import redis
 
 from ..core._commit_status import CommitStatus
 from ..core._records import Name, StoredValue
-from ..core._redis_wire import BROKEN, Command, answers, connected, limit, replies
+from ._redis_wire import BROKEN, Command, answers, connected, limit, replies
 from ..core._store_identity import UNSURE, StoreIdentity
 from ..core.errors import AbortedError, NameTakenError, OutcomeUnknownError, StoreUnfitError
 from .levels import COMPARED, SINGLE, WATCHED, checked_level

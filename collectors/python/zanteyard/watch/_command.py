@@ -9,7 +9,7 @@ import argparse
 import logging
 import os
 import sys
-from collections.abc import Callable, Sequence
+from collections.abc import Sequence
 from typing import Any
 from urllib.parse import unquote, urlsplit
 
@@ -24,36 +24,24 @@ from ._database import Database, DatabaseError, DriverMissingError, without_pass
 from ._ending import STATUS_WORDS
 from ._facts import findings, server_of, unneeded
 from ._groups import KnownFileError, known_in
-from ._hooks import Hooks, is_web
+from ._hooks import Hooks
+from ._options import FORM, URL, add_logging, add_server, address, least_of, percent, share
+from ._options import web_address, whole_of
 from ._patterns import add_tables_option
 from ._prepare import host_name
 from ._proxy_program import find_proxy
 from ._run import Plan, Run, stopped_by_signals
 from ._sharing import add_sharing, mistake_of, words_of
 from ._supervising import CantBeginError, Control
-from ._web import host_and_port
 
 MISTAKE = 2
-LISTEN = "127.0.0.1:6432"
-FORM = "%(asctime)s %(levelname)s %(message)s"
 WEBHOOK = "ZANTEYARD_WEBHOOK"
-URL = "ZANTEYARD_URL"  # the environment variable for it, so that no list of processes shows it
 logger = logging.getLogger("zanteyard")
 
 
 def add_arguments(command: argparse.ArgumentParser) -> None:
     command.epilog = STATUS_WORDS
-    command.add_argument(
-        "url",
-        metavar="URL",
-        nargs="?",
-        help=f"the server, given as postgresql://user@server/database (or the environment's {URL})",
-    )
-    command.add_argument(
-        "--listen", type=place, metavar="HOST:PORT", default=LISTEN,
-        help=f"the address for applications to connect to ({LISTEN}); with a / it is a Unix "
-        "socket's path",
-    )
+    add_server(command)
     command.add_argument(
         "--page", type=address, metavar="HOST:PORT", help="serve a page with the audit's state"
     )
@@ -108,22 +96,7 @@ def add_arguments(command: argparse.ArgumentParser) -> None:
         "--round-seconds", type=least_of(0.0), default=60.0, metavar="S",
         help="seconds that the search of a round may take before the round is skipped (60)",
     )
-    add_logging(command)
-
-
-def add_logging(command: argparse.ArgumentParser) -> None:
-    command.add_argument(
-        "--log", type=level, metavar="LEVEL", default="INFO",
-        help="the log level: DEBUG, INFO, WARNING or ERROR (INFO)",
-    )
-    command.add_argument(
-        "-q", "--quiet", action="store_const", const=logging.WARNING, dest="log",
-        help="log only warnings and errors",
-    )
-    command.add_argument(
-        "-v", "--verbose", action="store_const", const=logging.DEBUG, dest="log",
-        help="log each round",
-    )
+    add_logging(command, "log each round")
 
 
 def add_ending(command: argparse.ArgumentParser) -> None:
@@ -133,7 +106,7 @@ def add_ending(command: argparse.ArgumentParser) -> None:
         help="seconds for which open transactions may go on when the proxy ends (30)",
     )
     command.add_argument(
-        "--most-connections", type=int, default=0, metavar="N",
+        "--most-connections", type=whole_of(0), default=0, metavar="N",
         help="refuse clients beyond this many (0: as many as the server takes)",
     )
     command.add_argument(
@@ -163,64 +136,6 @@ def add_telling(command: argparse.ArgumentParser) -> None:
         "--until-violation", action="store_true",
         help="end after the first violation that isn't set aside",
     )
-
-
-def web_address(text: str) -> str:
-    if not is_web(text):
-        raise argparse.ArgumentTypeError("give a URL that begins with http:// or https://")
-    return text
-
-
-def least_of(least: float) -> Callable[[str], float]:
-    def number(text: str) -> float:
-        try:
-            found = float(text)
-        except ValueError:
-            found = least - 1
-        if not least <= found < float("inf"):
-            told = f"{text!r} isn't possible: give a number of at least {least:g}, such as 30"
-            raise argparse.ArgumentTypeError(told)
-        return found
-
-    return number
-
-
-def address(text: str) -> str:
-    try:
-        host_and_port(text)
-    except ValueError as error:
-        raise argparse.ArgumentTypeError(str(error)) from error
-    return text
-
-
-def place(text: str) -> str:
-    return text if "/" in text else address(text)
-
-
-def share(text: str) -> float:
-    try:
-        found = float(text)
-    except ValueError:
-        found = 0.0
-    if not 0 < found <= 1:
-        told = f"{text!r} isn't a share: give a number above 0 and at most 1, such as 0.1"
-        raise argparse.ArgumentTypeError(told)
-    return found
-
-
-def percent(text: str) -> float:
-    found = float(text.removesuffix("%"))
-    if not 0 <= found <= 100:
-        raise argparse.ArgumentTypeError("give a number from 0 to 100")
-    return found
-
-
-def level(text: str) -> int:
-    found = logging.getLevelName(text.upper())
-    if not isinstance(found, int):
-        told = f"there is no log level {text!r}: give DEBUG, INFO, WARNING or ERROR"
-        raise argparse.ArgumentTypeError(told)
-    return found
 
 
 def run(asked: Any) -> int:

@@ -9,7 +9,8 @@ from typing import Any
 from ..core._visible import say
 from ..promises._kinds import SERIALIZABLE
 from ._clients import add_clients, mistake_in
-from ._command import LISTEN, MISTAKE, URL, add_ending, call_of, control_of, place
+from ._command import MISTAKE, add_ending, call_of, control_of
+from ._options import URL, add_server
 from ._patterns import add_tables_option
 from ._proxy_program import find_proxy
 from ._sharing import add_sharing, mistake_of
@@ -33,17 +34,7 @@ Exit status: 0 after such a signal, 1 if it can't listen, 2 if the call is wrong
 def add_arguments(command: argparse.ArgumentParser) -> None:
     command.epilog = EXAMPLE
     command.formatter_class = argparse.RawDescriptionHelpFormatter
-    command.add_argument(
-        "url",
-        metavar="URL",
-        nargs="?",
-        help=f"the server, given as postgresql://user@server/database (or the environment's {URL})",
-    )
-    command.add_argument(
-        "--listen", type=place, metavar="HOST:PORT", default=LISTEN,
-        help=f"the address for applications to connect to ({LISTEN}); with a / it is a Unix "
-        "socket's path",
-    )
+    add_server(command)
     add_clients(command)
     add_sharing(command)
     add_ending(command)
