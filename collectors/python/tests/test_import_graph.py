@@ -47,6 +47,21 @@ class ImportGraph(unittest.TestCase):
                 with self.subTest(package=package):
                     self.assertLessEqual({*imported}, {*listed[: listed.index(package)]})
 
+    def test_what_users_import(self):
+        """All errors, and the parts that the README names."""
+        import zanteyard
+        from zanteyard.core import errors
+
+        with open(os.path.join(HERE, "../README.md"), encoding="utf-8") as file:
+            parts = re.search(r"Its parts are public too: (.*?);", file.read(), re.DOTALL)[1]
+        named = re.findall(r"`(\w+)`", parts)
+        self.assertIn("find_anomaly", named)
+        kinds = [name for name, its in vars(errors).items() if isinstance(its, type) and issubclass(its, Exception)]
+        for name in (*named, *kinds):
+            self.assertIn(name, zanteyard.__all__)
+        for name in zanteyard.__all__:
+            self.assertTrue(hasattr(zanteyard, name), name)
+
     def test_what_each_module_is_for(self):
         files = {
             "__init__.py": '"""All of it."""\n',

@@ -40,7 +40,7 @@ HANDED = [  # the same, handed over
     '["offer",1,0,[[[[0,0,1]],[0]]]]',
     '["resumed"]',
 ]
-OF_PARTS = "(the script continues another one: a verdict holds for every history that the parts can stand for)"
+OF_PARTS = "(the script begins with a saved state: the verdict is about every history before it)"
 
 
 ENDS = b'["round"', b'["finish"', b'["answer"', b'["collect"'  # lines that are answered by a report

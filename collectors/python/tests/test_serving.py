@@ -154,7 +154,7 @@ class Serving(unittest.TestCase):
         self.assertEqual(daemon.returncode, 1, self.said())
         self.assertIn("violated: ", self.said())
         if is_explained:
-            self.assertIn("violated: of what was logged, no order explains this part", self.said())
+            self.assertIn("violated: no serial order that keeps each session's order explains these reads", self.said())
             self.assertTrue(os.path.exists(f"{self.folder}/audit/violation.jsonl"))
 
     def test_a_violation_that_can_not_be_written_ends_it_with_its_status(self):

@@ -60,14 +60,16 @@ class Settings(unittest.TestCase):
         path = self.file(
             '[watch]\nsample = 0.5\nredact = true\njson = false\ntables = ["a.*", "b"]\n'
             'round-seconds = 3\nuntil_violation = true\nlog = "warning"\n\n[serve]\nfolder = "x"\n'
-            'store = "host=a"\n'
+            '\n[import]\nleave-out = ["read-all"]\n'
         )
         its = asked("watch", URL, "--config", path, TAKE_OVER="yes", REQUIRE_TLS="0")
         self.assertEqual((its.sample, its.redact, its.json, its.round_seconds), (0.5, True, False, 3.0))
         self.assertEqual((its.tables.text, its.until_violation, its.log), ("a.*,b", True, 30))
         self.assertEqual((its.take_over, its.require_tls), (True, False))
         its = asked("serve", f"--config={path}")
-        self.assertEqual((its.folder, its.store), ("x", ["host=a"]))
+        self.assertEqual(its.folder, "x")
+        its = asked("import", "csv", "f", "-o", "s", f"--config={path}")
+        self.assertEqual(its.leave_out, ["read-all"])
 
     def test_levels_of_the_log(self):
         for words, wanted in (((), 20), (("-q",), 30), (("-v",), 10), (("--log", "error"), 40)):
@@ -124,7 +126,11 @@ class Words(unittest.TestCase):
             (("audit", "sqlite", "--clents", "3"), "sqlite: error: there is no option --clents (did you mean --clients?)"),
             (("watch", "--seconds", "soon", URL), "'soon' isn't possible: give a number of at least 0, such as 30"),
             (("watch", "--seconds", "-1", URL), "give a number of at least 0, such as 30"),
-            (("watch", "--most-connections", "x", URL), "'x' isn't a whole number, such as 10"),
+            (("watch", "--most-connections", "x", URL), "'x' isn't possible: give a whole number of at least 0, such as 10"),
+            (("watch", "--at-least", "most", URL), "'most' isn't possible: give a number from 0 to 100"),
+            (("serve", "--metrics", "::1:9464"), "put an IPv6 address in brackets, such as [::1]:8080"),
+            (("serve", "--every", "0"), "'0' isn't possible: give a whole number of at least 1"),
+            (("bench", "sqlite", "--rate", "-1"), "'-1' isn't possible: give a number of at least 0.01"),
             (("watch", "--sample", "x", URL), "'x' isn't a share: give a number above 0 and at most 1"),
             (("watch", "--log", "loud", URL), "no log level 'loud': give DEBUG, INFO, WARNING or ERROR"),
             (("serve", "--sessions", "65"), "there is no value 65: give a whole number from 1 to 64"),

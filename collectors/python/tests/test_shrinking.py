@@ -148,8 +148,8 @@ class Shrinking(unittest.TestCase):
         history = [[Logged((), (), "aborted")], [Logged((("x", (0, 0)), ("y", "init")), ("z",))]]
         told = []
         tell_violation(history, "/nowhere/x", tell=told.append)
-        self.assertEqual(told[1:3], ["  0.0 aborted", "  1.0 read x from 0.0"])
-        self.assertEqual(told[3:5], ["because", "  1.0 read x from 0.0, which aborted"])
+        self.assertEqual(told[3:5], ["    0.0 aborted", "    1.0 read x from 0.0"])
+        self.assertEqual(told[5:7], ["because", "    1.0 read x from 0.0, which aborted"])
 
     def test_a_run_of_one_session_is_told_as_one(self):
         txns = [

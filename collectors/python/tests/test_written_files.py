@@ -15,7 +15,7 @@ from zanteyard.core._private_files import check_folder, private
 from zanteyard.core._prometheus import text_of
 from zanteyard.core.errors import FolderUnfitError, JournalError
 from zanteyard.journal._file import Journal
-from zanteyard.remote._connecting import SocketDoor
+from zanteyard.remote._connecting import Door
 from zanteyard.remote._server import AuditServer
 
 NOBODY = 65534
@@ -164,7 +164,7 @@ class Folders(unittest.TestCase):
         """The client's end; its server says that its notes are there."""
         none = {name: mock.Mock() for name in ("Client", "Messages", "refuse_others")}
         with mock.patch.multiple("zanteyard.remote._connecting", **none):
-            door = SocketDoor("a socket")
+            door = Door("a socket")
         with mock.patch(
             "zanteyard.remote._connecting.welcomed", return_value=["its words", notes]
         ):
@@ -205,7 +205,7 @@ class Folders(unittest.TestCase):
         """A client's end, as soon as somebody listens there."""
         while True:
             try:
-                return SocketDoor(path)
+                return Door(path)
             except ConnectionRefusedError:
                 time.sleep(0.01)
 

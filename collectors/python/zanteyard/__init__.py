@@ -17,7 +17,7 @@
   after the end of its process.
 - The result is an Outcome, with the Report of the last round and what is Pending.
 - To explain a violation: tell_violation does everything. Its parts are from_start, smaller, words,
-  explain_history, reasons and audited.
+  circumstances, find_anomaly, explain_history, reasons and audited.
 - All errors are ZanteyardErrors. An error after a commit is never raised in the client's calls:
   outcomes report it, and so does the log `zanteyard`.
 
@@ -35,6 +35,7 @@ from .core._log_guard import guard as _guard  # noqa: E402
 from .core._version import VERSION as __version__  # noqa: E402
 
 if TYPE_CHECKING:
+    from .core._circumstances import circumstances
     from .core._outcome import RATHER_LOSE_THE_AUDIT, RATHER_WAIT, Outcome, Policy
     from .core._own_keys import FENCE
     from .core._records import Cut, Logged, Pending, Report
@@ -42,26 +43,35 @@ if TYPE_CHECKING:
     from .core.errors import (
         AbortedError,
         AuditLostError,
+        BadLineError,
+        CantBeAskedError,
+        ElsewhereError,
         FolderUnfitError,
         FullError,
+        ImportRefusedError,
         JournalDamagedError,
         JournalError,
         JournalInUseError,
         JournalVersionError,
+        KeyFileError,
         NameTakenError,
         NoCutError,
         NoMemoryError,
+        NoRoundError,
+        NotAnchoredError,
         OtherVersionError,
         OutcomeUnknownError,
         ProgramEndedError,
         ProgramLateError,
         ProgramMissingError,
+        ProgramUnreachableError,
         RefusedError,
         ScriptMistakeError,
         StoreLateError,
         StoreUnfitError,
         ZanteyardError,
     )
+    from .explain._anomalies import find_anomaly
     from .explain._audited import audited, from_start
     from .explain._reasons import Explanation, explain_history, reasons
     from .explain._shrinking import smaller
@@ -81,17 +91,21 @@ _guard(_logging.getLogger("zanteyard"))
 # Where each name is defined. A module is imported when one of its names is first used, so that the
 # command, which needs few of them, starts fast.
 _PLACES = {
+    "core._circumstances": "circumstances",
     "core._outcome": "RATHER_LOSE_THE_AUDIT RATHER_WAIT Outcome Policy",
     "core._own_keys": "FENCE",
     "core._records": "Cut Logged Pending Report",
     "core._stores": "Store",
     "core.errors": (
-        "AbortedError AuditLostError FolderUnfitError FullError JournalDamagedError "
-        "JournalError JournalInUseError JournalVersionError NameTakenError NoCutError "
-        "NoMemoryError OtherVersionError OutcomeUnknownError ProgramEndedError "
-        "ProgramLateError ProgramMissingError RefusedError "
-        "ScriptMistakeError StoreLateError StoreUnfitError ZanteyardError"
+        "AbortedError AuditLostError BadLineError CantBeAskedError ElsewhereError "
+        "FolderUnfitError FullError ImportRefusedError JournalDamagedError JournalError "
+        "JournalInUseError JournalVersionError KeyFileError NameTakenError NoCutError "
+        "NoMemoryError NoRoundError NotAnchoredError OtherVersionError "
+        "OutcomeUnknownError ProgramEndedError ProgramLateError ProgramMissingError "
+        "ProgramUnreachableError RefusedError ScriptMistakeError StoreLateError "
+        "StoreUnfitError ZanteyardError"
     ),
+    "explain._anomalies": "find_anomaly",
     "explain._audited": "audited from_start",
     "explain._reasons": "Explanation explain_history reasons",
     "explain._shrinking": "smaller",
@@ -130,14 +144,18 @@ __all__ = [
     *("Outcome", "Pending", "Report", "RoundTold", "ClientTold"),
     # explanations of violations
     *("Explanation", "audited", "explain_history", "from_start", "reasons"),
+    *("circumstances", "find_anomaly"),
     *("smaller", "tell_violation", "words"),
-    # errors
-    *("AbortedError", "AuditLostError", "FolderUnfitError", "FullError", "NameTakenError"),
-    *("JournalError", "JournalDamagedError", "JournalInUseError", "JournalVersionError"),
-    *("NoCutError", "NoMemoryError", "OtherVersionError", "OutcomeUnknownError"),
-    "ProgramEndedError",
-    *("ProgramLateError", "ProgramMissingError"),
-    *("RefusedError", "ScriptMistakeError"),
-    *("StoreLateError", "StoreUnfitError", "ZanteyardError"),
+    # errors, all of them
+    *("AbortedError", "AuditLostError", "BadLineError"),
+    *("CantBeAskedError", "ElsewhereError", "FolderUnfitError"),
+    *("FullError", "ImportRefusedError", "JournalDamagedError"),
+    *("JournalError", "JournalInUseError", "JournalVersionError"),
+    *("KeyFileError", "NameTakenError", "NoCutError"),
+    *("NoMemoryError", "NoRoundError", "NotAnchoredError"),
+    *("OtherVersionError", "OutcomeUnknownError", "ProgramEndedError"),
+    *("ProgramLateError", "ProgramMissingError", "ProgramUnreachableError"),
+    *("RefusedError", "ScriptMistakeError", "StoreLateError"),
+    *("StoreUnfitError", "ZanteyardError"),
     "__version__",
 ]

@@ -257,8 +257,7 @@ def _tell_no_cuts(run: ScriptRun) -> None:
 
 def _tell_resumed(run: ScriptRun) -> None:
     if run.is_resumed:  # what came before isn't in the script
-        what = "a verdict holds for every history that the parts can stand for"
-        say(f"(the script continues another one: {what})")
+        say("(the script begins with a saved state: the verdict is about every history before it)")
 
 
 def _status(run: ScriptRun) -> int:

@@ -1,8 +1,8 @@
 """What is logged and what is reported, as plain values."""
 
 import marshal
-from typing import Any, Callable, Iterable, List, Mapping, NamedTuple, NewType, Sequence
 from collections.abc import Callable, Iterable, Mapping, Sequence
+from typing import Any, NamedTuple, NewType
 
 # A transaction: its session, and its number in that session. There are three numberings, not to be
 # confused:

@@ -2,9 +2,8 @@
 history."""
 
 import json
-from typing import Any, Callable, Dict, Iterable, List, Mapping, NamedTuple, Optional, Sequence, Set
 from collections.abc import Callable, Iterable, Mapping, Sequence
-from typing import cast
+from typing import Any, NamedTuple, cast
 
 from ..core._own_keys import FENCE, FORM, PLAIN_FENCE
 from ..core._records import MOST, AuditId, AuditNaming, History, Logged, Naming, Read, Report

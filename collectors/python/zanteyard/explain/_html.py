@@ -161,7 +161,7 @@ def _heading(story: Story) -> str:
     if story.kind == "violated" and story.promise.is_split:
         return "These transactions can't have run on snapshots"
     if story.kind == "violated" and story.promise.is_timed:
-        return "These transactions can't have run one at a time, when they did"
+        return "These transactions can't have run one at a time, each at its own time"
     return HEADINGS[story.kind]
 
 

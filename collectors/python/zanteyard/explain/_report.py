@@ -7,9 +7,9 @@ from __future__ import annotations
 
 from collections.abc import Iterable, Iterator, Sequence
 from dataclasses import dataclass, replace
-from typing import Any, Dict, Iterable, Iterator, List, Optional
+from typing import Any
 
-from ..core._circumstances import caller_of, clock_of, values_of
+from ..core._circumstances import caller_of, circumstances, clock_of, values_of
 from ..core._records import AuditId, History, Logged, Naming, Pending, ShownId
 from ..promises._kinds import SERIALIZABLE, Promise
 from ._anomalies import Anomaly, find_anomaly, meaning_of, name_circle
@@ -64,6 +64,7 @@ class Story:
     steps: tuple[Step, ...] = ()
     reasons: Reasons = Reasons()  # why no order is left
     lines: tuple[str, ...] = ()  # the transactions, as text
+    seen: tuple[str, ...] = ()  # when and where they began and what values they had, if known
     because: tuple[str, ...] = ()  # the reasons, as text
     script: str = ""  # with which the auditor alone reports the same
     order: tuple[str, ...] = ()  # of a serial or pending verdict
@@ -169,6 +170,7 @@ def story_of(
         tuple(_steps(history, names, ends)),
         laid_out(explanation),
         tuple(words(history, names)),
+        tuple(circumstances(history, names)),
         explanation.lines,
         script,
         promise=promise,
@@ -251,6 +253,10 @@ def _one_story(story: Story) -> Iterator[str]:
         yield f"    {line}"
     if len(story.lines) > MOST_LINES:
         yield f"    and {len(story.lines) - MOST_LINES:,} more lines like these"
+    if story.seen:
+        yield "as the clients saw it"
+    for line in story.seen[:MOST_LINES]:
+        yield f"    {line}"
     if story.because:
         yield "because"
     for line in story.because:

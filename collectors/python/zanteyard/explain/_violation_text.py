@@ -3,7 +3,6 @@
 import time
 from collections.abc import Callable, Iterable
 
-from ..core._circumstances import circumstances
 from ..core._private_files import private
 from ..core._records import History, Naming, ShownId
 from ..core._visible import say, shown
@@ -11,10 +10,10 @@ from ..program._binaries import PROGRAM
 from ..promises._kinds import SERIALIZABLE, Promise
 from ._audited import audited_apart
 from ._reasons import explanation_of
-from ._report import Story, story_of
+from ._report import Story, story_lines, story_of
 from ._shrinking import SECONDS, smaller
 from ._standing import standing
-from ._words import name, words
+from ._words import name
 
 
 def tell_violation(
@@ -46,30 +45,19 @@ def tell_story(
 ) -> tuple[History, Story]:
     """The same, and also returns the story, for a page."""
 
-    def told(*lines: str) -> None:
-        for line in lines:
-            tell(shown(line))
-
     ends = time.monotonic() + seconds
-    small = smaller(history, program, max(0.0, ends - time.monotonic()), known, promise)
-    what = "order of begins and commits" if promise.is_split else "order"
-    kept = "each client's own order kept"
-    told(f"violated: of what was logged, no {what} explains this part, {kept}:")
-    told(*(f"  {line}" for line in words(small, called)))
-    seen = [f"  {line}" for line in circumstances(small, called)]
-    told(*(["as the clients saw it", *seen] if seen else []))
+    small = smaller(history, program, seconds, known, promise)
     audited = audited_apart(small, program, promise)
     explanation = explanation_of(audited, small, called)
     story = story_of(small, called, explanation, audited.script, (), promise)
-    told("because", *(f"  {line}" for line in story.because))
     left = max(0.5, ends - time.monotonic())
     story = story.with_standing(standing(small, program, promise, left))
-    told(*story.standing.lines())
-
+    for line in story_lines(story):
+        tell(shown(line))
     try:
-        told(write_script(story, path))
+        tell(shown(write_script(story, path)))
     except Exception as error:  # such as a full disk: what was found has been reported
-        told(f"({path} can't be written: {error})")
+        tell(shown(f"({path} can't be written: {error})"))
     return small, story
 
 
