@@ -25,7 +25,7 @@ from zanteyard.core.errors import ScriptMistakeError, ZanteyardError
 from zanteyard.explain._html import page_of
 from zanteyard.explain._reasons import explain_history
 from zanteyard.explain._report import story_of
-from zanteyard.explain._script_names import NamedTransaction, ScriptNames, read_names, write_names
+from zanteyard.scripts._names import NamedTransaction, ScriptNames, read_names, write_names
 from zanteyard.explain._violation_text import tell_violation
 from zanteyard.program._auditor import PROGRAM, Auditor
 from zanteyard.session._session import Session

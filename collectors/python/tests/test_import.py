@@ -18,8 +18,8 @@ from zanteyard.imports._times import Times
 from zanteyard.imports._command import FORMS, import_text
 from zanteyard.imports._script import script_of
 from zanteyard.imports._recording import ABORTED, COMMITTED, UNKNOWN
-from zanteyard.explain._script_times import read_times
-from zanteyard.explain._scripts import ScriptRun
+from zanteyard.scripts._times import read_times
+from zanteyard.scripts._running import ScriptRun
 from zanteyard.imports._sources import Sources
 from zanteyard.promises._asking import Asking
 from zanteyard.promises._kinds import STRICT

@@ -11,7 +11,7 @@ import unittest
 from contextlib import redirect_stderr, redirect_stdout
 
 from zanteyard.cli._main import main
-from zanteyard.explain._line_forms import COMMANDS, LONGEST, mistake_of
+from zanteyard.scripts._forms import COMMANDS, LONGEST, mistake_of
 from zanteyard.program._binaries import PROGRAM
 
 TOP = os.path.normpath(os.path.join(os.path.dirname(os.path.abspath(__file__)), "../../.."))

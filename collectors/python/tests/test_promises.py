@@ -9,8 +9,8 @@ from zanteyard.core._own_keys import FENCE
 from zanteyard.core._records import ABORTED, Logged
 from zanteyard.core.errors import CantBeAskedError, ScriptMistakeError
 from zanteyard.explain._audited import audited, in_halves
-from zanteyard.explain._scripts import ScriptRun
-from zanteyard.explain._script_times import ScriptTimes, read_times
+from zanteyard.scripts._running import ScriptRun
+from zanteyard.scripts._times import ScriptTimes, read_times
 from zanteyard.program._auditor import PROGRAM
 from zanteyard.promises._asking import KEYS, Asking
 from zanteyard.promises._kinds import ALL, ASKED, IMPLIED, PREFIX, SERIALIZABLE, SNAPSHOT, STRICT, weaker

@@ -15,7 +15,7 @@ from zanteyard.program._auditor import PROGRAM
 from zanteyard.cli._main import main
 from zanteyard.cli._statuses import STATUSES
 from zanteyard.core.errors import ScriptMistakeError
-from zanteyard.explain._scripts import ScriptRun
+from zanteyard.scripts._running import ScriptRun
 from zanteyard.explain._shrinking import is_violated
 from zanteyard.promises._kinds import SERIALIZABLE, SNAPSHOT
 

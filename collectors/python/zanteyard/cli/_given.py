@@ -13,7 +13,7 @@ from typing import IO, Any
 
 from ..core._visible import say
 from ..core.errors import CantBeAskedError
-from ..explain._scripts import Verdict
+from ..scripts._running import Verdict
 from ..imports._command import FORMS, add_history_options, import_text, text_in
 from ..imports._command import write as write_script
 from ..imports._guess import FIRST, history_form

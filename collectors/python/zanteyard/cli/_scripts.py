@@ -11,9 +11,9 @@ from ..explain._html import page_of
 from ..explain._json import levels_json, say_json, story_json
 from ..explain._levels import NO, PENDING, UNKNOWN, YES, Levels, levels_lines
 from ..explain._report import EXPLAINED, Story, verdict_story, violation_story
-from ..explain._script_names import ScriptNames, read_names
-from ..explain._script_times import ScriptTimes, read_times
-from ..explain._scripts import MORE, ScriptRun, Verdict
+from ..scripts._names import ScriptNames, read_names
+from ..scripts._times import ScriptTimes, read_times
+from ..scripts._running import MORE, ScriptRun, Verdict
 from ..program import _check_report
 from ..program._binaries import find_program
 from ..promises._kinds import ALL, ASKED, STRICT

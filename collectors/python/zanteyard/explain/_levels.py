@@ -23,9 +23,9 @@ from ..promises._asking import MOST, MOST_SESSIONS
 from ._arcs import table
 from ._audited import audited, from_start, refuted
 from ._report import EXPLAINED, SHOWN
-from ._script_names import ScriptNames
-from ._script_times import ScriptTimes
-from ._scripts import MORE, ScriptHistory, ScriptRun, Verdict
+from ..scripts._names import ScriptNames
+from ..scripts._times import ScriptTimes
+from ..scripts._running import MORE, ScriptHistory, ScriptRun, Verdict
 from ._shrinking import Part, is_violated, smaller
 from ._standing import listed
 

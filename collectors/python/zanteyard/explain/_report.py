@@ -18,8 +18,8 @@ from ._audited import audited_apart, from_start, refuted
 from ._claims import contradicts
 from ._explanation import Explanation, Reasons, laid_out
 from ._reasons import explanation_of
-from ._script_names import PART, REST
-from ._scripts import ScriptHistory, Verdict
+from ..scripts._names import PART, REST
+from ..scripts._running import ScriptHistory, Verdict
 from ._shrinking import NAMED, SECONDS, smaller
 from ._standing import Apart, Standing, standing
 from ._words import version as version_text

@@ -13,8 +13,8 @@ from ..core._garbage import no_collections
 from ..core._private_files import private
 from ..core._visible import say
 from ..core.errors import ImportRefusedError
-from ..explain._script_names import write_names
-from ..explain._script_times import TIMES, write_times
+from ..scripts._names import write_names
+from ..scripts._times import TIMES, write_times
 from ..promises._asking import MOST
 from ._jepsen import read_jepsen
 from ._recording import Recording, counted

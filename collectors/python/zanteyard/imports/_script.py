@@ -8,8 +8,8 @@ from typing import Any
 from ..core._own_keys import FORM, LARGE_FORM
 from ..core._records import AuditId
 from ..core.errors import ImportRefusedError
-from ..explain._script_names import PART, REST, NamedTransaction, ScriptNames
-from ..explain._script_times import ScriptTimes
+from ..scripts._names import PART, REST, NamedTransaction, ScriptNames
+from ..scripts._times import ScriptTimes
 from ..promises._asking import LIMIT, MOST, MOST_SESSIONS, SESSIONS
 from ._recording import ABORTED, COMMITTED, UNKNOWN, Recording, counted
 from ._script_parts import (

@@ -5,8 +5,8 @@ from dataclasses import dataclass, field
 from typing import Any
 
 from ..core._records import AuditId
-from ..explain._script_names import NamedTransaction, ScriptNames
-from ..explain._script_times import ScriptTimes
+from ..scripts._names import NamedTransaction, ScriptNames
+from ..scripts._times import ScriptTimes
 from ._recording import ABORTED, APPEND, WRITE, Attempt
 from ._sources import DRAFT, Stub
 

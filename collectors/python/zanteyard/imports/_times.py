@@ -6,7 +6,7 @@ from collections.abc import Mapping, Sequence
 
 from ..core._records import AuditId
 from ..core.errors import ImportRefusedError
-from ..explain._script_times import ScriptTimes
+from ..scripts._times import ScriptTimes
 from ..promises._asking import MOST
 from ._recording import NEVER, Attempt, Recording
 from ._sources import Sourced

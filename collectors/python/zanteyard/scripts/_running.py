@@ -22,9 +22,9 @@ from ..program._intake import EFFORTS, GUIDED, never_came
 from ..promises._asking import KEYS, LIMIT, MOST, MOST_SESSIONS, SESSIONS, Asking, asked_in
 from ..promises._asking import begun_in, most_remaining
 from ..promises._kinds import SERIALIZABLE, SNAPSHOT, Promise
-from ._line_forms import mistake_of
-from ._script_names import NamedTransaction, ScriptNames
-from ._script_times import ScriptTimes
+from ._forms import mistake_of
+from ._names import NamedTransaction, ScriptNames
+from ._times import ScriptTimes
 
 # The efforts with which a spent round is repeated: nodes of the search, depth, workers.
 WORKERS = max(1, min(16, os.cpu_count() or 1))
