@@ -116,7 +116,7 @@ def _serve(command: argparse.ArgumentParser) -> None:
 
 
 def _key(command: argparse.ArgumentParser) -> None:
-    from ..core._shared_key import make_key
+    from ._key import make_key
 
     def run(asked: Any) -> int:
         make_key(asked.file)

@@ -11,7 +11,7 @@ from typing import Any
 import psycopg2
 from psycopg2 import extensions
 
-from ..core import _timeouts as timeouts
+from . import _timeouts as timeouts
 
 LEAST = 2  # seconds: libpq raises a shorter connect_timeout to this
 # The environment variables that libpq reads for what a DSN doesn't say.

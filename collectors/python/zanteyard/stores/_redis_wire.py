@@ -9,7 +9,7 @@ from typing import Any
 
 import redis
 
-from ..core._timeouts import LateError, within
+from ._timeouts import LateError, within
 
 BROKEN = (redis.ConnectionError, redis.TimeoutError, OSError)
 Command = tuple[Any, ...]

@@ -22,7 +22,7 @@ from pymysql.constants import SERVER_STATUS
 from ..core._commit_status import CommitStatus
 from ..core._records import Name, StoredValue
 from ..core._store_identity import UNSURE, StoreIdentity, known_of
-from ..core._timeouts import LateError, within
+from ._timeouts import LateError, within
 from ..core.errors import AbortedError, NameTakenError, OutcomeUnknownError
 from ._mariadb_connection import close_connection, limit, limited
 from .levels import SNAPSHOT, checked_level

@@ -4,7 +4,7 @@ bytes of a file that only its owner may access. The proxy reads it."""
 import os
 import secrets
 
-from .errors import KeyFileError
+from ..core.errors import KeyFileError
 
 
 def make_key(path: str) -> None:
