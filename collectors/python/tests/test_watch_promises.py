@@ -6,6 +6,7 @@ import tempfile
 import threading
 import time
 import unittest
+from unittest import mock
 
 from tests import test_watch_audit, test_watch_run, test_watch_whole
 from tests import watch_feed as feed
@@ -66,7 +67,12 @@ class Words(unittest.TestCase):
             "postgresql://u@a/b?sslpassword=s3cret",
             "host=a user=u password=s3cret",
         ):
-            call, environment = call_of("proxy", parser().parse_args(["watch", url]))
+            words = ["zanteyard", "watch", url]
+            with mock.patch("sys.argv", words), self.assertLogs("zanteyard", "WARNING") as told:
+                call, environment = call_of("proxy", parser().parse_args(words[1:]))
+            self.assertIn("give the URL in ZANTEYARD_URL", told.output[0])
+            with mock.patch("sys.argv", words[:2]), self.assertNoLogs("zanteyard", "WARNING"):
+                call_of("proxy", parser().parse_args(words[1:]))  # it is from elsewhere
             self.assertNotIn("s3cret", " ".join(call))
             known = [environment.get(name, "") for name in ("ZANTEYARD_URL", "PGPASSWORD")]
             self.assertIn("s3cret", "".join(known))

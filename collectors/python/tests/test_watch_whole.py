@@ -319,7 +319,7 @@ class WithoutDriver(unittest.TestCase):
         status, out, errors = self.watch(url, "--listen", f"{self.folder}/socket")
         self.assertEqual((status, out), (2, ""), errors)
         self.assertFalse(any("applications can connect to" in line for line in errors), errors)
-        wanted = f"mistake: the proxy ended with status 1: --listen: listen unix {self.folder}/socket: "
+        wanted = f"mistake: the proxy ended with status 2: --listen: listen unix {self.folder}/socket: "
         self.assertTrue(errors[-1].startswith(wanted), errors)
         self.assertTrue(errors[-1].endswith("address already in use"), errors)
 

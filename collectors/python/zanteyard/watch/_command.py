@@ -36,6 +36,7 @@ from ._supervising import CantBeginError, Control
 
 MISTAKE = 2
 WEBHOOK = "ZANTEYARD_WEBHOOK"
+SEEN = f"other users can see the URL's password in the list of processes: give the URL in {URL}"
 logger = logging.getLogger("zanteyard")
 
 
@@ -222,6 +223,8 @@ def call_of(proxy: str, asked: Any) -> tuple[Sequence[str], dict[str, str]]:
         password = urlsplit(url).password
     except ValueError:
         password = None
+    if url in sys.argv and (password is not None or "password=" in url):
+        logger.warning(SEEN)
     if password is not None:
         url, environment["PGPASSWORD"] = without_password(url), unquote(password)
     call = [proxy, "--server", url, "--listen", asked.listen]

@@ -28,7 +28,7 @@ It passes traffic on until SIGTERM or SIGINT, with or without an audit. Then it 
 connections, and ends when no transaction is open any more. With --take-over a new proxy takes the
 place of the one that runs: no client is refused.
 
-Exit status: 0 after such a signal, 1 if it can't listen, 2 if the call is wrong."""
+Exit status: 0 after such a signal, 2 if it can't begin, 4 if it ended by a fault of its own."""
 
 
 def add_arguments(command: argparse.ArgumentParser) -> None:

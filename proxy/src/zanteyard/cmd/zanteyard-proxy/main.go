@@ -208,8 +208,26 @@ func main() {
 		log.Print(err)
 	}
 	its.close()
-	if err != nil {
-		os.Exit(1)
+	if status := statusOf(err); status != 0 {
+		os.Exit(status)
+	}
+}
+
+// cantBegin is why the program ends before it accepts connections.
+type cantBegin struct{ error }
+
+func (c cantBegin) Unwrap() error { return c.error }
+
+// statusOf returns the exit status, as all commands of zanteyard have it: 2 if it cannot begin, 4 after a fault.
+func statusOf(err error) int {
+	var mistake cantBegin
+	switch {
+	case err == nil:
+		return 0
+	case errors.As(err, &mistake):
+		return 2
+	default:
+		return 4
 	}
 }
 
@@ -241,25 +259,25 @@ func serve(ctx context.Context, f flags, its outside) error {
 	defer cancel()
 	config, err := address.Parse(f.server)
 	if err != nil {
-		return fmt.Errorf("--server: %w", err)
+		return cantBegin{fmt.Errorf("--server: %w", err)}
 	}
 	if !f.passing && hosts(config) > 1 {
-		return errors.New("--server: an audit has exactly one server, but several are given: a connection could use one of them " +
-			"while the log of another is read")
+		return cantBegin{errors.New("--server: an audit has exactly one server, but several are given: a connection could use " +
+			"one of them while the log of another is read")}
 	}
 	var clientTLS *tls.Config
 	reload := func() { log.Print("SIGHUP: there is no certificate to read (--tls-cert)") }
 	if f.certificate != "" || f.key != "" {
 		own, err := readCertificate(f.certificate, f.key)
 		if err != nil {
-			return err
+			return cantBegin{err}
 		}
 		clientTLS = own.config()
 		reload = own.reload
 	}
 	listener, control, err := f.sockets(its.words)
 	if err != nil {
-		return err
+		return cantBegin{err}
 	}
 	defer listener.Close()
 	options := &session.Options{

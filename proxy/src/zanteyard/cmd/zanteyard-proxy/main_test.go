@@ -57,6 +57,32 @@ func TestSeveralServers(t *testing.T) {
 }
 
 // program is the proxy with a parent.
+// TestStatus: a program that can't begin ends with status 2, as the other commands do.
+func TestStatus(t *testing.T) {
+	taken, err := net.Listen("tcp", "127.0.0.1:0")
+	if err != nil {
+		t.Fatal(err)
+	}
+	defer taken.Close()
+	server := "host=127.0.0.1 port=1 user=nobody dbname=nothing sslmode=disable"
+	for _, words := range [][]string{
+		{"--server", server, "--listen", taken.Addr().String()},
+		{"--server", server, "--listen", "127.0.0.1:0", "--tls-cert", "/nowhere/cert", "--tls-key", "/nowhere/key"},
+		{"--server", "host=127.0.0.1,127.0.0.2 port=1 user=nobody dbname=nothing", "--listen", "127.0.0.1:0"},
+	} {
+		f, err := parse(words, io.Discard)
+		if err != nil {
+			t.Fatal(words, err)
+		}
+		if err := serve(context.Background(), f, outside{in: strings.NewReader(""), out: io.Discard}); statusOf(err) != 2 {
+			t.Errorf("%q: status %d: %v", words, statusOf(err), err)
+		}
+	}
+	if statusOf(errors.New("a fault")) != 4 || statusOf(nil) != 0 {
+		t.Error("another status")
+	}
+}
+
 type program struct {
 	t      *testing.T
 	port   int
