@@ -77,7 +77,7 @@ def _shows_progress(command: argparse.ArgumentParser, what: str) -> None:
 
     run = command.get_default("run")
 
-    def watched(asked: Any) -> int:
+    def watched(asked: argparse.Namespace) -> int:
         with Progress(what) as progress:
             asked.progress = progress
             status: int = run(asked)
@@ -118,7 +118,7 @@ def _serve(command: argparse.ArgumentParser) -> None:
 def _key(command: argparse.ArgumentParser) -> None:
     from ._key import make_key
 
-    def run(asked: Any) -> int:
+    def run(asked: argparse.Namespace) -> int:
         make_key(asked.file)
         return 0
 
@@ -160,7 +160,7 @@ def _add_stores(command: argparse.ArgumentParser, name: str) -> None:
 
 
 def _help(command: argparse.ArgumentParser) -> None:
-    def run(asked: Any) -> int:
+    def run(asked: argparse.Namespace) -> int:
         words = [*asked.words, "--help"]
         parser(command_of(words)).parse_args(words)
         return 0

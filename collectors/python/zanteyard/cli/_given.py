@@ -73,7 +73,7 @@ def is_journal(path: str) -> bool:
 
 
 @contextlib.contextmanager
-def given(asked: Any, progress: Progress) -> Iterator[Given]:
+def given(asked: argparse.Namespace, progress: Progress) -> Iterator[Given]:
     """The script that the call is about. Raises ImportRefusedError if the file is a history that
     can't be turned into a sound script."""
     path = asked.script
@@ -86,7 +86,9 @@ def given(asked: Any, progress: Progress) -> Iterator[Given]:
         yield Given(path, os.path.basename(path) if path != "-" else "a script", file)
 
 
-def _imported(asked: Any, progress: Progress, form: str, whole: bytes) -> Iterator[Given]:
+def _imported(
+    asked: argparse.Namespace, progress: Progress, form: str, whole: bytes
+) -> Iterator[Given]:
     about = os.path.basename(asked.script) if asked.script != "-" else "a history"
     with tempfile.TemporaryDirectory(prefix="zanteyard-") as folder:
         script = os.path.join(folder, "script")
@@ -103,7 +105,7 @@ def _imported(asked: Any, progress: Progress, form: str, whole: bytes) -> Iterat
             yield Given(script, about, lines, form, imported.about)
 
 
-def refuse_options(asked: Any, names: Sequence[str], why: str) -> None:
+def refuse_options(asked: argparse.Namespace, names: Sequence[str], why: str) -> None:
     """Raises CantBeAskedError if one of these options was given."""
     for name in names:
         if getattr(asked, name):

@@ -16,7 +16,7 @@ def add_journal(command: argparse.ArgumentParser) -> None:
     command.set_defaults(run=run_journal)
 
 
-def run_journal(asked: Any) -> int:
+def run_journal(asked: argparse.Namespace) -> int:
     program = find_program()
     with Auditor.resumed(asked.script, program) as auditor:
         count, sessions = sum(auditor.received), auditor.sessions

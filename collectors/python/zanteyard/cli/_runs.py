@@ -27,7 +27,7 @@ def add_demo(command: argparse.ArgumentParser) -> None:
     command.set_defaults(run=run_demo)
 
 
-def run_demo(asked: Any) -> int:
+def run_demo(asked: argparse.Namespace) -> int:
     program = find_program()
     say(f"{asked.name}: {demo.about(asked.name)}.")
     with Auditor(demo.SESSIONS, program=program) as auditor:
@@ -45,7 +45,7 @@ def run_demo(asked: Any) -> int:
     return STATUSES[report.kind]
 
 
-def run_audit(asked: Any) -> int:
+def run_audit(asked: argparse.Namespace) -> int:
     from . import audit as audit_command
 
     ran = audit_command.run(asked)

@@ -156,7 +156,7 @@ def _times(path: str) -> ScriptTimes | None:
     return read_times(path) if path != "-" else None
 
 
-def _run_of(asked: Any, script: str) -> ScriptRun:
+def _run_of(asked: argparse.Namespace, script: str) -> ScriptRun:
     """Raises CantBeAskedError if the script can't be checked for the promise."""
     names = _names(script)
     is_timed = names is not None and names.asks_time
@@ -170,7 +170,7 @@ def _run_of(asked: Any, script: str) -> ScriptRun:
     return ScriptRun(find_program(), asked.nodes, names, promise, times)
 
 
-def check(asked: Any) -> int:
+def check(asked: argparse.Namespace) -> int:
     if asked.replies is not None:
         refuse_options(asked, OF_VERDICTS, "isn't possible with --replies")
         asked.has_verdict = False
@@ -209,7 +209,7 @@ def check(asked: Any) -> int:
             return status
 
 
-def explain(asked: Any) -> int:
+def explain(asked: argparse.Namespace) -> int:
     with no_collections(), Progress(READING) as progress, given(asked, progress) as its:
         with _run_of(asked, its.script) as run:
             progress.doing = run.doing
@@ -226,7 +226,7 @@ def explain(asked: Any) -> int:
             return _status(run)
 
 
-def levels(asked: Any) -> int:
+def levels(asked: argparse.Namespace) -> int:
     with no_collections(), Progress(READING) as progress, given(asked, progress) as its:
         lines = [*its.lines]
         names, times = _names(its.script), _times(its.script)

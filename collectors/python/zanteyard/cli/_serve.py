@@ -103,7 +103,7 @@ def add_arguments(command: argparse.ArgumentParser) -> None:
     add_logging(command, "log more")
 
 
-def run(asked: Any) -> int:
+def run(asked: argparse.Namespace) -> int:
     """Runs until a signal or the end of the audit; returns the exit status."""
     if not asked.folder:
         raise FolderUnfitError("no folder was given: give --folder DIR or set ZANTEYARD_FOLDER")
@@ -119,7 +119,7 @@ def run(asked: Any) -> int:
         stack.close()
 
 
-def _audit(asked: Any, stack: contextlib.ExitStack, stopped: threading.Event) -> int:
+def _audit(asked: argparse.Namespace, stack: contextlib.ExitStack, stopped: threading.Event) -> int:
     auditor = stack.enter_context(_auditor(asked))
     policy = RATHER_WAIT if asked.rather_wait else RATHER_LOSE_THE_AUDIT
     live = LiveAuditor(auditor, every=asked.every, policy=policy, redacts=asked.redact)
@@ -161,7 +161,7 @@ def _end_at_faults(faults: list[str]) -> None:
     threading.excepthook = note
 
 
-def _auditor(asked: Any) -> Auditor:
+def _auditor(asked: argparse.Namespace) -> Auditor:
     """A new auditor. No client has a session of the run before, and what was in flight when that
     ended is unknown: its journal is kept under another name."""
     path = os.path.join(asked.folder, JOURNAL)
@@ -182,7 +182,7 @@ def _unused(script: str | None) -> str | None:
     return script and next(script + name for name in names if not os.path.isfile(script + name))
 
 
-def _server(asked: Any, live: LiveAuditor) -> AuditServer:
+def _server(asked: argparse.Namespace, live: LiveAuditor) -> AuditServer:
     try:
         return AuditServer(live, os.path.join(asked.folder, SOCKET))
     except BaseException:
@@ -191,7 +191,7 @@ def _server(asked: Any, live: LiveAuditor) -> AuditServer:
         raise
 
 
-def _tell(asked: Any, auditor: Auditor, outcome: Outcome) -> None:
+def _tell(asked: argparse.Namespace, auditor: Auditor, outcome: Outcome) -> None:
     """Writes an explanation of the violation to the log and to files. If that fails, for example
     because the disk is full, the verdict stays."""
     path = os.path.join(asked.folder, VIOLATION)

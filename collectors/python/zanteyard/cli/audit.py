@@ -117,7 +117,7 @@ def stopped_by_signals() -> Iterator[threading.Event]:
 
 
 def unaudited_run(
-    asked: Any, make_store: MakesStore, stop: threading.Event | None = None
+    asked: argparse.Namespace, make_store: MakesStore, stop: threading.Event | None = None
 ) -> Clients:
     """The clients without the auditor, for comparison."""
     is_over = (stop or threading.Event()).is_set
@@ -132,7 +132,7 @@ def unaudited_run(
 
 
 def _beside(
-    asked: Any, make_store: MakesStore, live: LiveAuditor, stop: threading.Event
+    asked: argparse.Namespace, make_store: MakesStore, live: LiveAuditor, stop: threading.Event
 ) -> Clients:
     """The clients of a live audit."""
     if asked.churn:
@@ -164,7 +164,7 @@ class _Rounds:
 
 
 def audited_run(
-    asked: Any, make_store: MakesStore, stop: threading.Event | None = None
+    asked: argparse.Namespace, make_store: MakesStore, stop: threading.Event | None = None
 ) -> tuple[LiveAuditor, Outcome, Clients, Story | None, tuple[RoundSeen, ...]]:
     """Runs the clients with the auditor until the time is up or `stop` is set. Returns the audit
     and its outcome."""
@@ -208,7 +208,7 @@ def count_of_clients(text: str) -> int:
     return count
 
 
-def kind_of(asked: Any) -> StoreKind:
+def kind_of(asked: argparse.Namespace) -> StoreKind:
     """The store to audit; PostgreSQL by default."""
     kind: StoreKind = getattr(asked, "kind", POSTGRES)
     return kind
@@ -253,7 +253,7 @@ def add_arguments(asked: argparse.ArgumentParser, kind: StoreKind = POSTGRES) ->
     asked.add_argument("--html", metavar="FILE", help="write an HTML page")
 
 
-def run(asked: Any) -> LiveRun:
+def run(asked: argparse.Namespace) -> LiveRun:
     """Runs the clients as requested, and prints each round. Signals such as Ctrl-C end a live audit
     as the time does. Raises CantAuditError."""
     kind = kind_of(asked)

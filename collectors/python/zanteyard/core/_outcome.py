@@ -34,7 +34,8 @@ class Outcome:
 
     `kind` is "running" while more may arrive, and then one of these. "serial". "pending":
     everything was audited, but some reads name transactions that never arrived. "violated", which
-    stays true whatever is missing. "the collector's own violation": its own transactions alone have no order.
+    stays true whatever is missing. "the collector's own violation": its own transactions alone have
+    no order.
     "undecided": the search was given up. "incomplete": something wasn't audited, and `failure` says
     why.
 

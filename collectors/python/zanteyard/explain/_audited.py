@@ -3,7 +3,7 @@ history."""
 
 import json
 from collections.abc import Callable, Iterable, Mapping, Sequence
-from typing import Any, NamedTuple, cast
+from typing import Any, NamedTuple, Protocol, cast
 
 from ..core._own_keys import FENCE, FORM, PLAIN_FENCE
 from ..core._records import MOST, AuditId, AuditNaming, History, Logged, Naming, Read, Report
@@ -278,7 +278,23 @@ def audited_apart(
         return Audited(report, text, tuple(auditor.names), ids, places, is_halved)
 
 
-def from_start(auditor: Any) -> tuple[History, Naming]:
+class Holding(Protocol):
+    """What is held of an audit: by an Auditor, of a script, or of a journal."""
+
+    @property
+    def history(self) -> History:
+        """For each session the transactions that aren't forgotten."""
+
+    @property
+    def marks(self) -> Sequence[int]:
+        """How many transactions of each session are forgotten."""
+
+    @property
+    def base(self) -> Mapping[str, AuditId]:
+        """By key the last forgotten writer."""
+
+
+def from_start(auditor: Holding) -> tuple[History, Naming]:
     """The remaining transactions as a history without a cut and without the fences' key, and their
     names. If something was forgotten, a first transaction stands for it: it writes the last version
     of each key, and every session begins with a transaction that reads from it."""
@@ -327,7 +343,7 @@ def from_start(auditor: Any) -> tuple[History, Naming]:
     return [[after if session else first, *txns] for session, txns in enumerate(history)], renamed
 
 
-def refuted(auditor: Any, certificate: Iterable[Any]) -> set[ShownId]:
+def refuted(auditor: Holding, certificate: Iterable[Any]) -> set[ShownId]:
     """The transactions that a violated round's refutation names, as in the history of
     `from_start`."""
     marks = auditor.marks

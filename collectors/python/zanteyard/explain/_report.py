@@ -14,7 +14,7 @@ from ..core._records import AuditId, History, Logged, Naming, Pending, ShownId
 from ..promises._kinds import SERIALIZABLE, Promise
 from ._anomalies import Anomaly, find_anomaly, meaning_of, name_circle
 from ._arcs import transaction_of
-from ._audited import audited_apart, from_start, refuted
+from ._audited import Holding, audited_apart, from_start, refuted
 from ._claims import contradicts
 from ._explanation import Explanation, Reasons, laid_out
 from ._reasons import explanation_of
@@ -113,7 +113,7 @@ def _waits(history: ScriptHistory, read: Pending) -> str:
 
 
 def violation_story(
-    auditor: Any,
+    auditor: Holding,
     program: str,
     counts: Sequence[int] = (),
     seconds: float = EXPLAINED,
@@ -121,8 +121,8 @@ def violation_story(
     promise: Promise = SERIALIZABLE,
 ) -> Story:
     """The story of a violated history, and of the violations in it that are independent of the
-    first. `auditor` is an Auditor, or anything with its `history`, `marks` and `base`;
-    `certificate` is that of its last round. Takes up to four times `seconds`."""
+    first. `certificate` is that of the auditor's last round. Takes up to four times
+    `seconds`."""
     history, names = from_start(auditor)
     small = smaller(history, program, seconds, refuted(auditor, certificate), promise)
     apart = Apart(history, program, promise)

@@ -18,7 +18,8 @@ from ..promises._asking import LIMIT, longest
 from ..promises._kinds import SERIALIZABLE, Promise
 from ._anomalies import UNREPEATABLE, find_anomaly
 from ._arcs import transaction_of
-from ._audited import START, audited_apart, from_start, named, only_keys, renumbered, wrong_sources
+from ._audited import START, Holding, audited_apart, from_start, named, only_keys, renumbered
+from ._audited import wrong_sources
 from ._words import name
 
 SECONDS = 5.0  # seconds for reducing a history
@@ -36,7 +37,7 @@ def is_violated(
     return Part.of(history, promise).report(program) is not None
 
 
-def is_collectors_own(auditor: Any, program: str = PROGRAM) -> bool:
+def is_collectors_own(auditor: Holding, program: str = PROGRAM) -> bool:
     """Whether the collector's own transactions are violated by themselves and the clients' aren't:
     then the fault isn't in what the clients did."""
     history, promise = from_start(auditor)[0], getattr(auditor, "promise", SERIALIZABLE)

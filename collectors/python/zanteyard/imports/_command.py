@@ -118,7 +118,7 @@ def _count(text: str) -> int:
     return count
 
 
-def run(asked: Any) -> int:
+def run(asked: argparse.Namespace) -> int:
     """Writes the script and its names, and prints what was done; returns 0. Raises
     ImportRefusedError if the file can't be turned into a sound script, and writes nothing then."""
     def tell(doing: str) -> None:

@@ -157,8 +157,8 @@ class Sources:
             )
             raise ImportRefusedError(
                 self._attempts[at].line,
-                f"the value {value} of {access.key}, read here, was written more than once (by what "
-                f"begins in lines {lines}): which write was read is unknown",
+                f"the value {value} of {access.key}, read here, was written more than once (by what"
+                f" begins in lines {lines}): which write was read is unknown",
             )
         if not writers:
             return Absent(access.key, value)

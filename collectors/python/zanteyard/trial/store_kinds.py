@@ -85,17 +85,17 @@ class StoreKind:
     def add_arguments(self, asked: argparse.ArgumentParser) -> None:
         asked.add_argument("--dsn", help=self.server_help)
 
-    def server(self, asked: Any) -> Any:
+    def server(self, asked: argparse.Namespace) -> Any:
         """The server to audit, a context that cleans up at its end. Raises CantAuditError."""
         lacking = self.lacking()
         if lacking:
             raise CantAuditError(lacking)
         return self._server(asked)
 
-    def _server(self, asked: Any) -> Any:
+    def _server(self, asked: argparse.Namespace) -> Any:
         raise NotImplementedError
 
-    def maker(self, asked: Any, server: Any, **more: Any) -> MakesStore:
+    def maker(self, asked: argparse.Namespace, server: Any, **more: Any) -> MakesStore:
         """A function that makes a client's store of the requested level."""
         raise NotImplementedError
 
@@ -131,7 +131,7 @@ class _Postgres(StoreKind):
     def add_arguments(self, asked: argparse.ArgumentParser) -> None:
         asked.add_argument("--dsn", nargs="?", const="", help=self.server_help)
 
-    def server(self, asked: Any) -> Any:
+    def server(self, asked: argparse.Namespace) -> Any:
         if not _is_there("psycopg2"):
             raise CantAuditError(_wanted("psycopg2", "python3-psycopg2"))
         if asked.dsn is not None:
@@ -142,7 +142,7 @@ class _Postgres(StoreKind):
             raise CantAuditError("PostgreSQL is missing: apt-get install postgresql")
         return PostgresServer()
 
-    def maker(self, asked: Any, server: Any, **more: Any) -> MakesStore:
+    def maker(self, asked: argparse.Namespace, server: Any, **more: Any) -> MakesStore:
         if asked.dsn is None:
             from ..stores.postgres import prepare
 
@@ -175,14 +175,14 @@ class _MariaDB(StoreKind):
     def lacking(self) -> str:
         return "" if _is_there("pymysql") else _wanted("pymysql", "python3-pymysql")
 
-    def _server(self, asked: Any) -> Any:
+    def _server(self, asked: argparse.Namespace) -> Any:
         if asked.dsn is not None:
             return MariaDBGuest(words_of(asked.dsn))
         if not mariadbd():
             raise CantAuditError("MariaDB is missing: apt-get install mariadb-server")
         return MariaDBServer()
 
-    def maker(self, asked: Any, server: Any, **more: Any) -> MakesStore:
+    def maker(self, asked: argparse.Namespace, server: Any, **more: Any) -> MakesStore:
         from ..stores.mariadb import prepare
 
         prepare(server.dsn, server.table)
@@ -224,14 +224,14 @@ class _Redis(StoreKind):
     def lacking(self) -> str:
         return "" if _is_there("redis") else _wanted("redis", "python3-redis")
 
-    def _server(self, asked: Any) -> Any:
+    def _server(self, asked: argparse.Namespace) -> Any:
         if asked.dsn is not None:
             return RedisGuest(asked.dsn)
         if not redis_server():
             raise CantAuditError("Redis is missing: apt-get install redis-server")
         return RedisServer()
 
-    def maker(self, asked: Any, server: Any, **more: Any) -> MakesStore:
+    def maker(self, asked: argparse.Namespace, server: Any, **more: Any) -> MakesStore:
         return MakeStore(self.command, server.dsn, self.levels[asked.level], server.prefix, **more)
 
     def version(self, server: Any) -> str:
@@ -256,10 +256,10 @@ class _SQLite(StoreKind):
         modes = ("wal", "delete")
         asked.add_argument("--journal-mode", choices=modes, default="wal", help=about)
 
-    def _server(self, asked: Any) -> Any:
+    def _server(self, asked: argparse.Namespace) -> Any:
         return SQLiteFile(asked.journal_mode) if asked.dsn is None else SQLiteGuest(asked.dsn)
 
-    def maker(self, asked: Any, server: Any, **more: Any) -> MakesStore:
+    def maker(self, asked: argparse.Namespace, server: Any, **more: Any) -> MakesStore:
         if asked.level == "uncommitted" and getattr(asked, "processes", False):
             raise CantAuditError("a shared cache works only within one process")
         server.prepare()

@@ -22,7 +22,7 @@ def add_clients(command: argparse.ArgumentParser) -> None:
     )
 
 
-def mistake_in(asked: Any) -> str | None:
+def mistake_in(asked: argparse.Namespace) -> str | None:
     """What is wrong with these options; None if nothing is."""
     if (asked.tls_cert is None) != (asked.tls_key is None):
         return "--tls-cert and --tls-key belong together"
@@ -31,7 +31,7 @@ def mistake_in(asked: Any) -> str | None:
     return None
 
 
-def words_for(asked: Any) -> list[str]:
+def words_for(asked: argparse.Namespace) -> list[str]:
     """Arguments for the proxy's program."""
     words = []
     if asked.tls_cert is not None:

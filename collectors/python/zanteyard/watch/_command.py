@@ -139,7 +139,7 @@ def add_telling(command: argparse.ArgumentParser) -> None:
     )
 
 
-def run(asked: Any) -> int:
+def run(asked: argparse.Namespace) -> int:
     """Runs the command, and returns its exit status."""
     logging.basicConfig(level=asked.log, format=FORM, stream=sys.stderr)
     if not asked.url:
@@ -174,7 +174,7 @@ def run(asked: Any) -> int:
             return _mistake(str(error))
 
 
-def control_of(asked: Any) -> Control | None:
+def control_of(asked: argparse.Namespace) -> Control | None:
     """How the proxy is reached. None, with a warning, if there is no safe place for a socket."""
     try:
         return Control(control_path(asked.listen), asked.drain, asked.take_over)
@@ -215,7 +215,7 @@ def prepared(url: str) -> list[str]:
     return [told, *(f"  {visible(line)}" for line in each)]
 
 
-def call_of(proxy: str, asked: Any) -> tuple[Sequence[str], dict[str, str]]:
+def call_of(proxy: str, asked: argparse.Namespace) -> tuple[Sequence[str], dict[str, str]]:
     """The proxy's program with its arguments, and its environment. The password is in the
     environment, since a list of processes would show arguments."""
     url, environment = asked.url, dict(os.environ)

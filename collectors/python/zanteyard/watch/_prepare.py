@@ -47,7 +47,7 @@ def add_arguments(command: argparse.ArgumentParser) -> None:
     add_tables_option(command, "show only these tables, such as public.*,shop.orders")
 
 
-def run(asked: Any) -> int:
+def run(asked: argparse.Namespace) -> int:
     if not asked.url:
         raise DatabaseError("no server was given: give its URL or set ZANTEYARD_URL")
     with Database(asked.url) as database:

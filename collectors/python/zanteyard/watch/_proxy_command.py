@@ -50,7 +50,7 @@ def add_arguments(command: argparse.ArgumentParser) -> None:
     command.set_defaults(sample=None, promise=SERIALIZABLE.name, rollbacks=False, conditions=False)
 
 
-def run(asked: Any) -> int:
+def run(asked: argparse.Namespace) -> int:
     """Replaces this process by the proxy's program; returns an exit status only if it can't."""
     if not asked.url:
         return _mistake(f"no server was given: give its URL or set {URL}")

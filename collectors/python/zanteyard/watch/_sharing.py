@@ -25,7 +25,7 @@ def add_sharing(command: argparse.ArgumentParser) -> None:
     )
 
 
-def mistake_of(asked: Any, is_needed: bool = False) -> str | None:
+def mistake_of(asked: argparse.Namespace, is_needed: bool = False) -> str | None:
     """What is wrong with these options; None if nothing is."""
     is_for_this = asked.key and asked.key != os.environ.get(KEY)
     if not (is_needed or asked.audit or is_for_this):
@@ -44,7 +44,7 @@ def mistake_of(asked: Any, is_needed: bool = False) -> str | None:
     return None
 
 
-def words_of(asked: Any, environment: dict[str, str]) -> list[str]:
+def words_of(asked: argparse.Namespace, environment: dict[str, str]) -> list[str]:
     """Arguments for the proxy's program. The URL goes into `environment`, which other users can't
     read."""
     if not asked.audit:
