@@ -6,8 +6,8 @@ import os
 import stat
 from typing import Any
 
-REDIS = "ZANTEYARD_REDIS"  # the environment variable with its URL, as for `serve`
-KEY = "ZANTEYARD_KEY"  # and that with the key's path, as for clients of `serve`
+REDIS = "ZANTEYARD_REDIS"  # the environment variable with its URL
+KEY = "ZANTEYARD_KEY"  # and that with the path of the key
 LEAST = 16  # bytes of a key
 MAKE = "(umask 077; head -c 32 /dev/urandom | base64 > FILE) makes one"
 
