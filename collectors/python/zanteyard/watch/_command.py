@@ -66,7 +66,10 @@ def add_arguments(command: argparse.ArgumentParser) -> None:
         help="below serializable, also check transactions that only read, and that their clients "
         "rolled back though no statement had failed",
     )
-    command.add_argument("--conditions", action="store_true", help=argparse.SUPPRESS)
+    command.add_argument(
+        "--no-conditions", dest="conditions", action="store_false",
+        help="check the rows that SELECTs return alone, not those that their conditions passed over",
+    )
     add_clients(command)
     add_sharing(command)
     add_tables_option(command, "audit only these tables, such as public.*,shop.orders")
@@ -240,8 +243,8 @@ def call_of(proxy: str, asked: argparse.Namespace) -> tuple[Sequence[str], dict[
         call.append(f"--promise={asked.promise}")
     if asked.rollbacks:
         call.append("--rollbacks")
-    if asked.conditions:
-        call.append("--conditions")
+    if not asked.conditions:
+        call.append("--conditions=false")
     if asked.sample is not None:
         call.append(f"--sample={asked.sample:g}")
     if asked.tables is not None:

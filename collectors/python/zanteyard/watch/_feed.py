@@ -9,7 +9,7 @@ from typing import Any
 from ..core._records import AuditId, Source
 from ._described import ROLLED_BACK, Described, Statement
 from ._state import OtherProxy, Others, Seen, Shape
-from ._totals import Total, Totals
+from ._totals import Conditions, Total, Totals
 from ._violations import Answered, Row
 
 Event = dict[str, Any]
@@ -84,6 +84,7 @@ def seen_of(event: Mapping[str, Any]) -> Seen:
     fences = whole(event.get("fences"))
     return Seen(
         totals=totals_of(table(event.get("totals"))),
+        conditions=conditions_of(table(event.get("conditions"))),
         committed=whole(event.get("committed")),
         offered=whole(event.get("offered")) - fences,
         fences=fences,
@@ -102,6 +103,18 @@ def seen_of(event: Mapping[str, Any]) -> Seen:
         keys=whole(event.get("keys")),
         statements_dropped=whole(event.get("statements_dropped")),
         others=_others(event.get("remote")),
+    )
+
+
+def conditions_of(its: Mapping[str, Any]) -> Conditions:
+    """The conditions in an event."""
+    return Conditions(
+        whole(its.get("seen")),
+        whole(its.get("followed")),
+        whole(its.get("passed_over")),
+        reasons(its.get("left_out")),
+        reasons(its.get("rows_left_out")),
+        whole(its.get("dropped")),
     )
 
 

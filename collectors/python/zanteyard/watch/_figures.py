@@ -8,7 +8,7 @@ from ..core._version import VERSION
 from ..promises._kinds import ALL
 from ._board import Board
 from ._state import Status
-from ._totals import Totals
+from ._totals import Conditions, Totals
 from ._web import TEXT as PLAIN
 from ._web import Answer
 
@@ -45,6 +45,7 @@ def families(status: Status) -> Iterator[Family]:
     ):
         yield one(name, "counter", about, getattr(seen, field) + getattr(earlier, field))
     yield from _totals(status.whole_seen.totals)
+    yield from _conditions(status.whole_seen.conditions)
     unseen = seen.unseen_count + earlier.unseen_count
     yield one("statements_unseen_total", "counter", "Statements only partly seen.", unseen)
     yield one(
@@ -102,6 +103,23 @@ def families(status: Status) -> Iterator[Family]:
     yield one(
         "program_restarts_total", "counter", "Auditor programs that were replaced.", status.restarts
     )
+
+
+def _conditions(its: Conditions) -> Iterator[Family]:
+    for name, count, about in (
+        ("seen", its.seen, "Conditions of SELECTs."),
+        ("followed", its.followed, "Conditions of which what they passed over was checked."),
+        ("dropped", its.dropped, "Conditions that were forgotten to make room."),
+    ):
+        yield f"zanteyard_conditions_{name}_total", "counter", about, [((), count)]
+    about = "Rows that conditions passed over, and that were checked."
+    yield "zanteyard_rows_passed_over_total", "counter", about, [((), its.passed_over)]
+    for name, reasons, about in (
+        ("conditions", its.left_out, "Conditions that weren't followed."),
+        ("rows_passed_over", its.rows_left_out, "Rows that weren't checked."),
+    ):
+        samples = [((("reason", it),), float(n)) for it, n in sorted(reasons.items())]
+        yield f"zanteyard_{name}_left_out_total", "counter", about, samples
 
 
 def _totals(totals: Totals) -> Iterator[Family]:

@@ -100,6 +100,7 @@ def groups_json(groups: Sequence[Group]) -> list[dict[str, Any]]:
 def _seen(seen: Seen) -> dict[str, Any]:
     return {
         **seen.totals.values(),
+        "conditions": seen.conditions.values(),
         "statements": [
             {
                 "shape": each.shape,

@@ -10,7 +10,7 @@ from ..explain._standing import Standing
 from ..promises._kinds import ALL, SERIALIZABLE, Promise
 from ._groups import Group
 from ._text import counted
-from ._totals import Totals
+from ._totals import Conditions, Totals
 from ._violations import Violation
 
 MOST_SHAPES = 200  # shown on a page
@@ -60,6 +60,7 @@ class Seen:
     """
 
     totals: Totals = field(default_factory=Totals)
+    conditions: Conditions = field(default_factory=Conditions)
     committed: int = 0  # in the server's log
     offered: int = 0
     fences: int = 0
@@ -94,7 +95,8 @@ class Seen:
         """Sentences about what the shares don't say: what SELECTs asked for, and what the versions
         of checked rows were."""
         its = self.totals
-        if its.by_condition:
+        yield from self.conditions.lines()
+        if its.by_condition and not self.conditions.seen:
             asked = counted(its.by_condition, "SELECT")
             yield (
                 f"{asked} asked by a condition, not by a whole key: rows that it passed over "
@@ -224,10 +226,12 @@ class Status:
 def added(one: Seen, other: Seen) -> Seen:
     """The coverage of two audits as one; counts are added."""
     adds = {name: getattr(one, name) + getattr(other, name) for name in Seen.COUNTED}
-    totals = one.totals.plus(other.totals)
+    totals, conditions = one.totals.plus(other.totals), one.conditions.plus(other.conditions)
     shapes = {(it.shape, it.reason, it.is_reads): it for it in one.shapes}
     for it in other.shapes:
         known = shapes.get((it.shape, it.reason, it.is_reads))
         its = it if known is None else replace(known, count=known.count + it.count)
         shapes[(it.shape, it.reason, it.is_reads)] = its
-    return replace(other, **adds, totals=totals, shapes=tuple(shapes.values()))
+    return replace(
+        other, **adds, totals=totals, conditions=conditions, shapes=tuple(shapes.values())
+    )

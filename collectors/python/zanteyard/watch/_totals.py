@@ -4,6 +4,8 @@ from collections.abc import Iterator, Mapping
 from dataclasses import dataclass, field
 from typing import Any
 
+from ._text import counted
+
 WAITS = "the audit ended before its next round"  # why what still waits at the end wasn't checked
 
 
@@ -53,6 +55,50 @@ class Total:
             "waiting": self.waiting,
             "rolled_back": self.rolled_back,
         }
+
+
+@dataclass(frozen=True)
+class Conditions:
+    """What SELECTs asked for by conditions, in reported transactions. Of a followed one, the rows
+    that it passed over are checked, too, but for those that are left out."""
+
+    seen: int = 0
+    followed: int = 0
+    passed_over: int = 0  # rows
+    left_out: Mapping[str, int] = field(default_factory=dict)  # conditions, by reason
+    rows_left_out: Mapping[str, int] = field(default_factory=dict)
+    dropped: int = 0  # forgotten to make room
+
+    def plus(self, other: "Conditions") -> "Conditions":
+        return Conditions(
+            self.seen + other.seen,
+            self.followed + other.followed,
+            self.passed_over + other.passed_over,
+            both(self.left_out, other.left_out),
+            both(self.rows_left_out, other.rows_left_out),
+            self.dropped + other.dropped,
+        )
+
+    def values(self) -> dict[str, Any]:
+        """As JSON has them."""
+        return {**vars(self)}
+
+    def lines(self) -> Iterator[str]:
+        """Sentences about them."""
+        if not self.seen:
+            return
+        yield (
+            f"{counted(self.seen, 'condition')} of SELECTs, {self.followed:,} of them followed: "
+            f"{counted(self.passed_over, 'row')} that they passed over were checked, too"
+        )
+        for its, what in (
+            (self.left_out, "conditions weren't followed"),
+            (self.rows_left_out, "rows that conditions may have passed over weren't checked"),
+        ):
+            told = sorted(its.items(), key=lambda one: -one[1])
+            if told:
+                why = "; ".join(f"{reason} {count:,}" for reason, count in told)
+                yield f"{sum(its.values()):,} {what}: {why}"
 
 
 @dataclass(frozen=True)

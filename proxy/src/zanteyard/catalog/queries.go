@@ -99,8 +99,11 @@ WHERE n.nspname <> 'pg_catalog'
 // are called, their types and collations, when each was last changed, and whether there is row security. Where a column's
 // type is a domain or an enumeration, all enumerations' labels are in it. It is the same text on connections of all
 // encodings.
-const ColumnsSQL = `(SELECT pg_catalog.encode(pg_catalog.sha256(pg_catalog.convert_to(pg_catalog.concat_ws(' ', c.relrowsecurity, pg_catalog.string_agg(
-    pg_catalog.concat_ws(' ', ca.attnum, ca.attname, ca.atttypid, ca.atttypmod, ca.attcollation, ca.xmin,
+const ColumnsSQL = `(SELECT pg_catalog.encode(pg_catalog.sha256(pg_catalog.convert_to(pg_catalog.concat_ws(' ', c.relrowsecurity,
+    (WITH RECURSIVE parts AS (SELECT h.inhrelid, h.xmin FROM pg_catalog.pg_inherits h WHERE h.inhparent OPERATOR(pg_catalog.=) c.oid
+        UNION ALL SELECT h.inhrelid, h.xmin FROM parts JOIN pg_catalog.pg_inherits h ON h.inhparent OPERATOR(pg_catalog.=) parts.inhrelid)
+      SELECT pg_catalog.string_agg(pg_catalog.concat_ws(' ', parts.inhrelid, parts.xmin), ',' ORDER BY parts.inhrelid) FROM parts),
+    pg_catalog.string_agg(pg_catalog.concat_ws(' ', ca.attnum, ca.attname, ca.atttypid, ca.atttypmod, ca.attcollation, ca.xmin,
     CASE WHEN (SELECT y.typtype FROM pg_catalog.pg_type y WHERE y.oid OPERATOR(pg_catalog.=) ca.atttypid) IN ('d', 'e')
       THEN (SELECT pg_catalog.string_agg(pg_catalog.concat_ws(' ', e.enumtypid, e.oid, e.enumlabel, e.enumsortorder, e.xmin), ','
         ORDER BY e.oid) FROM pg_catalog.pg_enum e) END),

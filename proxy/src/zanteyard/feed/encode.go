@@ -91,7 +91,7 @@ func coverage(it join.Coverage) map[string]any {
 		"reads": map[string]any{"seen": it.Reads, "offered": it.ReadsOffered, "own": it.ReadsOwn, "before": it.ReadsBefore,
 			"folded": it.ReadsFolded, "left_out": it.ReadsLeft},
 		"conditions": map[string]any{"seen": it.Asks, "followed": it.AsksFollowed, "passed_over": it.Passed,
-			"left_out": it.AsksLeft, "dropped": it.AsksDropped},
+			"left_out": it.AsksLeft, "rows_left_out": it.PassedLeft, "dropped": it.AsksDropped},
 		"writes": map[string]any{"seen": it.Writes, "offered": it.WritesOffered, "left_out": it.WritesLeft},
 		"unseen": unseen,
 		"connections": map[string]any{

@@ -301,7 +301,7 @@ func (c *core) change(q *question, it fresh) {
 	}
 	at := q.register(it.row)
 	if at == nil {
-		c.counts.leaveAsk(tooManyRegisters)
+		c.counts.leftPassed[tooManyRegisters]++
 		return
 	}
 	v := &version{writer: w, before: at.last, base: initial, left: true, unsure: true}

@@ -145,3 +145,33 @@ func TestAsksThatArentFollowed(t *testing.T) {
 		t.Errorf("%d offered: %v", n.offered, b.lines)
 	}
 }
+
+// TestFoundNoRowByACondition: a SELECT that found no row is checked if what it passed over is followed, and else isn't.
+func TestFoundNoRowByACondition(t *testing.T) {
+	its := &fakeCondition{kind: "x", c: 1}
+	for _, x := range []struct {
+		name    string
+		ask     record.Ask
+		level   record.Level
+		checked uint64
+	}{
+		{"followed", record.Ask{Condition: its}, record.ReadCommitted, 1},
+		{"undone", record.Ask{Why: "undone"}, record.ReadCommitted, 0},
+		{"of a table that has changed", record.Ask{Condition: its, Columns: 1}, record.ReadCommitted, 0},
+	} {
+		t.Run(x.name, func(t *testing.T) {
+			b := newBench(t, Options{Sessions: 2})
+			b.connect(1)
+			one := record.Transaction{Asks: []record.Ask{x.ask}, Reads: []record.Read{{Relation: 1, Key: "a", Version: 3}}}
+			one.Did.Selects = []record.Select{{From: 0, To: 1}, {From: 1, To: 1, Ask: 1}}
+			one.Touched = true
+			b.tell(1, 0, one)
+			b.settle()
+			n := &b.core.counts.fresh
+			if n.Selects.Checked != 1+x.checked || n.Selects.NotChecked[record.FoundNoRow] != 1-x.checked ||
+				n.Transactions.Checked != x.checked || n.Transactions.InPart[someEmpty] != 1-x.checked {
+				t.Errorf("%+v, %+v", n.Selects, n.Transactions)
+			}
+		})
+	}
+}

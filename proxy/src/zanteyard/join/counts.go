@@ -1,5 +1,7 @@
 package join
 
+import "zanteyard/record"
+
 // counts is what coverage reports, from the beginning of the audit.
 type counts struct {
 	committed, offered, fences, aborted, ever, rounds, dropped, lost, unread uint64
@@ -14,11 +16,13 @@ type counts struct {
 	totals, fresh              Totals
 	asks, asksFollowed, passed uint64 // conditions, and rows they passed over
 	leftAsks                   map[string]uint64
+	leftPassed                 map[string]uint64 // rows that followed conditions may have passed over
 }
 
 func newCounts() counts {
 	return counts{folded: map[string]uint64{}, partly: map[string]uint64{}, leftReads: map[string]uint64{},
-		leftWrites: map[string]uint64{}, leftAsks: map[string]uint64{}}
+		leftWrites: map[string]uint64{}, leftAsks: map[string]uint64{},
+		leftPassed: map[string]uint64{}}
 }
 
 func (c *counts) fold(reason string) { c.folded[reason]++ }
@@ -30,6 +34,15 @@ func (c *counts) leaveReads(reason string, n uint64) {
 }
 
 func (c *counts) leaveAsk(reason string) { c.leftAsks[reason]++ }
+
+// leaveAsks counts the conditions of a transaction that is left out.
+func (c *counts) leaveAsks(it *record.Transaction, reason string) {
+	for i := range it.Asks {
+		if it.Asks[i].Why == "" {
+			c.leaveAsk(reason)
+		}
+	}
+}
 
 func (c *counts) leaveWrites(reason string, n uint64) {
 	if n > 0 {
@@ -86,6 +99,9 @@ func (c *counts) put(e *entry, to *resolution) {
 	}
 	c.asksFollowed += to.asks
 	c.passed += to.passed
+	for reason, n := range to.leftPassed {
+		c.leftPassed[reason] += n
+	}
 	for reason, n := range to.leftAsks {
 		c.leftAsks[reason] += n
 	}

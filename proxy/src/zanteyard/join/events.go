@@ -63,9 +63,10 @@ type Coverage struct {
 	ReadsLeft                                 map[string]uint64
 	Writes, WritesOffered                     uint64
 	WritesLeft                                map[string]uint64
-	Asks, AsksFollowed, Passed                uint64 // conditions that were asked by, and rows that they passed over
-	AsksLeft                                  map[string]uint64
-	AsksDropped                               uint64 // conditions that were forgotten to make room
+	Asks, AsksFollowed, Passed                uint64            // conditions that were asked by, and rows that they passed over
+	AsksLeft                                  map[string]uint64 // conditions that aren't followed
+	PassedLeft                                map[string]uint64 // rows that followed ones may have passed over
+	AsksDropped                               uint64            // conditions that were forgotten to make room
 	Unseen                                    []Unseen
 	Connections, Audited, Waiting             int
 	ConnectionsEver                           uint64
@@ -155,6 +156,7 @@ func (j *Joiner) coverageEvent(isLast bool) Coverage {
 		ReadsLeft:   copyOf(n.leftReads),
 		Writes:      n.writes, WritesOffered: n.writesOffered, WritesLeft: copyOf(n.leftWrites),
 		Asks: n.asks, AsksFollowed: n.asksFollowed, Passed: n.passed, AsksLeft: copyOf(n.leftAsks),
+		PassedLeft:  copyOf(n.leftPassed),
 		AsksDropped: c.questions.dropped,
 		Unseen:      unseen, Connections: len(c.connections), ConnectionsEver: n.ever,
 		Lag: c.lag(), Rows: len(c.rows.by), Rounds: n.rounds, StatementsDropped: n.dropped, Lost: n.lost, SubsLost: n.unread,

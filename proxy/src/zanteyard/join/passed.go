@@ -159,13 +159,13 @@ func (c *core) resolveAsks(e *entry, to *resolution) bool {
 		case e.its.Asks[i].Why != "": // it was counted
 			continue
 		case q == nil:
-			to.leaveAsk(askUnknown)
+			to.loseAsk(i, askUnknown)
 			continue
 		case q.gone || !c.sameTable(&e.its.Asks[i]):
-			to.leaveAsk(askChanged)
+			to.loseAsk(i, askChanged)
 			continue
 		case e.its.Asks[i].Wrote && (e.late != "" || e.its.Number == 0 && e.its.MayHaveWritten):
-			to.leaveAsk(askOwnUnknown)
+			to.loseAsk(i, askOwnUnknown)
 			continue
 		}
 		it := c.openAsk(e, i)
@@ -196,7 +196,7 @@ func (c *core) resolveRegister(e *entry, it *asking, at *row, to *resolution, nu
 	}
 	its, reason := c.maySee(e, it, on)
 	if reason != "" {
-		to.leaveAsk(reason)
+		to.leavePassed(reason)
 		return true
 	}
 	var from name
@@ -206,7 +206,7 @@ func (c *core) resolveRegister(e *entry, it *asking, at *row, to *resolution, nu
 		case how == undecidedYet:
 			return false
 		case how == isForgotten, i > 0 && named != from:
-			to.leaveAsk(askAmbiguous)
+			to.leavePassed(askAmbiguous)
 			return true
 		}
 		from = named

@@ -73,10 +73,10 @@ func TestPassingOverMakesUpNothing(t *testing.T) {
 		}
 		offered := s.model.explained()
 		passed, followed = passed+s.core.counts.passed, followed+s.core.counts.asksFollowed
-		if s.core.counts.leftAsks[askContradicts] > 0 {
+		if s.core.counts.leftPassed[askContradicts] > 0 {
 			t.Fatalf("history %d: what may have been seen lacks what was:\n%s\n%v", n, s, s.lines)
 		}
-		for reason, n := range s.core.counts.leftAsks {
+		for reason, n := range s.core.counts.leftPassed {
 			left[reason] += n
 		}
 		switch {

@@ -48,13 +48,23 @@ type resolution struct {
 	asks, passed uint64
 	marked       int
 	leftAsks     map[string]uint64
+	leftPassed   map[string]uint64 // and rows
+	lostAsks     []int32           // the places of those that aren't followed, counted from 1
 }
 
-func (r *resolution) leaveAsk(reason string) {
+func (r *resolution) leavePassed(reason string) {
+	if r.leftPassed == nil {
+		r.leftPassed = map[string]uint64{}
+	}
+	r.leftPassed[reason]++
+}
+
+func (r *resolution) loseAsk(i int, reason string) {
 	if r.leftAsks == nil {
 		r.leftAsks = map[string]uint64{}
 	}
 	r.leftAsks[reason]++
+	r.lostAsks = append(r.lostAsks, int32(i)+1)
 }
 
 // lost is a read that is left out: its place as in a source.
@@ -396,7 +406,7 @@ func (c *core) settle(e *entry, to *resolution) {
 			switch {
 			case one.at >= askAt:
 				to.passed--
-				to.leaveAsk(tooMany)
+				to.leavePassed(tooMany)
 			case one.at != last || one.at == 0: // an absent row has two, one after the other
 				to.leave(int(one.at), tooMany)
 			}

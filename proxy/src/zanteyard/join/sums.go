@@ -242,6 +242,24 @@ func (e *entry) whyPartly(to *resolution) string {
 	case len(e.its.Did.Left) > 0:
 		return someEmpty
 	}
+	for _, one := range e.its.Did.Selects {
+		if one.Ask > 0 && e.whyNotAsked(one.Ask, to) != "" {
+			return someEmpty
+		}
+	}
+	return ""
+}
+
+// whyNotAsked returns why a SELECT that found no row isn't checked, "" if what it passed over is followed.
+func (e *entry) whyNotAsked(ask int32, to *resolution) string {
+	if int(ask) > len(e.its.Asks) || e.its.Asks[ask-1].Why != "" {
+		return record.FoundNoRow
+	}
+	for _, one := range to.lostAsks {
+		if one == ask {
+			return record.FoundNoRow
+		}
+	}
 	return ""
 }
 

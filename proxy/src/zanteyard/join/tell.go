@@ -35,6 +35,7 @@ func (c *core) tell(it record.Transaction) {
 	switch {
 	case it.Outcome == record.Aborted:
 		c.counts.aborted++
+		c.counts.leaveAsks(&it, itAborted)
 		c.counts.leaveReads(itAborted, readsOf(&it)+uint64(it.Beyond))
 	case conn == nil:
 		c.leave(it, noConnection)
@@ -97,6 +98,7 @@ func (c *core) leave(it record.Transaction, reason string) {
 func (c *core) leaveRest(it *record.Transaction, reason string) {
 	own := ownReads(it)
 	c.counts.fold(reason)
+	c.counts.leaveAsks(it, reason)
 	c.counts.totals.leave(it, reason)
 	c.counts.own += own
 	c.counts.leaveReads(reason, readsOf(it)+uint64(it.Beyond)-own)

@@ -134,7 +134,7 @@ func (t *Totals) take(e *entry, to *resolution, why string) {
 		t.Transactions.part(why, 1)
 	}
 	t.takeRows(e, to)
-	t.takeSelects(d, to)
+	t.takeSelects(e, to)
 	switch {
 	case e.its.Number == 0 && e.its.MayHaveWritten, e.late != "":
 		t.Writes.leave(why, d.Writes)
@@ -173,18 +173,18 @@ func (t *Totals) takeRows(e *entry, to *resolution) {
 }
 
 // takeSelects counts those of which all was seen: if some of a SELECT's reads are left out, it is checked in part.
-func (t *Totals) takeSelects(d *record.Did, to *resolution) {
+func (t *Totals) takeSelects(e *entry, to *resolution) {
+	d := &e.its.Did
 	t.Selects.Checked += d.Again
-	if len(to.lost) == 0 {
-		t.Selects.Checked += uint64(len(d.Selects))
-		return
-	}
 	why := map[int32]string{}
 	for _, one := range to.lost {
 		why[one.at] = one.reason
 	}
 	for _, one := range d.Selects {
 		lost, reason := 0, why[-one.Absent]
+		if one.Ask > 0 {
+			reason = e.whyNotAsked(one.Ask, to)
+		}
 		for at := one.From + 1; at <= one.To; at++ {
 			if its, is := why[at]; is {
 				lost, reason = lost+1, its

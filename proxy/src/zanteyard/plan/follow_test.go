@@ -124,4 +124,16 @@ func TestColumnsIdentity(t *testing.T) {
 		}
 		before = after
 	}
+	run(t, connection, `DROP TABLE r; CREATE TABLE r (id int, a int, PRIMARY KEY (id, a)) PARTITION BY LIST (a);
+		CREATE TABLE r1 PARTITION OF r FOR VALUES IN (1) PARTITION BY LIST (id); CREATE TABLE r2 PARTITION OF r FOR VALUES IN (2)`)
+	before = now()
+	for _, text := range []string{"CREATE TABLE r11 PARTITION OF r1 FOR VALUES IN (1)", "ALTER TABLE r DETACH PARTITION r2",
+		"ALTER TABLE r ATTACH PARTITION r2 FOR VALUES IN (2)", "ALTER TABLE r1 DETACH PARTITION r11", "DROP TABLE r2"} {
+		run(t, connection, text)
+		after := now()
+		if after == before {
+			t.Errorf("%s: the same rows", text)
+		}
+		before = after
+	}
 }

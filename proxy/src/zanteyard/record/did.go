@@ -21,14 +21,16 @@ type Did struct {
 	Written uint64
 }
 
-// FoundNoRow is why a SELECT isn't checked that returned no row, nor a write that changed none.
+// FoundNoRow is why a SELECT isn't checked that returned no row, unless it is known what it passed over, nor a write
+// that changed none.
 const FoundNoRow = "it found no row"
 
-// Select is one SELECT: the reads that it made, from From to before To, or the absent one that it asked for, counted
-// from 1.
+// Select is one SELECT: the reads that it made, from From to before To, or, if it returned no row, the absent one or the
+// condition that it asked for, counted from 1.
 type Select struct {
 	From, To int32
 	Absent   int32
+	Ask      int32
 }
 
 // Left counts statements of which something wasn't seen, for one reason. InPart means that the rest was seen.

@@ -33,6 +33,7 @@ type asking struct {
 	found []record.Key
 	why   string // why it isn't followed
 	done  bool
+	place int32 // among the transaction's, counted from 1, once it is done
 }
 
 // asksBy returns what a statement that is sent rewritten asks for, nil if no condition is followed.
@@ -98,6 +99,7 @@ func (s *Session) askedBy(p *plan.Plan, e *expectation, noted *record.Statement)
 	wrote := t.Number != 0 || t.wrote || t.MayHaveWritten || len(t.Versions) > 0
 	t.Asks = append(t.Asks, record.Ask{Condition: a.By, Identity: a.Identity, Columns: a.Columns, Found: a.found, From: a.from,
 		Wrote: wrote})
+	a.place = int32(len(t.Asks))
 	if noted != nil {
 		noted.Ask = len(t.Asks)
 	}

@@ -115,6 +115,9 @@ func (s *Session) sumSelect(p *plan.Plan, e *expectation, reason string, n uint6
 	case reason != "":
 		d.Leave(reason, false, one, 0, n)
 	case n == 0 && !isCursor && isFirst && p.Asked && e.hidden > 0: // absent counts it
+	case n == 0 && !isCursor && isFirst && e.asking != nil && e.asking.done:
+		at := int32(len(s.tx.Reads))
+		d.Selects = append(d.Selects, record.Select{From: at, To: at, Ask: e.asking.place})
 	case n == 0 && !isCursor:
 		if isFirst {
 			d.Leave(foundNoRow, false, 1, 0, 0)

@@ -427,8 +427,8 @@ func (s *Session) leftOut(p *plan.Plan, e *expectation, noted *record.Statement,
 	if e.use != nil {
 		s.trust.ran(e.use, e.changed)
 	}
-	s.sums(p, e, tag, reason)
 	s.askedBy(rows(p), e, noted)
+	s.sums(p, e, tag, reason)
 	if e.hidden > 0 && p.Asked && e.rows == 0 {
 		s.absent(p, e, noted)
 	}

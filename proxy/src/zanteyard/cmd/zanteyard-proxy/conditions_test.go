@@ -112,9 +112,9 @@ func TestWriteSkewOverACondition(t *testing.T) {
 	} {
 		t.Run(fmt.Sprint(x.level, " ", x.followed), func(t *testing.T) {
 			sql(t, direct, "DELETE FROM doctor; INSERT INTO doctor VALUES (1, true), (2, true)")
-			more := []string{"--conditions"}
+			var more []string
 			if !x.followed {
-				more = nil
+				more = append(more, "--conditions=false")
 			}
 			p := begin(t, c, more...)
 			p.until(`["open"`)

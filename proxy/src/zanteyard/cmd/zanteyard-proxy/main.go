@@ -99,6 +99,7 @@ func parse(args []string, errors io.Writer) (flags, error) {
 	})
 	set.BoolVar(&f.join.Rollbacks, "rollbacks", false, "below serializable, audit transactions that only read and were rolled back "+
 		"without a failed statement as if they had been committed")
+	set.BoolVar(&f.conditions, "conditions", true, "audit what SELECTs by a condition passed over, too")
 	set.Float64Var(&f.join.Sample, "sample", 1, "the `part` of the connections that is audited")
 	set.DurationVar(&f.join.Between, "between", 2*time.Second, "the shortest `time` between two meetings")
 	set.Func("tables", "audit only these tables, given as `patterns` such as public.*, shop.orders", func(text string) (err error) {
@@ -122,7 +123,6 @@ func parse(args []string, errors io.Writer) (flags, error) {
 	set.BoolVar(&f.takesOver, "take-over", false, "take the listening socket of the proxy that has the --control socket, if one is "+
 		"there, and let that one drain")
 	set.BoolVar(&f.version, "version", false, "print the version and end")
-	args, f.conditions = without(args, "--conditions")
 	if err := set.Parse(args); err != nil {
 		fmt.Fprint(errors, strings.TrimPrefix(told.String(), err.Error()+"\n"))
 		return f, err
@@ -149,21 +149,6 @@ func parse(args []string, errors io.Writer) (flags, error) {
 		return f, fmt.Errorf("--most-connections and --drain can't be negative")
 	}
 	return f, nil
-}
-
-// without returns the arguments without an option that --help doesn't show, and whether it was given.
-func without(args []string, hidden string) (kept []string, given bool) {
-	for i, one := range args {
-		switch one {
-		case "--":
-			return append(kept, args[i:]...), given
-		case hidden:
-			given = true
-		default:
-			kept = append(kept, one)
-		}
-	}
-	return kept, given
 }
 
 // fromEnvironment fills in what wasn't given as an option. It is no default of the option: --help shows those.

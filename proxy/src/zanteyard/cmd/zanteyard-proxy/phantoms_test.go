@@ -82,6 +82,7 @@ type phantomAsk struct {
 	own           map[int]bool // keys that the transaction had written before
 	before, after snap         // its snapshot is one of those between
 	locks         bool         // FOR UPDATE
+	alone         bool         // it read these rows, and asked for nothing
 }
 
 type phantomTxn struct {
@@ -228,7 +229,7 @@ func (c *phantomClient) write(t *phantomTxn, own map[int]bool) error {
 	if c.r.Intn(8) == 0 {
 		a = "NULL"
 	}
-	undone := c.r.Intn(8) == 0
+	undone, deletes := c.r.Intn(8) == 0, false
 	text := ""
 	switch c.r.Intn(6) {
 	case 0, 1:
@@ -240,6 +241,7 @@ func (c *phantomClient) write(t *phantomTxn, own map[int]bool) error {
 	case 4:
 		text = fmt.Sprintf("UPDATE "+c.table+" SET b = %d, tag = '%s' WHERE a = %d AND id > 0", b, t.tag, c.r.Intn(3))
 	default:
+		deletes = true
 		text = fmt.Sprintf("DELETE FROM %s WHERE id = %d", c.table, key)
 	}
 	if undone {
@@ -247,11 +249,17 @@ func (c *phantomClient) write(t *phantomTxn, own map[int]bool) error {
 			return err
 		}
 	}
-	rows, err := c.ask(text + " RETURNING id")
+	rows, err := c.ask(text + " RETURNING id, tag")
 	if err != nil {
 		return err
 	}
 	if undone {
+		if deletes { // what it removed it has read, though that is undone
+			for _, row := range rows {
+				k, _ := strconv.Atoi(row[0])
+				t.asks = append(t.asks, phantomAsk{found: map[int]string{k: row[1]}, alone: true})
+			}
+		}
 		seen := map[int]bool{}
 		for k := range own {
 			seen[k] = true
@@ -380,6 +388,18 @@ func phantomTruth(txns []*phantomTxn, chains map[int][]phantomVersion) (byRows, 
 		for _, ask := range t.asks {
 			for key, its := range chains {
 				tag, found := ask.found[key]
+				if ask.alone && !found {
+					continue
+				}
+				if !ask.alone { // rows that had, or got, the key besides the one that was found or is its own
+					for _, it := range ask.others(its, t, key) {
+						if it.before {
+							arc(more, by(its[it.at]), n)
+						} else {
+							arc(more, n, by(its[it.at]))
+						}
+					}
+				}
 				if ask.own[key] || tag == t.tag {
 					continue
 				}
@@ -417,6 +437,39 @@ func phantomTruth(txns []*phantomTxn, chains map[int][]phantomVersion) (byRows, 
 		arcs[i] = append(arcs[i], more[i]...)
 	}
 	return byRows, acyclic(arcs), unsure
+}
+
+// otherChange is one of whether a condition holds, of a row that had the key before or after the one that was seen.
+type otherChange struct {
+	at     int
+	before bool
+}
+
+// others are the changes of the rows that had a key before and after the one that a SELECT found, and after the one that
+// the transaction itself had written: these it has passed over.
+func (a *phantomAsk) others(its []phantomVersion, t *phantomTxn, key int) (all []otherChange) {
+	at, own := -1, a.own[key] || a.found[key] == t.tag
+	for i, v := range its {
+		if own && t.xid != 0 && v.xid == t.xid || !own && a.found[key] != "" && v.exists && v.tag == a.found[key] {
+			at = i
+		}
+	}
+	held := false
+	for i, v := range its {
+		holds := v.exists && a.by.holds(v.row)
+		if holds == held {
+			continue
+		}
+		held = holds
+		switch {
+		case at < 0 || v.which == its[at].which:
+		case i > at:
+			all = append(all, otherChange{at: i})
+		case !own:
+			all = append(all, otherChange{at: i, before: true})
+		}
+	}
+	return all
 }
 
 // passed returns the version of a key that a SELECT saw although it didn't return it, -1 if none.
@@ -525,7 +578,7 @@ func TestPhantoms(t *testing.T) {
 				if n > phantomRoom {
 					n = phantomRoom
 				}
-				b := &phantomRun{t: t, direct: direct, level: level.name, sums: all, p: begin(t, c, "--conditions", "--between", "10h")}
+				b := &phantomRun{t: t, direct: direct, level: level.name, sums: all, p: begin(t, c, "--between", "10h")}
 				b.all(*historySeed+int64(done), n)
 				b.p.cancel()
 				t.Logf("%+v", *all)
