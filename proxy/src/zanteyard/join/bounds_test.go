@@ -1,9 +1,11 @@
 package join
 
 import (
+	"fmt"
 	"testing"
 	"time"
 
+	"zanteyard/condition"
 	"zanteyard/record"
 )
 
@@ -118,5 +120,35 @@ func TestCutThatNoRoundWaitsFor(t *testing.T) {
 		if j.unanswered != one.left {
 			t.Errorf("of %d rounds %d wait", one.waiting, j.unanswered)
 		}
+	}
+}
+
+// TestRegistersHaveABound: what is kept of conditions is bounded, with the rows that each one passed over.
+func TestRegistersHaveABound(t *testing.T) {
+	row := condition.NewRow(nil)
+	values := map[*condition.Row][2]int{row: {1, 1}}
+	b := newBench(t, Options{Sessions: 2, Conditions: 40 * registerBytes})
+	b.connect(1)
+	for i := 0; i < 4; i++ {
+		its := &fakeCondition{kind: "y", d: -i, values: values}
+		b.tell(1, uint64(i), record.Transaction{Asks: []record.Ask{{Condition: its, From: b.now}}})
+	}
+	q := b.core.questions
+	for n := uint32(0); n < 30; n++ {
+		b.place += 100
+		b.core.commit(record.Commit{Number: 1001 + n, LSN: b.place, Start: b.place - 50, Writes: []record.Write{
+			{Relation: 1, Key: record.Key(fmt.Sprint(n)), Inserted: true, New: row, Bytes: 10}}})
+		if q.bytes > q.most && q.order.Len() > 1 {
+			t.Fatalf("%d bytes of %d conditions", q.bytes, q.order.Len())
+		}
+	}
+	if q.order.Len() == 4 || q.dropped == 0 {
+		t.Errorf("%d conditions are kept, and %d dropped", q.order.Len(), q.dropped)
+	}
+	for q.order.Len() > 0 {
+		q.drop(q.order.Front().Value.(*question))
+	}
+	if q.bytes != 0 {
+		t.Errorf("%d bytes of nothing", q.bytes)
 	}
 }

@@ -31,6 +31,7 @@ type question struct {
 	next  []*row
 	since time.Time // when next was begun
 	asked time.Time // when the last one who asked had ended
+	bytes int       // of its registers, about
 	place *list.Element
 	gone  bool // its table has changed
 }
@@ -155,7 +156,10 @@ func (c *core) sameTable(one *record.Ask) bool {
 	return known && c.tables.Same(relation, one.Identity) && columns.SameColumns(relation, one.Columns)
 }
 
-func (q *question) size() int { return 512 + q.its.Size() }
+// registerBytes is about how much memory a register takes, with the last of its versions.
+const registerBytes = 384
+
+func (q *question) size() int { return 512 + q.its.Size() + q.bytes }
 
 // makeRoom drops the conditions that were asked by longest ago, beyond the limit.
 func (q *conditions) makeRoom() {
@@ -299,7 +303,12 @@ func (c *core) change(q *question, it fresh) {
 	case was != condition.Unknown && (is == condition.Yes) == (was == condition.Yes):
 		return
 	}
+	known := len(q.registers)
 	at := q.register(it.row)
+	if grown := registerBytes * (len(q.registers) - known); grown > 0 {
+		q.bytes += grown
+		c.questions.bytes += grown
+	}
 	if at == nil {
 		c.counts.leftPassed[tooManyRegisters]++
 		return
@@ -374,6 +383,7 @@ func (c *core) changes(its []fresh) {
 		}
 		table.fresh = append(table.fresh, it)
 	}
+	c.questions.makeRoom()
 }
 
 // changeAll makes one version write the registers of all questions of its table that may hold of the row before or
