@@ -68,7 +68,7 @@ def add_arguments(command: argparse.ArgumentParser) -> None:
     )
     command.add_argument(
         "--no-conditions", dest="conditions", action="store_false",
-        help="check the rows that SELECTs return alone, not those that their conditions passed over",
+        help="check only rows that SELECTs return, not those that their conditions passed over",
     )
     add_clients(command)
     add_sharing(command)

@@ -91,14 +91,14 @@ class Conditions:
             f"{counted(self.seen, 'condition')} of SELECTs, {self.followed:,} of them followed: "
             f"{counted(self.passed_over, 'row')} that they passed over were checked, too"
         )
-        for its, what in (
-            (self.left_out, "conditions weren't followed"),
-            (self.rows_left_out, "rows that conditions may have passed over weren't checked"),
+        for its, one, rest in (
+            (self.left_out, "condition", "not followed"),
+            (self.rows_left_out, "row", "that may have been passed over, not checked"),
         ):
             told = sorted(its.items(), key=lambda one: -one[1])
             if told:
                 why = "; ".join(f"{reason} {count:,}" for reason, count in told)
-                yield f"{sum(its.values()):,} {what}: {why}"
+                yield f"{counted(sum(its.values()), one)} {rest}: {why}"
 
 
 @dataclass(frozen=True)

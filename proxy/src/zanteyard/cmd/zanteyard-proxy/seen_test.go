@@ -118,8 +118,8 @@ type described struct {
 	By              []*int `json:"read_by"`
 	Writes          []int
 	Keys            []struct {
-		Key        int
-		Table, Row string
+		Key                   int
+		Table, Row, Condition string
 	}
 }
 
@@ -284,7 +284,9 @@ func (j *judge) compare(its []described) (seen int) {
 			}
 		}
 		for _, key := range it.Writes {
-			j.wrote[version{it.row(key), tags[i]}] = true
+			if row, is := it.row(key); is {
+				j.wrote[version{row, tags[i]}] = true
+			}
 		}
 	}
 	owed := 0
@@ -348,13 +350,14 @@ func (j *judge) owed(tag string) (all map[string]map[int]bool, must map[string]b
 	return all, must
 }
 
-func (it described) row(key int) string {
+// row returns the row that a key stands for, false if it stands for what a condition passed over.
+func (it described) row(key int) (string, bool) {
 	for _, one := range it.Keys {
 		if one.Key == key {
-			return one.Row
+			return one.Row, one.Condition == ""
 		}
 	}
-	return ""
+	return "", true
 }
 
 // got returns the reads that it is offered with, each with the statement that is reported to have made it, or nil if
@@ -366,7 +369,9 @@ func (it described) got() map[string]*int {
 		if len(read) == 3 {
 			from = fmt.Sprint(read[1], ".", read[2])
 		}
-		got[it.row(int(read[0].(float64)))+" from "+from] = it.By[i]
+		if row, is := it.row(int(read[0].(float64))); is {
+			got[row+" from "+from] = it.By[i]
+		}
 	}
 	return got
 }
