@@ -152,3 +152,31 @@ func TestRegistersHaveABound(t *testing.T) {
 		t.Errorf("%d bytes of nothing", q.bytes)
 	}
 }
+
+// TestManyRowsArePassedOver: a transaction is offered with only so many rows that its conditions passed over, and the
+// others are counted.
+func TestManyRowsArePassedOver(t *testing.T) {
+	const rows = mostPassed + 20
+	row := condition.NewRow(nil)
+	its := &fakeCondition{kind: "y", values: map[*condition.Row][2]int{row: {1, 1}}}
+	b := newBench(t, Options{Sessions: 2})
+	b.connect(1, 2)
+	b.tell(1, 0, record.Transaction{Asks: []record.Ask{{Condition: its, From: b.now}}})
+	number := uint32(1000)
+	for place := 0; place < 2*rows; place++ {
+		number++
+		b.place += 100
+		b.core.commit(record.Commit{Number: number, LSN: b.place, Start: b.place - 50, Writes: []record.Write{{Relation: 1,
+			Key: record.Key(fmt.Sprint(place / 2)), Inserted: place%2 == 0, Deleted: place%2 == 1, New: row, Bytes: 10}}})
+		b.core.advance(b.place)
+		b.tell(2, uint64(place), record.Transaction{Number: uint64(number)})
+	}
+	b.settle()
+	before := b.core.counts
+	b.tell(1, 1, record.Transaction{Level: record.ReadCommitted, Asks: []record.Ask{{Condition: its, From: b.now}}})
+	b.settle()
+	passed, left := b.core.counts.passed-before.passed, b.core.counts.leftPassed[tooManyPassed]
+	if passed != mostPassed+ahead || left != rows-mostPassed {
+		t.Errorf("%d rows are offered, and %d left out", passed, left)
+	}
+}

@@ -22,7 +22,11 @@ const (
 	askContradicts   = "a row that each version it may have seen satisfies"
 	askGap           = "a row of which a change may be missing"
 	tooManyRegisters = "more rows than are kept of one condition"
+	tooManyPassed    = "more rows than are kept of one transaction's conditions"
 )
+
+// mostPassed is how many rows that one transaction's conditions passed over are looked at for one more condition.
+const mostPassed = 128
 
 // sight is one state of a key that a statement may have seen: everything of it up to this place in the log, and nothing
 // after that.
@@ -169,8 +173,12 @@ func (c *core) resolveAsks(e *entry, to *resolution) bool {
 			continue
 		}
 		it := c.openAsk(e, i)
-		for _, at := range q.registers {
-			if !c.resolveRegister(e, &it, at, to, askAt+int32(i)) {
+		for n := len(q.registers) - 1; n >= 0; n-- { // the last ones may matter most
+			if to.passed >= mostPassed {
+				to.leftAlone(uint64(n) + 1)
+				break
+			}
+			if !c.resolveRegister(e, &it, q.registers[n], to, askAt+int32(i)) {
 				return false
 			}
 		}

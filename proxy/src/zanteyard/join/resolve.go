@@ -59,6 +59,14 @@ func (r *resolution) leavePassed(reason string) {
 	r.leftPassed[reason]++
 }
 
+// leftAlone counts registers that aren't looked at.
+func (r *resolution) leftAlone(n uint64) {
+	if r.leftPassed == nil {
+		r.leftPassed = map[string]uint64{}
+	}
+	r.leftPassed[tooManyPassed] += n
+}
+
 func (r *resolution) loseAsk(i int, reason string) {
 	if r.leftAsks == nil {
 		r.leftAsks = map[string]uint64{}
@@ -386,11 +394,14 @@ func (e *entry) rowsOf(at int32) uint64 {
 }
 
 // class says which reads are kept if there are too many: first those of rows that the transaction itself writes, since
-// they say where the writes stand, and then those of rows that somebody has written since the audit began.
+// they say where the writes stand, and then those of rows that somebody has written since the audit began. What was
+// passed over comes last.
 func (s source) class() int {
 	switch {
 	case s.at == 0:
 		return 0
+	case s.at >= askAt:
+		return 3
 	case s.at < 0, s.row.last != nil, s.row.earlier != nil:
 		return 1
 	}

@@ -204,22 +204,28 @@ const (
 var placeSQL = own.SQL(placeBegin + stampOfOne + placeEnd)
 
 // The same for an audit that wants rows' values: a stamp then changes with each column.
-const valuesStampOfOne = "pg_catalog.concat_ws(' ', c.oid, n.nspname, c.relname, c.relispartition, c.relreplident, i.indisreplident, " + catalog.IdentitySQL + ", " +
-	catalog.ColumnsSQL + ")"
+const valuesStampOfOne = valuesStamp + catalog.ColumnsSQL + ")"
+
+const valuesStamp = "pg_catalog.concat_ws(' ', c.oid, n.nspname, c.relname, c.relispartition, c.relreplident, i.indisreplident, " + catalog.IdentitySQL + ", "
 
 var valuesPlaceSQL = own.SQL(placeBegin + valuesStampOfOne + placeEnd)
 
-// columnsSQL returns the columns of tables, other than partitions, whose rows' values may be wanted.
-var columnsSQL = own.SQL(`SELECT c.oid, ` + catalog.ColumnsSQL + `, ` + valuesStampOfOne + `, a.attname, a.attnum,
+// columnsSQL returns the columns of tables, other than partitions, whose rows' values may be wanted. What a table's
+// columns mean takes long to tell, so it is told once for each table.
+var columnsSQL = own.SQL(`WITH meaning AS (SELECT c.oid, ` + catalog.ColumnsSQL + ` AS its FROM pg_catalog.pg_class c
+  JOIN pg_catalog.pg_namespace n ON n.oid = c.relnamespace
+  WHERE c.relkind IN ('r', 'p') AND c.relpersistence = 'p' AND n.nspname NOT IN ('pg_catalog', 'information_schema') OFFSET 0),
+stamped AS (SELECT c.oid, meaning.its, ` + valuesStamp + `meaning.its) AS stamp
+  FROM meaning JOIN pg_catalog.pg_class c ON c.oid = meaning.oid JOIN pg_catalog.pg_namespace n ON n.oid = c.relnamespace
+  LEFT JOIN pg_catalog.pg_index i ON i.indrelid = c.oid AND i.indisprimary OFFSET 0)
+SELECT c.oid, c.its, c.stamp, a.attname, a.attnum,
   CASE WHEN t.typtype = 'e' THEN 3500 WHEN t.typname = 'citext' THEN 25 ELSE t.oid END
-FROM pg_catalog.pg_class c JOIN pg_catalog.pg_namespace n ON n.oid = c.relnamespace
-LEFT JOIN pg_catalog.pg_index i ON i.indrelid = c.oid AND i.indisprimary
+FROM stamped c
 JOIN pg_catalog.pg_attribute a ON a.attrelid = c.oid AND a.attnum > 0 AND NOT a.attisdropped
 LEFT JOIN LATERAL (WITH RECURSIVE base AS (SELECT y.oid, y.typtype, y.typbasetype, y.typname FROM pg_catalog.pg_type y
     WHERE y.oid = a.atttypid UNION ALL SELECT y.oid, y.typtype, y.typbasetype, y.typname FROM base
     JOIN pg_catalog.pg_type y ON y.oid = base.typbasetype WHERE base.typtype = 'd')
   SELECT * FROM base WHERE base.typtype <> 'd') t ON true
-WHERE c.relkind IN ('r', 'p') AND c.relpersistence = 'p' AND n.nspname NOT IN ('pg_catalog', 'information_schema')
 ORDER BY c.oid, a.attnum`)
 
 // Sees reports whether the server has an advisory lock with this number in the slot's database: whoever holds it is
