@@ -55,10 +55,10 @@ class Words(unittest.TestCase):
             [it for it in call if it.startswith(("--promise", "--rollbacks", "--sample", "--conditions"))]
         )
 
-    def test_conditions_are_followed_unless_that_is_switched_off(self):
-        for more in ([], ["--no-conditions"]):
+    def test_conditions_are_followed_if_that_is_asked_for(self):
+        for more in ([], ["--conditions"]):
             asked = parser().parse_args(["watch", "postgresql://a/b", *more])
-            self.assertEqual("--conditions=false" in call_of("proxy", asked)[0], bool(more))
+            self.assertEqual("--conditions" in call_of("proxy", asked)[0], bool(more))
 
     def test_a_list_of_processes_shows_no_password(self):
         for url in (

@@ -67,8 +67,8 @@ def add_arguments(command: argparse.ArgumentParser) -> None:
         "rolled back though no statement had failed",
     )
     command.add_argument(
-        "--no-conditions", dest="conditions", action="store_false",
-        help="check only rows that SELECTs return, not those that their conditions passed over",
+        "--conditions", action="store_true",
+        help="also check what SELECTs by a condition passed over (phantoms; docs/SQL.md)",
     )
     add_clients(command)
     add_sharing(command)
@@ -243,8 +243,8 @@ def call_of(proxy: str, asked: argparse.Namespace) -> tuple[Sequence[str], dict[
         call.append(f"--promise={asked.promise}")
     if asked.rollbacks:
         call.append("--rollbacks")
-    if not asked.conditions:
-        call.append("--conditions=false")
+    if asked.conditions:
+        call.append("--conditions")
     if asked.sample is not None:
         call.append(f"--sample={asked.sample:g}")
     if asked.tables is not None:

@@ -47,7 +47,7 @@ def add_arguments(command: argparse.ArgumentParser) -> None:
         help="don't send the constants, parameters and comments of statements",
     )
     # The audit determines these.
-    command.set_defaults(sample=None, promise=SERIALIZABLE.name, rollbacks=False, conditions=True)
+    command.set_defaults(sample=None, promise=SERIALIZABLE.name, rollbacks=False, conditions=False)
 
 
 def run(asked: argparse.Namespace) -> int:

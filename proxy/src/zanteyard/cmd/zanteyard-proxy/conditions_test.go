@@ -113,8 +113,8 @@ func TestWriteSkewOverACondition(t *testing.T) {
 		t.Run(fmt.Sprint(x.level, " ", x.followed), func(t *testing.T) {
 			sql(t, direct, "DELETE FROM doctor; INSERT INTO doctor VALUES (1, true), (2, true)")
 			var more []string
-			if !x.followed {
-				more = append(more, "--conditions=false")
+			if x.followed {
+				more = append(more, "--conditions")
 			}
 			p := begin(t, c, more...)
 			p.until(`["open"`)

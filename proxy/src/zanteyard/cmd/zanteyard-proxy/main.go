@@ -99,7 +99,7 @@ func parse(args []string, errors io.Writer) (flags, error) {
 	})
 	set.BoolVar(&f.join.Rollbacks, "rollbacks", false, "below serializable, audit transactions that only read and were rolled back "+
 		"without a failed statement as if they had been committed")
-	set.BoolVar(&f.conditions, "conditions", true, "audit what SELECTs by a condition passed over, too")
+	set.BoolVar(&f.conditions, "conditions", false, "audit what SELECTs by a condition passed over, too")
 	set.Float64Var(&f.join.Sample, "sample", 1, "the `part` of the connections that is audited")
 	set.DurationVar(&f.join.Between, "between", 2*time.Second, "the shortest `time` between two meetings")
 	set.Func("tables", "audit only these tables, given as `patterns` such as public.*, shop.orders", func(text string) (err error) {
