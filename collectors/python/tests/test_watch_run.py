@@ -112,7 +112,7 @@ class Runs(InAFolder):
                 "             1 SELECTs       a subquery: run it as a SELECT of its own",
                 "  not checked",
                 f"             3 transactions  {TOLD_APART}",
-                "             7 SELECTs       an aggregate: select the rows, and add them up",
+                "             7 SELECTs       an aggregate: select the rows, or aggregate fewer",
                 "             3 SELECTs       it found no row: ask by a whole primary key, at "
                 "repeatable read or serializable",
                 f"             3 writes        {TOLD_APART}",

@@ -177,6 +177,7 @@ class Whole(unittest.TestCase):
         def take(connection, item):
             with connection.cursor() as cursor:
                 cursor.execute("SELECT count(*) FROM stock")
+                cursor.execute("SELECT DISTINCT qty FROM stock")
             self.write(connection, item, self.read(connection, item) - 1)
 
         def at_once():
@@ -201,7 +202,7 @@ class Whole(unittest.TestCase):
         told = self.finish()
         self.assertEqual(self.status, 0, told)
         self.assertTrue(told.startswith("serial: "), told)
-        self.assertIn("an aggregate", told)
+        self.assertIn("DISTINCT", told)
 
     def test_what_disturbs_it_makes_nothing_up(self):
         """Clients that are killed at any point, connections that the server ends, statements that a

@@ -6,6 +6,7 @@ import "strings"
 // known before the server has resolved the arguments' types, so each property holds if it holds for any of them.
 type Function struct {
 	Aggregate bool // or, without OVER, it makes one row of many
+	Always    bool // each function of that name is an aggregate
 	Window    bool
 	Set       bool // it returns any number of rows
 	Reads     bool // it may read tables
@@ -34,6 +35,7 @@ func (c *Catalog) Function(schema, name string) Function {
 	case "":
 		return Function{
 			Aggregate: found.own.Aggregate || found.other.Aggregate,
+			Always:    (found.own.Always || !found.isOwn) && (found.other.Always || !found.isOther),
 			Window:    found.own.Window || found.other.Window,
 			Set:       found.own.Set || found.other.Set,
 			Reads:     found.own.Reads || found.other.Reads,
@@ -50,12 +52,13 @@ func (c *Catalog) Function(schema, name string) Function {
 func (c *Catalog) PureOperator(name string) bool { return !c.operators[name] }
 
 func (c *Catalog) takeFunction(row []string) error {
-	if err := width(row, 9); err != nil {
+	if err := width(row, 10); err != nil {
 		return err
 	}
 	c.Levels = c.Levels || row[7] == "true"
 	name, own := row[0], row[1] == "pg_catalog"
-	f := Function{Aggregate: row[2] == "true", Window: row[3] == "true", Set: row[4] == "true"}
+	f := Function{Aggregate: row[2] == "true", Window: row[3] == "true", Set: row[4] == "true",
+		Always: row[9] == "true"}
 	pure := row[5] == "true"
 	if own {
 		f.Reads = readsTables(name)
@@ -75,6 +78,7 @@ func (c *Catalog) takeFunction(row []string) error {
 		return nil
 	}
 	all.other.Aggregate = all.other.Aggregate || f.Aggregate
+	all.other.Always = f.Always && (all.other.Always || !all.isOther)
 	all.other.Window = all.other.Window || f.Window
 	all.other.Set = all.other.Set || f.Set
 	all.other.Reads = all.other.Reads || f.Reads

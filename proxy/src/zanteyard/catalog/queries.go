@@ -76,7 +76,8 @@ var foreignSQL = own.SQL(`SELECT (EXISTS (SELECT FROM pg_catalog.pg_operator o J
     AND d.refclassid IN ('pg_catalog.pg_proc'::pg_catalog.regclass, 'pg_catalog.pg_operator'::pg_catalog.regclass)))::pg_catalog.text`)
 
 // A function of an extension is trusted about itself if it is written in C; in another language it may call anything.
-// The last columns say whether the function may change the meaning of names, and the level of later transactions.
+// The last columns say whether the function may change the meaning of names, and the level of later transactions, and
+// whether it can be nothing but an aggregate.
 var functionsSQL = own.SQL(`SELECT p.proname::pg_catalog.text, n.nspname::pg_catalog.text, pg_catalog.bool_or(p.prokind = 'a')::pg_catalog.text,
   pg_catalog.bool_or(p.prokind = 'w')::pg_catalog.text, pg_catalog.bool_or(p.proretset)::pg_catalog.text,
   pg_catalog.bool_and(p.provolatile = 'i' OR p.provolatile = 's' AND l.lanname IN ('c', 'internal'))::pg_catalog.text,
@@ -84,7 +85,8 @@ var functionsSQL = own.SQL(`SELECT p.proname::pg_catalog.text, n.nspname::pg_cat
     AND p.prosrc ~* 'set_config|search_path|\mrole\M|authorization|\mtemp|\mcreate\M|\malter\M|\mdrop\M|\mexecute\M|\mprepare\M|\mdeallocate\M')::pg_catalog.text,
   pg_catalog.bool_or(l.lanname NOT IN ('c', 'internal')
     AND p.prosrc ~* 'transaction_isolation|characteristics|set_config|\mreset\M|\mexecute\M')::pg_catalog.text,
-  pg_catalog.bool_or(l.lanname NOT IN ('c', 'internal') OR p.prokind = 'a')::pg_catalog.text
+  pg_catalog.bool_or(l.lanname NOT IN ('c', 'internal') OR p.prokind = 'a')::pg_catalog.text,
+  pg_catalog.bool_and(p.prokind = 'a')::pg_catalog.text
 FROM pg_catalog.pg_proc p JOIN pg_catalog.pg_namespace n ON n.oid = p.pronamespace
   JOIN pg_catalog.pg_language l ON l.oid = p.prolang
 GROUP BY p.proname, n.nspname`)

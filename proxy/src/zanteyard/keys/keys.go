@@ -131,6 +131,15 @@ func IsText(typeOID uint32) bool {
 	return false
 }
 
+// IsLong reports whether a type's values may be of any length.
+func IsLong(typeOID uint32) bool {
+	switch typeOID {
+	case Text, Varchar, Bpchar, Bytea, Numeric, Bit, Varbit:
+		return true
+	}
+	return false
+}
+
 // ExpressionType returns the type of Expression's column.
 func ExpressionType(typeOID uint32, converts bool) uint32 {
 	if sent(typeOID) || converts && IsText(typeOID) {

@@ -24,6 +24,11 @@ func hexText(text string) (string, bool) {
 	return hexOf(raw), err == nil
 }
 
+// Raw returns the bytes that a text of type bytea stands for.
+func Raw(value []byte) ([]byte, bool) {
+	return appendBytea(make([]byte, 0, len(value)/2), value)
+}
+
 // appendBytea appends the bytes that a text of type bytea stands for, in the form of hexadecimal digits (\x00ff) or of
 // escapes (\000\377): bytea_output determines which of them the server sends.
 func appendBytea(to, value []byte) ([]byte, bool) {

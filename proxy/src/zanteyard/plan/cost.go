@@ -4,6 +4,7 @@ import (
 	"bytes"
 	"strconv"
 	"strings"
+	"time"
 )
 
 // mostJoined is how many tables a statement may join for its plans to be compared: the server needs time to find one.
@@ -73,5 +74,58 @@ func Cost(answer []byte) (float64, bool) {
 	return cost, err == nil
 }
 
-// Dearer reports whether a cost is more than a third above another one.
-func Dearer(cost, than float64) bool { return 3*cost > 4*than }
+// What a plan may cost in any case, in the server's units: a page that is read at random costs 4, a row that is listed
+// about a fiftieth.
+const (
+	lookingUp = 400 // a hundred pages
+	listing   = 50  // 2,500 rows, as many as a small table may have that was never analyzed
+)
+
+// Compared reports whether what a statement costs with the hidden columns is compared with what it costs without them.
+func (p *Plan) Compared() bool { return p.Widens || p.Looks || p.Counts }
+
+// TooDear reports whether a statement's plan is so much dearer with the hidden columns that they aren't used: by more than
+// a third, and by more than what few rows cost that are looked up in a table or listed.
+func (p *Plan) TooDear(with, without float64) bool {
+	most := 0.0
+	switch {
+	case p.Looks:
+		most = lookingUp
+	case p.Counts:
+		most = listing
+	}
+	return 3*with > 4*without && with-without > most
+}
+
+// Dear is why a statement is left as it is whose plan would be more than a third dearer with the hidden columns.
+const Dear = "the hidden columns would make its plan more than a third dearer"
+
+// Reordered is why a statement is left as it is whose rows would be read in another order with the hidden columns.
+const Reordered = "the hidden columns would change the order in which it reads rows"
+
+// WhyDear returns why a plan isn't used that is too dear.
+func (p *Plan) WhyDear() string {
+	if p.Looks {
+		return ByIndex
+	}
+	return Dear
+}
+
+// restFor is how long a statement is left as it is after it has listed or looked up more rows than expected.
+const restFor = time.Minute
+
+// Rest leaves the statement as it is for a while, on all connections.
+func (p *Plan) Rest(now time.Time) {
+	if p.rests != nil {
+		p.rests.Store(now.Add(restFor).UnixNano())
+	}
+}
+
+// Rests reports whether it is left as it is now.
+func (p *Plan) Rests() bool {
+	if p.rests == nil {
+		return false
+	}
+	until := p.rests.Load()
+	return until != 0 && time.Now().UnixNano() < until
+}

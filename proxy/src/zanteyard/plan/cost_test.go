@@ -45,7 +45,17 @@ func TestCost(t *testing.T) {
 	if _, ok := Cost([]byte("[]")); ok {
 		t.Error("no cost is one")
 	}
-	if Dearer(4, 3) || !Dearer(4.1, 3) {
-		t.Error("a third more")
+	for _, x := range []struct {
+		plan          Plan
+		with, without float64
+		dear          bool
+	}{
+		{Plan{Widens: true}, 4, 3, false}, {Plan{Widens: true}, 4.1, 3, true},
+		{Plan{Counts: true, Widens: true}, 52, 3, false}, {Plan{Counts: true}, 54, 3, true}, {Plan{Counts: true}, 1300, 1000, false},
+		{Plan{Looks: true, Counts: true}, 402, 3, false}, {Plan{Looks: true}, 404, 3, true}, {Plan{Looks: true}, 4000, 3000, false},
+	} {
+		if x.plan.TooDear(x.with, x.without) != x.dear {
+			t.Errorf("%v more than %v", x.with, x.without)
+		}
 	}
 }

@@ -10,7 +10,7 @@ import (
 )
 
 // Decode returns the rows that one row of a result was made from, by its hidden columns, all of them in one format. A
-// group that an outer join left NULL yields none.
+// group that an outer join left NULL yields none, and a list as many as it has.
 func (p *Plan) Decode(values [][]byte, binary bool) ([]record.Read, error) {
 	return p.AppendReads(nil, values, binary)
 }
@@ -27,11 +27,21 @@ func (p *Plan) AppendReads(to []record.Read, values [][]byte, binary bool) ([]re
 	if p.TellsVersion {
 		at++
 	}
+	if p.Counts {
+		at++
+	}
 	var failed error
 	for i := range p.Sources {
 		source := &p.Sources[i]
 		group := values[at : at+source.Hidden()]
 		at += source.Hidden()
+		if source.Listed {
+			var err error
+			if to, err = source.appendList(to, group[0], binary); err != nil {
+				failed = err
+			}
+			continue
+		}
 		if group[0] == nil {
 			continue
 		}

@@ -20,15 +20,15 @@ INSERT INTO "returning" SELECT i, i FROM generate_series(10, 3000) i;
 INSERT INTO parts SELECT i, i % 6 FROM generate_series(10, 3000) i;
 CREATE INDEX ON "select" (n)`
 
-// TestPlansOfTheServer explains random statements: rewritten, they read no additional table, and none for which an
-// index alone was enough, except for a few rows.
+// TestPlansOfTheServer explains random statements: rewritten as a session would use them, they read no additional table,
+// and none for which an index alone was enough, except for a few rows.
 func TestPlansOfTheServer(t *testing.T) {
 	connection := connect(t, "explained", nasty)
 	for _, sql := range []string{many, "VACUUM ANALYZE", "SET enable_seqscan TO off; SET enable_bitmapscan TO off"} {
 		run(t, connection, sql)
 	}
 	cache := NewCache(load(t, connection))
-	explained := 0
+	explained, left, used := 0, 0, 0
 	for seed := 0; seed < wanted(600); seed++ {
 		w := &writer{Rand: rand.New(rand.NewSource(int64(seed)))}
 		text := w.query()
@@ -40,16 +40,43 @@ func TestPlansOfTheServer(t *testing.T) {
 		if !ok {
 			continue
 		}
-		explained++
 		rewritten, _, _ := p.Rewrite(text, tokens)
+		if p.Looks || p.Counts {
+			with, without := compared(t, connection, rewritten), compared(t, connection, text)
+			if p.TooDear(with.cost, without.cost) || p.Ordered && with.form != without.form {
+				left++
+			} else {
+				used++
+			}
+			continue
+		}
+		explained++
 		hidden, ok := explain(connection, rewritten)
 		if !ok || alone(hidden) < alone(plain) || strings.Count(hidden, "Scan") > strings.Count(plain, "Scan") {
 			t.Errorf("statement %d: %s\n%s\n%s", seed, rewritten, plain, hidden)
 		}
 	}
-	if explained < 50 {
-		t.Errorf("%d statements were explained", explained)
+	t.Logf("%d statements were explained; of those that are compared %d are used and %d left as they are", explained, used, left)
+	if explained < 50 || used == 0 || left == 0 {
+		t.Errorf("too few statements were explained")
 	}
+}
+
+// price is what a trial learns of a statement's plan.
+type price struct {
+	cost float64
+	form string
+}
+
+func compared(t *testing.T, connection *pgconn.PgConn, text string) price {
+	t.Helper()
+	answer := run(t, connection, "EXPLAIN (FORMAT JSON) "+strings.TrimLeft(text, " ;"))[0].Rows[0][0]
+	cost, ok := Cost(answer)
+	its := price{cost, Form(answer)}
+	if !ok || its.form == "" {
+		t.Errorf("the plan of %s can't be read: %s", text, answer)
+	}
+	return its
 }
 
 func explain(connection *pgconn.PgConn, text string) (string, bool) {

@@ -51,6 +51,8 @@ func (m *maker) follow(p *Plan, body node) (*follow, string) {
 		return nil, "DISTINCT"
 	case body.has("havingClause"):
 		return nil, "HAVING"
+	case p.Counts:
+		return nil, "an aggregate"
 	case body.has("limitOffset"):
 		return nil, "OFFSET"
 	case m.setReturning(map[string]any(body)):

@@ -17,7 +17,10 @@ type fromClause struct {
 	where any
 	locks bool
 	taken string // the name of the table that is written to
-	group []any  // of GROUP BY
+	lists bool   // each row of the result is made of any number of rows
+	// unsorted means that ORDER BY doesn't decide in which order the groups are.
+	unsorted bool
+	group    []any // of GROUP BY
 }
 
 // item is a table of a FROM clause.
@@ -31,6 +34,7 @@ type item struct {
 	optional int // the join that the server may leave out if nothing else uses the table, or 0 if it may not
 	natural  bool
 	converts bool // the connection's texts are in another encoding than the server's
+	listed   bool // the rows that an aggregate was made of are listed
 }
 
 // read reads a statement's FROM clause and what the rest of the statement mentions.
@@ -148,6 +152,9 @@ func (m *maker) newItem(r node, t *catalog.Table, at place, sampled bool) *item 
 	return it
 }
 
+// ByIndex is why a table isn't seen of which an index has all that a statement asks for.
+const ByIndex = "an index may answer without the table"
+
 // groups returns the tables that can be seen, and counts the others.
 func (f *fromClause) groups() (seen []*item) {
 	named := map[string]int{}
@@ -155,16 +162,21 @@ func (f *fromClause) groups() (seen []*item) {
 		named[it.name]++
 	}
 	for _, it := range f.found {
+		looks := f.indexOnly(it)
 		switch {
 		case named[it.name] > 1, it.name == f.taken:
 			f.plan.leaveOut("two tables with the same name")
-		case len(f.group) > 0 && !f.grouped(it):
+		case len(f.group) > 0 && !f.lists && !f.grouped(it):
 			f.plan.leaveOut("GROUP BY")
+		case f.unsorted && !f.grouped(it):
+			f.plan.leaveOut("GROUP BY without an ORDER BY of its columns")
 		case f.removable(it):
 			f.plan.leaveOut("a join that the server may skip")
-		case f.indexOnly(it):
-			f.plan.leaveOut("an index may answer without the table")
+		case looks && f.taken != "":
+			f.plan.leaveOut(ByIndex)
 		default:
+			f.plan.Looks = f.plan.Looks || looks
+			it.listed = f.lists && (len(f.group) == 0 || !f.grouped(it))
 			seen = append(seen, it)
 		}
 	}
@@ -197,7 +209,7 @@ func (it *item) source() Source {
 	}
 	return Source{
 		Relation: record.Relation(it.table.OID), Identity: it.table.Identity, Converts: it.converts, Types: types,
-		Nullable: it.nullable,
+		Nullable: it.nullable, Listed: it.listed,
 	}
 }
 

@@ -202,7 +202,44 @@ func (w *writer) from() {
 	}
 }
 
+// aggregate writes a SELECT whose aggregates have the same result in any order of the rows.
+func (w *writer) aggregate() string {
+	w.say("SELECT")
+	head := w.words
+	w.words = nil
+	w.from()
+	from := w.words
+	w.words = head
+	for i := w.Intn(3); i >= 0; i-- {
+		column := w.pick(w.names...) + "." + w.pick("id", "n")
+		w.say(w.pick("count(*)", "count("+column+")", "sum("+column+")", "min("+column+")", "max("+column+")",
+			"count(DISTINCT "+column+")", "sum("+column+") FILTER (WHERE "+column+" > 2)", "array_agg("+column+" ORDER BY "+column+")",
+			"bool_or("+column+" = 3) AS from", "coalesce(max("+column+"), 0) + count(*)", "'x' AS from"))
+		if i > 0 {
+			w.say(",")
+		}
+	}
+	w.say(from...)
+	if w.once(2) {
+		w.say("WHERE")
+		w.condition(w.Intn(3))
+	}
+	if w.once(2) {
+		name, column := w.pick(w.names...), w.pick("n", "id")
+		w.say("GROUP", "BY", name, ".", column, "ORDER", "BY", name, ".", column)
+		return w.text()
+	}
+	if w.once(4) {
+		w.say("HAVING", w.pick("count(*) > 2", "max("+w.pick(w.names...)+".id) > 3", "true"))
+	}
+	w.say(w.pick("", "", "ORDER BY 1", "ORDER BY count(*)"), w.pick("", "", "LIMIT 1", "OFFSET 1"))
+	return w.text()
+}
+
 func (w *writer) query() string {
+	if w.once(6) {
+		return w.aggregate()
+	}
 	if w.once(15) {
 		w.say("WITH", "x", "AS", "(", "SELECT", "id", ",", "n", "FROM", w.pick(nastyTables...), ")")
 	}

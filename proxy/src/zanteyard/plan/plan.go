@@ -9,6 +9,8 @@
 package plan
 
 import (
+	"sync/atomic"
+
 	"zanteyard/keys"
 	"zanteyard/record"
 )
@@ -65,10 +67,17 @@ type Source struct {
 	Types    []uint32        // types of the key's columns in the table, as package catalog resolves them
 	// Nullable means that an outer join may leave the whole group NULL: then no row was read.
 	Nullable bool
+	// Listed means that the group is one column: a list of the table's rows that an aggregate was made of.
+	Listed bool
 }
 
 // Hidden returns the number of columns in the group.
-func (s Source) Hidden() int { return 2 + len(s.Types) }
+func (s Source) Hidden() int {
+	if s.Listed {
+		return 1
+	}
+	return 2 + len(s.Types)
+}
 
 // Plan is what is done with all statements of one normalized text. It never changes after it is made.
 type Plan struct {
@@ -87,6 +96,8 @@ type Plan struct {
 	// TellsVersion means that the next hidden column is the xmin of the row that the statement wrote: the number of the
 	// transaction or of a subtransaction.
 	TellsVersion bool
+	// Counts means that the first hidden column is how many rows an aggregate was made of. Some of Sources list them.
+	Counts bool
 	// MayWriteUnseen means that the statement may write without returning a number: a function, COPY, MERGE, a view, an
 	// UPDATE of any number of rows.
 	MayWriteUnseen bool
@@ -121,6 +132,10 @@ type Plan struct {
 	Asked bool
 	// Widens means that the hidden columns make rows wider that are sorted, joined or grouped.
 	Widens bool
+	// Looks means that an index may have all that the statement asks of a table, which the hidden columns have to look up.
+	Looks bool
+	// Ordered means that the answer may show in which order rows are read: plans are compared by their form, too.
+	Ordered bool
 	// ByKey means that a SELECT asks for the rows of one table by its whole primary key, whatever else it asks.
 	ByKey bool
 	// NotFollowed says why what a SELECT asks tables for by a condition isn't followed; "" if it is, or asks for nothing, or
@@ -153,6 +168,7 @@ type Plan struct {
 	configs   []int // the tokens of their names
 	apart     bool  // its text's lists mustn't be collapsed: another key has its plan
 	sample    string
+	rests     *atomic.Int64 // until when it isn't used, in nanoseconds; nil if it never rests
 	relations []relation
 	ranges    []tokenRange // of Parts
 }
@@ -187,6 +203,9 @@ func (p *Plan) Hidden() int {
 	if p.TellsVersion {
 		hidden++
 	}
+	if p.Counts {
+		hidden++
+	}
 	for _, s := range p.Sources {
 		hidden += s.Hidden()
 	}
@@ -195,7 +214,7 @@ func (p *Plan) Hidden() int {
 
 // HiddenTypes returns the types of the hidden columns, by object identifier, as a description of the result has them.
 func (p *Plan) HiddenTypes() []uint32 {
-	const xid8, xid, oid = 5069, 28, 26
+	const xid8, xid, oid, int8, bytea = 5069, 28, 26, 20, 17
 	var types []uint32
 	if p.TellsNumber {
 		types = append(types, xid8)
@@ -203,7 +222,14 @@ func (p *Plan) HiddenTypes() []uint32 {
 	if p.TellsVersion {
 		types = append(types, xid)
 	}
+	if p.Counts {
+		types = append(types, int8)
+	}
 	for _, s := range p.Sources {
+		if s.Listed {
+			types = append(types, bytea)
+			continue
+		}
 		types = append(types, xid, oid)
 		for _, typeOID := range s.Types {
 			types = append(types, keys.ExpressionType(typeOID, s.Converts))

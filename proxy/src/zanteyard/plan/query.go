@@ -1,6 +1,9 @@
 package plan
 
-import "strings"
+import (
+	"strings"
+	"sync/atomic"
+)
 
 // alias is the name of every hidden column: it can't be taken for a column of the statement in ORDER BY.
 const alias = "zanteyard"
@@ -77,6 +80,9 @@ func (m *maker) finish(p *Plan, stmt statement, field string, start int) {
 		p.misplaced = p.without("ORDER BY or GROUP BY may refer to a column by its position")
 	}
 	p.sample = m.sample(p, stmt, start)
+	if p.Counts || p.Looks {
+		p.rests = &atomic.Int64{}
+	}
 }
 
 // maxSample limits the text that a plan keeps for its trial.

@@ -72,8 +72,8 @@ func (p *Plan) Trial() Trial {
 	if p.insertion.text == "" {
 		return Trial{}
 	}
-	its := Trial{Statements: []string{p.sample}, Privileges: privileges(p.relations)}
-	if p.Widens || p.Inner != nil && p.Inner.Widens {
+	its := Trial{Statements: []string{p.sample}, Privileges: privileges(p.relations, p.functions())}
+	if p.Compared() || p.Inner != nil && p.Inner.Compared() {
 		its.Plain = strings.Replace(p.sample, p.insertion.text, "", 1)
 	}
 	return its

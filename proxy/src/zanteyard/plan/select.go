@@ -12,7 +12,8 @@ func (m *maker) selects(p *Plan, body node, start, end int) {
 	if body.has("valuesLists") {
 		return
 	}
-	if reason := m.merges(body); reason != "" {
+	lists, reason := m.merges(body)
+	if reason != "" {
 		p.leaveOut(reason)
 		return
 	}
@@ -20,8 +21,9 @@ func (m *maker) selects(p *Plan, body node, start, end int) {
 		return
 	}
 	word := m.fromWord(start, end)
-	f := &fromClause{maker: m, plan: p, with: withNames(body)}
+	f := &fromClause{maker: m, plan: p, with: withNames(body), lists: lists}
 	f.read(body, "fromClause")
+	f.unsorted = lists && body.has("groupClause") && !m.sortsGroups(body, f)
 	found := f.groups()
 	if len(found) == 0 {
 		return
@@ -30,9 +32,19 @@ func (m *maker) selects(p *Plan, body node, start, end int) {
 		p.leaveOut("unknown form of statement")
 		return
 	}
-	h := &hiding{sole: f.items == 1}
 	for _, source := range found {
-		h.reads(source)
+		p.Counts = p.Counts || source.listed
+	}
+	h := &hiding{sole: f.items == 1}
+	if p.Counts {
+		h.value(countOfRows)
+	}
+	for _, source := range found {
+		if source.listed {
+			h.lists(source)
+		} else {
+			h.reads(source)
+		}
 		p.Sources = append(p.Sources, source.source())
 		p.relations = append(p.relations, source.relation())
 	}
@@ -41,26 +53,92 @@ func (m *maker) selects(p *Plan, body node, start, end int) {
 		groups = ", " + groups
 	}
 	p.insertion, p.Widens = insertion{text: groups + " ", token: word}, widens(body, f)
+	p.Ordered = (p.Counts || p.Looks) && m.ordered(body, f)
 	m.orders(p, body, f.width(body.list("targetList")))
 	m.asks(p, body, found, f)
 }
 
-// merges returns why a SELECT's rows aren't the rows that it read, or "" if they are.
-func (m *maker) merges(body node) string {
+// merges reports whether each of a SELECT's rows is made of any number of rows that it read, which can be listed, or why
+// nothing can be told of them.
+func (m *maker) merges(body node) (lists bool, reason string) {
 	switch {
 	case body.text("op") != "" && body.text("op") != "SETOP_NONE":
-		return "UNION, INTERSECT or EXCEPT"
+		return false, "UNION, INTERSECT or EXCEPT"
 	case body.has("distinctClause") && !distinctOn(body):
-		return "DISTINCT"
-	case body.has("groupClause"): // some tables may still be seen
-		return ""
-	case body.has("havingClause"):
-		return "HAVING"
-	case m.aggregates(body["targetList"]), m.aggregates(body["sortClause"]), m.aggregates(body["windowClause"]),
-		m.aggregates(body["distinctClause"]):
-		return "an aggregate"
+		return false, "DISTINCT"
+	case body.has("groupClause"): // a table whose whole key is grouped by has one row in each group
+		return !body.has("distinctClause") && !kindFound(body["groupClause"], "GroupingSet"), ""
 	}
-	return ""
+	parts := []any{body["targetList"], body["sortClause"], body["windowClause"], body["distinctClause"]}
+	switch {
+	case !body.has("havingClause") && !m.aggregates(parts):
+		return false, ""
+	case body.has("distinctClause"):
+		return false, "DISTINCT"
+	case !body.has("havingClause") && !m.surelyAggregates(parts):
+		return false, "a function that may be an aggregate"
+	case m.onlyEnds(body, parts):
+		return false, "MIN or MAX, for which an index may need one row alone"
+	}
+	return true, ""
+}
+
+// surelyAggregates reports whether a query has an aggregate whatever its names refer to: then a hidden aggregate more
+// doesn't make one row of many.
+func (m *maker) surelyAggregates(value any) bool {
+	return m.anyCall(value, func(body node) bool {
+		return m.writtenAsAggregate(body) || m.function(body).Always
+	})
+}
+
+// onlyEnds reports whether all aggregates of a query of one table are MIN or MAX of what an index may have in order: then
+// the server may read the first or last row alone.
+func (m *maker) onlyEnds(body node, parts []any) bool {
+	from := body.list("fromClause")
+	if len(from) != 1 {
+		return false
+	}
+	kind, r := only(from[0])
+	if kind != "RangeVar" && kind != "RangeSubselect" && kind != "RangeTableSample" {
+		return false
+	}
+	t, known := m.catalog.Find(r.text("schemaname"), r.text("relname"))
+	parts = append(parts, body["havingClause"])
+	ordered := true
+	others := m.anyCall(parts, func(call node) bool {
+		name := names(call.list("funcname"))
+		if f := m.function(call); !f.Aggregate && !m.writtenAsAggregate(call) {
+			return false
+		}
+		if last := name[len(name)-1]; last != "min" && last != "max" || call.has("agg_filter") || call.has("agg_order") {
+			return true
+		}
+		if args := call.list("args"); known && len(args) == 1 {
+			ordered = ordered && mayOrder(t, args[0])
+		}
+		return false
+	})
+	return !others && ordered && m.aggregates(parts)
+}
+
+// mayOrder reports whether an index may have a table's rows in the order of an expression.
+func mayOrder(t *catalog.Table, expression any) bool {
+	_, body := only(expression)
+	fields := names(body.list("fields"))
+	wanted := int16(0) // stands for all expressions
+	if len(fields) > 0 {
+		if column, ok := t.Column(fields[len(fields)-1]); ok {
+			wanted = column.Number
+		}
+	}
+	for _, index := range t.Indexes {
+		for _, number := range index {
+			if number == wanted {
+				return true
+			}
+		}
+	}
+	return false
 }
 
 // distinctOn distinguishes DISTINCT ON, which returns one of the rows that were read, from DISTINCT.
@@ -76,24 +154,36 @@ func distinctOn(body node) bool {
 // aggregates looks for aggregates of the query itself. If an aggregate in a subquery belongs to the outer query, the
 // server refuses the rewritten statement when it is tried.
 func (m *maker) aggregates(value any) bool {
+	return m.anyCall(value, func(body node) bool {
+		return m.writtenAsAggregate(body) || m.function(body).Aggregate
+	})
+}
+
+// anyCall looks for a call without OVER in a query itself.
+func (m *maker) anyCall(value any, is func(call node) bool) bool {
 	found := false
 	visit(value, func(kind string, body node) bool {
-		if kind == "FuncCall" && !body.has("over") {
-			name := names(body.list("funcname"))
-			schema := ""
-			if len(name) > 1 {
-				schema = name[0]
-			}
-			found = found || body.flag("agg_star") || body.flag("agg_distinct") || body.flag("agg_within_group") ||
-				body.has("agg_filter") || body.has("agg_order") ||
-				len(name) > 0 && m.catalog.Function(schema, name[len(name)-1]).Aggregate
-		}
-		if kind == "GroupingFunc" {
-			found = true
+		if kind == "FuncCall" && !body.has("over") && len(body.list("funcname")) > 0 {
+			found = found || is(body)
 		}
 		return kind != "SubLink" && !found
 	})
 	return found
+}
+
+// writtenAsAggregate reports whether a call is written as only an aggregate's may be.
+func (m *maker) writtenAsAggregate(call node) bool {
+	return call.flag("agg_star") || call.flag("agg_distinct") || call.flag("agg_within_group") ||
+		call.has("agg_filter") || call.has("agg_order")
+}
+
+func (m *maker) function(call node) catalog.Function {
+	name := names(call.list("funcname"))
+	schema := ""
+	if len(name) > 1 {
+		schema = name[0]
+	}
+	return m.catalog.Function(schema, name[len(name)-1])
 }
 
 // fromWord finds the word FROM of a query that begins at a token, possibly in parentheses, but not that of IS DISTINCT
@@ -157,7 +247,7 @@ func (m *maker) asks(p *Plan, body node, found []*item, f *fromClause) {
 	if found[0].table.Root != found[0].table.OID { // the row may be in another partition
 		return
 	}
-	if len(p.Unseen) > 0 || p.MayWriteUnseen || body.has("groupClause") || body.has("limitOffset") ||
+	if len(p.Unseen) > 0 || p.Counts || p.MayWriteUnseen || body.has("groupClause") || body.has("limitOffset") ||
 		m.setReturning(body["targetList"]) {
 		return
 	}

@@ -307,6 +307,7 @@ func TestAddedTexts(t *testing.T) {
 				"INSERT INTO " + table + " (v) VALUES (1)", "DELETE FROM " + table + " RETURNING v",
 				"UPDATE " + table + " x SET v = 1 FROM " + table + " y RETURNING x.v",
 				"DELETE FROM " + table + " x USING " + table + " y RETURNING x.v",
+				"SELECT count(*) FROM " + table, "SELECT v, count(*) FROM " + table + " GROUP BY v ORDER BY v",
 				"SELECT v FROM " + table + " FOR UPDATE", "DECLARE c CURSOR FOR SELECT v FROM " + table,
 			} {
 				for _, path := range []string{"", Converting} {

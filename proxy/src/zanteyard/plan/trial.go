@@ -11,12 +11,24 @@ const (
 	tableoidNumber = -6
 )
 
-// privileges returns a SELECT of one boolean: each name means the relation that it was taken for, and its hidden
-// columns may be read. A column that isn't there any more yields NULL.
-func privileges(relations []relation) string {
+// functions returns what hidden columns call that the server's owner may have taken from others.
+func (p *Plan) functions() []string {
+	if !p.Counts && (p.Inner == nil || !p.Inner.Counts) {
+		return nil
+	}
+	return []string{"count()", "string_agg(pg_catalog.bytea, pg_catalog.bytea)", "record_send(pg_catalog.record)",
+		"clock_timestamp()", "statement_timestamp()"}
+}
+
+// privileges returns a SELECT of one boolean: each name means the relation that it was taken for, its hidden columns may
+// be read, and the functions may be called. A column that isn't there any more yields NULL.
+func privileges(relations []relation, functions []string) string {
 	var out strings.Builder
 	out.WriteString("SELECT coalesce(pg_catalog.has_function_privilege(" +
 		"'pg_catalog.pg_current_xact_id_if_assigned()', 'EXECUTE')")
+	for _, function := range functions {
+		out.WriteString(" AND pg_catalog.has_function_privilege('pg_catalog." + function + "', 'EXECUTE')")
+	}
 	done := map[string]bool{}
 	for _, r := range relations {
 		condition := r.condition()

@@ -3,6 +3,8 @@ package session
 import (
 	"strings"
 	"testing"
+
+	"zanteyard/plan"
 )
 
 // TestDearPlans: a sort whose rows the hidden columns would make too wide for the memory that it may use is left as it
@@ -47,7 +49,7 @@ func TestDearPlans(t *testing.T) {
 				for _, it := range p.sink.take() {
 					reads += len(it.Reads)
 				}
-				if p.sink.left(Dear) != x.dear || (reads > 0) == x.dear {
+				if p.sink.left(plan.Dear) != x.dear || (reads > 0) == x.dear {
 					t.Errorf("connection %d: %d reads are told, left out: %q", i, reads, p.sink.unseen)
 				}
 			}
@@ -72,7 +74,7 @@ func TestComparedOnce(t *testing.T) {
 			if u.plan.Shape == text && len(u.costs) > 0 {
 				calls++
 			}
-			if u.plan.Shape == text && (u.state != failed || u.reason != Dear) {
+			if u.plan.Shape == text && (u.state != failed || u.reason != plan.Dear) {
 				t.Errorf("it is %+v", u)
 			}
 		}

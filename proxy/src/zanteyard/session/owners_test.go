@@ -40,12 +40,13 @@ func TestOwnersTypes(t *testing.T) {
 			if name == "a key that was a text's, in EUC_JP" {
 				p.query("SET client_encoding TO EUC_JP")
 			}
-			p.warm("SELECT v FROM m.b", "SELECT v FROM m.b")
+			p.warm("SELECT v FROM m.b", "SELECT v FROM m.b", "SELECT count(v) FROM m.b", "SELECT count(v) FROM m.b")
 			if x.change != "" {
 				sql(t, x.change)
 			}
 			for i := 0; i < 3; i++ {
 				p.query("SELECT v FROM m.b")
+				p.query("SELECT count(v) FROM m.b")
 				p.settle()
 			}
 			if sql(t, "SELECT rolsuper FROM pg_roles WHERE rolname = 'intruder'")[0][0] == "t" {

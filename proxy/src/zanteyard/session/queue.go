@@ -40,6 +40,7 @@ type expectation struct {
 	pieces   []piece
 	rows     int        // rows of the statement that is being answered
 	loose    int        // of these, how many have no version
+	beyond   int        // and how many were made of more rows than are listed
 	from     int        // number of reads before its first row
 	levels   uint64     // what trust.levels counted when it was sent
 	doubts   uint64     // and trust.doubts

@@ -31,6 +31,7 @@ CREATE TABLE two (a int, b text, tag text NOT NULL, PRIMARY KEY (a, b));
 CREATE TABLE parts (id int PRIMARY KEY, tag text NOT NULL) PARTITION BY RANGE (id);
 CREATE TABLE parts1 PARTITION OF parts FOR VALUES FROM (0) TO (4);
 CREATE TABLE parts2 PARTITION OF parts FOR VALUES FROM (4) TO (100);
+CREATE INDEX ON one (id, tag);
 INSERT INTO one SELECT i, '-', i FROM generate_series(0, 7) i;
 INSERT INTO two SELECT i % 3, 'b' || i, '-' FROM generate_series(0, 8) i;
 INSERT INTO parts SELECT i, '-' FROM generate_series(0, 7) i;
@@ -156,6 +157,19 @@ type shape struct {
 
 func digit(r *rand.Rand) string { return strconv.Itoa(r.Intn(9)) }
 
+// listed returns the versions in a column that an aggregate made: keys of so many columns, and tags.
+func listed(table string, at, columns int) func(row []string) []seen {
+	return func(row []string) []seen {
+		var all []seen
+		for _, one := range strings.Split(row[at], ",") {
+			if words := strings.Split(one, " "); len(words) == columns+1 {
+				all = append(all, seen{table, strings.Join(words[:columns], "\x00"), words[columns]})
+			}
+		}
+		return all
+	}
+}
+
 func shapes() []shape {
 	key := func(r *rand.Rand, tag string) []string { return []string{digit(r)} }
 	tagKey := func(r *rand.Rand, tag string) []string { return []string{tag, digit(r)} }
@@ -179,7 +193,19 @@ func shapes() []shape {
 		{"SELECT one.id, one.tag, two.a, two.b, two.tag FROM one LEFT JOIN two ON two.a = one.id AND two.b > 'b2' " +
 			"WHERE one.n >= $1", key, both},
 		{"SELECT x.id, x.tag, y.a, y.b, y.tag FROM one x, two y WHERE x.id = y.a AND x.id < $1", key, both},
-		{"SELECT count(*) FROM one WHERE id < $1", key, none},
+		{"SELECT count(*) FROM one WHERE id < $1 AND n < 0", key, none},
+		{"SELECT count(*), sum(n), string_agg(id || ' ' || tag, ',') FROM one WHERE id < $1", key, listed("one", 2, 1)},
+		{"SELECT n, string_agg(id || ' ' || tag, ',') FROM one WHERE id <> $1 GROUP BY n HAVING count(*) > 1 ORDER BY n", key, listed("one", 1, 1)},
+		{"SELECT tag, count(*), string_agg(id || ' ' || tag, ',') FROM parts WHERE id < $1 GROUP BY tag ORDER BY tag", key, listed("parts", 2, 1)},
+		{"SELECT string_agg(id || ' ' || tag, ','), max(id) FROM parts WHERE id > $1", key, listed("parts", 0, 1)},
+		{"SELECT string_agg(a || ' ' || b || ' ' || tag, ',') FROM two HAVING count(*) > $1", key, listed("two", 0, 2)},
+		{"SELECT string_agg(one.id || ' ' || one.tag, ','), count(*), string_agg(two.a || ' ' || two.b || ' ' || two.tag, ',') " +
+			"FROM one LEFT JOIN two ON two.a = one.id AND two.b > 'b2' WHERE one.n >= $1", key, func(row []string) []seen {
+			return append(listed("one", 0, 1)(row), listed("two", 2, 2)(row)...)
+		}},
+		{"SELECT tag, id FROM one WHERE id < $1 ORDER BY id LIMIT 4", key, func(row []string) []seen {
+			return []seen{{"one", row[1], row[0]}}
+		}},
 		{"SELECT DISTINCT tag FROM one WHERE id < $1", key, none},
 		{"UPDATE one SET tag = $1 WHERE id = $2", tagKey, none},
 		{"UPDATE one SET tag = $1, n = n + 1 WHERE id = $2 RETURNING n", tagKey, none},

@@ -215,6 +215,9 @@ func (s *Session) row(o *output, e *expectation, m []byte, start, end int, pass 
 		return
 	}
 	p := e.hides
+	if (p.Looks || p.Counts) && e.rows > plan.MostAggregated {
+		p.Rest(s.now)
+	}
 	s.hidden(e, values)
 	if !p.AddsReturning && pass {
 		o.pass(start, start+wire.CutRow(m, columns, visible))
@@ -240,6 +243,7 @@ func (s *Session) hidden(e *expectation, values [][]byte) {
 		e.asking.got(reads, err != nil)
 	}
 	counts := p.Kind == plan.Select && len(p.Unseen) == 0
+	isWhole := s.lists(e, values)
 	reason := s.tx.unreported()
 	if e.replaced {
 		reason = "a cursor that may be another one by now: what others have made has run since it was declared"
@@ -247,14 +251,31 @@ func (s *Session) hidden(e *expectation, values [][]byte) {
 	if reason != "" && len(reads) > 0 {
 		s.notSeen(p.Shape, reason, true)
 	} else {
-		s.tx.read(reads, s.options.ReadLimit, counts)
-		if counts && reason == "" && len(reads) == 0 {
+		s.tx.read(reads, s.options.ReadLimit, counts && isWhole)
+		switch {
+		case !counts || reason != "":
+		case !isWhole:
+			e.beyond++
+		case len(reads) == 0:
 			e.loose++
 		}
 	}
 	if err != nil {
 		s.notSeen(p.Shape, "hidden columns that can't be read", true)
 	}
+}
+
+// lists reports whether a row's lists, if it has any, have all rows that it was made of.
+func (s *Session) lists(e *expectation, values [][]byte) bool {
+	p := e.hides
+	if n, ok := p.Aggregated(values, e.binary); ok && n > plan.MostAggregated {
+		p.Rest(s.now)
+	}
+	if p.Complete(values, e.binary) {
+		return true
+	}
+	s.notSeen(p.Shape, tooManyRows, true)
+	return false
 }
 
 // ownRow handles a row that the proxy asked for.
@@ -287,6 +308,9 @@ func (s *Session) ownRow(e *expectation, m []byte) {
 	case costRow:
 		if cost, ok := plan.Cost(values[0]); ok {
 			e.use.costs = append(e.use.costs, cost)
+			if rows(e.use.plan).Ordered {
+				e.use.forms = append(e.use.forms, plan.Form(values[0]))
+			}
 		}
 	}
 }
@@ -305,7 +329,7 @@ func (s *Session) complete(e *expectation, m []byte) {
 				s.tx.paused = e.at
 			}
 		}
-		e.rows, e.loose = 0, 0
+		e.rows, e.loose, e.beyond = 0, 0, 0
 	}
 	if e.message == 'E' {
 		s.queue.pop()

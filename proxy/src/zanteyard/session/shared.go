@@ -23,11 +23,14 @@ type Shared struct {
 // kind has what was tried on connections of one signature.
 type kind struct {
 	catalog uint64
-	tried   map[*plan.Plan]int // and how many columns its statement returns, without the hidden ones, or tooDear
+	tried   map[*plan.Plan]int // and how many columns its statement returns, without the hidden ones, or why it isn't used
 }
 
-// tooDear stands for a plan that isn't used because of its cost.
-const tooDear = -1
+// Why a plan isn't used, in place of the number of columns: because of its cost, or of the order of rows.
+const (
+	tooDear   = -1
+	reordered = -2
+)
 
 const (
 	mostKinds  = 256

@@ -13,7 +13,9 @@ const (
 	foundNoRow = record.FoundNoRow
 	noVersion  = "a row without a version, as of an outer join"
 	anyCursor  = "a cursor that isn't known"
-	aFunction  = "what a function reads"
+	// tooManyRows is why an aggregate isn't seen whose list doesn't have all of its rows.
+	tooManyRows = "an aggregate of too many rows, of very long keys, or that took too long"
+	aFunction   = "what a function reads"
 )
 
 // sums puts a statement that has ended, and the rows that it returned, in one place (record.Did). reason says why it was
@@ -69,7 +71,14 @@ func (s *Session) sumUnknown(verb string, n uint64, e *expectation, p *plan.Plan
 func (s *Session) sumFetched(p *plan.Plan, e *expectation, verb string) {
 	reason, known := s.names.unread[p.Name]
 	switch {
-	case e.rows == 0 || verb != "FETCH" || e.hides != nil && len(e.hides.Unseen) == 0:
+	case e.rows == 0 || verb != "FETCH":
+	case e.hides != nil && len(e.hides.Unseen) == 0:
+		if e.beyond > 0 {
+			s.tx.Did.Leave(tooManyRows, true, 0, 0, uint64(e.beyond))
+		}
+		if e.loose > 0 {
+			s.tx.Did.Leave(whyLoose(e.hides), true, 0, 0, uint64(e.loose))
+		}
 	case e.hides != nil:
 		s.tx.Did.Leave(e.hides.Unseen[0].Reason, true, 0, 0, uint64(e.rows))
 	case !known:
@@ -77,6 +86,14 @@ func (s *Session) sumFetched(p *plan.Plan, e *expectation, verb string) {
 	case reason != "":
 		s.fetchedUnseen(reason, e)
 	}
+}
+
+// whyLoose is why a row has no version.
+func whyLoose(p *plan.Plan) string {
+	if p.Lists() {
+		return foundNoRow
+	}
+	return noVersion
 }
 
 // fetchedUnseen counts rows of a cursor that isn't seen. One WITH HOLD returns them in a transaction that may have no
@@ -124,8 +141,10 @@ func (s *Session) sumSelect(p *plan.Plan, e *expectation, reason string, n uint6
 		}
 	case len(p.Unseen) > 0:
 		d.Leave(p.Unseen[0].Reason, true, one, 0, n)
+	case e.beyond > 0:
+		d.Leave(tooManyRows, e.rows > e.beyond, one, 0, uint64(e.beyond+e.loose))
 	case e.loose > 0:
-		d.Leave(noVersion, true, one, 0, uint64(e.loose))
+		d.Leave(whyLoose(p), !p.Lists() || e.rows > e.loose, one, 0, uint64(e.loose))
 	case !isFirst:
 	case len(s.tx.Reads) > e.from && !isCursor:
 		d.Selects = append(d.Selects, record.Select{From: int32(e.from), To: int32(len(s.tx.Reads))})

@@ -365,7 +365,7 @@ func (s *Session) did(p *plan.Plan, e *expectation, tag []byte) {
 		return
 	}
 	t.MayHaveWritten = t.MayHaveWritten || p.MayWriteUnseen
-	t.Touched = t.Touched || p.Touches()
+	t.Touched = t.Touched || rows(p).Touches()
 	s.leftOut(p, e, s.note(e), tag)
 }
 

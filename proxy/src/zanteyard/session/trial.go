@@ -74,7 +74,8 @@ func (s *Session) try(out []byte) []byte {
 		if u.generation != t.generation || u.state != waiting {
 			continue
 		}
-		u.state, u.columns, u.allowed, u.costs = trying, false, false, nil
+		u.state, u.columns, u.allowed, u.costs, u.own = trying, false, false, nil, 0
+		u.forms = nil
 		w.uses = append(w.uses, u)
 		out = s.tryOne(out, u)
 	}
@@ -293,15 +294,19 @@ func (s *Session) tried(w *trial) {
 		case w.failed:
 			u.state = waiting
 			t.queue = append(t.queue, u)
-		case u.allowed && u.columns && !u.compares && !u.compared && u.runs && rows(u.plan).Widens:
+		case u.allowed && u.columns && !u.compares && !u.compared && u.runs && rows(u.plan).Compared():
 			// Only now is it certain that to explain it isn't an error. To plan it may call what the table's owner has made: that
 			// must be no more than what the client's own run calls.
 			u.state, u.compares = waiting, true
 			t.queue = append(t.queue, u)
 		case u.allowed && u.columns:
+			u.unpriced = !u.compares && !u.compared && rows(u.plan).Compared()
 			u.state, u.compares, u.compared, u.sample = tried, false, false, nil
-			if u.dear() {
-				u.state, u.reason, u.own = failed, Dear, tooDear
+			switch {
+			case u.dear():
+				u.state, u.reason, u.own = failed, rows(u.plan).WhyDear(), tooDear
+			case len(u.forms) == 2 && (u.forms[0] != u.forms[1] || u.forms[0] == ""):
+				u.state, u.reason, u.own = failed, plan.Reordered, reordered
 			}
 		case !u.allowed:
 			u.state, u.sample, u.reason = failed, nil, "the connection's user may not read the audit's columns"
@@ -309,7 +314,7 @@ func (s *Session) tried(w *trial) {
 			u.state, u.sample, u.reason = failed, nil, "names refer to something else on its connection"
 		}
 		u.generation = t.generation
-		if (u.state == tried || u.state == failed && u.reason == Dear) && !t.doubt && !t.block.isPrivate {
+		if (u.state == tried && !u.unpriced || u.own < 0) && !t.doubt && !t.block.isPrivate {
 			t.shared.add(t.signature, t.catalog, u)
 		}
 	}

@@ -24,9 +24,11 @@ type use struct {
 	columns    bool      // the trial's description had the columns that the plan adds
 	own        int       // number of columns that the statement returns without these
 	allowed    bool      // the trial's query of privileges answered yes
+	forms      []string  // of the plans with the columns and without them, if the trial compares these
 	costs      []float64 // of the plans with the columns and without them, if the trial compares these
 	compares   bool      // it does
 	compared   bool      // they needn't be compared any more
+	unpriced   bool      // they have to be, since the client hadn't run it when it was tried
 	runs       bool      // the client has run it in this generation, or is about to, so that the server plans it anyway
 	ran        bool      // its statement was seen here, or tried on another connection
 	repeats    bool      // and was seen here again
@@ -63,7 +65,9 @@ func (t *trust) usable(u *use, sample *statement) bool {
 			own, is = t.shared.has(t.signature, t.catalog, u.plan)
 		}
 		if is && own == tooDear {
-			u.state, u.generation, u.reason = failed, t.generation, Dear
+			u.state, u.generation, u.reason = failed, t.generation, rows(u.plan).WhyDear()
+		} else if is && own == reordered {
+			u.state, u.generation, u.reason = failed, t.generation, plan.Reordered
 		} else if is {
 			u.state, u.generation, u.own, u.ran = tried, t.generation, own, true
 		} else if !t.affords(u.plan) {
@@ -74,12 +78,19 @@ func (t *trust) usable(u *use, sample *statement) bool {
 			if sample != nil && len(sample.text) <= mostSample && len(t.queue) < mostSamples {
 				u.sample = sample
 			}
-			u.compares, u.compared, u.runs = false, false, false
+			u.compares, u.compared, u.runs, u.unpriced = false, false, false, false
 			t.queue = append(t.queue, u)
 			return false
 		}
 	}
-	if u.state != tried {
+	if u.state == tried && u.unpriced {
+		u.state, u.sample, u.delays, u.unpriced = waiting, nil, 0, false
+		if sample != nil && len(sample.text) <= mostSample && len(t.queue) < mostSamples {
+			u.sample = sample
+		}
+		t.queue = append(t.queue, u)
+	}
+	if u.state != tried || rows(u.plan).Rests() {
 		return false
 	}
 	sure := !t.doubt && t.asks && t.here
@@ -102,6 +113,8 @@ func (t *trust) why(u *use) string {
 		return u.reason
 	case u.state == putOff:
 		return Seldom
+	case u.state == tried && rows(u.plan).Rests():
+		return ManyRows
 	case u.state == tried:
 		return "something may have changed what names refer to"
 	}
@@ -111,12 +124,13 @@ func (t *trust) why(u *use) string {
 // Elsewhere is why nothing is seen on a connection that a balancer, a name or a failover has led to another server.
 const Elsewhere = "the connection is to another server than the audited one, or to a standby"
 
-// Dear is why a statement is left as it is whose plan would be more than a third dearer with the hidden columns, as when
-// they make the rows of a sort too wide for the memory that it may use.
-const Dear = "the hidden columns would make its plan more than a third dearer"
+// ManyRows is why a statement is left as it is for a while: an aggregate of it was made of very many rows, or it read
+// very many from a table though an index had them.
+const ManyRows = "it reads too many rows to be listed"
 
-// dear reports whether the trial found that.
-func (u *use) dear() bool { return len(u.costs) == 2 && plan.Dearer(u.costs[0], u.costs[1]) }
+// dear reports whether the trial found a plan too dear, as when the hidden columns make the rows of a sort too wide for the
+// memory that it may use.
+func (u *use) dear() bool { return len(u.costs) == 2 && rows(u.plan).TooDear(u.costs[0], u.costs[1]) }
 
 // hiddenColumns returns how many columns a plan adds to what its statement returns, or to the rows of its cursor.
 func hiddenColumns(p *plan.Plan) int { return rows(p).Hidden() }

@@ -79,18 +79,22 @@ func (c *tagger) statement(tag string, it deed, ran *int) error {
 		fmt.Sprintf("SELECT id, tag FROM tagged WHERE id = %d", id),
 		fmt.Sprintf("SELECT id, tag FROM tagged WHERE id BETWEEN %d AND %d ORDER BY id", id, id+2),
 		fmt.Sprintf("SELECT id, tag FROM tagged WHERE id = %d FOR UPDATE", id),
+		fmt.Sprintf("SELECT string_agg(id || ' ' || tag, ','), count(*) FROM tagged WHERE id BETWEEN %d AND %d", id, id+2),
 	}
 	write := fmt.Sprintf("UPDATE tagged SET replaced = tag, tag = '%s' WHERE id = %d RETURNING id, replaced", tag, id)
-	switch n := c.r.Intn(6); n {
-	case 0, 1, 2:
+	switch n := c.r.Intn(8); n {
+	case 0, 1, 2, 3:
 		rows, err := c.rows(read[n])
+		if n == 3 && err == nil {
+			rows = apart(rows[0][0])
+		}
 		for _, row := range rows {
 			one := version{row[0], row[1]}
 			it.read[one] = append(it.read[one], *ran)
 		}
 		*ran++
 		return err
-	case 3: // what is undone doesn't count as written
+	case 4: // what is undone doesn't count as written
 		for _, text := range []string{"SAVEPOINT a", write, "ROLLBACK TO a"} {
 			if _, err := c.rows(text); err != nil {
 				return err
@@ -107,6 +111,16 @@ func (c *tagger) statement(tag string, it deed, ran *int) error {
 		}
 	}
 	return err
+}
+
+// apart takes the rows apart that an aggregate has joined.
+func apart(list string) (rows [][]string) {
+	for _, one := range strings.Split(list, ",") {
+		if words := strings.Split(one, " "); len(words) == 2 {
+			rows = append(rows, words)
+		}
+	}
+	return rows
 }
 
 // described is a transaction as the feed describes it.

@@ -1,0 +1,162 @@
+package plan
+
+import (
+	"encoding/binary"
+	"fmt"
+	"strconv"
+	"strings"
+	"time"
+
+	"zanteyard/keys"
+	"zanteyard/record"
+)
+
+// An aggregate makes one row of many. One hidden aggregate more lists the rows that it was made of: in the same
+// statement, so in its snapshot, of just the rows of each group. Nothing that has a bound of its own in SQL stops an
+// aggregate early, so the list has three: it is returned only if there are few rows, it takes no key that is very long,
+// and no row after the statement has run for a time, so that the server never holds much more than it can copy in that
+// time. How many rows there were is counted, so that a list in which some are missing is known as such.
+
+const (
+	// MostListed is how many rows of a table an aggregate may be made of to be listed.
+	MostListed = 256
+	// MostAggregated is how many rows an aggregate may be made of, or a statement looked up in a table though an index has
+	// all that it asks for, without the statement being left as it is for a while.
+	MostAggregated = 1024
+	// longestListed is the longest key that is listed, in bytes.
+	longestListed = 128
+	// listedFor is how long after its beginning a statement lists rows: about a million of 42 bytes, for an integer's key.
+	listedFor = time.Second
+)
+
+const countOfRows = "pg_catalog.count(*)"
+
+// lists adds a list of the table's rows.
+func (h *hiding) lists(it *item) {
+	var names []string
+	for _, column := range it.table.Key {
+		names = append(names, quote(column.Name))
+	}
+	if !h.sole {
+		h.proves(it.written, names)
+	}
+	row, long := []string{h.of(it, "xmin"), h.of(it, "tableoid")}, []string(nil)
+	for i, column := range it.table.Key {
+		text := keys.Expression(column.Type, h.of(it, names[i]), it.converts)
+		row = append(row, text)
+		if keys.IsLong(column.Type) {
+			long = append(long, text)
+		}
+	}
+	condition := "pg_catalog.clock_timestamp() OPERATOR(pg_catalog.<) (pg_catalog.statement_timestamp() " +
+		"OPERATOR(pg_catalog.+) '" + strconv.Itoa(int(listedFor.Seconds())) + "s'::pg_catalog.interval)"
+	if long != nil {
+		condition += " AND pg_catalog.octet_length(pg_catalog.concat(" + strings.Join(long, ", ") +
+			")) OPERATOR(pg_catalog.<=) " + strconv.Itoa(longestListed)
+	}
+	h.value("CASE WHEN " + countOfRows + " OPERATOR(pg_catalog.<=) " + strconv.Itoa(MostListed) +
+		" THEN pg_catalog.string_agg(pg_catalog.record_send(ROW(" + strings.Join(row, ", ") + ")), '') FILTER (WHERE " +
+		condition + ") END")
+}
+
+// Lists reports whether hidden columns list the rows that a row of the result was made of.
+func (p *Plan) Lists() bool { return p.Counts }
+
+// Aggregated returns how many rows a row of the result was made of, if the plan counts them.
+func (p *Plan) Aggregated(values [][]byte, isBinary bool) (uint64, bool) {
+	if !p.Counts || len(values) != p.Hidden() || values[0] == nil {
+		return 0, false
+	}
+	if isBinary {
+		if len(values[0]) != 8 {
+			return 0, false
+		}
+		return binary.BigEndian.Uint64(values[0]), true
+	}
+	number, err := strconv.ParseUint(string(values[0]), 10, 64)
+	return number, err == nil
+}
+
+// Complete reports whether the lists of a row have all rows that it was made of.
+func (p *Plan) Complete(values [][]byte, isBinary bool) bool {
+	if !p.Counts {
+		return true
+	}
+	rows, ok := p.Aggregated(values, isBinary)
+	at := 1
+	for i := range p.Sources {
+		group := values[at : at+p.Sources[i].Hidden()]
+		at += len(group)
+		if !p.Sources[i].Listed {
+			continue
+		}
+		list, readable := raw(group[0], isBinary)
+		var listed uint64
+		for ; readable && len(list) > 0; listed++ {
+			_, list, readable = cutRecord(list, nil)
+		}
+		ok = ok && readable && listed == rows
+	}
+	return ok
+}
+
+// appendList returns the rows of a list.
+func (s *Source) appendList(to []record.Read, value []byte, isBinary bool) ([]record.Read, error) {
+	list, ok := raw(value, isBinary)
+	fields := make([][]byte, 0, 2+len(s.Types))
+	var failed error
+	for ok && len(list) > 0 {
+		if fields, list, ok = cutRecord(list, fields[:0]); !ok || len(fields) != 2+len(s.Types) {
+			return to, fmt.Errorf("a list of rows of relation %d can't be read", s.Relation)
+		}
+		if fields[0] == nil { // an outer join left it NULL
+			continue
+		}
+		read, err := s.decode(fields, true)
+		if err != nil {
+			failed = err
+			continue
+		}
+		to = append(to, read)
+	}
+	if !ok {
+		failed = fmt.Errorf("a list of rows of relation %d can't be read", s.Relation)
+	}
+	return to, failed
+}
+
+// raw returns the bytes of a bytea.
+func raw(value []byte, isBinary bool) ([]byte, bool) {
+	if isBinary || value == nil {
+		return value, true
+	}
+	return keys.Raw(value)
+}
+
+// cutRecord cuts the first record in its binary form off a list: how many columns it has, and the type, the length and
+// the value of each, which it appends to fields; nil stands for NULL.
+func cutRecord(list []byte, fields [][]byte) (its [][]byte, rest []byte, ok bool) {
+	const number = 4
+	if len(list) < number {
+		return fields, nil, false
+	}
+	columns := binary.BigEndian.Uint32(list)
+	list = list[number:]
+	for ; columns > 0; columns-- {
+		if len(list) < 2*number {
+			return fields, nil, false
+		}
+		length := int32(binary.BigEndian.Uint32(list[number:]))
+		list = list[2*number:]
+		switch {
+		case length == -1:
+			fields = append(fields, nil)
+		case length < 0 || int64(length) > int64(len(list)):
+			return fields, nil, false
+		default:
+			fields = append(fields, list[:length:length])
+			list = list[length:]
+		}
+	}
+	return fields, list, true
+}

@@ -1,0 +1,167 @@
+package plan
+
+import (
+	"encoding/json"
+	"strings"
+
+	"zanteyard/catalog"
+	"zanteyard/keys"
+)
+
+// The order in which rows are read shows in an answer: in the order of its rows, in what an array of them has, in the last
+// digit of a sum. So a statement that is read by another plan with the hidden columns may answer otherwise. Its plans are
+// compared, unless the order can't show.
+
+// planned is a node of a plan, as EXPLAIN writes it in JSON.
+type planned struct {
+	Type      string    `json:"Node Type"`
+	Strategy  string    `json:"Strategy"`
+	Join      string    `json:"Join Type"`
+	Place     string    `json:"Parent Relationship"`
+	Relation  string    `json:"Relation Name"`
+	Alias     string    `json:"Alias"`
+	Index     string    `json:"Index Name"`
+	Direction string    `json:"Scan Direction"`
+	Command   string    `json:"Command"`
+	Plans     []planned `json:"Plans"`
+}
+
+// Form returns what the answer to Explained says of how rows are read: in the same form they are read in the same order.
+// A scan of an index alone has the form of one that looks into the table. "" if the answer can't be read.
+func Form(answer []byte) string {
+	var all []struct {
+		Plan *planned
+	}
+	if json.Unmarshal(answer, &all) != nil || len(all) != 1 || all[0].Plan == nil {
+		return ""
+	}
+	var out strings.Builder
+	all[0].Plan.write(&out)
+	return out.String()
+}
+
+// sortsGroups reports whether ORDER BY has each column that a query groups by, and each value of these has one form: then
+// the order of the groups is certain, and what is shown of them. Otherwise both may depend on how large the server expects
+// the groups to be, with what is listed of them.
+func (m *maker) sortsGroups(body node, f *fromClause) bool {
+	for _, group := range body.list("groupClause") {
+		found := false
+		for _, item := range body.list("sortClause") {
+			_, sort := only(item)
+			found = found || alike(group, sort["node"])
+		}
+		if column, ok := m.columnOf(group, f); !found || !ok || !hasOneForm(column) {
+			return false
+		}
+	}
+	return true
+}
+
+// hasOneForm reports whether a column's values that are equal are the same, to the byte.
+func hasOneForm(column catalog.Column) bool {
+	switch column.Base {
+	case keys.Int2, keys.Int4, keys.Int8, keys.Bool, keys.UUID, keys.Date, keys.Timestamp, keys.Timestamptz, keys.Oid, keys.Bytea:
+		return true
+	case keys.Text, keys.Varchar, keys.Name:
+		return column.Collation == catalog.Bytewise || column.Collation == catalog.Deterministic
+	}
+	return column.Type == keys.Enum
+}
+
+func (n *planned) write(out *strings.Builder) {
+	kind := n.Type
+	if kind == "Index Only Scan" {
+		kind = "Index Scan"
+	}
+	for _, word := range []string{kind, n.Strategy, n.Join, n.Place, n.Relation, n.Alias, n.Index, n.Direction, n.Command} {
+		out.WriteString(word)
+		out.WriteByte('|')
+	}
+	out.WriteByte('(')
+	for i := range n.Plans {
+		n.Plans[i].write(out)
+	}
+	out.WriteByte(')')
+}
+
+// ordered reports whether the order in which a query's rows are read may show in its answer.
+func (m *maker) ordered(body node, f *fromClause) bool {
+	if body.has("distinctClause") || body.has("windowClause") || body.has("groupClause") && !m.sortsGroups(body, f) {
+		return true
+	}
+	shows := false
+	grouped := body.list("groupClause")
+	visit([]any{body["targetList"], body["havingClause"]}, func(kind string, its node) bool {
+		switch kind {
+		case "ColumnRef":
+			for _, group := range grouped { // the groups' order is certain
+				_, column := only(group)
+				if alike(column, its) {
+					return false
+				}
+			}
+			shows = true
+		case "SubLink", "SQLValueFunction":
+			shows = true
+		case "FuncCall":
+			if m.orderless(its, f) {
+				return false
+			}
+			shows = true
+		}
+		return !shows
+	})
+	return shows
+}
+
+// orderless reports whether a call is of an aggregate whose result is the same in any order.
+func (m *maker) orderless(call node, f *fromClause) bool {
+	name := names(call.list("funcname"))
+	if len(name) == 0 || call.has("over") || !m.function(call).Always || m.function(call).Made {
+		return false
+	}
+	args := call.list("args")
+	if name[len(name)-1] == "count" {
+		return len(args) == 0 || m.isColumn(args[0], f) != 0
+	}
+	if len(args) != 1 {
+		return false
+	}
+	switch name[len(name)-1] {
+	case "sum", "avg":
+		switch m.isColumn(args[0], f) {
+		case keys.Int2, keys.Int4, keys.Int8, keys.Numeric:
+			return true
+		}
+	case "min", "max":
+		switch m.isColumn(args[0], f) {
+		case keys.Int2, keys.Int4, keys.Int8, keys.Date, keys.Timestamp, keys.Timestamptz:
+			return true
+		}
+	}
+	return false
+}
+
+// isColumn returns the type of the column that an expression is, of a table in FROM; 0 if it is none, or of several.
+func (m *maker) isColumn(expression any, f *fromClause) uint32 {
+	column, _ := m.columnOf(expression, f)
+	return column.Type
+}
+
+func (m *maker) columnOf(expression any, f *fromClause) (found catalog.Column, is bool) {
+	kind, body := only(expression)
+	if kind != "ColumnRef" || f.items > len(f.found) {
+		return found, false
+	}
+	fields := names(body.list("fields"))
+	for _, it := range f.found {
+		_, all, hit := f.column(reference{fields: fields}, it)
+		if (hit || all) && (is || all) {
+			return catalog.Column{}, false
+		}
+		if hit {
+			found, is = it.table.Column(fields[len(fields)-1])
+		}
+	}
+	return found, is
+}

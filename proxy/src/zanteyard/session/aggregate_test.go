@@ -1,0 +1,137 @@
+package session
+
+import (
+	"context"
+	"fmt"
+	"testing"
+	"time"
+
+	"zanteyard/definitions"
+	"zanteyard/plan"
+)
+
+// listing has tables whose rows an index may have, or too many of them, or with long keys.
+const listing = `
+DROP TABLE IF EXISTS listed, spelled;
+CREATE TABLE listed (id int PRIMARY KEY, g int, h int, x int);
+INSERT INTO listed SELECT i, i / 10, i * 7919 % 2000, i FROM generate_series(1, 20000) i;
+CREATE INDEX ON listed (g); CREATE INDEX ON listed (h);
+CREATE TABLE spelled (name text PRIMARY KEY, x int);
+INSERT INTO spelled SELECT i || repeat('x', 100 * (i % 2)), i FROM generate_series(1, 20) i;
+INSERT INTO spelled VALUES (repeat('y', 129), 100), (repeat('z', 128), 200);
+`
+
+// knowing makes sessions know the definitions as they are now.
+func knowing(t *testing.T) func(*Options) {
+	t.Helper()
+	d, err := definitions.Open(context.Background(), config(), time.Hour, func(string) {})
+	if err != nil {
+		t.Fatal(err)
+	}
+	return func(o *Options) { o.Plans, o.Generation, o.Shared = d, d.Generation, nil }
+}
+
+// TestListed runs aggregates, and statements that an index may answer alone: what is answered is the same, and what was
+// read is told, or why it isn't.
+func TestListed(t *testing.T) {
+	needServer(t)
+	sql(t, fill)
+	sql(t, listing)
+	sql(t, "VACUUM ANALYZE listed")
+	known := knowing(t)
+	plain := direct(t, "postgres")
+	for _, x := range []struct {
+		text  string
+		reads int
+		why   string // "" if all is seen
+	}{
+		{"SELECT count(*), sum(x) FROM listed WHERE g = 5", 10, ""},
+		{"SELECT count(*) FROM listed WHERE g = 5", 10, ""},
+		{"SELECT sum(x), max(x) FROM listed WHERE g = 5 HAVING count(*) > 3", 10, ""},
+		{"SELECT count(*) FROM listed WHERE h = 5", 10, ""},
+		{"SELECT count(*) FROM listed WHERE g BETWEEN 5 AND 29 AND h > 0", 250, ""},
+		{"SELECT count(*) FROM listed WHERE id < 300", 0, tooManyRows},
+		{"SELECT count(*), sum(x) FROM listed", 0, plan.Dear},
+		{"SELECT count(*) FROM listed", 0, tooManyRows},
+		{"SELECT max(id) FROM listed", 0, "MIN or MAX"},
+		{"SELECT max(x) FROM listed WHERE g = 5", 10, ""},
+		{"SELECT array_agg(x) FROM listed WHERE g = 5", 10, ""},
+		{"SELECT 1 AS one FROM listed WHERE g = 5 LIMIT 1", 1, ""},
+		{"SELECT g FROM listed WHERE g = 5", 10, ""},
+		{"SELECT h FROM listed WHERE h = 5", 10, ""},
+		{"SELECT h FROM listed WHERE h BETWEEN 5 AND 50", 0, plan.Reordered}, // by a bitmap, which has the pages' order
+		{"SELECT 1 AS one FROM listed WHERE h = 5", 10, ""},
+		{"SELECT id FROM listed ORDER BY id LIMIT 3", 3, ""},
+		{"SELECT h FROM listed WHERE h > 3 ORDER BY h", 0, plan.ByIndex},
+		{"SELECT count(*), min(x) FROM spelled WHERE x < 10", 9, ""},
+		{"SELECT count(*), min(x) FROM spelled WHERE x > 10 AND x <> 100", 11, ""},
+		{"SELECT count(*), min(x) FROM spelled WHERE x > 18", 3, tooManyRows},
+		{"SELECT g, count(*) FROM listed WHERE id BETWEEN 5 AND 34 GROUP BY g ORDER BY g", 30, ""},
+		{"SELECT g, count(*) FROM listed WHERE id BETWEEN 5 AND 34 GROUP BY g HAVING count(*) > 5 ORDER BY g DESC", 20, ""},
+		{"SELECT g, sum(x) FROM listed WHERE h = 5 GROUP BY g ORDER BY g", 10, ""},
+		{"SELECT h, count(*), max(g) FROM listed WHERE x < 50 GROUP BY h ORDER BY h", 49, ""},
+		{"SELECT g, count(*) FROM listed WHERE id < 50 GROUP BY g", 0, "GROUP BY without an ORDER BY"},
+		{"SELECT g, count(*) FROM listed GROUP BY g ORDER BY g", 0, plan.ByIndex},
+		{"SELECT g, sum(x) FROM listed GROUP BY g ORDER BY g", 0, plan.Dear},
+		{"SELECT count(t.v), sum(u.v) FROM t LEFT JOIN u ON u.a = t.id AND u.b <> 'b1' WHERE t.id < 3", 7, ""},
+		{"SELECT count(*), sum(v) FROM t WHERE id = 5", 1, ""},
+	} {
+		t.Run(x.text, func(t *testing.T) {
+			want := show(plain.do(query(x.text)))
+			p := through(t, "postgres", known)
+			until(t, "it was tried", func() bool {
+				p.sink.take()
+				p.sink.forget()
+				if got := show(p.do(query(x.text))); got != want {
+					t.Fatalf("got\n%s\nand not\n%s", got, want)
+				}
+				p.settle()
+				return !p.sink.left("not tried") && !p.sink.left("something may have changed")
+			})
+			reads := 0
+			for _, it := range p.sink.take() {
+				reads += len(it.Reads)
+			}
+			if reads != x.reads || x.why == "" && len(p.sink.unseen) > 0 || x.why != "" && !p.sink.left(x.why) {
+				t.Errorf("%d reads are told, left out: %q", reads, p.sink.unseen)
+			}
+		})
+	}
+}
+
+// TestRests: an aggregate of many rows by a condition of which the server expected few is left as it is for a while, on
+// all connections.
+func TestRests(t *testing.T) {
+	needServer(t)
+	sql(t, listing)
+	sql(t, "VACUUM ANALYZE listed")
+	sql(t, "UPDATE listed SET g = 777 WHERE id < 2000")
+	known := knowing(t)
+	p := through(t, "postgres", known)
+	text := func(g int) string {
+		return fmt.Sprintf("SELECT count(*), sum(x) FROM listed WHERE g = %d AND x > 0", g)
+	}
+	p.warm(text(1900), text(1900))
+	p.sink.forget()
+	p.query(text(1901))
+	p.settle()
+	if its := p.sink.take(); len(its) != 1 || len(its[0].Reads) != 10 {
+		t.Fatalf("told is %+v, left out %q", its, p.sink.unseen)
+	}
+	p.query(text(777))
+	p.settle()
+	if its := p.sink.take(); len(its) != 1 || len(its[0].Reads) != 0 || !p.sink.left(tooManyRows) {
+		t.Fatalf("told is %+v, left out %q", its, p.sink.unseen)
+	}
+	other := through(t, "postgres", known)
+	for _, its := range []*proxied{p, other} {
+		its.sink.forget()
+		for i := 0; i < 10 && !its.sink.left(ManyRows); i++ { // at first it is tried
+			its.query(text(1901))
+			its.settle()
+		}
+		if !its.sink.left(ManyRows) {
+			t.Errorf("it isn't left as it is: %q", its.sink.unseen)
+		}
+	}
+}
