@@ -398,7 +398,10 @@ class Life:
             self.its.append(one)
 
     def fails(self) -> None:
-        """The last statement ended with an error."""
+        """The last statement ended with an error: perhaps a COMMIT."""
+        if not self.its and self.done and self.done[-1][0] == "commit":
+            self.done[-1] = ("rollback", self.done[-1][1])
+            return
         self.failed = True
         if self.its:
             self.its[-1] = Statement("failed", self.its[-1].on_table)

@@ -181,7 +181,8 @@ def transaction(its: Any, chance: random.Random, values: dict[str, Any]) -> None
     level = chance.choice(("READ COMMITTED", "REPEATABLE READ", "SERIALIZABLE"))
     its.execute(f"BEGIN ISOLATION LEVEL {level}")
     for text in chance.choice(BLOCKS).format(**values).split("; "):
-        its.execute(text)
+        # pg_stat_statements doesn't count a prepared FETCH again.
+        its.execute(text, prepare=False if text.startswith("FETCH") else None)
     its.execute("ROLLBACK" if kind > 0.9 else "COMMIT")
 
 

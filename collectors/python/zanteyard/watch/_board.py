@@ -63,6 +63,7 @@ class Board:
         with self._turn:
             self._note(
                 is_over=False,
+                has_begun=True,
                 database=text(event.get("database")),
                 server=text(event.get("server")),
                 subtransactions=text(event.get("subtransactions")),

@@ -80,7 +80,8 @@ def families(status: Status) -> Iterator[Family]:
         about = "Messages that weren't signed with the audit's key."
         yield one("messages_refused_total", "counter", about, seen.others.refused)
         yield one("redis_up", "gauge", "1 if Redis can be reached.", not seen.others.down)
-    yield one("audits_total", "counter", "Audits started.", status.audit)
+    audits = status.audit if status.has_begun else 0
+    yield one("audits_total", "counter", "Audits started.", audits)
     yield one("violations_total", "counter", "Violations found.", status.violations_count)
     yield one("violations_known_total", "counter", "Of these, set aside.", status.known_count)
     shapes = [

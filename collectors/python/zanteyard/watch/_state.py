@@ -117,6 +117,12 @@ class Seen:
         if its.other_statements:
             told = counted(its.other_statements, "more statement")
             yield f"{told} defined something, called a procedure or the like: not looked into"
+        unknown = its.rows_written.not_checked.get("its writes couldn't be told apart", 0)
+        if unknown:
+            yield (
+                f"{unknown:,} of the rows written may be those of one of several transactions, or of a "
+                "program that bypasses the proxy"
+            )
         if its.others:
             told = counted(its.others, "more transaction")
             rows = counted(its.others_rows, "row")
@@ -157,6 +163,7 @@ class Status:
     server: str = ""  # its version
     subtransactions: str = ""  # how they are resolved
     audit: int = 1
+    has_begun: bool = False  # the first one, or a later one
     kind: str = "running"
     is_over: bool = False  # nothing is audited at the moment
     ended: tuple[Ended, ...] = ()

@@ -66,6 +66,26 @@ func New(config Config) *Audit {
 // Sink takes the sessions' records.
 func (a *Audit) Sink() record.Sink { return a.inbox }
 
+// After makes what ended between an audit that is over and this one count in this one.
+func (a *Audit) After(before *Audit) { a.inbox.After(before.inbox) }
+
+// Late tells the parent of an audit that is over what has ended since, while no audit ran.
+func (a *Audit) Late() {
+	late := a.inbox.Late()
+	a.lock.Lock()
+	joiner := a.joiner
+	a.lock.Unlock()
+	var its join.Coverage
+	if joiner != nil {
+		if its = joiner.Coverage(); its.At.IsZero() {
+			return // it ended by a fault: what it told last stands
+		}
+	}
+	its.Totals.Add(&late)
+	its.At, its.Last = time.Now(), true
+	feed.Write(a.config.Out, its)
+}
+
 // Drained tells the parent that no connection is left, and none will come.
 func (a *Audit) Drained() { a.writer.Event(join.Drained{At: time.Now()}) }
 
@@ -192,6 +212,7 @@ func (a *Audit) begin(ctx context.Context) (*running, error) {
 		its.close()
 		return nil, err
 	}
+	opened := time.Now()
 	if err := control.Follow(begin, its.reader.Mark()); err != nil {
 		its.close()
 		return nil, err
@@ -211,6 +232,7 @@ func (a *Audit) begin(ctx context.Context) (*running, error) {
 		its.close()
 		return nil, err
 	}
+	started.Opened = opened
 	started.Slot, started.Plugin, started.Temporary = a.config.Slot.Name, string(its.reader.Plugin()), !a.config.Slot.Permanent
 	started.Subtransactions = "pg_walinspect"
 	if why != "" {

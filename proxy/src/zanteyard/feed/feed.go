@@ -37,7 +37,7 @@ func (w *Writer) Line(line []byte) { w.put(line) }
 
 // Event writes an event.
 func (w *Writer) Event(it join.Event) {
-	if _, is := it.(join.Coverage); is && w.waiting() > enough {
+	if its, is := it.(join.Coverage); is && !its.Last && w.waiting() > enough {
 		return
 	}
 	text, err := encode(it)
@@ -45,6 +45,13 @@ func (w *Writer) Event(it join.Event) {
 		text = []byte(`{"event":"warning","text":"an event could not be written"}`)
 	}
 	w.put(text)
+}
+
+// Write writes an event by itself, where no Writer runs.
+func Write(to io.Writer, it join.Event) {
+	if text, err := encode(it); err == nil {
+		to.Write(append(text, '\n'))
+	}
 }
 
 func (w *Writer) waiting() int {

@@ -20,6 +20,7 @@ type core struct {
 	out         func(line []byte) // takes a line for the auditor, without its newline; it copies what it keeps
 	began, now  time.Time
 	slotted     time.Time // what was committed before this may be missing in the slot
+	opened      time.Time // what had ended before this is
 	connections map[uint64]*connection
 	queue       []*connection // those without a session
 	sessions    []*session
@@ -273,18 +274,100 @@ func (c *core) foldLate() {
 	}
 }
 
-// expected is a folded transaction that the slot hasn't reported yet.
+// expected is a folded transaction that the slot hasn't reported yet, with the rows that its statements wrote by their own
+// words.
 type expected struct {
 	batch  uint64
 	writer *writer
+	rows   uint64
+}
+
+// isAwaited reports whether the slot hasn't reported a transaction.
+func (c *core) isAwaited(w *writer) bool { return w.place == 0 && c.writers[w.number] == w }
+
+// missing counts the rows of a folded transaction that was committed where the slot doesn't report it.
+func (c *core) missing(one expected, was bool) {
+	if was {
+		c.counts.wrote(one.rows)
+		c.counts.leaveWrites(c.owed[one.writer.number], one.rows)
+	}
+}
+
+// end counts as not checked what isn't decided at the audit's end, and what nobody has taken out of the inbox. What the
+// slot hasn't reported by then counts with the rows that its statements wrote by their own words.
+func (c *core) end(rest []message) {
+	for _, one := range rest {
+		it := one.dropped
+		if one.transaction != nil {
+			it = one.transaction
+			it.Outcome = c.outcome(it)
+			c.counts.totals.told(it)
+		}
+		switch {
+		case it == nil || it.Outcome == record.Aborted:
+		case it.Number == 0:
+			c.await(it)
+		case !c.isReported(it.Number):
+			c.counts.wrote(it.Did.Written)
+		}
+	}
+	c.endUnnumbered()
+	for _, s := range c.sessions {
+		c.endEntries(s.waiting)
+	}
+	c.endEntries(c.held)
+	for _, one := range c.expected {
+		if c.isAwaited(one.writer) {
+			c.missing(one, true)
+		}
+	}
+	c.counts.totals.close(auditEnded)
+}
+
+// endUnnumbered counts the rows of those whose number isn't known, as far as the slot hasn't reported as many: at most those
+// of what it hasn't passed.
+func (c *core) endUnnumbered() {
+	most, reported := uint64(0), c.counts.leftWrites[noNumber]
+	for _, u := range c.unnumbered {
+		if u.batch > c.passed {
+			most += u.rows
+		}
+	}
+	for _, w := range c.late {
+		if w.fate == undecided && !w.named {
+			reported += uint64(len(w.writes()))
+			for _, left := range w.leftOut() {
+				reported += left.rows
+			}
+		}
+	}
+	if n := c.counts.unnumbered; n > reported {
+		c.counts.wrote(min(n-reported, most))
+	}
+}
+
+func (c *core) endEntries(its []*entry) {
+	for _, e := range its {
+		if !e.fence && e.writer != nil && e.writer.place == 0 {
+			c.counts.wrote(e.its.Did.Written)
+		}
+	}
+}
+
+// isReported reports whether the slot has reported the commit of a number that no session has named.
+func (c *core) isReported(number uint64) bool {
+	w := c.writers[uint32(number)]
+	_, was := c.others.by[uint32(number)]
+	return was || w != nil && w.place != 0
 }
 
 // giveUpExpected drops folded transactions that the slot never reports.
 func (c *core) giveUpExpected() {
 	for len(c.expected) > 0 && c.expected[0].batch <= c.passed {
-		if w := c.expected[0].writer; w.place == 0 && c.writers[w.number] == w {
-			delete(c.writers, w.number)
-			delete(c.owed, w.number)
+		if one := c.expected[0]; c.isAwaited(one.writer) {
+			c.missing(one, c.isOld(one.writer.number))
+			delete(c.writers, one.writer.number)
+			delete(c.owed, one.writer.number)
 		}
 		c.expected[0].writer = nil
 		c.expected = c.expected[1:]

@@ -12,6 +12,7 @@ type counts struct {
 	leftReads                                                                map[string]uint64
 	writes, writesOffered                                                    uint64
 	leftWrites                                                               map[string]uint64
+	unnumbered                                                               uint64 // rows of such transactions, by their own words
 	// totals has what is decided, except that what was offered since the last round is in fresh.
 	totals, fresh              Totals
 	asks, asksFollowed, passed uint64 // conditions, and rows they passed over

@@ -18,6 +18,7 @@ type Started struct {
 	Temporary        bool
 	Subtransactions  string
 	Warnings         []string
+	Opened           time.Time // when the slot had begun: what had ended by then isn't in it
 }
 
 // Meeting reports a quiet moment, for which clients were held that long, and how many fences were written for it.
@@ -76,6 +77,8 @@ type Coverage struct {
 	Rounds, StatementsDropped, Lost, SubsLost uint64
 	Remotes                                   *Remotes // nil if no other proxies are expected
 	Totals                                    Totals
+	// Last means that nothing more is told of this audit: it is written in any case.
+	Last bool
 }
 
 // Remotes reports the state of the proxies that feed the audit from other machines.

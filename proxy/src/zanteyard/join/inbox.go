@@ -21,6 +21,8 @@ type Inbox struct {
 	bytes   int
 	most    int
 	closed  bool
+	late    Totals // of what ended since it was closed
+	next    *Inbox // the one of the next audit, to which that goes
 	lost    uint64
 	gone    map[string]uint64 // by reason
 	totals  Totals            // of transactions that never reach the joiner
@@ -75,9 +77,13 @@ func (b *Inbox) Transaction(it record.Transaction) {
 	if it.Elsewhere {
 		b.lock.Lock()
 		defer b.lock.Unlock()
+		if b.closed {
+			b.countLate(&it)
+			return
+		}
 		b.lose(otherServer, 1)
-		b.totals.told(&it)
-		b.totals.leave(&it, otherServer)
+		b.totals.apart(&it, otherServer)
+		b.totals.wrote(&it, otherServer)
 		return
 	}
 	b.put(message{transaction: &it}, sizeOf(&it))
@@ -108,6 +114,8 @@ func (b *Inbox) add(it message, bytes int) bool {
 		it.moment.at = b.now() // what was put in before had ended by then
 	}
 	switch {
+	case b.closed && it.transaction != nil:
+		b.countLate(it.transaction)
 	case b.closed:
 	case bytes > 0 && b.bytes+bytes > b.most:
 		b.drop(it.transaction)
@@ -120,18 +128,18 @@ func (b *Inbox) add(it message, bytes int) bool {
 
 // drop counts a transaction for which there is no room.
 func (b *Inbox) drop(it *record.Transaction) {
-	b.totals.told(it)
+	b.totals.apart(it, tooFast)
 	if it.Outcome == record.Aborted {
 		return
 	}
 	b.lost++
-	b.totals.leave(it, tooFast)
 	if it.Number == 0 && !it.MayHaveWritten || b.dropped >= mostDropped {
 		return
 	}
 	b.dropped++
 	b.its = append(b.its, message{dropped: &record.Transaction{Connection: it.Connection, Began: it.Began, Ended: it.Ended,
-		After: it.After, Known: it.Known, Number: it.Number, MayHaveWritten: it.MayHaveWritten, Defines: it.Defines}})
+		After: it.After, Known: it.Known, Number: it.Number, MayHaveWritten: it.MayHaveWritten, Defines: it.Defines,
+		Did: record.Did{Written: it.Did.Written}}})
 }
 
 // sizeOf returns about how many bytes a transaction takes.
@@ -202,11 +210,56 @@ func (b *Inbox) take() (its []message, lost uint64) {
 	return its, b.lost
 }
 
-// Close makes everything be dropped from now on.
-func (b *Inbox) Close() {
+// Close ends the audit: of what is told from now on transactions are counted, and nothing else (Late). So are those that
+// nobody took out.
+func (b *Inbox) Close() { b.tellLate(b.close()) }
+
+func (b *Inbox) tellLate(its []message) {
 	b.lock.Lock()
 	defer b.lock.Unlock()
+	for _, one := range its {
+		if one.transaction != nil {
+			b.countLate(one.transaction)
+		}
+	}
+}
+
+// countLate counts a transaction that ended while no audit ran. Called with lock held.
+func (b *Inbox) countLate(it *record.Transaction) {
+	to := &b.late
+	if b.next != nil {
+		b.next.lock.Lock()
+		defer b.next.lock.Unlock()
+		to = &b.next.totals
+	}
+	to.apart(it, noAudit)
+	to.wrote(it, noAudit)
+}
+
+// Late returns what was counted since it was closed.
+func (b *Inbox) Late() Totals {
+	b.lock.Lock()
+	defer b.lock.Unlock()
+	return b.late.copied()
+}
+
+// After makes an inbox that was closed count for this one, of the next audit.
+func (b *Inbox) After(closed *Inbox) {
+	closed.lock.Lock()
+	defer closed.lock.Unlock()
+	b.lock.Lock()
+	defer b.lock.Unlock()
+	b.totals.add(&closed.late)
+	closed.late, closed.next = Totals{}, b
+}
+
+// close closes it, and returns what is in it.
+func (b *Inbox) close() []message {
+	b.lock.Lock()
+	defer b.lock.Unlock()
+	its := b.its
 	b.its, b.bytes, b.dropped, b.closed = nil, 0, 0, true
+	return its
 }
 
 // counted returns what was counted for this audit: the shapes of what was left out, most frequent first, the losses by

@@ -92,8 +92,9 @@ type Joiner struct {
 	again      bool // a new audit is wanted
 	restarts   atomic.Bool
 	failed     error
-	unanswered int  // number of rounds whose truncate wasn't answered by a cut
-	placing    bool // a question for the log's place is under way
+	ended      Coverage // once Run has returned
+	unanswered int      // number of rounds whose truncate wasn't answered by a cut
+	placing    bool     // a question for the log's place is under way
 	placedAt   time.Time
 	failing    time.Time // since when that question has failed
 	failure    error
@@ -167,15 +168,22 @@ func (j *Joiner) Start(it Started) { j.started = it }
 func (j *Joiner) Run(ctx context.Context) error {
 	err := guard.Run("the joiner", func() error { return j.run(ctx) })
 	close(j.done)
-	j.inbox.Close()
+	rest := j.inbox.close()
 	if j.core != nil && !guard.IsFault(err) { // after a fault, nothing that it holds can be relied on
 		j.core.flush()
-		j.core.counts.totals.close(auditEnded)
-		j.output.Event(j.coverageEvent(false))
+		j.core.end(rest)
+		j.ended = j.coverageEvent(false)
+		j.ended.Last = true
+		j.output.Event(j.ended)
+	} else {
+		j.inbox.tellLate(rest)
 	}
 	j.output.Event(Ended{Reason: err.Error()})
 	return err
 }
+
+// Coverage returns the state of the audit when Run returned.
+func (j *Joiner) Coverage() Coverage { return j.ended }
 
 func (j *Joiner) run(ctx context.Context) error {
 	j.started.At, j.started.Limit, j.started.Sessions = time.Now(), j.opt.Limit, j.opt.Sessions
@@ -226,6 +234,7 @@ func (j *Joiner) begin(ctx context.Context) error {
 	connections, before := j.connections(), j.core
 	j.core = newCore(j.opt, j.tables, base, j.output.Line, time.Now())
 	j.core.inspects, j.core.database, j.core.slotted = j.inspects, j.started.Database, j.made
+	j.core.opened = j.started.Opened
 	if before != nil {
 		j.core.inherit(before)
 	}
@@ -286,7 +295,9 @@ func (j *Joiner) tick(ctx context.Context) error {
 		j.restarts.Store(false)
 		j.core.flush()
 		j.core.counts.totals.close(auditEnded)
-		j.output.Event(j.coverageEvent(true))
+		last := j.coverageEvent(true)
+		last.Last = true
+		j.output.Event(last)
 		j.output.Event(Restarted{At: now})
 		if err := j.begin(ctx); err != nil {
 			return err

@@ -70,7 +70,9 @@ func (j *Joiner) endMeeting() {
 	j.meeting = meeting{}
 	if isLast {
 		j.stopping = false
-		j.output.Event(j.coverageEvent(false))
+		last := j.coverageEvent(false)
+		last.Last = true
+		j.output.Event(last)
 		j.output.Event(Stopped{At: j.core.now})
 	}
 }

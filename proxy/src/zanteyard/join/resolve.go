@@ -114,6 +114,8 @@ func (c *core) resolve(e *entry) (resolution, bool) {
 		e.writer = nil
 		if e.its.Ended.Before(c.slotted) {
 			e.late = betweenAudits
+			c.counts.wrote(e.its.Did.Written)
+			c.counts.leaveWrites(e.late, e.its.Did.Written)
 		}
 	}
 	if c.waitsBeside(e) || !c.resolveWrites(e, &to) {

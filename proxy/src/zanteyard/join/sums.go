@@ -19,8 +19,10 @@ const (
 	someStatements = "some statements weren't seen"
 	someRows       = "some row reads or writes were left out"
 	someEmpty      = "a statement of it found no row"
+	beforeAudit    = "it ended before the audit began"
 	betweenAudits  = "it was under way when the audit began"
 	auditEnded     = "the audit ended before its next round"
+	noAudit        = "no audit was running"
 	tooFast        = "reported faster than they could be processed"
 )
 
@@ -33,6 +35,7 @@ type unnumbered struct {
 	over    bool
 	open    time.Time // if its outcome is unknown: until then it may still be committed
 	defines bool      // its commit may be one without a row
+	rows    uint64    // that it wrote, by its statements' own words
 }
 
 // stillOpen is for how many times Options.Late the commit of a transaction is awaited whose outcome is unknown, such as
@@ -54,7 +57,8 @@ func (c *core) await(it *record.Transaction) {
 	if len(c.unnumbered) >= mostUnnumbered {
 		c.unnumbered = c.unnumbered[1:]
 	}
-	its := unnumbered{began: began, batch: c.batch, defines: it.Defines}
+	c.counts.unnumbered += it.Did.Written
+	its := unnumbered{began: began, batch: c.batch, defines: it.Defines, rows: it.Did.Written}
 	if it.Outcome == record.Unclear {
 		its.open = c.now.Add(stillOpen * c.opt.Late)
 	}
@@ -175,7 +179,7 @@ func (c *core) foldOther(w *writer) {
 func (c *core) inherit(from *core) {
 	for number, w := range from.writers {
 		if w.named && w.place == 0 {
-			c.owe(&writer{number: number, named: true, fate: folded}, betweenAudits)
+			c.owe(&writer{number: number, named: true, fate: folded}, betweenAudits, 0)
 			c.writers[number] = c.expected[len(c.expected)-1].writer
 		}
 	}
@@ -203,7 +207,7 @@ func (c *core) drop(it *record.Transaction) {
 		return
 	}
 	if w := c.writer(*it); w.fate == undecided {
-		c.leaveWriter(w, tooFast)
+		c.leaveWriter(w, tooFast, it.Did.Written)
 	}
 }
 

@@ -19,9 +19,7 @@ const (
 
 // tell handles a transaction that has ended.
 func (c *core) tell(it record.Transaction) {
-	if it.OnlyRead && c.opt.Rollbacks {
-		it.Outcome = record.Committed
-	}
+	it.Outcome = c.outcome(&it)
 	c.counts.reads += readsOf(&it) + uint64(it.Beyond)
 	c.counts.totals.told(&it)
 	c.countAsks(&it)
@@ -29,7 +27,7 @@ func (c *core) tell(it record.Transaction) {
 	if conn != nil {
 		conn.active = c.now
 	}
-	if it.Outcome != record.Aborted && (conn == nil || !c.isElsewhere(conn.its)) {
+	if it.Outcome != record.Aborted && (conn == nil || !c.isElsewhere(conn.its)) && !c.isOutside(&it) {
 		c.await(&it)
 	}
 	switch {
@@ -37,6 +35,8 @@ func (c *core) tell(it record.Transaction) {
 		c.counts.aborted++
 		c.counts.leaveAsks(&it, itAborted)
 		c.counts.leaveReads(itAborted, readsOf(&it)+uint64(it.Beyond))
+	case it.Unaudited:
+		c.leave(it, c.whyUnaudited(&it))
 	case conn == nil:
 		c.leave(it, noConnection)
 	case conn.session == nil && c.isElsewhere(conn.its):
@@ -54,6 +54,28 @@ func (c *core) tell(it record.Transaction) {
 	default:
 		c.take(it, conn)
 	}
+}
+
+// outcome returns how a transaction ended, or what it counts as.
+func (c *core) outcome(it *record.Transaction) record.Outcome {
+	if it.OnlyRead && c.opt.Rollbacks {
+		return record.Committed
+	}
+	return it.Outcome
+}
+
+// isOutside reports whether a transaction had ended before the slot had begun.
+func (c *core) isOutside(it *record.Transaction) bool {
+	_, ended := span(it)
+	return ended.Before(c.opened)
+}
+
+// whyUnaudited returns why nothing of a transaction is told.
+func (c *core) whyUnaudited(it *record.Transaction) string {
+	if it.Ended.Before(c.began) {
+		return beforeAudit
+	}
+	return betweenAudits
 }
 
 // countAsks counts what a transaction asked for by conditions, and forgets it if none is followed.
@@ -85,12 +107,16 @@ func readsOf(it *record.Transaction) uint64 {
 // leave folds a whole transaction.
 func (c *core) leave(it record.Transaction, reason string) {
 	c.leaveRest(&it, reason)
-	if it.Number == 0 || c.unclaim(it.Number, reason) != "" {
+	switch {
+	case it.Number == 0 && c.isOutside(&it):
+		c.counts.totals.wrote(&it, reason)
+		return
+	case it.Number == 0, c.unclaim(it.Number, reason) != "":
 		return // what it may have written without a number is found by foldOther
 	}
 	w := c.writer(it)
 	if w.fate == undecided {
-		c.leaveWriter(w, reason)
+		c.leaveWriter(w, reason, it.Did.Written)
 	}
 }
 
@@ -104,21 +130,22 @@ func (c *core) leaveRest(it *record.Transaction, reason string) {
 	c.counts.leaveReads(reason, readsOf(it)+uint64(it.Beyond)-own)
 }
 
-func (c *core) leaveWriter(w *writer, reason string) {
+// leaveWriter leaves out what a transaction wrote: as many rows by its statements' own words, if the slot hasn't reported it.
+func (c *core) leaveWriter(w *writer, reason string, rows uint64) {
 	c.counts.leaveWrites(reason, uint64(len(w.writes())))
 	c.fold(w)
 	if w.place == 0 {
-		c.owe(w, reason)
+		c.owe(w, reason, rows)
 	}
 }
 
 // owe makes a transaction's writes be counted once the slot reports them.
-func (c *core) owe(w *writer, reason string) {
+func (c *core) owe(w *writer, reason string, rows uint64) {
 	if c.owed == nil {
 		c.owed = map[uint32]string{}
 	}
 	c.owed[w.number] = reason
-	c.expected = append(c.expected, expected{c.batch, w})
+	c.expected = append(c.expected, expected{c.batch, w, rows})
 	c.batched = true
 }
 
@@ -251,7 +278,7 @@ func (c *core) isOver(w *writer) bool {
 	case w.place == 0 || w.fate != undecided || c.shows != nil && c.shows.has(w.number):
 		return true
 	case c.now.Sub(c.began)-w.seen >= c.opt.Late:
-		c.leaveWriter(w, isUnclear)
+		c.leaveWriter(w, isUnclear, 0)
 		return true
 	}
 	c.batched = true // another snapshot is wanted
@@ -268,7 +295,7 @@ func (c *core) decideUnclear(e *entry) {
 			return
 		}
 		if w.fate == undecided {
-			c.leaveWriter(w, isUnclear)
+			c.leaveWriter(w, isUnclear, 0) // perhaps it wasn't committed
 		}
 		return
 	}

@@ -75,6 +75,9 @@ func (t *Totals) add(more *Totals) {
 	t.Outside, t.OutsideRows = t.Outside+more.Outside, t.OutsideRows+more.OutsideRows
 }
 
+// Add adds those of another audit, or part of one.
+func (t *Totals) Add(more *Totals) { t.add(more) }
+
 // copied returns the same, which doesn't change any more.
 func (t *Totals) copied() Totals {
 	var to Totals
@@ -101,6 +104,22 @@ func (t *Totals) told(it *record.Transaction) {
 	t.Selects.All += selects
 	t.Writes.All += writes
 	t.RowsRead.All += rows
+}
+
+// apart counts a transaction that is never offered. If it was rolled back, there is no reason to be told.
+func (t *Totals) apart(it *record.Transaction, reason string) {
+	t.told(it)
+	if it.Outcome != record.Aborted {
+		t.leave(it, reason)
+	}
+}
+
+// wrote counts the rows of a transaction whose commit the slot doesn't report, as its statements told them.
+func (t *Totals) wrote(it *record.Transaction, reason string) {
+	if it.Outcome != record.Aborted {
+		t.RowsWritten.All += it.Did.Written
+		t.RowsWritten.leave(reason, it.Did.Written)
+	}
 }
 
 // leave counts what a transaction did as not checked, except for its rows in the slot. What wasn't seen in any case keeps

@@ -142,6 +142,9 @@ type Transaction struct {
 	Dropped    int // how many further statements it had: their texts would have taken too much room
 	// Elsewhere means that the connection didn't show that it is to the audited server: nothing else is told.
 	Elsewhere bool
+	// Unaudited means that no audit ran when it ended, or that the connection had not shown yet that it is to the server of
+	// the audit that ran: nothing else is told but its number, if it is known.
+	Unaudited bool
 }
 
 // Connection is reported when a connection begins, and again, with Ended set, when it ends. Its last transaction was

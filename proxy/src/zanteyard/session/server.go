@@ -351,6 +351,8 @@ func (s *Session) failed(o *output, e *expectation, m []byte, start, end int, pa
 		pass = len(s.failure) == 0 && !s.again(e, m)
 		if p := e.current(); pass && p != nil && p.Touches() {
 			s.tx.Touched = true
+		} else if pass && p == nil && e.on != nil && !s.options.Auditing() {
+			s.tx.Partly = s.tx.Partly || mayTouch.MatchString(e.on.text)
 		}
 		s.replay.skip = 0
 	case askRow, silent:

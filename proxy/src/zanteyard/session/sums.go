@@ -2,6 +2,7 @@ package session
 
 import (
 	"bytes"
+	"regexp"
 	"strconv"
 
 	"zanteyard/plan"
@@ -56,6 +57,9 @@ func (s *Session) sumUnknown(verb string, n uint64, e *expectation, p *plan.Plan
 	}
 	d := &s.tx.Did
 	switch {
+	case p == nil && isApart(verb, e):
+	case verb == "DECLARE CURSOR":
+		d.Leave(reason, false, 1, 0, 0)
 	case verb == "SELECT" || verb == "FETCH":
 		d.Leave(reason, false, isOne(verb == "SELECT"), 0, uint64(e.rows))
 		d.Empty += isOne(verb == "SELECT" && e.rows == 0)
@@ -66,6 +70,22 @@ func (s *Session) sumUnknown(verb string, n uint64, e *expectation, p *plan.Plan
 		d.Others++
 	}
 }
+
+// isApart reports whether a statement that wasn't looked at can't have been on a table.
+func isApart(verb string, e *expectation) bool {
+	switch verb {
+	case "BEGIN", "START TRANSACTION", "COMMIT", "ROLLBACK", "SAVEPOINT", "RELEASE", "SET", "RESET", "SHOW", "PREPARE",
+		"DEALLOCATE", "DEALLOCATE ALL", "DISCARD", "DISCARD ALL", "LISTEN", "UNLISTEN", "NOTIFY", "SET CONSTRAINTS", "LOCK TABLE",
+		"CLOSE CURSOR", "CLOSE CURSOR ALL", "MOVE", "CHECKPOINT", "PREPARE TRANSACTION", "COMMIT PREPARED", "ROLLBACK PREPARED", "":
+		return true
+	case "SELECT":
+		return e.on != nil && e.on.text != "" && !mayTouch.MatchString(e.on.text)
+	}
+	return false
+}
+
+// mayTouch matches what a statement on a table has, or one that calls a function.
+var mayTouch = regexp.MustCompile(`(?i)from|table|\(|update|insert|delete|merge|copy|call`)
 
 // sumFetched counts rows of a cursor: its SELECT was counted with DECLARE.
 func (s *Session) sumFetched(p *plan.Plan, e *expectation, verb string) {

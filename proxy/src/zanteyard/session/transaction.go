@@ -1,6 +1,7 @@
 package session
 
 import (
+	"regexp"
 	"strconv"
 	"strings"
 	"time"
@@ -207,11 +208,10 @@ func (s *Session) finish(outcome record.Outcome) {
 			t.Level = s.begins()
 		}
 		t.MayHaveWritten = t.Number == 0 && (t.MayHaveWritten || t.wrote)
-		if s.options.Auditing() {
-			s.report(&t.Transaction)
-		} else if s.options.Unaudited != nil {
+		if !s.options.Auditing() && s.options.Unaudited != nil {
 			s.options.Unaudited()
 		}
+		s.report(&t.Transaction)
 	}
 	s.set(outcome)
 	s.trust.resetBy(t, outcome)
@@ -229,11 +229,23 @@ func (s *Session) finish(outcome record.Outcome) {
 
 // report reports a transaction, or that there was one that isn't offered.
 func (s *Session) report(it *record.Transaction) {
-	if !s.offered(it) {
-		*it = record.Transaction{Connection: it.Connection, Place: it.Place, Began: it.Began, Ended: it.Ended, Level: it.Level,
-			Outcome: it.Outcome, Did: it.Did.Alone(len(it.Reads)), Elsewhere: true}
+	offered, audits := s.offered(it), s.options.Auditing()
+	if offered && audits {
+		s.options.Sink.Transaction(*it)
+		return
 	}
-	s.options.Sink.Transaction(*it)
+	told := record.Transaction{Connection: it.Connection, Place: it.Place, Began: it.Began, Ended: it.Ended, Level: it.Level,
+		Outcome: it.Outcome, Did: it.Did.Alone(len(it.Reads))}
+	if s.trust.elsewhere && audits { // as an audit ends, its mark goes first
+		told.Elsewhere = true
+	} else {
+		told.Unaudited, told.Defines = true, it.Defines
+		told.MayHaveWritten = it.MayHaveWritten || it.Number != 0
+		if offered {
+			told.Number, told.MayHaveWritten = it.Number, it.MayHaveWritten
+		}
+	}
+	s.options.Sink.Transaction(told)
 }
 
 // ended is called when a ReadyForQuery says that no transaction is open.
@@ -273,6 +285,9 @@ func (s *Session) ran(e *expectation, tag []byte) {
 	s.tx.queried = s.tx.queried || takesSnapshot(tag)
 	s.tx.calls = s.tx.calls || p == nil || p.Calls
 	s.starts()
+	if p == nil && (!s.options.Auditing() || e.on != nil && e.on.text != "") && s.endsUnlooked(e, tag) {
+		return
+	}
 	if p == nil || p.Kind != plan.Several {
 		s.tx.did(p, e.doubts)
 	}
@@ -281,7 +296,8 @@ func (s *Session) ran(e *expectation, tag []byte) {
 	}
 	switch {
 	case p == nil:
-		s.tx.MayHaveWritten = true
+		verb, _ := counted(tag)
+		s.tx.MayHaveWritten = s.tx.MayHaveWritten || s.options.Auditing() || !isApart(verb, e)
 		s.notLooked(e, tag)
 	case p.Kind == plan.Several: // more statements were answered than were found in the text
 	default:
@@ -291,6 +307,24 @@ func (s *Session) ran(e *expectation, tag []byte) {
 		e.piece(e.part + 1)
 	}
 }
+
+// endsUnlooked ends a transaction by what the server says, where statements aren't looked at. It reports whether this one
+// has.
+func (s *Session) endsUnlooked(e *expectation, tag []byte) bool {
+	switch {
+	case string(tag) == "COMMIT":
+		s.finish(record.Committed)
+	case string(tag) == "ROLLBACK" && (e.on == nil || !undoesPart.MatchString(e.on.text)):
+		s.finish(s.tx.undone())
+	default:
+		return false
+	}
+	s.names.ended()
+	return true
+}
+
+// undoesPart matches what undoes a transaction as far as to a savepoint.
+var undoesPart = regexp.MustCompile(`(?i)rollback\s.*\bto\b`)
 
 // notLooked counts a statement that wasn't looked at.
 func (s *Session) notLooked(e *expectation, tag []byte) {
@@ -304,7 +338,7 @@ func (s *Session) notLooked(e *expectation, tag []byte) {
 	s.sums(nil, e, tag, reason)
 	if s.options.Auditing() {
 		s.notSeen("(a statement)", reason, true)
-	} else {
+	} else if verb, _ := counted(tag); !isApart(verb, e) {
 		s.tx.Partly = true
 	}
 }

@@ -26,6 +26,7 @@ type audits struct {
 	log     func(string)
 
 	unaudited atomic.Uint64 // transactions that have ended while no audit ran, since the last one
+	last      *audit.Audit  // of this parent
 
 	lock    sync.Mutex
 	current *current // nil if no audit runs
@@ -107,10 +108,12 @@ func (a *audits) run(ctx context.Context, in io.Reader) {
 			case line, ok := <-lines:
 				if !ok {
 					<-ctx.Done()
+					a.last.Late()
 					return
 				}
 				again = a.command(line)
 			case <-ctx.Done():
+				a.last.Late()
 				return
 			}
 		}
@@ -123,7 +126,7 @@ func (a *audits) attend(ctx context.Context, from *control) {
 		select {
 		case one := <-from.parents:
 			its, cancel := context.WithCancel(ctx)
-			a.config.Out = one
+			a.config.Out, a.last = one, nil
 			a.run(its, &ending{one, cancel})
 			cancel()
 			from.detach(one)
@@ -151,6 +154,7 @@ func (e *ending) Read(to []byte) (int, error) {
 func (a *audits) command(line []byte) (again bool) {
 	name := nameOf(line)
 	if name == "stop" {
+		a.last.Late()
 		at := time.Now()
 		fmt.Fprintf(a.config.Out, "{\"event\":\"stopped\",\"at\":%d.%06d}\n", at.Unix(), at.Nanosecond()/1000)
 	}
@@ -200,13 +204,17 @@ func awaitCatalog(ctx context.Context, ready <-chan struct{}) {
 // one runs an audit to its end, and passes the parent's commands on to it. It returns the command that came too late
 // for it, and whether another audit was asked for while it ended.
 func (a *audits) one(ctx context.Context, lines <-chan []byte) (left []byte, again bool, err error) {
-	awaitCatalog(ctx, a.ready)
 	commands, to := io.Pipe()
 	config := a.config
 	config.In = commands
 	it := audit.New(config)
+	if a.last != nil {
+		it.After(a.last)
+	}
+	a.last = it
 	a.its.Store(it)
-	a.sink.use(it.Sink())
+	a.sink.use(it.Sink()) // which counts what ends before the audit begins
+	awaitCatalog(ctx, a.ready)
 	a.running.Store(true)
 	defer a.running.Store(false)
 	if n := a.unaudited.Swap(0); n > 0 {

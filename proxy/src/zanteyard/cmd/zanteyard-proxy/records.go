@@ -65,8 +65,12 @@ func (r *records) write(kind string, it any) {
 	r.to.Write(append(b, '\n')) // an error shows by what is missing
 }
 
-func (r *records) Connection(it record.Connection)   { r.write("connection", it) }
-func (r *records) Transaction(it record.Transaction) { r.write("transaction", it) }
+func (r *records) Connection(it record.Connection) { r.write("connection", it) }
+func (r *records) Transaction(it record.Transaction) {
+	if !it.Unaudited {
+		r.write("transaction", it)
+	}
+}
 func (r *records) Unseen(shape, reason string, reads bool) {
 	r.write("unseen", record.Unseen{Shape: shape, Reason: reason})
 }
