@@ -8,9 +8,10 @@ the program, or with COBRA_CHECK naming another one:
 
 Each run takes a worked script and its replies, mutates some bytes of either (`fuzz_lines.py`), or
 exchanges, drops or doubles replies, and gives them alternately. If the plain model (`judge.py`)
-finds every reply right, the program has to call them right, with status 0; else wrong, with status
-3, at the first reply that the model finds wrong or before it, since it also compares texts. It
-prints nothing on standard error. The script prints a table of the results. At the first difference
+finds no reply wrong, the program has to call them right, with status 0, or unchecked, with status
+4, exactly if some say that memory was wanting; else wrong, with status 3, at the first reply that
+the model finds wrong or before it, since it also compares texts. It prints nothing on standard
+error. The script prints a table of the results. At the first difference
 it stops, writes the input to FILE (fuzz-check-difference.txt), and ends with status 1.
 """
 import argparse
@@ -126,6 +127,7 @@ def is_owed(model, line, reply):
         return False
 
 
+WORDS = {0: "right", 3: "wrong", 4: "unchecked"}  # the last line begins with this, by the status
 MAY_WANT = ("open", "offer", "join", "begin", "finish", "round", "collect", "truncate", "rebuild",
             "answer")
 
@@ -141,9 +143,11 @@ def try_run(mutation):
                            stderr=subprocess.PIPE, timeout=SECONDS, check=False)
     wrong = owed_by_model(lines[:len(replies)], replies)
     why = None
-    if ended.stderr or ended.returncode not in (0, 3):
+    word = WORDS.get(ended.returncode)
+    owed = 3 if wrong is not None or lacks else 4 if REFUSALS[16] in replies else 0
+    if ended.stderr or word is None or f"{word}: replies ".encode() not in ended.stdout:
         why = f"it ends with {ended.returncode}, {ended.stderr!r}"
-    elif (ended.returncode == 3) != (wrong is not None or lacks):
+    elif ended.returncode != owed:
         why = f"the model finds reply {wrong} wrong, and the status is {ended.returncode}"
     elif ended.returncode == 3:
         told = re.search(rb"^reply (\d+) wrong", ended.stdout, re.MULTILINE)
@@ -152,7 +156,7 @@ def try_run(mutation):
             why = f"the model finds reply {most + 1} wrong"
     if why:
         raise Difference(given, f"{way}: {why}; told is {ended.stdout[-400:]!r}")
-    return way, "right" if ended.returncode == 0 else "wrong"
+    return way, word
 
 
 class Difference(Exception):

@@ -91,6 +91,10 @@ class Forms(unittest.TestCase):
         self.assertNotEqual(right, self.text_of("wrong"))
         for path, status in ((replies, 0), (wrong, 1)):
             self.assertEqual(ran("check", script, "--replies", path)[0], status)
+        with open(script, encoding="utf-8") as file:
+            longer = self.written("longer", f'{file.read()}["begin"]\n')
+        wanting = self.written("wanting", f'{right}["no",16,"NoMemory"]\n')
+        self.assertEqual(ran("check", longer, "--replies", wanting)[0], 4)
         self.assertEqual(ran("check", script, "--replies", replies, "--html", "x"),
                          (2, "", "mistake: --html isn't possible with --replies\n"))
 

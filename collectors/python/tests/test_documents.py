@@ -49,8 +49,8 @@ PROMISED = {
     " ExplainsWhole HasPendingWhole History effects",
     "what serve writes": "IsOutput StopsForMemory StopsReading StopsWriting IsAnswered Answers AnswersOpen AnswersBeside"
     " Finishes IsCommand command_of line_of lines asked_by",
-    "what cobra_check says": "IsAllRight Checks IsRightReply IsUnchecked IsOwedReport Owes IsWrongReply StopsAtWrong"
-    " FindsAll told_of TellsFirst HasFault IsUnshown IsShownIn",
+    "what cobra_check says": "IsAllRight IsRightSoFar Checks IsRightReply IsUnchecked IsOwedReport Owes IsWrongReply"
+    " StopsAtWrong FindsAll told_of TellsFirst HasFault IsUnshown IsShownIn",
     "steps and refusals": "StepsTo Legal Holds FragmentFault IntakeFault IsOfferRefusal IsCloseRefusal IsBeginRefusal"
     " IsFinishRefusal IsTruncateRefusal IsRebuildRefusal number_of",
     "cuts": "StandsFor KeepsStandsFor IsSettled IsLastSettled IsFound IsCutAt IsCutOf IsKeptFront IsTruncated Known",

@@ -283,8 +283,10 @@ class Forged(unittest.TestCase):
                     replies = [b'["ok"]', REFUSALS[16]]
                     given = by_turns(opening + b"\n" + line + b"\n", b"\n".join([*replies, b""]))
                     status, told, said = ended("cobra_check", given)
-                    self.assertEqual((status, said), (0 if may_want else 3, b""))
+                    self.assertEqual((status, said), (4 if may_want else 3, b""))
                     self.assertEqual(may_want, b"reply 2 not checked" in told)
+                    word = told.splitlines()[-1].split(b":")[0]
+                    self.assertEqual(word, b"unchecked" if may_want else b"wrong")
                     found = fuzz_check.owed_by_model([opening, line], replies)
                     self.assertEqual(found, None if may_want else 1)
 

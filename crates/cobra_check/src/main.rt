@@ -2,9 +2,9 @@
 //! output what it finds of each report.
 #![tactic(auto)]
 
-ghost use Rattle.std.specs.Prelude.{◌≡◌, ℕ, ◌<◌, ◌⊎◌, List, codes, true, false, Ok, Err, Some, IfSome, OnErr, option_map};
+ghost use Rattle.std.specs.Prelude.{◌≡◌, ◌≢◌, ℕ, ◌<◌, ◌⊎◌, List, length, take, codes, Ok, Err, None, Some, IfSome, OnErr, option_map};
 ghost use Rattle.std.specs.Io.KnownBytes.{Appends, Keeps};
-ghost use Rattle.report_checking.specs.Checking.{IsAllRight};
+ghost use Rattle.report_checking.specs.Checking.{IsAllRight, IsRightSoFar};
 ghost use Rattle.report_checking.specs.RightReports.{StopsAtWrong};
 ghost use Rattle.report_checking.specs.Outcomes.{FindsAll, TellsFirst};
 ghost use Rattle.report_checking.specs.Telling.{AppendsFront, told_of};
@@ -12,7 +12,7 @@ ghost use Rattle.report_checking.specs.Telling.{AppendsFront, told_of};
 use cobra::{
     Asked, ByteSink, ByteSource, Exit, Failure, ReaderSource, WriterSink, asked_in, exit_of, tell,
 };
-use report_checking::{check_replies, exit_of_check};
+use report_checking::{Outcome, check_replies, exit_of_check};
 use std::alloc::Global;
 use std::env;
 
@@ -32,8 +32,12 @@ is wrong, and a last line that counts what was checked.
 
   paste -d '\n' SCRIPT REPLIES | cobra_check     checks the replies in one file to the script in another
 
-The exit status is 0 where no reply is wrong; 3 where one is; 1 where a device failed or memory was
-wanting, which standard error then tells; 2 for other arguments.
+The exit status is 0 where all replies are right; 3 where one is wrong; 4 where none is, but some say
+that memory was wanting, which isn't checked; 1 where a device failed or memory was wanting here, which
+standard error then tells; 2 for other arguments.
+
+Each yes and each no is checked, but not that the search that the line asked for would have found it;
+nor is it checked of a spent report that the budget didn't reach.
 
 docs/FORMATS.md describes what it reads and writes.
 "#;
@@ -45,27 +49,35 @@ fn run<R: ByteSource, W: ByteSink>(
     input: &mut R,
     output: &mut W,
 ) -> Exit
-    // Status 0 says that all replies are right, and 3 that one is wrong.
+    // Status 0 says that all replies are right, 3 that one is wrong, and 4 that none is, but some say that memory was wanting, which isn't checked.
     ensures right { asked ≡ Ok Asked.Work → result.status ≡ 0 → IfSome (R.remaining input.old) IsAllRight }
     ensures wrong { asked ≡ Ok Asked.Work → result.status ≡ 3 → IfSome (R.remaining input.old) StopsAtWrong }
+    ensures unchecked { asked ≡ Ok Asked.Work → result.status ≡ 4 → IfSome (R.remaining input.old) IsRightSoFar }
 
     // What was written is a line of each reply, by what was found of it, and at its end the same as the status.
-    ensures told_right { asked ≡ Ok Asked.Work → result.status ≡ 0 → (all : _) × IfSome (R.remaining input.old) (λ bytes. FindsAll true bytes all) × Appends (W.contents output.old) (W.contents output.new) (told_of all true) }
-    ensures told_wrong { asked ≡ Ok Asked.Work → result.status ≡ 3 → (all : _) × IfSome (R.remaining input.old) (λ bytes. FindsAll false bytes all) × Appends (W.contents output.old) (W.contents output.new) (told_of all false) }
+    ensures told_right { asked ≡ Ok Asked.Work → result.status ≡ 0 → (all : _) × IfSome (R.remaining input.old) (λ bytes. FindsAll Outcome.Right bytes all) × Appends (W.contents output.old) (W.contents output.new) (told_of all Outcome.Right) }
+    ensures told_wrong { asked ≡ Ok Asked.Work → result.status ≡ 3 → (all : _) × IfSome (R.remaining input.old) (λ bytes. FindsAll Outcome.Wrong bytes all) × Appends (W.contents output.old) (W.contents output.new) (told_of all Outcome.Wrong) }
+    ensures told_unchecked { asked ≡ Ok Asked.Work → result.status ≡ 4 → (all : _) × IfSome (R.remaining input.old) (λ bytes. FindsAll Outcome.Unchecked bytes all) × Appends (W.contents output.old) (W.contents output.new) (told_of all Outcome.Unchecked) }
 
     // With status 1 a front was written of what is written of the input's first replies, or of all and with the last line.
     ensures told_front { asked ≡ Ok Asked.Work → result.status ≡ 1 → (text : List ℕ) × IfSome (R.remaining input.old) (λ bytes. TellsFirst bytes text) × AppendsFront (W.contents output.old) (W.contents output.new) text }
 
-    ensures statuses { asked ≡ Ok Asked.Work → (result.status ≡ 0) ⊎ (result.status ≡ 1) ⊎ (result.status ≡ 3) }
+    ensures statuses { asked ≡ Ok Asked.Work → (result.status ≡ 0) ⊎ (result.status ≡ 1) ⊎ (result.status ≡ 3) ⊎ (result.status ≡ 4) }
 
     // Status 1 says that a device failed, or that memory was wanting; the words say which.
     ensures device { asked ≡ Ok Asked.Work → option_map (λ words. words.now) result.words ≡ Some (codes "device failed") → (R.faults input.old < R.faults input.new) ⊎ (W.faults output.old < W.faults output.new) }
     ensures memory { asked ≡ Ok Asked.Work → option_map (λ words. words.now) result.words ≡ Some (codes "out of memory") → (R.faults input.new ≡ R.faults input.old) × (W.faults output.new ≡ W.faults output.old) }
-    ensures said { asked ≡ Ok Asked.Work → result.status ≡ 1 → (option_map (λ words. words.now) result.words ≡ Some (codes "device failed")) ⊎ (option_map (λ words. words.now) result.words ≡ Some (codes "out of memory")) }
+    ensures said { result.status ≡ 1 → (option_map (λ words. words.now) result.words ≡ Some (codes "device failed")) ⊎ (option_map (λ words. words.now) result.words ≡ Some (codes "out of memory")) }
 
+    // And nothing is said where what was asked for is done, whatever was found.
+    ensures silent { (result.status ≡ 0) ⊎ (result.status ≡ 3) ⊎ (result.status ≡ 4) → result.words ≡ None }
+
+    // The text is written, or a front of it where the device failed.
     ensures help { asked ≡ Ok Asked.Help → result.status ≡ 0 → Appends (W.contents output.old) (W.contents output.new) HELP.now }
     ensures version { asked ≡ Ok Asked.Version → result.status ≡ 0 → Appends (W.contents output.old) (W.contents output.new) VERSION.now }
-    ensures printed { (asked ≡ Ok Asked.Help) ⊎ (asked ≡ Ok Asked.Version) → (result.status ≡ 0) ⊎ (W.faults output.old < W.faults output.new) }
+    ensures help_front { asked ≡ Ok Asked.Help → result.status ≢ 0 → (n : ℕ) × (n < length HELP.now) × Appends (W.contents output.old) (W.contents output.new) (take n HELP.now) }
+    ensures version_front { asked ≡ Ok Asked.Version → result.status ≢ 0 → (n : ℕ) × (n < length VERSION.now) × Appends (W.contents output.old) (W.contents output.new) (take n VERSION.now) }
+    ensures printed { (asked ≡ Ok Asked.Help) ⊎ (asked ≡ Ok Asked.Version) → (result.status ≡ 0) ⊎ ((result.status ≡ 1) × (option_map (λ words. words.now) result.words ≡ Some (codes "device failed")) × (W.faults output.old < W.faults output.new)) }
 
     // Other arguments: nothing is written but how the program is used.
     ensures unknown { asked ≡ Ok Asked.Unknown → (result.status ≡ 2) × (option_map (λ words. words.now) result.words ≡ Some USAGE.now) × Keeps (W.contents output.old) (W.contents output.new) }

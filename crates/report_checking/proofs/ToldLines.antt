@@ -1,19 +1,22 @@
 -- What is written of one reply after another.
-use Rattle.std.proofs.Common.{◌≡◌, ◌≢◌, ℕ, List, [], ◌∷◌, ◌++◌, Option, Some, None, Bool, true, false, IfSome, IsTrue, refl, ap, sym, ◌∙◌, subst, append-nil, inl, inr}
+use Rattle.std.proofs.Common.{◌≡◌, ◌≢◌, ℕ, zero, suc, ◌<◌, ◌==◌, List, [], ◌∷◌, ◌++◌, count_by, Option, Some, None, Bool, true, false, if◌then◌else◌, IfSome, refl, ap, sym, ◌∙◌, subst, append-nil, inl, inr, arith}
 use Rattle.std.specs.Io.KnownBytes.{Appends}
 use Rattle.std.proofs.KnownBytes.{Appends-nil, Appends-trans}
+use Rattle.std.proofs.lemmas.Bool.Decides.{eqb_tells}
 use Rattle.byte_lines.specs.declared.lines.Next.{Next}
 use Rattle.byte_lines.specs.declared.lines.Next.TheVariants.{End}
 use Rattle.byte_lines.specs.LineReaders.{IsNextOf}
 use Rattle.byte_lines.specs.Lines.{lines}
-use Rattle.report_checking.specs.Checking.{IsAllRight, start}
-use Rattle.report_checking.specs.Outcomes.{FindsAll, FindsRightFirst, TellsFirst}
+use Rattle.report_checking.specs.Checking.{FindsRight, IsAllRight, IsRightSoFar, start}
+use Rattle.report_checking.specs.Outcomes.{FindsAll, FindsLines, FindsRightFirst, TellsFirst}
 use Rattle.report_checking.specs.Reading.{Advances, IsChecking, IsFine, LeadsOn, StopsOn, TellsFront}
 use Rattle.report_checking.specs.RightReports.{StopsAtWrong}
-use Rattle.report_checking.specs.Telling.{AppendsFront, TellsNext, counted, found_line, last_line, lines_told, no_tally, one_more, tally_of, told_of}
+use Rattle.report_checking.specs.Telling.{AppendsFront, TellsNext, as_counted, counted, found_line, is_unchecked, last_line, lines_told, no_tally, one_more, outcome_of, tally_of, told_of}
 use Rattle.report_checking.specs.declared.findings.Fault.{Fault}
 use Rattle.report_checking.specs.declared.findings.Found.{Found}
 use Rattle.report_checking.specs.declared.findings.Found.TheVariants as found
+use Rattle.report_checking.specs.declared.findings.Outcome.{Outcome}
+use Rattle.report_checking.specs.declared.findings.Outcome.TheVariants as outcomes
 use Rattle.report_checking.specs.declared.open_scripts.OpenScript.{OpenScript}
 use Rattle.report_checking.specs.declared.texts.Tally.{Tally}
 use Rattle.report_checking.proofs.CheckedLines.{advances_fine, advances_to, first_of, may_find}
@@ -29,7 +32,7 @@ pub record HasTold (left : Option (List ℕ)) (ahead : Option (List (List ℕ)))
 
 -- at the end this was found, counted and written
 abbrev pub EndsTold : Bool → Option (List ℕ) → Tally → Option (List ℕ) → Option (List ℕ) → Type 0
-EndsTold right left tally before after = (all : List Found) × (tally ≡ tally_of all) × IfSome left (λ input. FindsAll right input all) × Appends before after (lines_told 0 all)
+EndsTold right left tally before after = (all : List Found) × (tally ≡ tally_of all) × IfSome left (λ input. FindsLines right input all) × Appends before after (lines_told 0 all)
 
 -- a front was written of what is written of the first replies
 abbrev pub FailsTold : Option (List ℕ) → Option (List ℕ) → Option (List ℕ) → Type 0
@@ -74,7 +77,7 @@ told_wrong left a c script after_script old new first before after next given wh
     let advances_it = subst (λ (it : Option Found). Advances a script it c after_script) same advances in (
       so.all ++ found.Wrong why ∷ [],
       counted_next old new so.all (found.Wrong why) so.counts tells_it.0,
-      if_some left (λ input. FindsAll false input (so.all ++ found.Wrong why ∷ [])) (λ input told. advances_it input so.all (so.checks input told)),
+      if_some left (λ input. FindsLines false input (so.all ++ found.Wrong why ∷ [])) (λ input told. advances_it input so.all (so.checks input told)),
       written_next old new so.all (found.Wrong why) first before after so.counts tells_it.0 so.writes tells_it.1,
     )
 
@@ -82,7 +85,7 @@ pub told_end : (left : Option (List ℕ)) (a c : Option (List (List ℕ))) (scri
 told_end left a c script after_script old new first before after so tells advances = (
   so.all,
   tells.0 ∙ so.counts,
-  if_some left (λ input. FindsAll true input so.all) (λ input is. advances input so.all (so.checks input is)),
+  if_some left (λ input. FindsLines true input so.all) (λ input is. advances input so.all (so.checks input is)),
   subst (Appends first after) (append-nil (lines_told 0 so.all)) (Appends-trans first before after (lines_told 0 so.all) [] so.writes tells.1),
 )
 
@@ -113,13 +116,61 @@ line_front limit now a b c next given old new tally more before after same is so
 
 -- ---- what a check comes to
 
-pub all_right : (left : Option (List ℕ)) (tally : Tally) (before after : Option (List ℕ)) → EndsTold true left tally before after → IfSome left IsAllRight
-all_right None tally before after ends = tt
-all_right (Some input) tally before after ends = (ends.0, ends.2)
+by_count : (input : List ℕ) (all : List Found) → FindsRight input all → (none : Bool) → (none ≡ true → count_by is_unchecked all ≡ 0) → (none ≡ false → 0 < count_by is_unchecked all) → FindsAll (if none then outcomes.Right else outcomes.Unchecked) input all
+by_count input all finds true none some = (finds, none refl)
+by_count input all finds false none some = (finds, some refl)
 
-pub stops_wrong : (left : Option (List ℕ)) (tally : Tally) (before after : Option (List ℕ)) → EndsTold false left tally before after → IfSome left StopsAtWrong
-stops_wrong None tally before after ends = tt
-stops_wrong (Some input) tally before after ends = (ends.0, ends.2)
+true_not_false : true ≡ false → ⊥
+true_not_false is = cc
+
+by_zero : (n : ℕ) → as_counted n ≡ 0 → n ≡ 0
+by_zero n is = omega arith
+
+by_more : (n : ℕ) → as_counted n ≢ 0 → 0 < n
+by_more zero not = absurd (not refl)
+by_more (suc n) not = omega arith
+
+-- as many are counted as aren't checked, up to the greatest number, so none is counted only where there is none
+counts_none : (n : ℕ) → (as_counted n == 0) ≡ true → n ≡ 0
+counts_none n is = elim (eqb_tells (as_counted n) 0) [ inl both ↦ by_zero n both.1 | inr both ↦ absurd (true_not_false (sym is ∙ both.0)) ]
+
+counts_some : (n : ℕ) → (as_counted n == 0) ≡ false → 0 < n
+counts_some n is = elim (eqb_tells (as_counted n) 0) [ inl both ↦ absurd (true_not_false (sym both.0 ∙ is)) | inr both ↦ by_more n both.1 ]
+
+finds_outcome : (none_is_wrong : Bool) (input : List ℕ) (all : List Found) → FindsLines none_is_wrong input all → FindsAll (outcome_of (tally_of all) none_is_wrong) input all
+finds_outcome false input all finds = finds
+finds_outcome true input all finds = by_count input all finds (as_counted (count_by is_unchecked all) == 0) (counts_none (count_by is_unchecked all)) (counts_some (count_by is_unchecked all))
+
+some_finds : (none_is_wrong : Bool) (left : Option (List ℕ)) (all : List Found) → IfSome left (λ input. FindsLines none_is_wrong input all) → IfSome left (λ input. FindsAll (outcome_of (tally_of all) none_is_wrong) input all)
+some_finds none_is_wrong None all finds = tt
+some_finds none_is_wrong (Some input) all finds = finds_outcome none_is_wrong input all finds
+
+-- at the end this was found, by what the check comes to, and counted, and its lines were written
+abbrev pub EndsAs : Outcome → Option (List ℕ) → Tally → Option (List ℕ) → Option (List ℕ) → Type 0
+EndsAs outcome left tally before after = (all : List Found) × (tally ≡ tally_of all) × IfSome left (λ input. FindsAll outcome input all) × Appends before after (lines_told 0 all)
+
+-- it is so by what was counted
+pub ends_as : (none_is_wrong : Bool) (left : Option (List ℕ)) (tally : Tally) (before after : Option (List ℕ)) (outcome : Outcome) → outcome ≡ outcome_of tally none_is_wrong → EndsTold none_is_wrong left tally before after → EndsAs outcome left tally before after
+ends_as none_is_wrong left tally before after outcome is ends = (
+  ends.0,
+  ends.1,
+  subst (λ (o : Outcome). IfSome left (λ input. FindsAll o input ends.0)) (sym (is ∙ ap (λ (t : Tally). outcome_of t none_is_wrong) ends.1)) (some_finds none_is_wrong left ends.0 ends.2),
+  ends.3,
+)
+
+pub all_right : (left : Option (List ℕ)) (tally : Tally) (before after : Option (List ℕ)) (outcome : Outcome) → EndsAs outcome left tally before after → outcome ≡ outcomes.Right → IfSome left IsAllRight
+all_right None tally before after outcome ends is = tt
+all_right (Some input) tally before after outcome ends is =
+    let finds = subst (λ (o : Outcome). FindsAll o input ends.0) is ends.2 in (ends.0, finds.0, finds.1)
+
+pub right_so_far : (left : Option (List ℕ)) (tally : Tally) (before after : Option (List ℕ)) (outcome : Outcome) → EndsAs outcome left tally before after → outcome ≡ outcomes.Unchecked → IfSome left IsRightSoFar
+right_so_far None tally before after outcome ends is = tt
+right_so_far (Some input) tally before after outcome ends is =
+    let finds = subst (λ (o : Outcome). FindsAll o input ends.0) is ends.2 in (ends.0, finds.0, finds.1)
+
+pub stops_wrong : (left : Option (List ℕ)) (tally : Tally) (before after : Option (List ℕ)) (outcome : Outcome) → EndsAs outcome left tally before after → outcome ≡ outcomes.Wrong → IfSome left StopsAtWrong
+stops_wrong None tally before after outcome ends is = tt
+stops_wrong (Some input) tally before after outcome ends is = (ends.0, subst (λ (o : Outcome). FindsAll o input ends.0) is ends.2)
 
 -- nothing was written yet
 pub told_nothing : (left before : Option (List ℕ)) → FailsTold left before before
@@ -130,22 +181,22 @@ told_nothing left before = (
 )
 
 -- the last line is written behind the others
-pub told_whole : (right : Bool) (left : Option (List ℕ)) (tally : Tally) (first before after : Option (List ℕ)) → EndsTold right left tally first before → Appends before after (last_line tally right)
-    → (all : List Found) × IfSome left (λ input. FindsAll right input all) × Appends first after (told_of all right)
-told_whole right left tally first before after ends writes = (
+pub told_whole : (outcome : Outcome) (left : Option (List ℕ)) (tally : Tally) (first before after : Option (List ℕ)) → EndsAs outcome left tally first before → Appends before after (last_line tally outcome)
+    → (all : List Found) × IfSome left (λ input. FindsAll outcome input all) × Appends first after (told_of all outcome)
+told_whole outcome left tally first before after ends writes = (
   ends.0,
   ends.2,
-  Appends-trans first before after (lines_told 0 ends.0) (last_line (tally_of ends.0) right) ends.3 (subst (λ (t : Tally). Appends before after (last_line t right)) ends.1 writes),
+  Appends-trans first before after (lines_told 0 ends.0) (last_line (tally_of ends.0) outcome) ends.3 (subst (λ (t : Tally). Appends before after (last_line t outcome)) ends.1 writes),
 )
 
-last_finds : (right : Bool) (left : Option (List ℕ)) (all : List Found) → IfSome left (λ input. FindsAll right input all) → IfSome left (λ input. TellsFirst input (told_of all right))
-last_finds right None all finds = tt
-last_finds right (Some input) all finds = inr (all, right, finds, refl)
+last_finds : (outcome : Outcome) (left : Option (List ℕ)) (all : List Found) → IfSome left (λ input. FindsAll outcome input all) → IfSome left (λ input. TellsFirst input (told_of all outcome))
+last_finds outcome None all finds = tt
+last_finds outcome (Some input) all finds = inr (all, outcome, finds, refl)
 
 -- or a front of it
-pub told_last : (right : Bool) (left : Option (List ℕ)) (tally : Tally) (first before after : Option (List ℕ)) → EndsTold right left tally first before → AppendsFront before after (last_line tally right) → FailsTold left first after
-told_last right left tally first before after ends front = (
-  told_of ends.0 right,
-  last_finds right left ends.0 ends.2,
-  front_behind first before after (lines_told 0 ends.0) (last_line (tally_of ends.0) right) ends.3 (subst (λ (t : Tally). AppendsFront before after (last_line t right)) ends.1 front),
+pub told_last : (outcome : Outcome) (left : Option (List ℕ)) (tally : Tally) (first before after : Option (List ℕ)) → EndsAs outcome left tally first before → AppendsFront before after (last_line tally outcome) → FailsTold left first after
+told_last outcome left tally first before after ends front = (
+  told_of ends.0 outcome,
+  last_finds outcome left ends.0 ends.2,
+  front_behind first before after (lines_told 0 ends.0) (last_line (tally_of ends.0) outcome) ends.3 (subst (λ (t : Tally). AppendsFront before after (last_line t outcome)) ends.1 front),
 )

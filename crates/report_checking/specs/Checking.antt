@@ -1,5 +1,5 @@
 -- Scripts whose stored replies are right.
-use Rattle.std.specs.Prelude.{◌≡◌, ℕ, ⊤, false, List, [], ◌∷◌, ◌++◌, Option, Some, None}
+use Rattle.std.specs.Prelude.{◌≡◌, ℕ, ◌<◌, ⊤, false, List, [], ◌∷◌, ◌++◌, count_by, Option, Some, None}
 use Rattle.txn.specs.declared.refusals.Refusal.TheVariants.{NoMemory}
 use Rattle.log_text.specs.declared.commands.Command.{Command}
 use Rattle.log_text.specs.declared.commands.Command.TheVariants.{Start, StartIsolated, Close, BeginSearch, Collect, Skip, Show, Resume, Marks, MarksBegun, Last, Resumed, Save}
@@ -9,7 +9,7 @@ use Rattle.log_text.specs.Replies.{text_of}
 use Rattle.byte_lines.specs.Lines.{lines}
 use Rattle.cobra.specs.Outputs.{Asks}
 use Rattle.report_checking.specs.OwedLines.{OwesLine, ScriptState}
-use Rattle.report_checking.specs.Telling.{what_of}
+use Rattle.report_checking.specs.Telling.{is_unchecked, what_of}
 use Rattle.report_checking.specs.declared.findings.Found.{Found}
 use Rattle.report_checking.specs.declared.findings.Found.TheVariants as found
 
@@ -73,5 +73,10 @@ pub data Checks : List (List ℕ) → Option ScriptState → List Found → Type
 abbrev pub FindsRight : List ℕ → List Found → Type 0
 FindsRight input all = (end : Option ScriptState) × Checks (lines input) end all
 
+-- the same, and each reply is right
 abbrev pub IsAllRight : List ℕ → Type 0
-IsAllRight input = (all : List Found) × FindsRight input all
+IsAllRight input = (all : List Found) × FindsRight input all × (count_by is_unchecked all ≡ 0)
+
+-- The same, but some of the replies say that memory was wanting, and the others are right.
+abbrev pub IsRightSoFar : List ℕ → Type 0
+IsRightSoFar input = (all : List Found) × FindsRight input all × (0 < count_by is_unchecked all)

@@ -1,16 +1,20 @@
 -- What a check of an input comes to, and what is written of it.
-use Rattle.std.specs.Prelude.{◌≡◌, ℕ, ◌⊎◌, Bool, true, false, List, ◌++◌, Option}
+use Rattle.std.specs.Prelude.{◌≡◌, ℕ, ◌<◌, ◌⊎◌, Bool, true, false, List, ◌++◌, count_by, Option}
 use Rattle.byte_lines.specs.Lines.{lines}
 use Rattle.report_checking.specs.Checking.{Checks, FindsRight}
 use Rattle.report_checking.specs.OwedLines.{ScriptState}
 use Rattle.report_checking.specs.RightReports.{FindsWrong}
-use Rattle.report_checking.specs.Telling.{lines_told, told_of}
+use Rattle.report_checking.specs.Telling.{is_unchecked, lines_told, told_of}
 use Rattle.report_checking.specs.declared.findings.Found.{Found}
+use Rattle.report_checking.specs.declared.findings.Outcome.{Outcome}
+use Rattle.report_checking.specs.declared.findings.Outcome.TheVariants.{Right, Unchecked, Wrong}
 
--- This is found of the input's replies, by whether all are right.
-abbrev pub FindsAll : Bool → List ℕ → List Found → Type 0
-FindsAll true input all = FindsRight input all
-FindsAll false input all = FindsWrong input all
+-- This is found of the input's replies, by what the check comes to: each is right; or none is wrong, and some aren't checked; or the last one
+-- found is wrong.
+abbrev pub FindsAll : Outcome → List ℕ → List Found → Type 0
+FindsAll Right input all = FindsRight input all × (count_by is_unchecked all ≡ 0)
+FindsAll Unchecked input all = FindsRight input all × (0 < count_by is_unchecked all)
+FindsAll Wrong input all = FindsWrong input all
 
 -- The first lines of the input are those of a script and right replies to them, by turns; and this is found of the replies.
 pub record FindsRightFirst (input : List ℕ) (all : List Found) : Type 0 where
@@ -28,4 +32,11 @@ FindsFirst input all = FindsRightFirst input all ⊎ FindsWrong input all
 abbrev pub TellsFirst : List ℕ → List ℕ → Type 0
 TellsFirst input text =
     ((all : List Found) × FindsFirst input all × (text ≡ lines_told 0 all))
-    ⊎ ((all : List Found) × (is_right : Bool) × FindsAll is_right input all × (text ≡ told_of all is_right))
+    ⊎ ((all : List Found) × (outcome : Outcome) × FindsAll outcome input all × (text ≡ told_of all outcome))
+
+-- ---- For private clauses.
+
+-- this is found of the input's replies, by whether none is wrong
+abbrev pub FindsLines : Bool → List ℕ → List Found → Type 0
+FindsLines true input all = FindsRight input all
+FindsLines false input all = FindsWrong input all

@@ -1,6 +1,6 @@
 -- What is written of stored replies, by what was found of them: a line of each report, each cut and each reply that isn't right or isn't
 -- checked, and a last one that counts what was checked.
-use Rattle.std.specs.Prelude.{◌≡◌, ℕ, ◌+◌, ◌-◌, ◌^◌, Bool, true, false, min, List, [], ◌∷◌, ◌++◌, length, count_by, codes, Option, Some, None}
+use Rattle.std.specs.Prelude.{◌≡◌, ℕ, ◌+◌, ◌-◌, ◌^◌, ◌==◌, Bool, true, false, if◌then◌else◌, min, List, [], ◌∷◌, ◌++◌, length, count_by, codes, Option, Some, None}
 use Rattle.std.specs.Fmt.{decimal}
 use Rattle.order_check.specs.declared.remainder.Kind.TheVariants as kinds
 use Rattle.log_text.specs.declared.replies.Reply.{Reply}
@@ -10,6 +10,8 @@ use Rattle.report_checking.specs.declared.findings.Fault.{Fault}
 use Rattle.report_checking.specs.declared.findings.Fault.TheVariants as fault
 use Rattle.report_checking.specs.declared.findings.Found.{Found}
 use Rattle.report_checking.specs.declared.findings.Found.TheVariants as found
+use Rattle.report_checking.specs.declared.findings.Outcome.{Outcome}
+use Rattle.report_checking.specs.declared.findings.Outcome.TheVariants as outcomes
 use Rattle.report_checking.specs.declared.findings.Unshown.{Unshown}
 use Rattle.report_checking.specs.declared.findings.Unshown.TheVariants as unshown
 use Rattle.report_checking.specs.declared.findings.What.{What}
@@ -89,15 +91,16 @@ found_line number (found.Right told_to_be) = numbered_or_none number (words_of t
 found_line number found.Unchecked = numbered number (codes "not checked: memory was wanting") []
 found_line number (found.Wrong why) = numbered number (words_of_fault why) (text_owed why)
 
--- whether all were right
-abbrev pub verdict_word : Bool → List ℕ
-verdict_word true = codes "right"
-verdict_word false = codes "wrong"
+-- what the check comes to
+abbrev pub outcome_word : Outcome → List ℕ
+outcome_word outcomes.Right = codes "right"
+outcome_word outcomes.Unchecked = codes "unchecked"
+outcome_word outcomes.Wrong = codes "wrong"
 
 -- the last line
-abbrev pub last_line : Tally → Bool → List ℕ
-last_line tally is_right =
-    verdict_word is_right ++ (codes ": replies " ++ (decimal tally.replies ++ (codes " reports " ++ (decimal tally.reports
+abbrev pub last_line : Tally → Outcome → List ℕ
+last_line tally outcome =
+    outcome_word outcome ++ (codes ": replies " ++ (decimal tally.replies ++ (codes " reports " ++ (decimal tally.reports
     ++ (codes " spent " ++ (decimal tally.spent ++ (codes " not-checked " ++ (decimal tally.unchecked ++ codes "\n"))))))))
 
 -- The lines of one reply after another, each by its number. So many replies went before.
@@ -106,8 +109,8 @@ lines_told before [] = []
 lines_told before (given ∷ all) = found_line (as_counted (before + 1)) given ++ lines_told (before + 1) all
 
 -- the lines of all replies, and the last line
-abbrev pub told_of : List Found → Bool → List ℕ
-told_of all is_right = lines_told 0 all ++ last_line (tally_of all) is_right
+abbrev pub told_of : List Found → Outcome → List ℕ
+told_of all outcome = lines_told 0 all ++ last_line (tally_of all) outcome
 
 -- a front of the text was written
 abbrev pub AppendsFront : Option (List ℕ) → Option (List ℕ) → List ℕ → Type 0
@@ -118,6 +121,11 @@ AppendsFront before after text = (written : List ℕ) × (rest : List ℕ) × (t
 -- one more, up to the greatest number
 abbrev pub one_more : ℕ → ℕ
 one_more n = as_counted (n + 1)
+
+-- what a check comes to that has counted so much, by whether none is wrong
+abbrev pub outcome_of : Tally → Bool → Outcome
+outcome_of tally false = outcomes.Wrong
+outcome_of tally true = if tally.unchecked == 0 then outcomes.Right else outcomes.Unchecked
 
 -- nothing was checked
 abbrev pub no_tally : Tally

@@ -1,15 +1,15 @@
 ghost use Rattle.std.specs.Prelude.{◌≡◌, ℕ, ◌+◌, ◌<◌, ◌⊎◌, List, [], Some, None, IfOk, IfSome, IsTrue, OnOk, OnErr, OnSome, IsErrOf};
 ghost use Rattle.std.specs.Io.KnownBytes.{Appends};
 ghost use Rattle.byte_lines.specs.LineReaders.{lines_ahead, lines_left};
-ghost use Rattle.report_checking.specs.Checking.{IsAllRight};
+ghost use Rattle.report_checking.specs.Checking.{IsAllRight, IsRightSoFar};
 ghost use Rattle.report_checking.specs.Reading.{IsRead, IsFine, FindsNext, LeadsOn, Advances, IsFairNext, IsOtherwiseNext, StopsOn, TellsFront};
 ghost use Rattle.report_checking.specs.RightReports.{StopsAtWrong};
-ghost use Rattle.report_checking.specs.Outcomes.{FindsAll, TellsFirst};
+ghost use Rattle.report_checking.specs.Outcomes.{FindsAll, FindsLines, TellsFirst};
 ghost use Rattle.report_checking.specs.Telling.{AppendsFront, TellsNext, lines_told, no_tally, tally_of, told_of};
 ghost use Rattle.cobra.specs.Outputs.{IsTold};
 ghost use Rattle.report_checking.specs.declared.findings.Found.{Found};
 
-use crate::findings::{Fault, Found};
+use crate::findings::{Fault, Found, Outcome};
 use crate::pairs::Replay;
 use crate::texts::{Tally, tell, tell_tally};
 use byte_lines::{ByteSink, ByteSource, Failure, LONGEST_LINE, LineReader, Next};
@@ -123,9 +123,7 @@ fn check_lines<R: ByteSource, W: ByteSink>(
     requires under_way { reader.old.under_way ≡ Some [] }
     requires unopened { replay.old.script ≡ None }
     requires uncounted { tally.old ≡ no_tally }
-    ensures right { IfOk result (λ right. IsTrue right → IfSome (R.remaining source.old) IsAllRight) }
-    ensures wrong { IfOk result (λ right. ¬ IsTrue right → IfSome (R.remaining source.old) StopsAtWrong) }
-    ensures told { IfOk result (λ right. (all : List Found) × (tally.new ≡ tally_of all) × IfSome (R.remaining source.old) (λ input. FindsAll right input all) × Appends (W.contents sink.old) (W.contents sink.new) (lines_told 0 all)) }
+    ensures told { IfOk result (λ right. (all : List Found) × (tally.new ≡ tally_of all) × IfSome (R.remaining source.old) (λ input. FindsLines right input all) × Appends (W.contents sink.old) (W.contents sink.new) (lines_told 0 all)) }
     ensures front { OnErr result ((text : List ℕ) × IfSome (R.remaining source.old) (λ input. TellsFirst input text) × AppendsFront (W.contents sink.old) (W.contents sink.new) text) }
     ensures ok { OnOk result ((R.faults source.new ≡ R.faults source.old) × (W.faults sink.new ≡ W.faults sink.old)) }
     ensures device { IsErrOf result Failure.Device → ((R.faults source.new ≡ R.faults source.old + 1) × (W.faults sink.new ≡ W.faults sink.old)) ⊎ ((R.faults source.new ≡ R.faults source.old) × (W.faults sink.new ≡ W.faults sink.old + 1)) }
@@ -149,37 +147,40 @@ fn check_all<R: ByteSource, W: ByteSink>(
     replay: &mut Replay,
     source: &mut R,
     sink: &mut W,
-) -> Result<bool, Failure>
+) -> Result<Outcome, Failure>
     requires limit { reader.old.limit ≡ LONGEST_REPLY }
     requires ahead { reader.old.ahead ≡ [] }
     requires under_way { reader.old.under_way ≡ Some [] }
     requires unopened { replay.old.script ≡ None }
-    ensures right { IfOk result (λ right. IsTrue right → IfSome (R.remaining source.old) IsAllRight) }
-    ensures wrong { IfOk result (λ right. ¬ IsTrue right → IfSome (R.remaining source.old) StopsAtWrong) }
-    ensures told { IfOk result (λ right. (all : List Found) × IfSome (R.remaining source.old) (λ input. FindsAll right input all) × Appends (W.contents sink.old) (W.contents sink.new) (told_of all right)) }
+    ensures right { IfOk result (λ outcome. outcome ≡ Outcome.Right → IfSome (R.remaining source.old) IsAllRight) }
+    ensures unchecked { IfOk result (λ outcome. outcome ≡ Outcome.Unchecked → IfSome (R.remaining source.old) IsRightSoFar) }
+    ensures wrong { IfOk result (λ outcome. outcome ≡ Outcome.Wrong → IfSome (R.remaining source.old) StopsAtWrong) }
+    ensures told { IfOk result (λ outcome. (all : List Found) × IfSome (R.remaining source.old) (λ input. FindsAll outcome input all) × Appends (W.contents sink.old) (W.contents sink.new) (told_of all outcome)) }
     ensures front { OnErr result ((text : List ℕ) × IfSome (R.remaining source.old) (λ input. TellsFirst input text) × AppendsFront (W.contents sink.old) (W.contents sink.new) text) }
     ensures ok { OnOk result ((R.faults source.new ≡ R.faults source.old) × (W.faults sink.new ≡ W.faults sink.old)) }
     ensures device { IsErrOf result Failure.Device → ((R.faults source.new ≡ R.faults source.old + 1) × (W.faults sink.new ≡ W.faults sink.old)) ⊎ ((R.faults source.new ≡ R.faults source.old) × (W.faults sink.new ≡ W.faults sink.old + 1)) }
     ensures memory { IsErrOf result Failure.NoMemory → (R.faults source.new ≡ R.faults source.old) × (W.faults sink.new ≡ W.faults sink.old) }
 {
     let mut tally = Tally::new();
-    let right = check_lines(alloc, reader, replay, &mut tally, source, sink)?;
-    tell_tally(alloc, sink, &tally, right)?;
-    Ok(right)
+    let none_is_wrong = check_lines(alloc, reader, replay, &mut tally, source, sink)?;
+    let outcome = tally.outcome(none_is_wrong);
+    tell_tally(alloc, sink, &tally, outcome)?;
+    Ok(outcome)
 }
 
 /// Checks what an auditor replied to a script: the input has the script's lines and the replies by turns. It writes a line for each report,
-/// each cut and each reply that isn't right or isn't checked, and a last one that counts them. Answers whether all replies are right; what
+/// each cut and each reply that isn't right or isn't checked, and a last one that counts them. Answers what that comes to; what
 /// comes behind the first that is wrong isn't read. A right reply is never told wrong, a report as an auditor writes it.
 pub fn check_replies<R: ByteSource, W: ByteSink>(
     alloc: Global,
     source: &mut R,
     sink: &mut W,
-) -> Result<bool, Failure>
-    ensures right { IfOk result (λ right. IsTrue right → IfSome (R.remaining source.old) IsAllRight) }
-    ensures wrong { IfOk result (λ right. ¬ IsTrue right → IfSome (R.remaining source.old) StopsAtWrong) }
-    // What is written is a line of each reply, by what is found of it, and at its end whether all are right.
-    ensures told { IfOk result (λ right. (all : List Found) × IfSome (R.remaining source.old) (λ input. FindsAll right input all) × Appends (W.contents sink.old) (W.contents sink.new) (told_of all right)) }
+) -> Result<Outcome, Failure>
+    ensures right { IfOk result (λ outcome. outcome ≡ Outcome.Right → IfSome (R.remaining source.old) IsAllRight) }
+    ensures unchecked { IfOk result (λ outcome. outcome ≡ Outcome.Unchecked → IfSome (R.remaining source.old) IsRightSoFar) }
+    ensures wrong { IfOk result (λ outcome. outcome ≡ Outcome.Wrong → IfSome (R.remaining source.old) StopsAtWrong) }
+    // What is written is a line of each reply, by what is found of it, and at its end what that comes to.
+    ensures told { IfOk result (λ outcome. (all : List Found) × IfSome (R.remaining source.old) (λ input. FindsAll outcome input all) × Appends (W.contents sink.old) (W.contents sink.new) (told_of all outcome)) }
 
     // After a failure a front of what is written of the input's first replies, or of all and with the last line.
     ensures front { OnErr result ((text : List ℕ) × IfSome (R.remaining source.old) (λ input. TellsFirst input text) × AppendsFront (W.contents sink.old) (W.contents sink.new) text) }

@@ -1,21 +1,27 @@
-ghost use Rattle.std.specs.Prelude.{◌≡◌, ◌↔◌, true, false, codes, Ok, None, Some, option_map, OnOk, OnErr, IsErrOf};
+ghost use Rattle.std.specs.Prelude.{◌≡◌, ◌↔◌, codes, Ok, None, Some, option_map, OnOk, OnErr, IsErrOf};
 
+use crate::findings::Outcome;
 use byte_lines::Failure;
 use cobra::{Exit, exit_of};
 
 /// How a program ends that checked replies, and came to this.
-pub fn exit_of_check(checked: Result<bool, Failure>) -> Exit
-    ensures right { (result.status ≡ 0) ↔ (checked ≡ Ok true) }
-    ensures wrong { (result.status ≡ 3) ↔ (checked ≡ Ok false) }
+pub fn exit_of_check(checked: Result<Outcome, Failure>) -> Exit
+    ensures right { (result.status ≡ 0) ↔ (checked ≡ Ok Outcome.Right) }
+    ensures wrong { (result.status ≡ 3) ↔ (checked ≡ Ok Outcome.Wrong) }
+    ensures unchecked { (result.status ≡ 4) ↔ (checked ≡ Ok Outcome.Unchecked) }
     ensures failed { OnErr checked (result.status ≡ 1) }
     ensures device { IsErrOf checked Failure.Device → option_map (λ words. words.now) result.words ≡ Some (codes "device failed") }
     ensures memory { IsErrOf checked Failure.NoMemory → option_map (λ words. words.now) result.words ≡ Some (codes "out of memory") }
     ensures silent { OnOk checked (result.words ≡ None) }
 {
     match checked {
-        Ok(true) => exit_of(Ok(())),
-        Ok(false) => Exit {
+        Ok(Outcome::Right) => exit_of(Ok(())),
+        Ok(Outcome::Wrong) => Exit {
             status: 3,
+            words: None,
+        },
+        Ok(Outcome::Unchecked) => Exit {
+            status: 4,
             words: None,
         },
         Err(failure) => exit_of(Err(failure)),

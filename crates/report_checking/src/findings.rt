@@ -44,6 +44,17 @@ pub(crate) enum Found {
     Wrong(Fault),
 }
 
+/// What a check comes to.
+#[derive(Clone, Copy, Debug, PartialEq, Eq)]
+pub enum Outcome {
+    /// All replies are right.
+    Right,
+    /// None is wrong, and some say that memory was wanting, of which nothing is known.
+    Unchecked,
+    /// One is wrong.
+    Wrong,
+}
+
 /// What is owed to a line.
 #[derive(Drop, Debug)]
 pub(crate) enum Owed {

@@ -14,3 +14,4 @@ mod texts;
 
 pub use checking::{LONGEST_REPLY, check_replies};
 pub use exits::exit_of_check;
+pub use findings::Outcome;

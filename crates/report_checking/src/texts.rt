@@ -1,9 +1,9 @@
 //! What is told of replies.
 ghost use Rattle.std.specs.Prelude.{◌≡◌, ◌+◌, IfOk, OnOk, OnErr, IsErrOf, option_map, string_bytes};
 ghost use Rattle.std.specs.Io.KnownBytes.{Appends};
-ghost use Rattle.report_checking.specs.Telling.{AppendsFront, counted, words_of, words_of_fault, found_line, last_line, no_tally, numbered, text_owed, verdict_word};
+ghost use Rattle.report_checking.specs.Telling.{AppendsFront, counted, words_of, words_of_fault, found_line, last_line, no_tally, numbered, outcome_of, text_owed, outcome_word};
 
-use crate::findings::{Fault, Found, Unshown, What};
+use crate::findings::{Fault, Found, Outcome, Unshown, What};
 use byte_lines::{ByteSink, Failure, write_all};
 use order_check::Kind;
 use std::alloc::Global;
@@ -43,11 +43,24 @@ impl Tally {
         }
     }
 
-    /// The last line: what was counted.
-    fn line(&self, alloc: Global, is_right: bool) -> Result<String, NoMemory>
-        ensures { IfOk result (λ line. string_bytes line ≡ last_line self.now is_right) }
+    /// What a check comes to that has counted so much, by whether none is wrong.
+    pub(crate) fn outcome(&self, none_is_wrong: bool) -> Outcome
+        ensures { result ≡ outcome_of self.now none_is_wrong }
     {
-        let word = verdict_word(is_right);
+        if !none_is_wrong {
+            Outcome::Wrong
+        } else if self.unchecked == 0 {
+            Outcome::Right
+        } else {
+            Outcome::Unchecked
+        }
+    }
+
+    /// The last line: what was counted.
+    fn line(&self, alloc: Global, outcome: Outcome) -> Result<String, NoMemory>
+        ensures { IfOk result (λ line. string_bytes line ≡ last_line self.now outcome) }
+    {
+        let word = outcome_word(outcome);
         let Tally {
             replies,
             reports,
@@ -60,10 +73,14 @@ impl Tally {
     }
 }
 
-fn verdict_word(is_right: bool) -> &'static str
-    ensures { result.now ≡ verdict_word is_right }
+fn outcome_word(outcome: Outcome) -> &'static str
+    ensures { result.now ≡ outcome_word outcome }
 {
-    if is_right { "right" } else { "wrong" }
+    match outcome {
+        Outcome::Right => "right",
+        Outcome::Unchecked => "unchecked",
+        Outcome::Wrong => "wrong",
+    }
 }
 
 /// The words for a reply that is right, where it has a line.
@@ -158,15 +175,15 @@ pub(crate) fn tell_tally<W: ByteSink>(
     alloc: Global,
     sink: &mut W,
     tally: &Tally,
-    is_right: bool,
+    outcome: Outcome,
 ) -> Result<(), Failure>
-    ensures told { OnOk result (Appends (W.contents sink.old) (W.contents sink.new) (last_line tally.now is_right)) }
-    ensures front { OnErr result (AppendsFront (W.contents sink.old) (W.contents sink.new) (last_line tally.now is_right)) }
+    ensures told { OnOk result (Appends (W.contents sink.old) (W.contents sink.new) (last_line tally.now outcome)) }
+    ensures front { OnErr result (AppendsFront (W.contents sink.old) (W.contents sink.new) (last_line tally.now outcome)) }
     ensures ok { OnOk result (W.faults sink.new ≡ W.faults sink.old) }
     ensures device { IsErrOf result Failure.Device → W.faults sink.new ≡ W.faults sink.old + 1 }
     ensures memory { IsErrOf result Failure.NoMemory → W.faults sink.new ≡ W.faults sink.old }
 {
-    let line = tally.line(alloc, is_right)?;
+    let line = tally.line(alloc, outcome)?;
     write_all(sink, line.as_bytes())?;
     Ok(())
 }

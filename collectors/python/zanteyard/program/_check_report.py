@@ -10,9 +10,11 @@ from typing import IO
 from ..core.errors import ProgramEndedError, ZanteyardError
 from ._binaries import find_checker
 
-WRONG = 1
+# The exit status for each status of the checker. 4: none is wrong, but some aren't checked.
+STATUSES = {0: 0, 3: 1, 4: 4}
 STATUS_WORDS = (
-    "Exit status: 0 if no reply is wrong, 1 if one is, 2 if the call is wrong."
+    "Exit status: 0 if each reply is right, 1 if one is wrong, 4 if none is, but some say that "
+    "memory was wanting, which isn't checked; 2 if the call is wrong."
 )
 
 
@@ -46,6 +48,6 @@ def check(script: IO[bytes], replies: IO[bytes]) -> int:
             lines.write(line if line.endswith(b"\n") else line + b"\n")
             lines.write(reply)
     status = program.wait()
-    if status not in (0, 3):
+    if status not in STATUSES:
         raise ProgramEndedError(f"the checker ended with status {status}")
-    return WRONG if status == 3 else 0
+    return STATUSES[status]

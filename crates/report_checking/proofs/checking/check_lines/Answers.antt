@@ -1,7 +1,7 @@
 use Rattle.std.proofs.Common.{◌∙◌, refl}
 use Rattle.report_checking.proofs.CheckedLines.{ahead_first, checking_first}
 use Rattle.report_checking.proofs.Fronts.{on_err}
-use Rattle.report_checking.proofs.ToldLines.{stops_wrong, told_front, told_more, told_none, told_wrong}
+use Rattle.report_checking.proofs.ToldLines.{told_front, told_more, told_none, told_wrong}
 use Rattle.report_checking.proofs.checking.check_lines.Goals as goal
 
 pub loop-found-init : goal.loop-found-init
@@ -21,11 +21,6 @@ returns-in_err-found-clause-front g c =
 pub returns-in-Wrong-clause-told : goal.returns-in-Wrong-clause-told
 returns-in-Wrong-clause-told g c =
     told_wrong (g.R.ByteSource.remaining c.args.source.now) _ _ c.loop-found.replay.script c.check_next.new.replay.script c.loop-found.tally c.check_next.new.tally (g.W.ByteSink.contents c.args.sink.now) (g.W.ByteSink.contents c.loop-found.sink) (g.W.ByteSink.contents c.check_next.new.sink) c.in_ok-found.field-0 c.in-Some.found c.in-Wrong.field-0 c.in-Some.is c.in-Wrong.is c.loop-found.invariant.told c.in_ok-found.ensures.told c.in_ok-found.ensures.on
-
-pub returns-in-Wrong-clause-wrong : goal.returns-in-Wrong-clause-wrong
-returns-in-Wrong-clause-wrong g c = λ no.
-    stops_wrong (g.R.ByteSource.remaining c.args.source.now) c.check_next.new.tally (g.W.ByteSink.contents c.args.sink.now) (g.W.ByteSink.contents c.check_next.new.sink)
-    (told_wrong (g.R.ByteSource.remaining c.args.source.now) _ _ c.loop-found.replay.script c.check_next.new.replay.script c.loop-found.tally c.check_next.new.tally (g.W.ByteSink.contents c.args.sink.now) (g.W.ByteSink.contents c.loop-found.sink) (g.W.ByteSink.contents c.check_next.new.sink) c.in_ok-found.field-0 c.in-Some.found c.in-Wrong.field-0 c.in-Some.is c.in-Wrong.is c.loop-found.invariant.told c.in_ok-found.ensures.told c.in_ok-found.ensures.on)
 
 pub loop-found-preserved : goal.loop-found-preserved
 loop-found-preserved g c =
