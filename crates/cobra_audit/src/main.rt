@@ -1,8 +1,9 @@
 //! The auditor: reads a script on standard input, and writes the reply to each of its lines on standard output.
 #![tactic(auto)]
 
-ghost use Rattle.std.specs.Prelude.{◌≡◌, ◌≢◌, ℕ, ◌<◌, ◌⊎◌, List, length, take, codes, Ok, Err, Some, IfSome, OnErr, option_map};
+ghost use Rattle.std.specs.Prelude.{◌≡◌, ◌≢◌, ℕ, ◌<◌, ◌⊎◌, List, length, take, codes, Ok, Err, None, Some, IfSome, OnErr, option_map};
 ghost use Rattle.std.specs.Io.KnownBytes.{Appends, Keeps};
+ghost use Rattle.std.specs.Thread.{IsSync};
 ghost use Rattle.cobra.specs.Outputs.{IsOutput, StopsForMemory, StopsReading, StopsWriting};
 
 use cobra::{
@@ -10,7 +11,6 @@ use cobra::{
     exit_of, serve, tell,
 };
 use guided_search::{Conflicts, Guided};
-use polygraph::{PlainSolver, Solver};
 use shared_search::{OpenGate, Shared};
 use std::thread::Threads;
 use std::{env, thread};
@@ -59,15 +59,14 @@ ran out (standard error says which); 2 for other arguments.
 docs/FORMATS.md describes each line, reply and refusal; docs/COLLECTORS.md, what has to be logged.
 "#;
 
-/// Does what the arguments ask for, and says how the program ends.
-fn run<'s, E, T: Threads, R: ByteSource, W: ByteSink, P: PlainSolver + Sync, S: Solver + Sync>(
-    means: &Means<'_, 's, E, T, P, S>,
+/// Does what the arguments ask for, and says how the program ends. The types say which searches are made: no others can be handed in.
+fn run<'s, E, T: Threads, H: Threads + Sync + Drop, R: ByteSource, W: ByteSink>(
+    means: &Means<'_, 's, E, T, Shared<H, OpenGate>, Guided<Conflicts, Shared<H, OpenGate>>>,
     asked: Result<Asked, Failure>,
     input: &mut R,
     output: &mut W,
 ) -> Exit
-    requires plain { P.ready }
-    requires guided { S.ready }
+    requires { IsSync H.row }
 
     // Status 0 says that the script was served to its end.
     ensures served { asked ≡ Ok Asked.Work → result.status ≡ 0 → IfSome (R.remaining input.old) (λ script. (replies : List ℕ) × IsOutput script replies × Appends (W.contents output.old) (W.contents output.new) replies) }
@@ -79,6 +78,9 @@ fn run<'s, E, T: Threads, R: ByteSource, W: ByteSink, P: PlainSolver + Sync, S: 
     ensures stops_writing { asked ≡ Ok Asked.Work → W.faults output.old < W.faults output.new → IfSome (R.remaining input.old) (λ script. (replies : List ℕ) × StopsWriting script (R.remaining input.new) replies × Appends (W.contents output.old) (W.contents output.new) replies) }
     ensures memory { asked ≡ Ok Asked.Work → option_map (λ words. words.now) result.words ≡ Some (codes "out of memory") → IfSome (R.remaining input.old) (λ script. (replies : List ℕ) × StopsForMemory script (R.remaining input.new) replies × Appends (W.contents output.old) (W.contents output.new) replies) }
     ensures said { result.status ≡ 1 → (option_map (λ words. words.now) result.words ≡ Some (codes "device failed")) ⊎ (option_map (λ words. words.now) result.words ≡ Some (codes "out of memory")) }
+
+    // And nothing is said where what was asked for is done, whatever was reported.
+    ensures silent { result.status ≡ 0 → result.words ≡ None }
 
     // The text is written, or a front of it where the device failed.
     ensures help { asked ≡ Ok Asked.Help → result.status ≡ 0 → Appends (W.contents output.old) (W.contents output.new) HELP.now }
