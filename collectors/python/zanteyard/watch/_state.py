@@ -120,8 +120,8 @@ class Seen:
         unknown = its.rows_written.not_checked.get("its writes couldn't be told apart", 0)
         if unknown:
             yield (
-                f"{unknown:,} of the rows written may be those of one of several transactions, or of a "
-                "program that bypasses the proxy"
+                f"{unknown:,} of the rows written may be those of one of several transactions, "
+                "or of a program that bypasses the proxy"
             )
         if its.others:
             told = counted(its.others, "more transaction")
