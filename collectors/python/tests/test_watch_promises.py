@@ -60,6 +60,12 @@ class Words(unittest.TestCase):
             asked = parser().parse_args(["watch", "postgresql://a/b", *more])
             self.assertEqual("--conditions" in call_of("proxy", asked)[0], bool(more))
 
+    def test_aggregates_are_seen_if_that_is_asked_for(self):
+        for command in (["watch"], ["proxy", "--redis", "redis://c", "--audit", "d", "--key", "e"]):
+            for more in ([], ["--aggregates"]):
+                asked = parser().parse_args([command[0], "postgresql://a/b", *command[1:], *more])
+                self.assertEqual("--aggregates" in call_of("proxy", asked)[0], bool(more))
+
     def test_a_list_of_processes_shows_no_password(self):
         for url in (
             "postgresql://u:s3cret@a/b",

@@ -105,6 +105,8 @@ class Runs(InAFolder):
                 "  1 of the checked rows had been written by the transaction that read them",
                 "  1 of those that were rolled back had only read: --rollbacks checks such transactions",
                 "  1 more statement defined something, called a procedure or the like: not looked into",
+                "  3 of the rows written may be those of one of several transactions, or of a program that "
+                "bypasses the proxy",
                 "  2 more transactions, with 5 rows written, bypassed the proxy",
                 "  1 more commit had no row, such as those of the server's own ANALYZE",
                 "  checked in part",
@@ -112,7 +114,7 @@ class Runs(InAFolder):
                 "             1 SELECTs       a subquery: run it as a SELECT of its own",
                 "  not checked",
                 f"             3 transactions  {TOLD_APART}",
-                "             7 SELECTs       an aggregate: select the rows, or aggregate fewer",
+                "             7 SELECTs       an aggregate: --aggregates, or select the rows",
                 "             3 SELECTs       it found no row: ask by a whole primary key, at "
                 "repeatable read or serializable",
                 f"             3 writes        {TOLD_APART}",
@@ -396,7 +398,7 @@ class Command(InAFolder):
                     ended = self.begin(self.url, option, address)
                     out, errors = ended.communicate(timeout=600)
                     self.assertEqual((ended.returncode, out), (2, ""))
-                    hint, last = errors.splitlines()
+                    hint, *more, last = errors.splitlines()
                     self.assertEqual(last, f"mistake: {address}: Address already in use")
                     self.assertIn("a superuser, which an audit doesn't need", hint)
 

@@ -67,6 +67,11 @@ def add_arguments(command: argparse.ArgumentParser) -> None:
         "rolled back though no statement had failed",
     )
     command.add_argument(
+        "--aggregates", action="store_true",
+        help="also see which rows aggregates were made of, and what an index may answer alone: "
+        "an answer may then have its rows in another order (docs/SQL.md)",
+    )
+    command.add_argument(
         "--conditions", action="store_true",
         help="also check what SELECTs by a condition passed over (phantoms; docs/SQL.md)",
     )
@@ -243,6 +248,8 @@ def call_of(proxy: str, asked: argparse.Namespace) -> tuple[Sequence[str], dict[
         call.append(f"--promise={asked.promise}")
     if asked.rollbacks:
         call.append("--rollbacks")
+    if asked.aggregates:
+        call.append("--aggregates")
     if asked.conditions:
         call.append("--conditions")
     if asked.sample is not None:

@@ -46,6 +46,11 @@ def add_arguments(command: argparse.ArgumentParser) -> None:
         "--redact", action="store_true",
         help="don't send the constants, parameters and comments of statements",
     )
+    command.add_argument(
+        "--aggregates", action="store_true",
+        help="also see which rows aggregates were made of, and what an index may answer alone: "
+        "an answer may then have its rows in another order (docs/SQL.md)",
+    )
     # The audit determines these.
     command.set_defaults(sample=None, promise=SERIALIZABLE.name, rollbacks=False, conditions=False)
 

@@ -36,7 +36,7 @@ REMEDIES: Sequence[tuple[str, str]] = (
     ("its version may be from a savepoint", "let the audit call pg_walinspect"),
     ("its table's key has changed", "it will be seen again within a second"),
     ("an absent row", "ask at repeatable read or serializable"),
-    ("an aggregate", "select the rows, or aggregate fewer"),
+    ("an aggregate", "--aggregates, or select the rows"),
     ("MIN or MAX, for which", "order by the column, with LIMIT 1"),
     ("it reads too many rows to be listed", "it is left as it is for a minute"),
     ("GROUP BY without", "order by the columns that it groups by"),

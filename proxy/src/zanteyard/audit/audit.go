@@ -81,6 +81,7 @@ func (a *Audit) Late() {
 			return // it ended by a fault: what it told last stands
 		}
 	}
+	its.Totals = its.Totals.Copied() // the joiner's own stay as they are: this may be told again
 	its.Totals.Add(&late)
 	its.At, its.Last = time.Now(), true
 	feed.Write(a.config.Out, its)

@@ -112,6 +112,7 @@ type Catalog struct {
 	functions map[string]*functions
 	cascades  map[uint32][]uint32 // tables whose rows change with those of another one
 	operators map[string]bool     // names of operators whose functions aren't pure
+	listless  bool                // WithoutLists was given
 	elsewhere *elsewhere
 	columns   map[uint32]record.Identity // of tables
 }
@@ -121,6 +122,13 @@ type Option func(*Catalog)
 
 // WithColumns makes Load read the identities of tables' columns, which reads by conditions need.
 func WithColumns(c *Catalog) { c.columns = map[uint32]record.Identity{} }
+
+// WithoutLists makes plans leave statements as they are whose rows could only be seen by a hidden aggregate, or by a look
+// into a table of which an index has all.
+func WithoutLists(c *Catalog) { c.listless = true }
+
+// Lists reports whether plans may list the rows that an aggregate was made of, and look into tables beside an index.
+func (c *Catalog) Lists() bool { return !c.listless }
 
 // WithConditions reports whether the identities of columns were read.
 func (c *Catalog) WithConditions() bool { return c.columns != nil }

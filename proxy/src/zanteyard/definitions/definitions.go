@@ -88,6 +88,9 @@ func (d *Definitions) Only(filter catalog.Filter) { d.only = filter }
 // WithConditions makes plans follow the conditions that SELECTs ask by. Call it before Run.
 func (d *Definitions) WithConditions() { d.reads = append(d.reads, catalog.WithColumns) }
 
+// WithoutLists makes plans leave aggregates, and what an index may answer alone, as they are. Call it before Run.
+func (d *Definitions) WithoutLists() { d.reads = append(d.reads, catalog.WithoutLists) }
+
 // FollowsTable reports whether a plan was made that follows a condition on this table's rows.
 func (d *Definitions) FollowsTable(relation record.Relation) bool {
 	cache := d.cache.Load()

@@ -23,11 +23,11 @@ type openNow interface {
 	Open(connections []uint64) []uint64
 }
 
-// lookBeside learns for whom writers wait.
+// lookBeside learns for whom writers wait: for nobody if no statement is followed by its condition.
 func (j *Joiner) lookBeside(now time.Time) {
 	c := j.core
 	its, is := j.meeter.(openNow)
-	if !is || j.meeting.phase != apart || !c.writes.After(c.looked) || now.Sub(c.looked) < besidePause || len(c.besides) >= mostBesides {
+	if !is || c.counts.asks == 0 || j.meeting.phase != apart || !c.writes.After(c.looked) || now.Sub(c.looked) < besidePause || len(c.besides) >= mostBesides {
 		return
 	}
 	one := besides{at: now}

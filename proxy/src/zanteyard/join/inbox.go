@@ -240,7 +240,7 @@ func (b *Inbox) countLate(it *record.Transaction) {
 func (b *Inbox) Late() Totals {
 	b.lock.Lock()
 	defer b.lock.Unlock()
-	return b.late.copied()
+	return b.late.Copied()
 }
 
 // After makes an inbox that was closed count for this one, of the next audit.
@@ -274,7 +274,7 @@ func (b *Inbox) counted(isLast bool) (its []Unseen, gone map[string]uint64, lost
 	if b.outside != nil {
 		its = append(its, *b.outside)
 	}
-	gone, lost, totals = copyOf(b.gone), b.lost, b.totals.copied()
+	gone, lost, totals = copyOf(b.gone), b.lost, b.totals.Copied()
 	if isLast {
 		b.unseen, b.outside, b.gone, b.lost, b.totals = map[unseenKey]*Unseen{}, nil, nil, 0, Totals{}
 	}

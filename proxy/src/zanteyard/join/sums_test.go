@@ -212,7 +212,7 @@ func (b *bench) bare(number uint32) {
 
 // totals are those after a round.
 func (b *bench) totals() Totals {
-	its := b.core.counts.totals.copied()
+	its := b.core.counts.totals.Copied()
 	its.add(&b.core.counts.fresh)
 	return its
 }

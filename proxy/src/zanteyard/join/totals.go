@@ -78,8 +78,8 @@ func (t *Totals) add(more *Totals) {
 // Add adds those of another audit, or part of one.
 func (t *Totals) Add(more *Totals) { t.add(more) }
 
-// copied returns the same, which doesn't change any more.
-func (t *Totals) copied() Totals {
+// Copied returns the same, which doesn't change any more.
+func (t *Totals) Copied() Totals {
 	var to Totals
 	to.add(t)
 	return to

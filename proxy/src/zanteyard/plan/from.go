@@ -172,7 +172,7 @@ func (f *fromClause) groups() (seen []*item) {
 			f.plan.leaveOut("GROUP BY without an ORDER BY of its columns")
 		case f.removable(it):
 			f.plan.leaveOut("a join that the server may skip")
-		case looks && f.taken != "":
+		case looks && (f.taken != "" || !f.maker.catalog.Lists()):
 			f.plan.leaveOut(ByIndex)
 		default:
 			f.plan.Looks = f.plan.Looks || looks

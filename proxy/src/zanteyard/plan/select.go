@@ -67,7 +67,7 @@ func (m *maker) merges(body node) (lists bool, reason string) {
 	case body.has("distinctClause") && !distinctOn(body):
 		return false, "DISTINCT"
 	case body.has("groupClause"): // a table whose whole key is grouped by has one row in each group
-		return !body.has("distinctClause") && !kindFound(body["groupClause"], "GroupingSet"), ""
+		return m.catalog.Lists() && !body.has("distinctClause") && !kindFound(body["groupClause"], "GroupingSet"), ""
 	}
 	parts := []any{body["targetList"], body["sortClause"], body["windowClause"], body["distinctClause"]}
 	switch {
@@ -75,6 +75,10 @@ func (m *maker) merges(body node) (lists bool, reason string) {
 		return false, ""
 	case body.has("distinctClause"):
 		return false, "DISTINCT"
+	case !m.catalog.Lists() && body.has("havingClause"):
+		return false, "HAVING"
+	case !m.catalog.Lists():
+		return false, "an aggregate"
 	case !body.has("havingClause") && !m.surelyAggregates(parts):
 		return false, "a function that may be an aggregate"
 	case m.onlyEnds(body, parts):

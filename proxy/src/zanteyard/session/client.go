@@ -83,7 +83,7 @@ func (s *Session) look(name string, text []byte) *statement {
 		return ahead
 	}
 	st := &statement{name: name, text: string(text), looked: never}
-	if !s.options.Auditing() {
+	if !s.options.Auditing() && len(s.names.cursors) == 0 {
 		return st // it may be run after an audit has begun
 	}
 	st.looked = s.trust.plans
@@ -101,7 +101,7 @@ func (s *Session) looking() bool {
 
 // fresh looks up a statement's plan again if the catalog or the search path has changed since.
 func (s *Session) fresh(st *statement) {
-	if st.text == "" || !s.looking() {
+	if st.text == "" || !s.looking() && len(s.names.cursors) == 0 { // a rewritten cursor outlives its audit
 		return
 	}
 	st.looked = s.trust.plans

@@ -314,7 +314,7 @@ func (s *Session) endsUnlooked(e *expectation, tag []byte) bool {
 	switch {
 	case string(tag) == "COMMIT":
 		s.finish(record.Committed)
-	case string(tag) == "ROLLBACK" && (e.on == nil || !undoesPart.MatchString(e.on.text)):
+	case string(tag) == "ROLLBACK" && e.on != nil && e.on.text != "" && !undoesPart.MatchString(e.on.text):
 		s.finish(s.tx.undone())
 	default:
 		return false
@@ -323,8 +323,9 @@ func (s *Session) endsUnlooked(e *expectation, tag []byte) bool {
 	return true
 }
 
-// undoesPart matches what undoes a transaction as far as to a savepoint.
-var undoesPart = regexp.MustCompile(`(?i)rollback\s.*\bto\b`)
+// undoesPart matches what may undo a transaction only as far as to a savepoint: then, as where the text isn't known, the
+// server's next ReadyForQuery says whether it is over.
+var undoesPart = regexp.MustCompile(`(?is)rollback.*\bto\b`)
 
 // notLooked counts a statement that wasn't looked at.
 func (s *Session) notLooked(e *expectation, tag []byte) {

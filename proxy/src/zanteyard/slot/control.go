@@ -28,6 +28,10 @@ type Control struct {
 	prepared bool  // placeSQL is prepared on conn
 	mark     int64 // of the connection that reads the slot; 0 before that
 	reloaded time.Time
+
+	// What was found changed, and isn't told yet, since a Place has failed behind it.
+	changed   []record.Relation
+	rewritten []join.Rewritten
 }
 
 // NewControl connects, and reads the catalog.
@@ -138,9 +142,17 @@ func (c *Control) one(ctx context.Context, text own.Text) (string, error) {
 
 // Place implements join.Server. The same statement checks the tables that the slot has reported; if one has changed,
 // the catalog is read again, and all is asked again.
+//
+// It is called by one goroutine.
 func (c *Control) Place(ctx context.Context) (join.Place, error) {
-	var changed []record.Relation
-	var rewritten []join.Rewritten
+	place, err := c.place(ctx)
+	if err == nil {
+		c.changed, c.rewritten = nil, nil
+	}
+	return place, err
+}
+
+func (c *Control) place(ctx context.Context) (join.Place, error) {
 	for again := 0; ; again++ {
 		oids, used := c.tables.usedText()
 		rows, err := c.where(ctx, oids)
@@ -154,23 +166,23 @@ func (c *Control) Place(ctx context.Context) (join.Place, error) {
 		if !ok {
 			return join.Place{}, errForm
 		}
-		place := join.Place{At: at, Changed: changed, Names: c.tables.Names(), Used: used, Shows: rows[0][2]}
+		place := join.Place{At: at, Changed: c.changed, Names: c.tables.Names(), Used: used, Shows: rows[0][2]}
 		if err := c.tables.hides(); err != nil {
 			return join.Place{}, err
 		}
 		switch {
 		case rows[0][1] == c.tables.usedStamp() && !(c.tables.Missing() && c.mayReload()):
-			place.Rewritten = append(rewritten, c.tables.versions(rows[0][3])...)
+			place.Rewritten = append(c.rewritten, c.tables.versions(rows[0][3])...)
 			return place, nil
 		case again == mostReloads: // somebody changes one table after the other: nothing is verified for now
-			place.Unsure, place.Rewritten = true, rewritten
+			place.Unsure, place.Rewritten = true, c.rewritten
 			return place, nil
 		}
 		more, also, err := c.reload(ctx)
 		if err != nil {
 			return join.Place{}, err
 		}
-		changed, rewritten = append(changed, more...), append(rewritten, also...)
+		c.changed, c.rewritten = append(c.changed, more...), append(c.rewritten, also...)
 	}
 }
 

@@ -55,6 +55,7 @@ type flags struct {
 	shared, name      string
 	remote, redact    bool
 	conditions        bool
+	aggregates        bool
 	records           string
 	passing           bool
 	drain             time.Duration
@@ -99,6 +100,8 @@ func parse(args []string, errors io.Writer) (flags, error) {
 	})
 	set.BoolVar(&f.join.Rollbacks, "rollbacks", false, "below serializable, audit transactions that only read and were rolled back "+
 		"without a failed statement as if they had been committed")
+	set.BoolVar(&f.aggregates, "aggregates", false, "see the rows that aggregates were made of, and what an index may answer alone, too: "+
+		"some answers may have their rows in another order")
 	set.BoolVar(&f.conditions, "conditions", false, "audit what SELECTs by a condition passed over, too")
 	set.Float64Var(&f.join.Sample, "sample", 1, "the `part` of the connections that is audited")
 	set.DurationVar(&f.join.Between, "between", 2*time.Second, "the shortest `time` between two meetings")
@@ -362,6 +365,9 @@ func look(ctx context.Context, f flags, config *pgconn.Config, options *session.
 	d.Only(f.tables)
 	if f.conditions && !f.remote {
 		d.WithConditions()
+	}
+	if !f.aggregates {
+		d.WithoutLists()
 	}
 	options.Plans, options.Generation, options.Defined = d, d.Generation, d.Changed
 	failed := func(err error) { options.Log(err.Error() + "; traffic goes on: " + guard.Stack(err)) }

@@ -226,7 +226,7 @@ func (w *watched) offered() (its []described) {
 // each offered read with what the rows themselves showed: which version was read, and who is offered as its writer.
 func TestReadsAreWhatClientsSaw(t *testing.T) {
 	c := start(t)
-	p := begin(t, c)
+	p := begin(t, c, "--aggregates")
 	p.until(`["open"`)
 	sql(t, p.connect(), `CREATE TABLE tagged (id int PRIMARY KEY, tag text NOT NULL, replaced text);
 		INSERT INTO tagged SELECT i, '-', NULL FROM generate_series(0, 9) i`)

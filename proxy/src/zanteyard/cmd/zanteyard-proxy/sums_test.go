@@ -189,7 +189,7 @@ func TestSumsAreTheServers(t *testing.T) {
 			}
 		}
 	}
-	p := begin(t, c)
+	p := begin(t, c, "--aggregates")
 	p.until(`["open"`)
 	const others, othersRows = 3, 3 * 2
 	for i := 0; i < others; i++ {
