@@ -123,7 +123,7 @@ class Live(unittest.TestCase):
                     "<p>8 SELECTs asked by a condition, ",
                     "<h2>Checked in part</h2>",
                     "<h2>Not checked</h2>",
-                    "select the rows, and add them up",
+                    "--aggregates, or select the rows",
                 ],
             ),
             (status(kind="running", rounds_count=0), ["Nothing has been checked yet"]),
