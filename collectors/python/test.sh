@@ -45,7 +45,7 @@ if command -v mypy > /dev/null; then # in parallel with the tests; its output co
 else
     echo "skipped: mypy, which isn't installed (no type was checked)"
 fi
-styled="zanteyard import_graph.py make_deb.py make_wheel.py run_tests.py ../../examples/postgres_live.py ../../examples/store_faults.py ../../examples/bank.py ../../examples/shop.py ../../examples/try_postgres.py"
+styled="zanteyard import_graph.py make_deb.py make_wheel.py run_tests.py ../../examples/postgres_live.py ../../examples/store_faults.py ../../examples/bank.py ../../examples/shop.py ../../examples/try_postgres.py ../../examples/rules.py"
 if command -v ruff > /dev/null; then
     ruff check --no-cache --line-length 100 --select E,W --ignore E203,E402,E701,E731 $styled
 elif "$python" -m pycodestyle --version > /dev/null 2>&1; then

@@ -186,13 +186,23 @@ func (b *Inbox) UnseenMany(shape, reason string, reads bool, n uint64) {
 // otherServer is the reason for transactions of connections that didn't show that they are to the audited server.
 const otherServer = "on a connection to another server than the audited one, or to a standby"
 
-// Lose counts transactions that are never offered, by reason.
+// Lose counts transactions that are never offered, by reason. After the audit's end they count in the next one, or among
+// what ended since (Late).
 func (b *Inbox) Lose(reason string, n uint64) {
 	b.lock.Lock()
 	defer b.lock.Unlock()
-	b.lose(reason, n)
-	b.totals.Transactions.All += n
-	b.totals.Transactions.leave(reason, n)
+	to := &b.totals
+	switch {
+	case b.next != nil:
+		b.next.Lose(reason, n)
+		return
+	case b.closed:
+		to = &b.late
+	default:
+		b.lose(reason, n)
+	}
+	to.Transactions.All += n
+	to.Transactions.leave(reason, n)
 }
 
 func (b *Inbox) lose(reason string, n uint64) {

@@ -75,3 +75,20 @@ func TestEndCountsWhatIsLeft(t *testing.T) {
 		t.Errorf("counted are %+v", n)
 	}
 }
+
+// TestLostWithoutAnAudit: what is lost on its way once an audit is over counts once, too: in the next audit if there is one.
+func TestLostWithoutAnAudit(t *testing.T) {
+	const reason = "lost on the way"
+	first, next := NewInbox(1<<20), NewInbox(1<<20)
+	first.Close()
+	first.Lose(reason, 3)
+	if late := first.Late(); late.Transactions.All != 3 || late.Transactions.NotChecked[reason] != 3 {
+		t.Errorf("counted are %+v", late)
+	}
+	next.After(first)
+	first.Lose(reason, 2)
+	_, _, _, totals := next.counted(false)
+	if late := first.Late(); late.Transactions.All != 0 || totals.Transactions.All != 5 || totals.Transactions.NotChecked[reason] != 5 {
+		t.Errorf("counted are %+v, and late %+v", totals, late)
+	}
+}

@@ -10,11 +10,12 @@ import (
 )
 
 // ask inserts the proxy's own question before a COMMIT (or PREPARE TRANSACTION): the transaction's number, if it may
-// have written without reporting it, and its snapshot, if a row wasn't found, or one was passed over by a condition. It goes out in the same write, so it
-// costs no round trip. It has its own Sync, since otherwise an error in it would make the server skip the COMMIT; that
-// is only possible in a block (T) with nothing of the client's under way. After other messages of a pipeline it isn't asked.
+// have written without reporting it, and its snapshot, if a row wasn't found, or one was passed over by a condition. It
+// goes out in the same write, so it costs no round trip. It has its own Sync, since otherwise an error in it would make
+// the server skip the COMMIT; that is only possible in a block (T) with nothing of the client's under way. After other
+// messages of a pipeline it isn't asked, nor while nothing is audited.
 func (s *Session) ask(o *output, p *plan.Plan) {
-	if p.Kind != plan.Commit && p.Kind != plan.PrepareTransaction || s.trust.taken || s.tx.parted {
+	if p.Kind != plan.Commit && p.Kind != plan.PrepareTransaction || s.trust.taken || s.tx.parted || !s.options.Auditing() {
 		return
 	}
 	t := &s.tx
