@@ -92,6 +92,8 @@ class Audit:
             self._begun.set()
         elif it[0] == "offer":
             self._marks[it[1]] = it[2] + len(it[3])
+        elif it[0] == "join":
+            self._marks.append(len(it[2]))
         elif it[0] == "truncate":
             self._say(command="cut", marks=self._marks)
 

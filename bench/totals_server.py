@@ -363,7 +363,8 @@ JOIN pg_class c ON c.oid = indrelid JOIN pg_namespace n ON n.oid = relnamespace
 JOIN pg_attribute a ON attrelid = indrelid AND attnum = ANY(indkey)
 WHERE indisprimary AND nspname NOT IN ('pg_catalog', 'pg_toast') ORDER BY attnum
 """
-CONSTRAINT = re.compile(r"^SELECT 1 FROM ONLY .* FOR KEY SHARE OF x$")  # the server's own, deferred
+# The server's own, deferred.
+CONSTRAINT = re.compile(r"^SELECT (?:1|\$\d+) FROM ONLY .* FOR KEY SHARE OF x$")
 HIDDEN = "zanteyard"  # a word in each text with hidden columns
 RAN = re.compile(
     r"(?:statement|execute (?P<fetch>fetch from )?(?P<name>[^:]*)): (?P<text>.*)", re.DOTALL

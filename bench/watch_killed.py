@@ -9,12 +9,12 @@ started at once with the same arguments; it takes the proxy over. At the end the
 end by SIGINT.
 
 A client counts each transaction that it was told is committed, and each error of any kind. A line a
-minute, and one at the end, has these sums, what the rows say, and for each audit what its status
-last said (`/status.json`) beside what the clients had committed meanwhile. Before each kill the
-clients pause until that audit has counted what they committed, and then go on for two seconds: what
-is committed from then on, until the next audit runs, is no audit's, and has a sum of its own. The
-exit status is 1 if a client saw an error, if the rows aren't what was committed, if the proxy was
-ever another process, or if an audit left a transaction uncounted.
+minute, and one at the end, has these sums, and where the transactions are: in the audit that runs,
+by reason (`/status.json`), in earlier ones whose `watch` was killed, or while there was none. Before
+each kill the clients pause until each transaction is in one of these places, and then go on for two
+seconds, so that it is killed with everybody at work. The exit status is 1 if a client saw an error,
+if the rows aren't what was committed, if the proxy was ever another process, or if more or fewer
+transactions are counted than were committed.
 
 It needs PostgreSQL, psycopg2, a built proxy (ZANTEYARD_PROXY, or Go) and the auditor.
 """
@@ -25,7 +25,6 @@ import json
 import multiprocessing
 import os
 import random
-import re
 import shutil
 import signal
 import socket
@@ -150,11 +149,6 @@ class Watch:
             pass
         return self.status
 
-    def unaudited(self):
-        """How many transactions ended before it, while nothing was audited, as the proxy says."""
-        found = [re.search(r"(\d+) transactions ended while nothing was audited", line) for line in self.log]
-        return next((int(each[1]) for each in reversed(found) if each), 0)  # earlier lines are shown again
-
     def ended(self):
         self.process.wait(LIMIT)
         for each in self.readers:
@@ -163,29 +157,25 @@ class Watch:
 
 
 def counted(status):
-    """How many committed transactions an outcome accounts for, and by what."""
+    """How many transactions an outcome accounts for, and in which places."""
     if not status:
         return 0, {}
-    its = status["seen"]["transactions"]
-    left = its["not_checked"]
-    reasons = {}
-    for each in left if isinstance(left, list) else [left]:
-        if "reason" in each:
-            reasons[each["reason"]] = each.get("count", each.get("transactions"))
-        else:
-            reasons.update(each)
-    return its["all"], {"checked": its["checked"], **reasons}
+    its, before = status["seen"]["transactions"], status["before"]
+    places = {"checked": its["checked"], **its["in_part"], **its["not_checked"], "waiting": its["waiting"],
+              "rolled back": its["rolled_back"], "in earlier audits": before["untold"],
+              "while there was none": before["unaudited"]}
+    return sum(places.values()), {place: n for place, n in places.items() if n}
 
 
 def settle(watch, committed):
-    """Waits until an audit has counted what was committed, or its sums don't change any more."""
+    """Waits until as many transactions are counted as were committed, or the sums don't change any more."""
     ends, before, since = time.monotonic() + LIMIT, None, time.monotonic()
     while time.monotonic() < min(ends, since + SETTLED):
         time.sleep(0.5)
-        now = counted(watch.look())
+        now = counted(watch.look())[0], committed()
         if now != before:
             before, since = now, time.monotonic()
-        elif now[0] >= committed() and time.monotonic() > since + 2:
+        elif now[0] == now[1] and time.monotonic() > since + 2:
             break
 
 
@@ -263,9 +253,8 @@ def run(options, folder):
                 pass
         return sum((collections.Counter(each) for each in sums), collections.Counter())
 
-    failed, kills, told, during, accounted, said = False, 0, 0, 0, 0, 0
+    failed, kills, log = False, 0, []
     began = time.monotonic()
-    at_begin = 0  # committed when the audit had begun, and nothing was under way
     while time.monotonic() - began < 60 * options.minutes:
         until = time.monotonic() + options.every
         while time.monotonic() < until - PAUSE:
@@ -273,33 +262,26 @@ def run(options, folder):
             read()
             watch.look()
         rests.set()  # nothing is committed for a while, so that sums can be compared
-        settle(watch, lambda: read()["committed"] - at_begin)
+        settle(watch, lambda: read()["committed"])
         now, (all_, by) = read(), counted(watch.status)
-        committed = now["committed"] - at_begin
-        # Each transaction of a client is one; those before its audit began are in the one before.
-        line = (f"{(time.monotonic() - began) / 60:5.1f} min: {now['connections']:,} connections, "
-                f"{now['committed']:,} committed, {now['errors']} errors, {kills} kills; "
-                f"this audit: {committed:,} committed, {all_:,} counted {by}")
-        print(line, flush=True)
-        during, accounted = during + committed, accounted + min(all_, committed)
-        if all_ < committed:
+        print(f"{(time.monotonic() - began) / 60:5.1f} min: {now['connections']:,} connections, "
+              f"{now['committed']:,} committed, {now['errors']} errors, {kills} kills; {all_:,} counted: {by}", flush=True)
+        if all_ != now["committed"]:
             failed = True
-            print("      not all that was committed is counted", flush=True)
+            print("      what is counted isn't what was committed", flush=True)
+        if now["errors"] and not log:
+            log = [line.rstrip() for line in watch.log[-50:]]
+            print(*log, sep="\n", flush=True)
         last = time.monotonic() - began >= 60 * options.minutes - 1
         if last:
             break
-        at_begin = now["committed"]
         rests.clear()
         time.sleep(2)  # killed with everybody at work
         watch.process.send_signal(signal.SIGKILL)
         watch.ended()
-        said += watch.unaudited()
         kills += 1
         watch = Watch(call, environment, page)
         watch.audits()
-        before_audit = read()["committed"]
-        told += before_audit - at_begin
-        at_begin = before_audit
         proxies.add(proxy_of(control))
     is_over.set()
     for part in parts:
@@ -310,17 +292,16 @@ def run(options, folder):
     rows = cursor.fetchone()[0]
     watch.process.send_signal(signal.SIGINT)
     status = watch.ended()
-    said += watch.unaudited()
     outcome = json.loads(watch.out[-1]) if watch.out else {}
+    all_, by = counted(outcome)
     print(f"{kills} kills of watch; {now['connections']:,} connections; {now['committed']:,} committed, as clients "
-          f"were told, {rows:,} in the rows; {now['errors']} errors; {accounted:,} counted of {during:,} "
-          f"committed before the audits' pauses, {told:,} after them or while no audit ran ({said:,} then, as the proxy says); "
+          f"were told, {rows:,} in the rows, {all_:,} counted in the last outcome: {by}; {now['errors']} errors; "
           f"{len(proxies)} proxy; the last outcome: {outcome.get('verdict')}, status {status}", flush=True)
     for each in errors:
         for line in each[:20]:
             print("   ", line)
     server.stop()
-    failed = failed or now["errors"] > 0 or rows != now["committed"] or len(proxies) != 1 or status != 0
+    failed = failed or now["errors"] > 0 or not rows == all_ == now["committed"] or len(proxies) != 1 or status != 0
     return 1 if failed else 0
 
 

@@ -133,6 +133,8 @@ class Proxy:
                 [*call, "--trust-clients", "--server", source], stderr=log, text=True, **pipes
             )
         self.offers: list[list[int]] = []
+        self._sessions = 0
+        self._says = threading.Lock()
         self.events: dict[str, Any] = {}
         self.changed = threading.Condition()
         threading.Thread(target=self._read, daemon=True).start()
@@ -149,17 +151,24 @@ class Proxy:
             with self.changed:
                 if isinstance(one, dict):
                     self.events[one["event"]] = one
+                elif one[0] == "open":
+                    self._sessions = one[1]
                 elif one[0] in ("offer", "join"):
-                    self.offers += [[one[1], one[2] + place] for place in range(len(one[3]))]
+                    first = 0 if one[0] == "join" else one[2]
+                    self.offers += [[one[1], first + place] for place in range(len(one[-1]))]
+                    self._sessions = max(self._sessions, one[1] + 1)
                 self.changed.notify_all()
+            if one == ["truncate"]:  # else the audit takes it for an auditor that fell behind
+                self.say(command="cut", marks=[0] * self._sessions)
         with self.changed:
             self.events["ended"] = self.events.get("ended", {"reason": "the proxy has ended"})
             self.changed.notify_all()
 
     def say(self, **command: Any) -> None:
         assert self.process.stdin
-        self.process.stdin.write(json.dumps(command) + "\n")
-        self.process.stdin.flush()
+        with self._says:
+            self.process.stdin.write(json.dumps(command) + "\n")
+            self.process.stdin.flush()
 
     def until(self, event: str) -> Any:
         """Waits for an event of this name, and returns the last one."""

@@ -109,6 +109,9 @@ class Deb(unittest.TestCase):
                                  ("zanteyard", "yes", "strict"))
                 self.assertEqual(service.get("RestartPreventExitStatus"), "1 2" if name == "serve" else None)
                 self.assertEqual(service["StateDirectory"], f"zanteyard/{name}")
+                if name == "watch":  # if it is killed, its proxy goes on, and the next one finds it
+                    kept = [service.get(each) for each in ("KillMode", "OOMPolicy", "RuntimeDirectoryPreserve")]
+                    self.assertEqual(kept, ["process", "continue", "restart"])
                 page = unit["Unit"]["Documentation"].split("file://")[1]
                 self.assertTrue(os.path.isfile(self.root + page), page)
                 words = [name, option, self.root + settings]

@@ -60,7 +60,7 @@ PROMISED = {
     " IsGood IsResumedRefusal",
     "orders and refutations": "Explains Meets IsRefutation Refutes IsClosed IsArc IsCycle IsForced IsChoice IsNoWrite"
     " IsGoneRead depth_of IsJoin",
-    "searches": "Scans IsPicked IsPlain MayComeTo IsLawful MayAnswer",
+    "searches": "Scans IsPicked IsPlain IsSpent IsLawful MayAnswer",
     "snapshot isolation": "IsSnapshotOrder KeepsSnapshotIsolation IsSnapshotVerdict SeesLastCommit AnswersIsolated"
     " OpensIsolated IsAskedFault OfferedFault LegalIsolation isolated_of",
 }

@@ -51,10 +51,7 @@ class Elsewhere(TwoProcesses, test_live.Meetings):
 
     def live(self, sessions, *arguments, **more):
         live = super().live(sessions, *arguments, **more)
-        folder = tempfile.TemporaryDirectory()
-        self.addCleanup(folder.cleanup)
-        self.path = os.path.join(folder.name, "audit")
-        self.server = AuditServer(live, self.path)
+        self.server = self.serving(live)
         self.addCleanup(self.server.close)
         self.client = self.another()
         live.session, stop = self.client.session, live.stop
@@ -66,6 +63,12 @@ class Elsewhere(TwoProcesses, test_live.Meetings):
 
         live.stop = leave_and_stop
         return live
+
+    def serving(self, live):
+        folder = tempfile.TemporaryDirectory()
+        self.addCleanup(folder.cleanup)
+        self.path = os.path.join(folder.name, "audit")
+        return AuditServer(live, self.path)
 
     def another(self):
         client = AuditClient(self.path)
@@ -79,7 +82,7 @@ class Elsewhere(TwoProcesses, test_live.Meetings):
 
     def test_who_asks_for_a_place_waits_for_others_no_longer_than_was_said(self):
         self.live(2)
-        with AuditClient(self.server.path) as client, client._requests._asking:
+        with self.another() as client, client._requests._asking:
             began = time.monotonic()
             self.assertIsNone(client._requests.ask("join", False, seconds=0.1))
             self.assertLess(time.monotonic() - began, 10)

@@ -6,6 +6,7 @@ import sys
 import tempfile
 import threading
 import unittest
+from unittest import mock
 
 from tests import watch_feed as feed
 from tests.made_up_programs import made_up
@@ -110,6 +111,23 @@ class Audits(unittest.TestCase):
         self.assertEqual(status.notes, ("take care",))
         self.assertEqual([its["marks"] for its in self.told_of("cut")], [[0] * 64] * 2)
 
+    def levels_of_rounds(self, seconds):
+        """At which levels the rounds of a healthy run are logged, if that is the time between two
+        lines."""
+        with mock.patch("zanteyard.watch._watching.TOLD", seconds):
+            with self.assertLogs("zanteyard", "DEBUG") as logged:
+                parts = [feed.started(), feed.OPEN, feed.offer(0, 0, [[[5, "init"]], [5]]), *feed.ROUND]
+                self.begin([*parts, ("await", "cut")])
+                self.fake_has("cut")
+                self.stop()
+        return [each.levelname for each in logged.records if each.msg.startswith("round %d")]
+
+    def test_a_healthy_run_logs_one_round_a_minute(self):
+        self.assertEqual(self.levels_of_rounds(60.0 * 60), ["INFO", "DEBUG"])
+
+    def test_after_a_minute_there_is_another_line(self):
+        self.assertEqual(self.levels_of_rounds(0.0), ["INFO", "INFO"])
+
     def test_a_cut_is_told_with_its_marks(self):
         fence = [[[0, "init"]], [0]]
         parts = [
@@ -126,6 +144,53 @@ class Audits(unittest.TestCase):
         status = self.stop()
         self.assertEqual([its["marks"][:3] for its in self.told_of("cut")], [[2, 0, 0]] * 2)
         self.assertEqual((status.cuts, status.forgotten, status.remaining), (1, 2, 1))
+
+    def test_a_session_that_joins_has_a_mark(self):
+        parts = [
+            feed.started(),
+            ["open", 1, 131072, 3],
+            feed.offer(0, 0, [[], [5]], [[[0, "init"]], [0]]),
+            ["join", 1, [[[[0, 0, 1]], [0]], [[[5, 0, 0]], []]]],
+            *feed.ROUND,
+            ("await", "cut"),
+        ]
+        self.begin(parts)
+        self.fake_has("cut")
+        self.fake.write(feed.offer(1, 2, [[[0, 1, 0]], [0]]))
+        self.fake.write(feed.offer(0, 2, [[[0, 1, 2]], [0]]))
+        status = self.stop()
+        self.assertEqual([its["marks"] for its in self.told_of("cut")], [[2, 0], [2, 3]])
+        self.assertEqual((status.cuts, status.forgotten, status.kind), (2, 5, "serial"))
+
+    def test_a_read_of_a_session_that_hasnt_joined_waits(self):
+        parts = [feed.started(), ["open", 1, 131072, 3], feed.offer(0, 0, [[[5, 1, 1]], []])]
+        self.begin([*parts, *feed.ROUND, ("await", "cut")])
+        self.fake_has("cut")
+        self.assertEqual(self.board.status().kind, "pending")
+        self.until(lambda: self.board.status().pending_count)
+        waits = ("0.0 read key 5 from 1.1, which hasn't arrived",)
+        self.assertEqual(self.board.status().pending, waits)
+
+    def test_a_round_without_a_meeting(self):
+        """Its verdict goes up to the time at which the proxy noted what it is about."""
+        checking = feed.event("checking", at=feed.AT + 7)
+        parts = [feed.started(), feed.OPEN, feed.meeting(), *feed.ROUND, ("await", "cut")]
+        self.begin([*parts, feed.offer(0, 0, [[], [5]]), checking, *feed.ROUND])
+        self.wait_for_rounds(2)
+        status = self.board.status()
+        self.assertEqual((status.checked_until, status.meetings), (feed.AT + 7, 1))
+
+    def test_an_auditor_that_has_fallen_behind(self):
+        """Another audit begins if the proxy says that only this helps."""
+        reason = "the auditor fell behind: for a minute it could forget nothing"
+        behind = feed.event("behind", at=feed.AT, reason=reason)
+        parts = [feed.started(), feed.OPEN, feed.offer(0, 0, [[], [5]]), *feed.ROUND, behind]
+        self.begin([*parts, ("await", "restart")])
+        self.fake_has("restart")
+        status = self.stop()
+        self.assertEqual(status.ended[0].reason, reason)
+        self.assertEqual((status.ended[0].kind, status.whole_kind), ("serial", "incomplete"))
+        self.assertEqual(status.audit, 2)
 
     def test_a_violation_is_explained_and_the_audit_goes_on(self):
         self.begin([feed.started(), feed.OPEN, *feed.LOST_UPDATE, *feed.ROUND, ("await", "cut")])
@@ -221,7 +286,7 @@ class SearchesThatDoNotEnd(unittest.TestCase):
                     self.addCleanup(auditing.end)
                     lines = [b'["open",1,8,2]', b'["offer",0,0,[[[],[5]]]]', b'["round",64,0,1]']
                     replies = [reply for _, reply in auditing.give([*lines, b'["show"]'])]
-                    self.assertEqual(replies[:3], [OK, OK, b'["report",1,"spent",[1]]'])
+                    self.assertEqual(replies[:2], [OK, b'["report",1,"spent",[1]]'])
                     with open(ended, "wb"):
                         pass
                     wanted = b'["report",2,"serial",[1],[[0,0]]]'

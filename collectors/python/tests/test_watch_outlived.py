@@ -2,6 +2,7 @@
 that are open. With a real server, the real proxy and the real auditor."""
 
 import os
+import re
 import shutil
 import signal
 import subprocess
@@ -13,7 +14,8 @@ import unittest
 
 from zanteyard.program._binaries import PROGRAM
 from zanteyard.trial.postgres_server import PostgresServer, program
-from zanteyard.watch._control import ControlError, control_path, who
+from zanteyard.watch._attached import _is_like
+from zanteyard.watch._control import ControlError, Who, control_path, who
 from zanteyard.watch._database import Database
 from zanteyard.watch._proxy_program import proxy_path
 
@@ -54,6 +56,20 @@ class Place(unittest.TestCase):
         os.symlink(self.folder, f"{self.folder}/link")
         with self.assertRaisesRegex(ControlError, "only this user can write to"):
             control_path("x:1", {"RUNTIME_DIRECTORY": f"{self.folder}/link"})
+
+    def test_a_proxy_goes_on_unless_another_one_would_be_started(self):
+        said = os.path.join(self.folder, "proxy")
+        for prints, mark, is_like in (
+            ("zanteyard-proxy 1", "a", True),
+            ("zanteyard-proxy 2", "a", False),
+            ("zanteyard-proxy 1", "b", False),
+            ("", "a", True),  # it says nothing, as on a machine that is too busy
+        ):
+            with self.subTest(prints=prints, mark=mark):
+                with open(said, "w", encoding="ascii") as file:
+                    file.write(f"#!/bin/sh\necho {prints}\n" if prints else "#!/bin/sh\nexit 1\n")
+                os.chmod(said, 0o755)
+                self.assertEqual(_is_like(Who(1, "1", mark, 0), "a", said), is_like)
 
     def test_nobody_there(self):
         self.assertIsNone(who(os.path.join(self.folder, "socket")))
@@ -203,6 +219,8 @@ class Outlived(unittest.TestCase):
         out = self.ended(after)
         self.assertEqual(after.returncode, 1, out)
         self.assertIn("lost update", out)
+        told = re.findall(r"before this run's first audit (\d+) transactions? ended", out)
+        self.assertEqual(sum(map(int, told)), 2, out)  # of both connections
         with self.assertRaises(psycopg2.OperationalError):  # Ctrl-C ends the proxy, too
             psycopg2.connect(f"host={self.folder} port=6432 user=postgres dbname=postgres")
 

@@ -18,8 +18,10 @@ from zanteyard.explain._reasons import explain_history
 from zanteyard.explain._report import story_of
 from zanteyard.watch import _ending as ending
 from zanteyard.watch import _live_page as live_page
+from zanteyard.watch._board import Board
 from zanteyard.watch._described import Described, Statement
 from zanteyard.watch._feed import answered_of, seen_of
+from zanteyard.watch._json import status_json
 from zanteyard.watch._serving import Pages
 from zanteyard.watch._state import Ended, Status
 from zanteyard.watch._totals import Total
@@ -257,6 +259,24 @@ class Endings(unittest.TestCase):
         self.assertIn(f"             8 transactions  {unseen}", told)
         waits = "the audit ended before its next round: the log says why it ended"
         self.assertIn(f"             1 transactions  {waits}", told)
+
+    def test_what_no_outcome_has(self):
+        """Transactions of audits before this run, in a proxy that it took over."""
+        board = Board("shop")
+        board.coverage(feed.coverage())
+        board.earlier(feed.event("earlier", unaudited=1, untold=5210))
+        its = board.status()
+        self.assertEqual(status_json(its)["before"], {"unaudited": 1, "untold": 5210})
+        for told in (ending.lines_of(its), ending.lines_of(replace(its, seen=seen_of({})))):
+            self.assertEqual(
+                [line.strip() for line in told if "before this run" in line],
+                [
+                    "before this run's first audit 5,210 transactions ended in audits whose `watch` "
+                    "was killed: no outcome has them",
+                    "before this run's first audit 1 transaction ended while nothing was audited",
+                ],
+            )
+        self.assertFalse([line for line in ending.lines_of(status()) if "before this" in line])
 
     def test_earlier_audits_count(self):
         its = status(earlier_seen=seen_of(feed.coverage()))

@@ -91,6 +91,7 @@ class Runs(InAFolder):
             [
                 "serial: 6 of 11 transactions, 9 of 20 SELECTs and 6 of 9 written rows were checked, "
                 "in 2 rounds",
+                "  10 at read committed and 1 at serializable",
                 "                           all     checked     in part  not checked  rolled back",
                 "  transactions              11           6           2            3            1",
                 "  SELECTs                   20           9           1           10            1",
@@ -107,6 +108,8 @@ class Runs(InAFolder):
                 "  1 more statement defined something, called a procedure or the like: not looked into",
                 "  3 of the rows written may be those of one of several transactions, or of a program that "
                 "bypasses the proxy",
+                "  at least 1 of the 4 commits with such rows bypassed the proxy: there were fewer "
+                "such transactions",
                 "  2 more transactions, with 5 rows written, bypassed the proxy",
                 "  1 more commit had no row, such as those of the server's own ANALYZE",
                 "  checked in part",
@@ -120,7 +123,8 @@ class Runs(InAFolder):
                 f"             3 writes        {TOLD_APART}",
                 "             4 rows read     its version is unknown: it was written before the audit, "
                 "or by what isn't audited",
-                f"             3 rows written  {TOLD_APART}",
+                "             3 rows written  its writes couldn't be told apart: its transactions "
+                "say why",
                 "  statements only partly seen",
                 "         times first    what wasn't seen, then the statement",
                 f"             7 {told[-2].split()[1]} an aggregate",
@@ -147,6 +151,7 @@ class Runs(InAFolder):
         )
         self.assertEqual(status, 1)
         self.assertIn("  1 violation found: lost update", told)
+        self.assertIn("  read committed allows that", told)
         checked = "6 of 11 transactions, 9 of 20 SELECTs and 6 of 9 written rows were checked"
         self.assertIn(f"violated: {checked}, in 3 rounds", told)
         self.assertEqual(
@@ -225,7 +230,7 @@ class Runs(InAFolder):
         )
         self.assertEqual(status, 4)
         self.assertTrue(told[0].startswith("incomplete: 12 of 22 transactions, "), told)
-        self.assertIn("the proxy ended with status 7", told[1])
+        self.assertIn("the proxy ended with status 7", told[2])
 
     def test_the_page_and_the_metrics(self):
         seen = {}
@@ -274,6 +279,8 @@ class Runs(InAFolder):
             "zanteyard_rows_read_of_unchecked_total 2",
             "zanteyard_selects_by_condition_total 8",
             "zanteyard_rows_written_without_the_proxy_total 5",
+            "zanteyard_commits_untold_total 4",
+            "zanteyard_commits_untold_without_the_proxy_total 1",
             "zanteyard_violated 0",
             "zanteyard_auditing 1",
         ):

@@ -5,6 +5,7 @@ import subprocess
 import sys
 import threading
 import unittest
+from dataclasses import replace
 
 from tests import watch_feed as feed
 from zanteyard.program._binaries import PROGRAM
@@ -210,7 +211,11 @@ class Explained(unittest.TestCase):
         )
         self.assertEqual(found.title, "lost update")
         self.assertEqual([one.id for one in found.told], [(0, 0), (1, 0)])
-        self.assertIn("T1 and T2 both read key 5 as it was at first", found.sentence)
+        self.assertEqual(
+            found.sentence,
+            "T1 and T2 both read key 5 as it was at first and both overwrote it: T1's update is "
+            "lost unless T2's built on it",
+        )
 
     def test_the_same_from_a_version_that_somebody_wrote(self):
         found = self.of(
@@ -219,6 +224,33 @@ class Explained(unittest.TestCase):
         )
         self.assertEqual(found.title, "lost update")
         self.assertEqual([one.id for one in found.told], [(0, 0), (0, 1), (1, 0)])
+        self.assertTrue(found.sentence.endswith(": T2's update is lost unless T3's built on it"))
+
+    def test_whether_its_levels_allow_it(self):
+        """That is known if all levels are, and if the anomaly is one that PostgreSQL can have."""
+        lost = self.of(
+            feed.offer(0, 0, [[[5, "init"]], [5]]),
+            feed.offer(1, 0, [[[5, "init"], [5, 0, 0]], [5]]),
+        )
+        skew = self.of(
+            feed.offer(0, 0, [[[5, "init"], [6, "init"]], [5]]),
+            feed.offer(1, 0, [[[5, "init"], [6, "init"]], [6]]),
+        )
+        for found, levels, wanted in (
+            (lost, ("read committed", "read committed"), "read committed allows that"),
+            (lost, ("serializable", "read committed"), "read committed allows that"),
+            (lost, ("repeatable read",) * 2, "repeatable read doesn't allow that: please report it"),
+            (lost, ("serializable",) * 2, "serializable doesn't allow that: please report it"),
+            (lost, ("unknown", "serializable"), ""),
+            (skew, ("repeatable read", "serializable"), "repeatable read allows that"),
+            (skew, ("serializable",) * 2, "serializable doesn't allow that: please report it"),
+        ):
+            told = tuple(
+                replace(one, its=Described(one.id, level=level))
+                for one, level in zip(found.told, levels)
+            )
+            with self.subTest(title=found.title, levels=levels):
+                self.assertEqual(replace(found, told=told).allowed, wanted)
 
     def test_the_same_from_a_version_that_is_forgotten(self):
         found = self.of(

@@ -7,7 +7,7 @@ import sys
 import threading
 import time
 
-SESSIONS, LIMIT = 64, 4096
+SESSIONS, LIMIT = 64, 131072
 MORE = os.environ.get("ZANTEYARD_FEED_TEXT", "")  # appended to every text of `described`
 AT = 1764220800.25
 
@@ -21,7 +21,7 @@ def started(**more):
     return event("started", **{**its, "subtransactions": "pg_walinspect", "warnings": [], **more})
 
 
-OPEN = ["open", SESSIONS, LIMIT, 2]
+OPEN = ["open", SESSIONS, LIMIT, 3]
 ROUND = [["round", 4096, 0, 1], ["truncate"]]
 
 
@@ -41,7 +41,7 @@ def total(all, checked, in_part=None, not_checked=None, waiting=0, rolled_back=0
 TOTALS = {
     "transactions": {**total(11, 6, {"some statements weren't seen": 2},
                              {"its writes couldn't be told apart": 3}, rolled_back=1),
-                     "only_read": 1},
+                     "only_read": 1, "levels": {"read committed": 10, "serializable": 1}},
     "selects": {**total(20, 9, {"a subquery": 1}, {"an aggregate": 7, "it found no row": 3},
                         rolled_back=1), "by_condition": 8, "found_no_row": 3},
     "writes": total(9, 6, {}, {"its writes couldn't be told apart": 3}),
@@ -49,7 +49,8 @@ TOTALS = {
                   "own": 1, "from_before": 4, "of_unchecked": 2},
     "rows_written": total(9, 6, {}, {"its writes couldn't be told apart": 3}),
     "other_statements": 1,
-    "without_the_proxy": {"transactions": 2, "rows_written": 5},
+    "without_the_proxy": {"transactions": 2, "rows_written": 5, "untold": 4,
+                          "of_these_at_least": 1},
 }
 
 

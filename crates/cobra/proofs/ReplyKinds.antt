@@ -11,7 +11,7 @@ use Rattle.log_text.specs.declared.replies.Reply.TheVariants as told
 use Rattle.log_text.specs.Replies.{HasKindOfOrder}
 use Rattle.round_state.specs.EngineState.{EngineState}
 use Rattle.round_state.specs.Solving.{IsRight, IsReportOn}
-use Rattle.round_state.specs.Steps.{Shows, IsRightReport, IsHeldAfter, answer_told}
+use Rattle.round_state.specs.Steps.{Shows, IsRightReport, IsHeldAfter, answer_claimed}
 use Rattle.polygraph.specs.declared.solving.Answer as solved
 use Rattle.polygraph.specs.declared.solving.Answer.TheVariants as answers
 use Rattle.round_state.specs.declared.reports.Certificate.{Certificate}
@@ -44,7 +44,7 @@ use Rattle.cobra.specs.declared.handing.Handing.{Handing}
 use Rattle.cobra.specs.declared.stages.Stage.{Stage}
 use Rattle.cobra.specs.declared.stages.Stage.TheVariants as stage
 use Rattle.cobra.specs.Scripts.{IsBadLine, Goes, EndsRound, IsRound, IsStep, IsTakenIn, AnswersOpen, AnswersBeside, AnswersIsolated, GoesOn, IsCollected, Opens, OpensIsolated, Resumes, AnswersFirst, BeginsAnew, HandsMarks, AnswersResuming, HandsWriters, HandsOffer, EndsHandOver, AnswersHanding, Answers, TakesHalves, TakesMarks, TakesOver}
-use Rattle.cobra.specs.StepReplies.{certificate_of, certified, report_of, reply_of}
+use Rattle.cobra.specs.StepReplies.{claim_of, certified, report_of, reply_of}
 
 -- what a certificate shows is told by its own kind
 certified_kind : (round : ℕ) (counts : List ℕ) (parts : Parts) (budget depth : ℕ) (kind : Kind) (certificate : Certificate) → Shows parts budget depth kind certificate → HasKindOfOrder (certified (record { round = round; kind = kind; counts = counts; certificate = certificate }) certificate)
@@ -78,7 +78,7 @@ step_kind old new asked reply.Done legal = tt
 step_kind old new asked (reply.Refused refusal) legal = tt
 step_kind old new asked (reply.Cut cut) legal = tt
 step_kind old new (step.Finish budget depth workers) (reply.Report report) legal = reported_kind old new.held old.asked budget depth report legal.right.0
-step_kind old new (step.Judge certificate) (reply.Report report) legal = judged_kind (old.rounds + 1) old.held new.held old.asked (answer_told certificate) report legal.right.0
+step_kind old new (step.Judge claim) (reply.Report report) legal = judged_kind (old.rounds + 1) old.held new.held old.asked (answer_claimed claim) report legal.right.0
 step_kind old new asked (reply.Report report) legal = absurd legal.right
 
 told_kind : (said : StepReply) (answer : Reply) → answer ≡ reply_of said → HasKindOfOrder (reply_of said) → HasKindOfOrder answer
@@ -115,7 +115,7 @@ open_kind version old new (Join logged) answer is = taken_kind version logged ol
 open_kind version old new Begin answer is = told_kind is.0 answer is.2 (step_kind old new step.Begin is.0 is.1)
 open_kind version old new (Finish budget depth workers search) answer is = told_kind is.0 answer is.2 (step_kind old new (step.Finish budget depth workers) is.0 is.1.goes)
 open_kind version old new (Round budget depth workers search) answer is = told_kind is.0 answer is.2 (round_kind old new search budget depth workers is.0 is.1)
-open_kind version old new (Answer shown) answer is = told_kind is.0 answer is.2 (step_kind old new (step.Judge (certificate_of shown)) is.0 is.1)
+open_kind version old new (Answer shown) answer is = told_kind is.0 answer is.2 (step_kind old new (step.Judge (claim_of shown)) is.0 is.1)
 open_kind version old new Truncate answer is = told_kind is.0 answer is.2 (step_kind old new step.Truncate is.0 is.1)
 open_kind version old new Rebuild answer is = told_kind is.0 answer is.2 (step_kind old new step.Rebuild is.0 is.1)
 open_kind version old new Show answer is = subst HasKindOfOrder (sym is.0) tt

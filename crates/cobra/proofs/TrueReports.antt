@@ -35,7 +35,7 @@ use Rattle.round_state.specs.Legal.{State, IsTrueOf, whole_after, asked_after}
 use Rattle.round_state.specs.Opening.{fresh, no_history}
 use Rattle.round_state.specs.Runs.{Holds}
 use Rattle.round_state.specs.Solving.{IsRight, IsReportOn}
-use Rattle.round_state.specs.Steps.{Shows, IsRightReport, IsHeldAfter, answer_told, arrival_of}
+use Rattle.round_state.specs.Steps.{Shows, IsRightReport, IsHeldAfter, answer_claimed, arrival_of}
 use Rattle.round_state.specs.declared.reports.Certificate.{Certificate}
 use Rattle.round_state.specs.declared.reports.Certificate.TheVariants.{Order, Refuted, Nothing}
 use Rattle.round_state.specs.declared.reports.Report.{Report}
@@ -64,7 +64,7 @@ use Rattle.cobra.specs.HandOver.{handed_parts}
 use Rattle.cobra.specs.Outputs.{RepliesAll}
 use Rattle.cobra.specs.Saving.{saved_told, fragment_told}
 use Rattle.cobra.specs.Scripts.{IsBadLine, IsTakenIn, Goes, IsStep, EndsRound, IsRound, AnswersOpen, AnswersBeside, AnswersIsolated, GoesOn, IsCollected, AnswersFirst, BeginsAnew, AnswersResuming, AnswersHanding, HandsMarks, HandsOffer, EndsHandOver, Answers, TakesHalves, TakesMarks, TakesOver, stage_after}
-use Rattle.cobra.specs.StepReplies.{certificate_of, certified, reply_of}
+use Rattle.cobra.specs.StepReplies.{claim_of, certified, reply_of}
 use Rattle.cobra.specs.TrueReports.{Accepted, Origin, accepted_more, accepted_after, reported_on, TellsTrueOf, IsTrueTold, BeginsWith, AreTrueReplies, EachReportIsTrue}
 use Rattle.cobra.specs.declared.handing.Handing.{Handing}
 use Rattle.cobra.specs.declared.stages.Stage.{Stage}
@@ -172,9 +172,9 @@ step_true w old new accepted asked (reply.Cut cut) goes holds = tt
 step_true w old new accepted (step.Finish budget depth workers) (reply.Report report) goes holds =
     let tells = (goes.legal (state_of old accepted) holds.holds).1.true_reply in
     certified_true accepted.left accepted.asked report.round report.counts report.kind report.certificate tells.counts tells.kind (λ yes. w.ends old new accepted.whole accepted.asked (step.Finish budget depth workers) report goes.right (holds.left yes)) (finished_tree old new.held old.asked budget depth report goes.right.0)
-step_true w old new accepted (step.Judge certificate) (reply.Report report) goes holds =
+step_true w old new accepted (step.Judge claim) (reply.Report report) goes holds =
     let tells = (goes.legal (state_of old accepted) holds.holds).1.true_reply in
-    certified_true accepted.left accepted.asked report.round report.counts report.kind report.certificate tells.counts tells.kind (λ yes. w.ends old new accepted.whole accepted.asked (step.Judge certificate) report goes.right (holds.left yes)) (judged_tree (old.rounds + 1) old.held new.held old.asked (answer_told certificate) report goes.right.0)
+    certified_true accepted.left accepted.asked report.round report.counts report.kind report.certificate tells.counts tells.kind (λ yes. w.ends old new accepted.whole accepted.asked (step.Judge claim) report goes.right (holds.left yes)) (judged_tree (old.rounds + 1) old.held new.held old.asked (answer_claimed claim) report goes.right.0)
 step_true w old new accepted asked (reply.Report report) goes holds = absurd goes.right
 
 -- The reply to a command is true, and what the engine stands for after it is what was accepted by then.
@@ -308,7 +308,7 @@ open_on w version old new accepted (Close session) answer is holds =
 open_on w version old new accepted (Finish budget depth workers search) answer is holds =
     told_on accepted (Finish budget depth workers search) answer is.0 new is.2 (record { is_true = step_true w old new accepted (step.Finish budget depth workers) is.0 is.1.goes holds; holds = step_on w old new accepted accepted (step.Finish budget depth workers) is.0 is.1.goes holds refl refl refl })
 open_on w version old new accepted (Answer shown) answer is holds =
-    told_on accepted (Answer shown) answer is.0 new is.2 (record { is_true = step_true w old new accepted (step.Judge (certificate_of shown)) is.0 is.1 holds; holds = step_on w old new accepted accepted (step.Judge (certificate_of shown)) is.0 is.1 holds refl refl refl })
+    told_on accepted (Answer shown) answer is.0 new is.2 (record { is_true = step_true w old new accepted (step.Judge (claim_of shown)) is.0 is.1 holds; holds = step_on w old new accepted accepted (step.Judge (claim_of shown)) is.0 is.1 holds refl refl refl })
 open_on w version old new accepted Truncate answer is holds =
     told_on accepted Truncate answer is.0 new is.2 (record { is_true = step_true w old new accepted step.Truncate is.0 is.1 holds; holds = step_on w old new accepted accepted step.Truncate is.0 is.1 holds refl refl refl })
 open_on w version old new accepted Rebuild answer is holds =

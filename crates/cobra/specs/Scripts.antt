@@ -37,7 +37,7 @@ use Rattle.cobra.specs.Audits.{AuditState, unsearched}
 use Rattle.cobra.specs.HandOver.{AreOfSessions, AreGoodParts, IsHandRefusal, IsMarksRefusal, IsNextOffer, IsResumedRefusal, handed_first, handed_offer, handed_parts, handed_writers}
 use Rattle.cobra.specs.Saving.{saved_told}
 use Rattle.cobra.specs.Searches.{IsSearched}
-use Rattle.cobra.specs.StepReplies.{certificate_of, reply_of}
+use Rattle.cobra.specs.StepReplies.{claim_of, reply_of}
 use Rattle.cobra.specs.declared.handing.Handing.{Handing}
 use Rattle.cobra.specs.declared.stages.Stage.{Stage}
 use Rattle.cobra.specs.declared.stages.Stage.TheVariants as stage
@@ -92,7 +92,7 @@ AnswersOpen version old (Close session) answer new = IsStep old (step.Close sess
 AnswersOpen version old Begin answer new = IsStep old step.Begin answer new
 AnswersOpen version old (Finish budget depth workers search) answer new = (said : StepReply) × Finishes old search budget depth workers said new × (answer ≡ reply_of said)
 AnswersOpen version old (Round budget depth workers search) answer new = (said : StepReply) × IsRound old search budget depth workers said new × (answer ≡ reply_of said)
-AnswersOpen version old (Answer shown) answer new = IsStep old (step.Judge (certificate_of shown)) answer new
+AnswersOpen version old (Answer shown) answer new = IsStep old (step.Judge (claim_of shown)) answer new
 AnswersOpen version old Truncate answer new = IsStep old step.Truncate answer new
 AnswersOpen version old Rebuild answer new = IsStep old step.Rebuild answer new
 AnswersOpen version old Show answer new = (answer ≡ state_told old) × (new ≡ old)

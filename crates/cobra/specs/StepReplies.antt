@@ -7,14 +7,16 @@ use Rattle.log_text.specs.declared.shown.Shown.TheVariants as shown
 use Rattle.round_state.specs.declared.reports.Certificate.{Certificate}
 use Rattle.round_state.specs.declared.reports.Certificate.TheVariants.{Order, Refuted, Nothing}
 use Rattle.round_state.specs.declared.reports.Report.{Report}
+use Rattle.round_state.specs.declared.steps.Claim.{Claim}
+use Rattle.round_state.specs.declared.steps.Claim.TheVariants as claim
 use Rattle.round_state.specs.declared.steps.StepReply.{StepReply}
 use Rattle.round_state.specs.declared.steps.StepReply.TheVariants as reply
 use Rattle.settle.specs.declared.cuts.Cut.{Cut}
 
--- what a line shows, as a certificate
-abbrev pub certificate_of : Shown → Certificate
-certificate_of (shown.Order order) = Order order
-certificate_of (shown.Refuted tree) = Refuted tree
+-- what a line shows, as the engine judges it
+abbrev pub claim_of : Shown → Claim
+claim_of (shown.Order order) = claim.Order order
+claim_of (shown.Refuted tree) = claim.Refuted tree
 
 -- a report with this certificate
 abbrev pub certified : Report → Certificate → Reply

@@ -28,7 +28,7 @@ pub use handing::Handing;
 pub use laws::{bounds_stay, each_report_is_true, isolated_stays};
 pub use means::Means;
 pub use programs::{Asked, asked_in, asked_of, exit_of, tell};
-pub use replies::{certificate_of, cut_of, reply_of, report_of};
+pub use replies::{claim_of, cut_of, reply_of, report_of};
 pub use saving::{
     given_out_fits, given_out_is_taken, isolated_out_is_taken, saved_told, wider_bounds_are_kept,
 };

@@ -1,19 +1,19 @@
 ghost use Rattle.std.specs.Prelude.{◌≡◌, IfOk};
-ghost use Rattle.cobra.specs.StepReplies.{certificate_of, report_of, cut_of, reply_of};
+ghost use Rattle.cobra.specs.StepReplies.{claim_of, report_of, cut_of, reply_of};
 
 use log_text::{Reply, Shown};
-use round_state::{Certificate, Report, StepReply};
+use round_state::{Certificate, Claim, Report, StepReply};
 use settle::Cut;
 use std::alloc::Global;
 use txn::NoMemory;
 
 /// What a line shows, as the engine judges it.
-pub fn certificate_of(shown: Shown) -> Certificate
-    ensures { result ≡ certificate_of shown }
+pub fn claim_of(shown: Shown) -> Claim
+    ensures { result ≡ claim_of shown }
 {
     match shown {
-        Shown::Order(order) => Certificate::Order(order),
-        Shown::Refuted(tree) => Certificate::Refuted(tree),
+        Shown::Order(order) => Claim::Order(order),
+        Shown::Refuted(tree) => Claim::Refuted(tree),
     }
 }
 

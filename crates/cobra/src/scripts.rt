@@ -11,7 +11,7 @@ ghost use Rattle.cobra.specs.declared.stages.Stage.{Stage};
 use crate::audits::Audit;
 use crate::beginnings::begin;
 use crate::means::Means;
-use crate::replies::{certificate_of, reply_of};
+use crate::replies::{claim_of, reply_of};
 use crate::resuming::{answer_handing, answer_resuming};
 use crate::saving::saved_told;
 use crate::showing::state_told;
@@ -184,9 +184,7 @@ fn answer_open<'s, E, R: Threads, P: PlainSolver + Sync, S: Solver + Sync>(
         }
         Command::Collect { waits } => audit.collect(rt, alloc, waits),
         Command::Skip => audit.skip(rt, alloc),
-        Command::Answer(shown) => {
-            answer_step(audit, rt, alloc, Step::Judge(certificate_of(shown)))
-        }
+        Command::Answer(shown) => { answer_step(audit, rt, alloc, Step::Judge(claim_of(shown))) }
         Command::Truncate => answer_step(audit, rt, alloc, Step::Truncate),
         Command::Rebuild => answer_step(audit, rt, alloc, Step::Rebuild),
         Command::Show => state_told(alloc, audit.engine()),

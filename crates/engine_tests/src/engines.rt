@@ -164,13 +164,27 @@ fn assert_answers(rt: &impl Abort, alloc: Global, engine: &mut Engine) -> Result
     Ok(())
 }
 
+/// The round after the spent one is the next by its number, and about the same.
+static AFTER_SPENT: [(Act, Want); 2] = [
+    (Act::Begin, Want::Done),
+    (
+        Act::Finish,
+        Want::Report(2, Serial, &[1, 1], &[ID_1_0, ID_0_0]),
+    ),
+];
+
+fn after_spent() -> Row {
+    &AFTER_SPENT
+}
+
 fn assert_answered(rt: &impl Abort, alloc: Global) -> Result<(), Refusal> {
     let mut engine = reader_first(alloc)?;
-    assert_answers(rt, alloc, &mut engine)
+    assert_answers(rt, alloc, &mut engine)?;
+    Ok(assert_run(rt, alloc, &mut engine, after_spent())?)
 }
 
 #[test]
-fn a_wrong_answer_leaves_the_round_open(rt: HostRuntime) -> Result<(), Fail> {
+fn a_wrong_answer_leaves_the_round_open_and_spent_ends_it(rt: HostRuntime) -> Result<(), Fail> {
     Ok(assert_answered(&rt, rt.alloc())?)
 }
 

@@ -6,7 +6,7 @@ use logged_fragments::LoggedFragment;
 use order_check::Kind;
 use polygraph::Single;
 use refutation::{Leaf, Tree};
-use round_state::{Certificate, Engine, Report, Step, StepReply};
+use round_state::{Certificate, Claim, Engine, Report, Step, StepReply};
 use settle::Cut;
 use std::alloc::Global;
 use std::process::Abort;
@@ -145,7 +145,7 @@ fn step_of(alloc: Global, act: Act) -> Result<Step, NoMemory>
         }),
         Act::Judge(order) => {
             let order = Sequence::new(order.to_vec(alloc)?);
-            Ok(Step::Judge(Certificate::Order(order)))
+            Ok(Step::Judge(Claim::Order(order)))
         }
         Act::Abandon => Ok(Step::Abandon),
         Act::Truncate => Ok(Step::Truncate),

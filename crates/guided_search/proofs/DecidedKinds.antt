@@ -7,8 +7,8 @@ use Rattle.guided_search.specs.Laws.{DecidedHasOneKind}
 pub decided_kinds : RefutedHasNoOrder → DecidedHasOneKind
 decided_kinds law parts b d e f (Yes order) (Yes other) good one two p q = both_yes order other
 decided_kinds law parts b d e f (No tree) (No other) good one two p q = both_no tree other
-decided_kinds law parts b d e f (Yes order) (No tree) good one two p q = absurd (law parts tree good two.0 (order, one.0))
-decided_kinds law parts b d e f (No tree) (Yes order) good one two p q = absurd (law parts tree good one.0 (order, two.0))
+decided_kinds law parts b d e f (Yes order) (No tree) good one two p q = absurd (law parts tree good two (order, one))
+decided_kinds law parts b d e f (No tree) (Yes order) good one two p q = absurd (law parts tree good one (order, two))
 decided_kinds law parts b d e f Spent other good one two p q = absurd p
 decided_kinds law parts b d e f NoMemory other good one two p q = absurd p
 decided_kinds law parts b d e f (Yes order) Spent good one two p q = absurd q

@@ -16,7 +16,7 @@ use Rattle.polygraph.specs.ProblemState.{ProblemState, IsProblem}
 use Rattle.polygraph.specs.declared.solving.Answer.{Answer}
 use Rattle.polygraph.specs.declared.solving.Answer.TheVariants.{Yes, No, Spent, NoMemory}
 use Rattle.polygraph.specs.Outcomes.{split_choices, cube_count, share_of, Finds, RefutesCube, IsPicked}
-use Rattle.polygraph.specs.Solving.{MayComeTo, IsLawful}
+use Rattle.polygraph.specs.Solving.{IsLawful}
 use Rattle.polygraph.specs.SoFar.{AreRefuted, IsTooSmall, IsSoFar, IsPickedOf}
 use Rattle.polygraph.proofs.CubeBounds.{split_choices_of, split_length}
 
@@ -81,18 +81,14 @@ picked_of problem budget depth (No tree) h = h
 picked_of problem budget depth Spent h = h.0
 picked_of problem budget depth NoMemory h = h
 
--- what the cubes come to is what a search may come to
-may_come : (problem : ProblemState) (budget depth : ℕ) (answer : Answer) → IsProblem problem → IsPicked problem budget depth answer → MayComeTo problem.known.parts budget depth answer
-may_come problem budget depth answer is picked = inl (problem, is, refl, picked)
-
 pub lawful_of : (problem : ProblemState) (budget depth : ℕ) (answer : Answer) → depth ≤ 6 → IsProblem problem → IsPickedOf problem depth (share_of problem budget depth) answer → IsLawful problem.known.parts budget depth answer
-lawful_of problem budget depth (Yes order) low is h = (h.0, may_come problem budget depth (Yes order) is h)
-lawful_of problem budget depth (No tree) low is h = (h.0, may_come problem budget depth (No tree) is h)
+lawful_of problem budget depth (Yes order) low is h = h.0
+lawful_of problem budget depth (No tree) low is h = h.0
 lawful_of problem budget depth Spent low is h =
     let few = split_length problem depth is low in
     let small = subst (λ n. share_of problem budget depth + 1 < 2 ^ (n - length (split_choices problem depth) + 1)) is.counted h.1 in
     let bound = budget_bound budget (length (split_choices problem depth)) (length is.all) (share_of problem budget depth) (omega (arith, few)) refl small in
-    ((is.all, is.open_choices, subst (λ n. budget + 2 ^ n < 2 ^ (length is.all + 1)) few bound), may_come problem budget depth Spent is h.0)
+    ((is.all, is.open_choices, subst (λ n. budget + 2 ^ n < 2 ^ (length is.all + 1)) few bound), (problem, is, refl, h.0))
 lawful_of problem budget depth NoMemory low is h = h
 
 pub trees_joined : (refute : JoinedTreesRefute) (deep : JoinedDepth) (problem : ProblemState) (depth share cube : ℕ) (trees : List Tree) (tree : Tree) → depth ≤ 6 → IsProblem problem → AreRefuted problem depth share cube trees → IsJoin (split_choices problem depth) trees tree → IsRefutation problem.known.parts tree

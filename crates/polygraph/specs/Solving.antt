@@ -1,5 +1,5 @@
 -- What a solver may answer.
-use Rattle.std.specs.Prelude.{◌≡◌, ℕ, ◌+◌, ◌<◌, ◌^◌, ◌⊎◌, ⊤, List, [], length, min}
+use Rattle.std.specs.Prelude.{◌≡◌, ℕ, ◌+◌, ◌<◌, ◌^◌, ⊤, List, [], length, min}
 use Rattle.txn.specs.declared.choices.Choice.{Choice}
 use Rattle.order_check.specs.declared.remainder.Parts.{Parts}
 use Rattle.order_check.specs.Explains.{Explains}
@@ -26,15 +26,14 @@ IsDecided answer = ⊥
 abbrev pub IsPlain : Parts → ℕ → ℕ → Answer → Type 0
 IsPlain parts budget depth answer = (problem : ProblemState) × IsProblem problem × (problem.known.parts ≡ parts) × IsPicked problem budget depth answer
 
--- A search of the parts within this budget, split to this depth, may come to this answer: the plain search does; or it is a yes or a no, which
--- may be found otherwise too. So a search is spent only where the plain one is.
-abbrev pub MayComeTo : Parts → ℕ → ℕ → Answer → Type 0
-MayComeTo parts budget depth answer = IsPlain parts budget depth answer ⊎ IsDecided answer
+-- A search of the parts within this budget, split to this depth, is spent: the plain one is, and the budget doesn't reach.
+abbrev pub IsSpent : Parts → ℕ → ℕ → Type 0
+IsSpent parts budget depth = MayBeSpent parts budget depth × IsPlain parts budget depth answers.Spent
 
--- What a solver may answer for parts: an order that explains them, a tree that refutes them, or that the search is spent, which it may be;
--- and each only where a search within this budget, split to this depth, may come to it. Want of memory may always be answered.
+-- What a solver may answer for parts: an order that explains them, or a tree that refutes them, however it was found; or that the search within
+-- this budget, split to this depth, is spent, where the plain one is. Want of memory may always be answered.
 abbrev pub IsLawful : Parts → ℕ → ℕ → Answer → Type 0
-IsLawful parts budget depth (answers.Yes order) = Explains parts order × MayComeTo parts budget depth (answers.Yes order)
-IsLawful parts budget depth (answers.No tree) = IsRefutation parts tree × MayComeTo parts budget depth (answers.No tree)
-IsLawful parts budget depth answers.Spent = MayBeSpent parts budget depth × MayComeTo parts budget depth answers.Spent
+IsLawful parts budget depth (answers.Yes order) = Explains parts order
+IsLawful parts budget depth (answers.No tree) = IsRefutation parts tree
+IsLawful parts budget depth answers.Spent = IsSpent parts budget depth
 IsLawful parts budget depth answers.NoMemory = ⊤

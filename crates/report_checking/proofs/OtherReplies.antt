@@ -32,7 +32,7 @@ use Rattle.round_state.specs.EngineState.{EngineState}
 use Rattle.round_state.specs.Legal.{State, Legal}
 use Rattle.round_state.specs.Opening.{IsSessions, IsLimit, IsOpenRefusal}
 use Rattle.round_state.specs.Solving.{IsRight, IsWrong, IsReportOn}
-use Rattle.round_state.specs.Steps.{StepsTo, IsCloseRefusal, IsAbandonRefusal, IsFinishRefusal, IsHeldAfter, answer_told}
+use Rattle.round_state.specs.Steps.{StepsTo, IsCloseRefusal, IsAbandonRefusal, IsFinishRefusal, IsHeldAfter, answer_claimed}
 use Rattle.round_state.specs.declared.reports.Certificate.{Certificate}
 use Rattle.round_state.specs.declared.reports.Certificate.TheVariants.{Order, Refuted, Nothing}
 use Rattle.round_state.specs.declared.reports.Report.{Report}
@@ -43,7 +43,7 @@ use Rattle.round_state.specs.declared.steps.StepReply.TheVariants as reply
 use Rattle.cobra.specs.Outputs.{Asks, IsTold}
 use Rattle.cobra.specs.Saving.{saved_told, fragment_told}
 use Rattle.cobra.specs.Scripts.{IsTakenIn}
-use Rattle.cobra.specs.StepReplies.{certificate_of, certified, report_of, reply_of}
+use Rattle.cobra.specs.StepReplies.{claim_of, certified, report_of, reply_of}
 use Rattle.report_checking.specs.Checking.{AsksOfMemory, OpensEngine, TakesMemory, IsUnchecked}
 use Rattle.report_checking.specs.OwedLines.{OwesFirst, ScriptState}
 use Rattle.report_checking.specs.Owing.{IsStep, IsOfEngine, BeginsSearch, FinishesWhere, GoesOn, OwesFinish, OwesRound, OwesOpen, OwesBeside}
@@ -137,7 +137,7 @@ same_back (Force' ss p a) (Force' ss' q b) x = (sym x.0, same_back a b x.1)
 same_back (Split' h p a q b) (Split' h' p' a' q' b') x = (sym x.0, same_back a a' x.1, same_back b b' x.2)
 same_back one two x = absurd x
 
-wrong_shown : (parts : Parts) (it other : Shown) → IsSameShown (Some it) (Some other) → IsWrong parts (answer_told (certificate_of other)) → IsWrong parts (answer_told (certificate_of it))
+wrong_shown : (parts : Parts) (it other : Shown) → IsSameShown (Some it) (Some other) → IsWrong parts (answer_claimed (claim_of other)) → IsWrong parts (answer_claimed (claim_of it))
 wrong_shown parts (shown.Order order) (shown.Order order') same wrong = λ explains. wrong (subst (Explains parts) same explains)
 wrong_shown parts (shown.Refuted tree) (shown.Refuted tree') same wrong = λ refutes. wrong (same_refutation parts tree' tree (same_back tree tree' same) refutes)
 wrong_shown parts it other same wrong = absurd same
@@ -154,33 +154,33 @@ pub open_and_none : (asked : Option Parts) (P : Parts → Type 0) → asked ≡ 
 open_and_none None P none is = is
 open_and_none (Some parts) P none is = let no : Some parts ≡ None = none in cc
 
-reported_not_wrong : (old new : EngineState) (asked : Option Parts) (it other : Shown) (report : Report) → IsSameShown (Some it) (Some other) → IsSomeAnd asked (λ parts. IsReportOn parts (old.rounds + 1) (answer_told (certificate_of it)) report × IsHeldAfter parts report.kind old.held new.held) → IsSomeAnd asked (λ parts. IsWrong parts (answer_told (certificate_of other))) → ⊥
+reported_not_wrong : (old new : EngineState) (asked : Option Parts) (it other : Shown) (report : Report) → IsSameShown (Some it) (Some other) → IsSomeAnd asked (λ parts. IsReportOn parts (old.rounds + 1) (answer_claimed (claim_of it)) report × IsHeldAfter parts report.kind old.held new.held) → IsSomeAnd asked (λ parts. IsWrong parts (answer_claimed (claim_of other))) → ⊥
 reported_not_wrong old new None it other report same is wrong = is
 reported_not_wrong old new (Some parts) it other report same is wrong =
-    right_not_wrong parts (answer_told (certificate_of it)) report.kind report.certificate is.0.right (wrong_shown parts it other same wrong)
+    right_not_wrong parts (answer_claimed (claim_of it)) report.kind report.certificate is.0.right (wrong_shown parts it other same wrong)
 
 -- a refusal of the other one, where this one is reported or refused
 abbrev JudgesAlone : Reply → Refusal → Type 0
 JudgesAlone given q = (told.No q ≡ told.No NoMemory) ⊎ ((given ≡ told.No NoMemory) ⊎ (given ≡ told.No q))
 
-judged_reported : (old new after : EngineState) (it other : Shown) (report : Report) (q : Refusal) → IsSameShown (Some it) (Some other) → StepsTo old (step.Judge (certificate_of it)) (reply.Report report) new → IsFinishRefusal old (answer_told (certificate_of other)) q → JudgesAlone (report_of report) q
-judged_reported old new after it other report NoRound same steps is = absurd (open_and_none old.asked (λ parts. IsReportOn parts (old.rounds + 1) (answer_told (certificate_of it)) report × IsHeldAfter parts report.kind old.held new.held) is steps.0)
+judged_reported : (old new after : EngineState) (it other : Shown) (report : Report) (q : Refusal) → IsSameShown (Some it) (Some other) → StepsTo old (step.Judge (claim_of it)) (reply.Report report) new → IsFinishRefusal old (answer_claimed (claim_of other)) q → JudgesAlone (report_of report) q
+judged_reported old new after it other report NoRound same steps is = absurd (open_and_none old.asked (λ parts. IsReportOn parts (old.rounds + 1) (answer_claimed (claim_of it)) report × IsHeldAfter parts report.kind old.held new.held) is steps.0)
 judged_reported old new after it other report BadCertificate same steps is = absurd (reported_not_wrong old new old.asked it other report same steps.0 is)
 judged_reported old new after it other report NoMemory same steps is = inl refl
 judged_reported old new after it other report q same steps is = absurd is
 
-judged_refused : (old : EngineState) (it other : Shown) (r q : Refusal) → IsFinishRefusal old (answer_told (certificate_of it)) r → IsFinishRefusal old (answer_told (certificate_of other)) q → JudgesAlone (told.No r) q
+judged_refused : (old : EngineState) (it other : Shown) (r q : Refusal) → IsFinishRefusal old (answer_claimed (claim_of it)) r → IsFinishRefusal old (answer_claimed (claim_of other)) q → JudgesAlone (told.No r) q
 judged_refused old it other NoMemory q a b = inr (inl refl)
 judged_refused old it other r NoMemory a b = inl refl
 judged_refused old it other NoRound NoRound a b = inr (inr refl)
-judged_refused old it other NoRound BadCertificate a b = absurd (open_and_none old.asked (λ parts. IsWrong parts (answer_told (certificate_of other))) a b)
+judged_refused old it other NoRound BadCertificate a b = absurd (open_and_none old.asked (λ parts. IsWrong parts (answer_claimed (claim_of other))) a b)
 judged_refused old it other NoRound q a b = absurd b
-judged_refused old it other BadCertificate NoRound a b = absurd (open_and_none old.asked (λ parts. IsWrong parts (answer_told (certificate_of it))) b a)
+judged_refused old it other BadCertificate NoRound a b = absurd (open_and_none old.asked (λ parts. IsWrong parts (answer_claimed (claim_of it))) b a)
 judged_refused old it other BadCertificate BadCertificate a b = inr (inr refl)
 judged_refused old it other BadCertificate q a b = absurd b
 judged_refused old it other r q a b = absurd a
 
-judged_once : (old new after : EngineState) (it other : Shown) (said : StepReply) (q : Refusal) → IsSameShown (Some it) (Some other) → StepsTo old (step.Judge (certificate_of it)) said new → IsFinishRefusal old (answer_told (certificate_of other)) q → JudgesAlone (reply_of said) q
+judged_once : (old new after : EngineState) (it other : Shown) (said : StepReply) (q : Refusal) → IsSameShown (Some it) (Some other) → StepsTo old (step.Judge (claim_of it)) said new → IsFinishRefusal old (answer_claimed (claim_of other)) q → JudgesAlone (reply_of said) q
 judged_once old new after it other (reply.Report report) q same steps is = judged_reported old new after it other report q same steps is
 judged_once old new after it other (reply.Refused r) q same steps is = judged_refused old it other r q steps.0 is
 judged_once old new after it other reply.Done q same steps is = absurd steps
@@ -191,7 +191,7 @@ judged_answer given answer q is (inl none) = inl (is ∙ none)
 judged_answer given answer q is (inr (inl none)) = inr (inl none)
 judged_answer given answer q is (inr (inr same)) = inr (inr (same ∙ sym is))
 
-pub judged_alone : (version : Version) (old : EngineState) (it : Shown) (given : Owed) → IsToldOf old (step.Judge (certificate_of it)) given → IsAlone (Gives version old (command.Answer it)) given
+pub judged_alone : (version : Version) (old : EngineState) (it : Shown) (given : Owed) → IsToldOf old (step.Judge (claim_of it)) given → IsAlone (Gives version old (command.Answer it)) given
 judged_alone version old it given is = subst (λ (g : Owed). IsAlone (Gives version old (command.Answer it)) g) (sym is.3) (λ answer gives.
     judged_answer (reply_of is.0) answer gives.2.0 gives.2.3 (judged_once old is.1 gives.2.1 it gives.0 is.0 gives.2.0 gives.1 is.2 gives.2.2.0))
 
@@ -280,7 +280,7 @@ round_told : (old new : State) (answer : Reply) → OwesRound old answer new →
 round_told old new answer (inl is) none = (is.0, new.engine, is.1.engine, is.2)
 round_told old new answer (inr is) none = absurd (none_begun old is.0 is.1 (finish_told is.0 new answer is.2 none).0)
 
-judge_told : (old new : State) (it : Shown) (said : StepReply) (answer : Reply) → StepsTo old.engine (step.Judge (certificate_of it)) said new.engine → answer ≡ reply_of said → IsNoReport answer → (other : Shown) × IsSameShown (Some it) (Some other) × IsRefusedBy old.engine (step.Judge (certificate_of other)) answer
+judge_told : (old new : State) (it : Shown) (said : StepReply) (answer : Reply) → StepsTo old.engine (step.Judge (claim_of it)) said new.engine → answer ≡ reply_of said → IsNoReport answer → (other : Shown) × IsSameShown (Some it) (Some other) × IsRefusedBy old.engine (step.Judge (claim_of other)) answer
 judge_told old new it (reply.Refused r) answer steps is none = (it, shown_self it, (r, new.engine, steps, is))
 judge_told old new it (reply.Report report) answer steps is none = absurd (no_report report answer is none)
 judge_told old new it reply.Done answer steps is none = absurd steps

@@ -18,7 +18,7 @@ use Rattle.logged_fragments.specs.declared.logged.LoggedFragment.{LoggedFragment
 use Rattle.round_state.specs.Legal.{State}
 use Rattle.round_state.specs.EngineState.{EngineState}
 use Rattle.round_state.specs.Runs.{Holds, StepsLegally}
-use Rattle.round_state.specs.Steps.{StepsTo, answer_told}
+use Rattle.round_state.specs.Steps.{StepsTo, answer_claimed}
 use Rattle.round_state.specs.declared.reports.Report.{Report}
 use Rattle.round_state.specs.declared.steps.Step.{Step}
 use Rattle.round_state.specs.declared.steps.Step.TheVariants as step
@@ -41,7 +41,7 @@ plain_kind old new asked reply.Done is right = tt
 plain_kind old new asked (reply.Refused refusal) is right = tt
 plain_kind old new asked (reply.Cut cut) is right = tt
 plain_kind old new (step.Finish budget depth workers) (reply.Report report) is right = absurd is
-plain_kind old new (step.Judge certificate) (reply.Report report) is right = judged_kind (old.rounds + 1) old.held new.held old.asked (answer_told certificate) report right.0
+plain_kind old new (step.Judge claim) (reply.Report report) is right = judged_kind (old.rounds + 1) old.held new.held old.asked (answer_claimed claim) report right.0
 plain_kind old new asked (reply.Report report) is right = absurd right
 
 -- a step is told

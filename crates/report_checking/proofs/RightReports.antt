@@ -38,7 +38,7 @@ use Rattle.log_text.specs.declared.shown.Shown.TheVariants as shown
 use Rattle.byte_lines.specs.declared.lines.Next.{Next}
 use Rattle.round_state.specs.EngineState.{EngineState}
 use Rattle.round_state.specs.Solving.{IsRight, IsWrong, IsReportOn}
-use Rattle.round_state.specs.Steps.{StepsTo, IsFinishRefusal, IsHeldAfter, answer_told}
+use Rattle.round_state.specs.Steps.{StepsTo, IsFinishRefusal, IsHeldAfter, answer_claimed}
 use Rattle.round_state.specs.declared.reports.Certificate.{Certificate}
 use Rattle.round_state.specs.declared.reports.Certificate.TheVariants.{Order, Refuted, Nothing}
 use Rattle.round_state.specs.declared.reports.Report.{Report}
@@ -46,7 +46,7 @@ use Rattle.round_state.specs.declared.steps.Step.TheVariants as step
 use Rattle.round_state.specs.declared.steps.StepReply.{StepReply}
 use Rattle.round_state.specs.declared.steps.StepReply.TheVariants as reply
 use Rattle.cobra.specs.Outputs.{Asks, IsTold}
-use Rattle.cobra.specs.StepReplies.{certificate_of, certified, report_of, reply_of}
+use Rattle.cobra.specs.StepReplies.{claim_of, certified, report_of, reply_of}
 use Rattle.report_checking.specs.Isolation.{IsShownBy, told_by}
 use Rattle.report_checking.specs.Owing.{IsEarned, IsOfEngine}
 use Rattle.report_checking.specs.Reading.{IsAnswerOf, IsToldOf, OwesText, Earns, EarnsWhere, EarnsBeside, EarnsIn, EarnsScript, OfRight, IsFair, IsFairTo}
@@ -278,7 +278,7 @@ shown_then (shown.Refuted a) (shown.Refuted b) (shown.Order c) x y = absurd y
 shown_then one two three x y = absurd x
 
 -- the answer that is handed in is what the report of one that is the same shows
-judged_shown : (parts : Parts) (it other : Shown) (kind : Kind) (certificate : Certificate) → IsSameShown (Some it) (Some other) → IsRight parts (answer_told (certificate_of other)) kind certificate → IsAnswerOf (shown_of certificate) (answer_told (certificate_of it))
+judged_shown : (parts : Parts) (it other : Shown) (kind : Kind) (certificate : Certificate) → IsSameShown (Some it) (Some other) → IsRight parts (answer_claimed (claim_of other)) kind certificate → IsAnswerOf (shown_of certificate) (answer_claimed (claim_of it))
 judged_shown parts (shown.Order order) (shown.Order order') kind certificate same right =
     subst (λ (c : Certificate). IsAnswerOf (shown_of c) (answers.Yes order)) (sym (earned_order parts order' kind certificate right).0) same
 judged_shown parts (shown.Refuted tree) (shown.Refuted tree') kind certificate same right =
@@ -286,26 +286,26 @@ judged_shown parts (shown.Refuted tree) (shown.Refuted tree') kind certificate s
 judged_shown parts (shown.Order order) (shown.Refuted tree) kind certificate same right = absurd same
 judged_shown parts (shown.Refuted tree) (shown.Order order) kind certificate same right = absurd same
 
-judged_told : (old : EngineState) (asked : Option Parts) (it other : Shown) (report : Report) → IsSameShown (Some it) (Some other) → IsReportedBy old asked (answer_told (certificate_of other)) report → IsAnswerOf (shown_of report.certificate) (answer_told (certificate_of it))
+judged_told : (old : EngineState) (asked : Option Parts) (it other : Shown) (report : Report) → IsSameShown (Some it) (Some other) → IsReportedBy old asked (answer_claimed (claim_of other)) report → IsAnswerOf (shown_of report.certificate) (answer_claimed (claim_of it))
 judged_told old None it other report same right = absurd right
 judged_told old (Some parts) it other report same right = judged_shown parts it other report.kind report.certificate same right.right
 
-judged_said : (names : Names) (old new : EngineState) (it : Shown) (stored : List ℕ) (said : StepReply) → StepsTo old (step.Judge (certificate_of it)) said new
+judged_said : (names : Names) (old new : EngineState) (it : Shown) (stored : List ℕ) (said : StepReply) → StepsTo old (step.Judge (claim_of it)) said new
     → OfRight names (Earns old (command.Answer it)) stored (λ text. OwesText names text (owed.Reply (reply_of said)))
 judged_said names old new it stored (reply.Report again) steps report after earned shows =
-    let right = reported old after old.asked (answer_told (certificate_of earned.0)) report earned.2.0 in
-    inr (reported_texts names old old.asked (answer_told (certificate_of earned.0)) (answer_told (certificate_of it)) report again right (judged_told old old.asked it earned.0 report earned.1 right) (reported old new old.asked (answer_told (certificate_of it)) again steps.0))
+    let right = reported old after old.asked (answer_claimed (claim_of earned.0)) report earned.2.0 in
+    inr (reported_texts names old old.asked (answer_claimed (claim_of earned.0)) (answer_claimed (claim_of it)) report again right (judged_told old old.asked it earned.0 report earned.1 right) (reported old new old.asked (answer_claimed (claim_of it)) again steps.0))
 judged_said names old new it stored (reply.Refused refusals.NoMemory) steps report after earned shows = inl refl
 judged_said names old new it stored (reply.Refused refusals.NoRound) steps report after earned shows =
-    absurd (open_round old old.asked (answer_told (certificate_of earned.0)) report (reported old after old.asked (answer_told (certificate_of earned.0)) report earned.2.0) steps.0)
+    absurd (open_round old old.asked (answer_claimed (claim_of earned.0)) report (reported old after old.asked (answer_claimed (claim_of earned.0)) report earned.2.0) steps.0)
 judged_said names old new it stored (reply.Refused refusals.BadCertificate) steps report after earned shows =
-    let right = reported old after old.asked (answer_told (certificate_of earned.0)) report earned.2.0 in
-    absurd (never_wrong old old.asked (answer_told (certificate_of earned.0)) (answer_told (certificate_of it)) report right (judged_told old old.asked it earned.0 report earned.1 right) steps.0)
+    let right = reported old after old.asked (answer_claimed (claim_of earned.0)) report earned.2.0 in
+    absurd (never_wrong old old.asked (answer_claimed (claim_of earned.0)) (answer_claimed (claim_of it)) report right (judged_told old old.asked it earned.0 report earned.1 right) steps.0)
 judged_said names old new it stored (reply.Refused refusal) steps report after earned shows = absurd steps.0
 judged_said names old new it stored reply.Done steps report after earned shows = absurd steps
 judged_said names old new it stored (reply.Cut cut) steps report after earned shows = absurd steps
 
-pub right_judged : (names : Names) (old : EngineState) (it : Shown) (stored : List ℕ) (given : Owed) → IsToldOf old (step.Judge (certificate_of it)) given → OfRight names (Earns old (command.Answer it)) stored (λ text. OwesText names text given)
+pub right_judged : (names : Names) (old : EngineState) (it : Shown) (stored : List ℕ) (given : Owed) → IsToldOf old (step.Judge (claim_of it)) given → OfRight names (Earns old (command.Answer it)) stored (λ text. OwesText names text given)
 right_judged names old it stored given told = subst (λ (g : Owed). OfRight names (Earns old (command.Answer it)) stored (λ text. OwesText names text g)) (sym told.3) (judged_said names old told.1 it stored told.0 told.2)
 
 -- ---- what is found

@@ -86,7 +86,7 @@ made new before mid asked said now steps true_reply whole round can may whole_is
 -- a step of one way makes no report
 true_step : (before : State) (old new : EngineState) (asked : Step) (said : StepReply) → IsOneWay asked → StepsTo old asked said new → IsTrueIsolation before said
 true_step before old new (step.Finish budget depth workers) said one steps = absurd one
-true_step before old new (step.Judge certificate) said one steps = absurd one
+true_step before old new (step.Judge claim) said one steps = absurd one
 true_step before old new asked (reply.Report report) one steps = absurd steps
 true_step before old new asked said one steps = tt
 

@@ -20,7 +20,7 @@ use Rattle.round_state.specs.declared.steps.StepReply.{StepReply}
 use Rattle.round_state.specs.declared.steps.StepReply.TheVariants as reply
 use Rattle.cobra.specs.Saving.{saved_told}
 use Rattle.cobra.specs.Scripts.{IsBadLine, IsTakenIn, state_told}
-use Rattle.cobra.specs.StepReplies.{certificate_of, reply_of, report_of}
+use Rattle.cobra.specs.StepReplies.{claim_of, reply_of, report_of}
 
 -- The open round's report, by the engine alone: some answer about its snapshot earns it. An order was seen to explain the snapshot, or a
 -- tree to refute it; or the report is spent, which claims nothing.
@@ -61,7 +61,7 @@ OwesOpen version old (Close session) answer new = IsStep old (step.Close session
 OwesOpen version old Begin answer new = IsStep old step.Begin answer new
 OwesOpen version old (Finish budget depth workers search) answer new = OwesFinish old answer new
 OwesOpen version old (Round budget depth workers search) answer new = OwesRound old answer new
-OwesOpen version old (Answer shown) answer new = IsStep old (step.Judge (certificate_of shown)) answer new
+OwesOpen version old (Answer shown) answer new = IsStep old (step.Judge (claim_of shown)) answer new
 OwesOpen version old Truncate answer new = IsStep old step.Truncate answer new
 OwesOpen version old Rebuild answer new = IsStep old step.Rebuild answer new
 OwesOpen version old Show answer new = (answer ≡ state_told old.engine) × (new ≡ old)

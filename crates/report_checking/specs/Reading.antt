@@ -39,7 +39,7 @@ use Rattle.snapshot_scripts.specs.Splitting.{CanBeAsked, IsAskedFault, split_com
 use Rattle.cobra.specs.Outputs.{Asks, IsTold}
 use Rattle.cobra.specs.Saving.{saved_told}
 use Rattle.cobra.specs.Scripts.{AreVersionSessions, IsIsolatedLimit, IsIsolatedRefusal, IsVersionLimit, IsVersionRefusal, state_told}
-use Rattle.cobra.specs.StepReplies.{certificate_of, report_of, reply_of}
+use Rattle.cobra.specs.StepReplies.{claim_of, report_of, reply_of}
 use Rattle.report_checking.specs.Checking.{IsRightReply, IsUnchecked, TakesMemory, Checks, FindsRight, left_by}
 use Rattle.report_checking.specs.Isolation.{IsShownBy, names_of, told_by}
 use Rattle.report_checking.specs.OwedLines.{Owes, ScriptState}
@@ -230,7 +230,7 @@ OwesText names text (owed.Nothing why) = ⊥
 abbrev pub Earns : EngineState → Command → Report → EngineState → Type 0
 Earns old (Finish budget depth workers search) report new = IsEarned old report new
 Earns old (Round budget depth workers search) report new = (begun : EngineState) × StepsTo old step.Begin reply.Done begun × IsEarned begun report new
-Earns old (Answer handed) report new = (other : Shown) × IsSameShown (Some handed) (Some other) × StepsTo old (step.Judge (certificate_of other)) (reply.Report report) new
+Earns old (Answer handed) report new = (other : Shown) × IsSameShown (Some handed) (Some other) × StepsTo old (step.Judge (claim_of other)) (reply.Report report) new
 Earns old command report new = ⊥
 
 -- the same of a finish, where it may be made
@@ -305,7 +305,7 @@ Gives version old (Close session) answer = IsStepTold old (step.Close session) a
 Gives version old Begin answer = IsStepTold old step.Begin answer
 Gives version old (Finish budget depth workers search) answer = (old.asked ≡ None) × (answer ≡ told.No NoRound)
 Gives version old (Round budget depth workers search) answer = IsRefusedBy old step.Begin answer
-Gives version old (Answer handed) answer = (other : Shown) × IsSameShown (Some handed) (Some other) × IsRefusedBy old (step.Judge (certificate_of other)) answer
+Gives version old (Answer handed) answer = (other : Shown) × IsSameShown (Some handed) (Some other) × IsRefusedBy old (step.Judge (claim_of other)) answer
 Gives version old Truncate answer = IsStepTold old step.Truncate answer
 Gives version old Rebuild answer = IsStepTold old step.Rebuild answer
 Gives version old Show answer = answer ≡ state_told old

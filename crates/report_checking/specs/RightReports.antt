@@ -18,7 +18,7 @@ use Rattle.round_state.specs.declared.steps.Step.TheVariants as step
 use Rattle.round_state.specs.declared.steps.StepReply.TheVariants as reply
 use Rattle.snapshot_scripts.specs.Legal.{LegalIsolation}
 use Rattle.cobra.specs.Outputs.{Asks}
-use Rattle.cobra.specs.StepReplies.{certificate_of, report_of}
+use Rattle.cobra.specs.StepReplies.{claim_of, report_of}
 use Rattle.report_checking.specs.Checking.{Checks, IsRightReply, IsUnchecked}
 use Rattle.report_checking.specs.Isolation.{IsOwedIsolation, IsShownBy, names_of, told_by}
 use Rattle.report_checking.specs.OwedLines.{OwesLine, ScriptState}
@@ -40,7 +40,7 @@ abbrev pub OwesReport : ScriptState → Command → Report → State → Type 0
 OwesReport old (Finish budget depth workers search) report new = (old.searched ≡ false) × IsOwedReport old.state report new
 OwesReport old (Collect waits) report new = (old.searched ≡ true) × IsOwedReport old.state report new
 OwesReport old (Round budget depth workers search) report new = (begun : State) × Legal old.state step.Begin reply.Done begun × IsOwedReport begun report new
-OwesReport old (Answer handed) report new = Legal old.state (step.Judge (certificate_of handed)) (reply.Report report) new
+OwesReport old (Answer handed) report new = Legal old.state (step.Judge (claim_of handed)) (reply.Report report) new
 OwesReport old command report new = ⊥
 
 -- the same where transactions are split

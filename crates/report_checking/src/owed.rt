@@ -12,7 +12,7 @@ ghost use Rattle.report_checking.specs.Unshown.{ShowsWrongOf, EndsWrong};
 use crate::certificates::answer_told;
 use crate::findings::{Owed, Unshown};
 use crate::replayed::Replayed;
-use cobra::{certificate_of, reply_of, report_of, saved_told, state_told};
+use cobra::{claim_of, reply_of, report_of, saved_told, state_told};
 use log_text::{Command, Names, Reply, Version};
 use logged_fragments::LoggedFragment;
 use polygraph::Answer;
@@ -134,7 +134,7 @@ pub(crate) fn owed_open(
         Command::Begin => owed_step(engine, alloc, Step::Begin),
         Command::Finish { .. } => owed_finish(engine, alloc, names, stored),
         Command::Round { .. } => owed_round(engine, alloc, names, stored),
-        Command::Answer(shown) => owed_step(engine, alloc, Step::Judge(certificate_of(shown))),
+        Command::Answer(shown) => owed_step(engine, alloc, Step::Judge(claim_of(shown))),
         Command::Truncate => owed_step(engine, alloc, Step::Truncate),
         Command::Rebuild => owed_step(engine, alloc, Step::Rebuild),
         Command::Show => Ok(Owed::Reply(state_told(alloc, engine.engine())?)),

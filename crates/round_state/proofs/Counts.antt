@@ -25,6 +25,13 @@ counts_at (mark ∷ marks) [] s e = absurd (omega arith)
 counts_at (mark ∷ marks) (txns ∷ remain) zero e = refl
 counts_at (mark ∷ marks) (txns ∷ remain) (suc s) e = let e' : length marks ≡ length remain = omega arith in counts_at marks remain s e'
 
+-- a list is these counts where it has that of each session
+pub counts_are : (parts : Parts) (counts : List ℕ) → IsGood parts → length counts ≡ length parts.remain → ((s : ℕ) → s < length parts.remain → get_or counts s 0 ≡ received_count parts s) → counts ≡ received_counts parts
+counts_are parts counts good sessions each =
+    let size = counts_length parts.base.marks parts.remain good.marks in
+    ext_get_or 0 counts (received_counts parts) (sessions ∙ sym size) (λ s within.
+    each s (omega (arith, within, sessions)) ∙ sym (counts_at parts.base.marks parts.remain s good.marks))
+
 -- where as much was received as a history has, the counts are the lengths of its sessions
 pub counts_of : (parts : Parts) (history : History) → IsGood parts → length history ≡ length parts.remain → ((s : ℕ) → received_count parts s ≡ length (session_of history s)) → received_counts parts ≡ map length history
 counts_of parts history good sessions received =

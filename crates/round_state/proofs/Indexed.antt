@@ -1,6 +1,6 @@
 -- The index of pending reads keeps having exactly the pending reads of the parts.
 use Rattle.std.proofs.Common.{◌≡◌, ◌≢◌, ℕ, suc, ◌+◌, ◌-◌, ◌<◌, ◌≤◌, ◌⊎◌, inl, inr, Bool, true, false, cond, nat_lt, refl, sym, ap, subst, ◌∙◌, List, [], ◌∷◌, ◌++◌, length, length-append, get_or, get_or-set_same, get_or-set_other, Option, Some, None, arith}
-use Rattle.std.specs.Prelude.{Contains, slice_get, IsSomeAnd}
+use Rattle.std.specs.Prelude.{Contains, slice_get, IsSomeAnd, ◌↔◌}
 use Rattle.std.proofs.lemmas.Bool.{false≢true, lt-ltb, le-ltb, cases_eq, cases_lt}
 use Rattle.std.proofs.lemmas.List.{get_or_default}
 use Rattle.std.proofs.lemmas.Option.{slice_get_within}
@@ -15,9 +15,9 @@ use Rattle.txn.specs.History.{session_of, Reads}
 use Rattle.txn.specs.Transactions.{id_in}
 use Rattle.session_marks.specs.declared.marks.SessionMark.{SessionMark}
 use Rattle.session_marks.specs.Marks.{IsReceived as IsMarked}
-use Rattle.pending_reads.specs.Waiting.{Index, Waits, WaitsAlso, WaitsAsBefore, AreNew}
+use Rattle.pending_reads.specs.Waiting.{Index, Waits, HasWaiting, WaitsAlso, WaitsAsBefore, AreNew}
 use Rattle.order_check.specs.declared.remainder.Parts.{Parts}
-use Rattle.order_check.specs.Based.{mark_of, remaining_of, remaining_at, received_count, IsReceived}
+use Rattle.order_check.specs.Based.{mark_of, remaining_of, remaining_at, received_count, IsReceived, HasPending}
 use Rattle.order_check.specs.StandsFor.{parts_with}
 use Rattle.round_state.specs.Awaiting.{awaited_from, IsOneOf, HaveArrived}
 use Rattle.round_state.specs.Steps.{IsAdmitted}
@@ -225,4 +225,11 @@ pub index_as_before : (parts : Parts) (old new : Index) → IsIndexOf old parts 
 index_as_before parts old new is same = λ reader writer key. (
   λ waits. (is reader writer key).0 (subst (λ reads. Contains reads (reader, key)) (same writer) waits),
   λ pending. subst (λ reads. Contains reads (reader, key)) (sym (same writer)) ((is reader writer key).1 pending),
+)
+
+-- some read waits in the index exactly where the parts have a pending read
+pub any_pending : (parts : Parts) (index : Index) → IsIndexOf index parts → HasWaiting index ↔ HasPending parts
+any_pending parts index is = (
+  λ h. let pending = (is h.0 h.1 h.2).0 h.3 in (h.0, h.1, h.2, pending.0, pending.1),
+  λ h. (h.0, h.1, h.2, (is h.0 h.1 h.2).1 (h.3, h.4)),
 )

@@ -1,13 +1,15 @@
 -- The snapshot of the round that is open.
-use Rattle.std.proofs.Common.{◌≡◌, ◌↔◌, ℕ, Bool, List, Option, Some, None, Result, Ok, Err, refl, sym, ap, subst, ◌∙◌, IsTrue}
+use Rattle.std.proofs.Common.{◌≡◌, ◌↔◌, ℕ, ◌+◌, ◌-◌, ◌≤◌, Bool, List, [], ◌∷◌, length, map, not, Option, Some, None, Result, Ok, Err, refl, sym, ap, subst, ◌∙◌, arith, take_all, IsTrue}
 use Rattle.std.specs.Prelude.{IfErr, IfSome, IsErrAnd, IsSome, IsSomeAnd, MatchBool, MatchOption}
 use Rattle.std.specs.Option.{is_some, option_map}
+use Rattle.txn.specs.declared.transactions.Txn.{Txn}
 use Rattle.txn.specs.declared.transactions.TxnId.{TxnId}
 use Rattle.txn.specs.declared.refusals.Refusal.{Refusal}
 use Rattle.txn.specs.declared.refusals.Refusal.TheVariants as refusals
+use Rattle.pending_reads.specs.Waiting.{Index, HasWaiting}
 use Rattle.order_check.specs.declared.remainder.Parts.{Parts}
-use Rattle.order_check.specs.Based.{received_counts}
-use Rattle.order_check.specs.CountedFronts.{AreFrontCounts, KeptFrontsAreCounted, front_at}
+use Rattle.order_check.specs.Based.{received_counts, HasPending}
+use Rattle.order_check.specs.CountedFronts.{AreFrontCounts, KeptFrontsAreCounted, below_counts, front_at}
 use Rattle.order_check.specs.Explains.{Explains}
 use Rattle.order_check.specs.FrontLaws.{FrontOfItself}
 use Rattle.order_check.specs.Good.{IsGood}
@@ -22,9 +24,12 @@ use Rattle.round_state.specs.OpenRounds.{IsOpenOn, IsSnapshotOf, snapshot_in}
 use Rattle.round_state.specs.Phases.{begun_in, known_in, problem_in}
 use Rattle.round_state.specs.Solving.{IsReportRefusal, IsWrong}
 use Rattle.round_state.specs.Steps.{IsFinishRefusal}
+use Rattle.round_state.specs.Tracked.{IsIndexOf}
 use Rattle.round_state.specs.declared.phases.Phase.{Phase}
 use Rattle.round_state.specs.declared.phases.Phase.TheVariants.{Between, Ended, Open}
 use Rattle.round_state.specs.declared.snapshots.OpenRound.{OpenRound}
+use Rattle.round_state.proofs.Counts.{plain}
+use Rattle.round_state.proofs.Indexed.{any_pending}
 
 counted_by : KeptFrontsAreCounted → (front parts : Parts) (one : OpenRound) → IsBehind front parts → IsOpenOn front one → IsGood parts → IsSnapshotOf parts one front
 counted_by law front parts one behind on good =
@@ -101,6 +106,32 @@ explained_in parts one snapshot view counts order found is same e of_front = sub
 
 pub refuted_in : (parts : Parts) (one : OpenRound) (snapshot view : Parts) (counts : List ℕ) (tree : Tree) (found : Bool) → IsSnapshotOf parts one snapshot → snapshot ≡ view → counts ≡ one.counts → ((live : List Bool) → IsTrue found ↔ IsRefutation (front_at parts counts live) tree) → IsTrue found ↔ IsRefutation view tree
 refuted_in parts one snapshot view counts tree found is same e of_front = subst (λ (p : Parts). IsTrue found ↔ IsRefutation p tree) (front_is parts one snapshot view counts is same e) (of_front one.live)
+
+-- where nothing came since a round began, the parts have what its snapshot has
+
+whole_below : (marks : List ℕ) (remain : List (List Txn)) → length marks ≡ length remain → below_counts marks (received_counts (plain marks remain)) remain ≡ remain
+whole_below [] [] e = refl
+whole_below [] (txns ∷ remain) e = absurd (omega arith)
+whole_below (mark ∷ marks) [] e = absurd (omega arith)
+whole_below (mark ∷ marks) (txns ∷ remain) e =
+    let count : length txns ≤ mark + length txns - mark = omega arith in
+    let rest : length marks ≡ length remain = omega arith in
+    ap (λ (all : List Txn). all ∷ below_counts marks (received_counts (plain marks remain)) remain) (take_all (mark + length txns - mark) txns count)
+    ∙ ap (λ (more : List (List Txn)). txns ∷ more) (whole_below marks remain rest)
+
+whole_front : (parts : Parts) (one : OpenRound) (snapshot : Parts) → IsSnapshotOf parts one snapshot → one.counts ≡ received_counts parts → record parts { closed = map not one.live } ≡ snapshot
+whole_front parts one snapshot is none =
+    sym (ap (λ (remain : List (List Txn)). record parts { remain = remain; closed = map not one.live }) (ap (λ (counts : List ℕ). below_counts parts.base.marks counts parts.remain) none ∙ whole_below parts.base.marks parts.remain is.good.marks))
+    ∙ is.same
+
+-- and a read is pending in it exactly where the index has one
+pub pending_in : (parts : Parts) (one : OpenRound) (snapshot view : Parts) (index : Index) (some : Bool) → IsSnapshotOf parts one snapshot → snapshot ≡ view → one.counts ≡ received_counts parts → IsIndexOf index parts → IsTrue some ↔ HasWaiting index → IsTrue some ↔ HasPending view
+pending_in parts one snapshot view index some is same none fits any =
+    let pending = any_pending parts index fits in
+    subst (λ (p : Parts). IsTrue some ↔ HasPending p) (whole_front parts one snapshot is none ∙ same) (
+      λ h. pending.0 (any.0 h),
+      λ h. any.1 (pending.1 h),
+    )
 
 -- whether a round is open is seen by whether there is a snapshot
 pub open_seen : (parts : Parts) (asked : Option OpenRound) (view : Option Parts) (found : Bool) → snapshot_in parts asked ≡ view → found ≡ is_some asked → MatchBool found (IsSome view) (view ≡ None)

@@ -24,7 +24,7 @@ use Rattle.order_check.specs.Whole.{IsVerdictWhole}
 use Rattle.refutation.specs.declared.trees.Tree.{Tree}
 use Rattle.refutation.specs.Laws.{RefutedHasNoOrder}
 use Rattle.refutation.specs.Refutes.{IsRefutation}
-use Rattle.polygraph.specs.Solving.{MayComeTo, IsLawful}
+use Rattle.polygraph.specs.Solving.{IsLawful}
 use Rattle.polygraph.specs.declared.solving.Answer.{Answer}
 use Rattle.polygraph.specs.declared.solving.Answer.TheVariants as answers
 use Rattle.settle.specs.declared.cuts.Cut.{Cut}
@@ -33,7 +33,7 @@ use Rattle.round_state.specs.Kept.{IsFitting}
 use Rattle.round_state.specs.Legal.{State, Legal, IsTrueOf, TellsOf, IsTrueReply, whole_after, asked_after}
 use Rattle.round_state.specs.Runs.{Holds, StepsLegally}
 use Rattle.round_state.specs.Solving.{IsRight, IsWrong, IsReportOn}
-use Rattle.round_state.specs.Steps.{IsFinishRefusal, IsSolvedRefusal, IsFinished, IsHeldAfter, IsKindOf, Shows, answer_told, IsRightReport, IsClosedSession, IsLetIn, StepsTo, arrival_of}
+use Rattle.round_state.specs.Steps.{IsFinishRefusal, IsSolvedRefusal, IsFinished, IsHeldAfter, IsKindOf, Shows, answer_claimed, answer_told, IsRightReport, IsClosedSession, IsLetIn, StepsTo, arrival_of}
 use Rattle.round_state.specs.declared.reports.Certificate.{Certificate}
 use Rattle.round_state.specs.declared.reports.Certificate.TheVariants.{Order, Refuted, Nothing}
 use Rattle.round_state.specs.declared.reports.Report.{Report}
@@ -43,26 +43,21 @@ use Rattle.round_state.specs.declared.steps.StepReply.{StepReply}
 use Rattle.round_state.specs.declared.steps.StepReply.TheVariants as reply
 use Rattle.round_state.proofs.Counts.{counts_of}
 
--- what a lawful answer earns is the verdict, is shown, and is what a search may come to
+-- what a lawful answer earns is the verdict, and is shown
 record Earned (parts : Parts) (budget depth : ℕ) (kind : Kind) (certificate : Certificate) : Type 0 where
   kind_of : IsKindOf parts kind
   shown : Shows parts budget depth kind certificate
-  within : MayComeTo parts budget depth (answer_told certificate)
-
-by_order : (parts : Parts) (budget depth : ℕ) (order shown : List TxnId) → shown ≡ order → MayComeTo parts budget depth (answers.Yes order) → MayComeTo parts budget depth (answers.Yes shown)
-by_order parts budget depth order shown same may = subst (λ (o : List TxnId). MayComeTo parts budget depth (answers.Yes o)) (sym same) may
 
 earned : (parts : Parts) (budget depth : ℕ) (answer : Answer) (kind : Kind) (certificate : Certificate) → RefutedHasNoOrder → IsGood parts → IsLawful parts budget depth answer → IsRight parts answer kind certificate → Earned parts budget depth kind certificate
-earned parts budget depth (answers.Yes order) kinds.Serial (Order shown) law good lawful right = record { kind_of = right.2; shown = subst (Explains parts) (sym right.0) right.1; within = by_order parts budget depth order shown right.0 lawful.1 }
-earned parts budget depth (answers.Yes order) kinds.Pending (Order shown) law good lawful right = record { kind_of = right.2; shown = subst (Explains parts) (sym right.0) right.1; within = by_order parts budget depth order shown right.0 lawful.1 }
+earned parts budget depth (answers.Yes order) kinds.Serial (Order shown) law good lawful right = record { kind_of = right.2; shown = subst (Explains parts) (sym right.0) right.1 }
+earned parts budget depth (answers.Yes order) kinds.Pending (Order shown) law good lawful right = record { kind_of = right.2; shown = subst (Explains parts) (sym right.0) right.1 }
 earned parts budget depth (answers.Yes order) kinds.Violated (Order shown) law good lawful right = absurd (right.2 (order, right.1))
 earned parts budget depth (answers.Yes order) kinds.Spent (Order shown) law good lawful right = absurd right.2
 earned parts budget depth (answers.No tree) kind (Refuted shown) law good lawful right =
     let refuted : IsRefutation parts shown = subst (IsRefutation parts) (sym right.0) right.2 in
-    let may : MayComeTo parts budget depth (answers.No shown) = subst (λ (t : Tree). MayComeTo parts budget depth (answers.No t)) (sym right.0) lawful.1 in
-    subst (λ (k : Kind). Earned parts budget depth k (Refuted shown)) (sym right.1) (record { kind_of = law parts shown good refuted; shown = refuted; within = may })
+    subst (λ (k : Kind). Earned parts budget depth k (Refuted shown)) (sym right.1) (record { kind_of = law parts shown good refuted; shown = refuted })
 earned parts budget depth answers.Spent kind Nothing law good lawful right =
-    subst (λ (k : Kind). Earned parts budget depth k Nothing) (sym right) (record { kind_of = tt; shown = lawful.0; within = lawful.1 })
+    subst (λ (k : Kind). Earned parts budget depth k Nothing) (sym right) (record { kind_of = tt; shown = lawful })
 earned parts budget depth answer kind certificate law good lawful right = absurd right
 
 -- what an engine knows of the snapshot of its open round
@@ -73,7 +68,7 @@ right_report : (old new : EngineState) (asked : Option Parts) (budget depth : �
 right_report old new None budget depth answer report law good lawful said = absurd said
 right_report old new (Some snapshot) budget depth answer report law good lawful said =
     let earns = earned snapshot budget depth answer report.kind report.certificate law (good snapshot refl) lawful said.0.right in
-    (record { number = said.0.number; counts = said.0.counts; kind = earns.kind_of; shown = earns.shown; within = earns.within }, said.1)
+    (record { number = said.0.number; counts = said.0.counts; kind = earns.kind_of; shown = earns.shown }, said.1)
 
 pub finish_reported : (old new : EngineState) (budget depth workers : ℕ) (answer : Answer) (report : Report) → RefutedHasNoOrder → HasGoodSnapshot old.asked → IfSome old.asked (λ p. IsLawful p budget depth answer) → IsSomeAnd old.asked (λ p. IsReportOn p (old.rounds + 1) answer report × IsHeldAfter p report.kind old.held new.held) → IsFinished old new → StepsTo old (Finish budget depth workers) (reply.Report report) new
 finish_reported old new budget depth workers answer report law good lawful said done =
@@ -84,8 +79,8 @@ pub asked_lawful : (asked : Option Parts) (parts : Parts) (budget depth : ℕ) (
 asked_lawful asked parts budget depth answer is lawful = subst (λ (a : Option Parts). IfSome a (λ p. IsLawful p budget depth answer)) (sym is) lawful
 
 wrong_or_lawful : (parts : Parts) (budget depth : ℕ) (answer : Answer) → IsLawful parts budget depth answer → IsWrong parts answer → ⊥
-wrong_or_lawful parts budget depth (answers.Yes order) lawful wrong = wrong lawful.0
-wrong_or_lawful parts budget depth (answers.No tree) lawful wrong = wrong lawful.0
+wrong_or_lawful parts budget depth (answers.Yes order) lawful wrong = wrong lawful
+wrong_or_lawful parts budget depth (answers.No tree) lawful wrong = wrong lawful
 wrong_or_lawful parts budget depth answer lawful wrong = wrong
 
 none_wrong : (asked : Option Parts) (budget depth : ℕ) (answer : Answer) → IfSome asked (λ p. IsLawful p budget depth answer) → IsSomeAnd asked (λ p. IsWrong p answer) → ⊥
@@ -244,13 +239,13 @@ legal_of old new (Finish budget depth workers) (reply.Report report) grounds rig
     (λ parts h. absurd (none-some parts (sym right.1.none_open ∙ h)))
 legal_of old new (Finish budget depth workers) (reply.Refused refusal) grounds right before holds =
     legal_by old new (Finish budget depth workers) (reply.Refused refusal) before holds right tt (parts_along new old _ right.1 holds.parts) (asked_along new old _ right.1 holds.asked)
-legal_of old new (Judge certificate) (reply.Report report) grounds right before holds =
-    legal_by old new (Judge certificate) (reply.Report report) before holds right
-    (tells_judged old new old.asked before.asked (answer_told certificate) report grounds.verdicts grounds.refuted (λ parts e. (grounds.snapshot parts e, holds.asked parts e)) right.0)
+legal_of old new (Judge claim) (reply.Report report) grounds right before holds =
+    legal_by old new (Judge claim) (reply.Report report) before holds right
+    (tells_judged old new old.asked before.asked (answer_claimed claim) report grounds.verdicts grounds.refuted (λ parts e. (grounds.snapshot parts e, holds.asked parts e)) right.0)
     (subst (λ (p : Parts). StandsFor p before.whole) (sym right.1.parts) holds.parts)
     (λ parts h. absurd (none-some parts (sym right.1.none_open ∙ h)))
-legal_of old new (Judge certificate) (reply.Refused refusal) grounds right before holds =
-    legal_by old new (Judge certificate) (reply.Refused refusal) before holds right tt (parts_along new old _ right.1 holds.parts) (asked_along new old _ right.1 holds.asked)
+legal_of old new (Judge claim) (reply.Refused refusal) grounds right before holds =
+    legal_by old new (Judge claim) (reply.Refused refusal) before holds right tt (parts_along new old _ right.1 holds.parts) (asked_along new old _ right.1 holds.asked)
 legal_of old new Abandon reply.Done grounds right before holds =
     legal_by old new Abandon reply.Done before holds right tt (parts_along new _ _ right.1 holds.parts)
     (asked_along new _ _ right.1 (λ parts h. absurd (none-some parts h)))

@@ -16,7 +16,7 @@ use Rattle.order_check.specs.Settled.{IsCutOf}
 use Rattle.order_check.specs.StandsFor.{Arrival, Joins, Returns, IsAnchored, IsOpenSession, IsNextFragment, parts_after, parts_with, parts_closed}
 use Rattle.order_check.specs.Verdict.{IsVerdict}
 use Rattle.refutation.specs.Refutes.{IsRefutation}
-use Rattle.polygraph.specs.Solving.{MayBeSpent, MayComeTo}
+use Rattle.polygraph.specs.Solving.{IsSpent}
 use Rattle.polygraph.specs.declared.solving.Answer.{Answer}
 use Rattle.polygraph.specs.declared.solving.Answer.TheVariants as answers
 use Rattle.settle.specs.Found.{IsFound}
@@ -26,6 +26,8 @@ use Rattle.round_state.specs.Solving.{IsReportOn, IsWrong}
 use Rattle.round_state.specs.declared.reports.Certificate.{Certificate}
 use Rattle.round_state.specs.declared.reports.Certificate.TheVariants.{Order, Refuted, Nothing}
 use Rattle.round_state.specs.declared.reports.Report.{Report}
+use Rattle.round_state.specs.declared.steps.Claim.{Claim}
+use Rattle.round_state.specs.declared.steps.Claim.TheVariants as claims
 use Rattle.round_state.specs.declared.steps.Step.{Step}
 use Rattle.round_state.specs.declared.steps.Step.TheVariants.{Offer, Join, Close, Begin, Finish, Judge, Abandon, Truncate, Rebuild}
 use Rattle.round_state.specs.declared.steps.StepReply.{StepReply}
@@ -187,13 +189,13 @@ abbrev pub IsKindOf : Parts → Kind → Type 0
 IsKindOf parts kinds.Spent = ⊤
 IsKindOf parts kind = IsVerdict parts kind
 
--- The certificate shows the kind over the snapshot: an order that explains it, a tree that refutes it, or that the search of
--- this budget and depth may be spent.
+-- The certificate shows the kind over the snapshot: an order that explains it, or a tree that refutes it. Where it shows nothing, the search of
+-- this budget and depth is spent.
 abbrev pub Shows : Parts → ℕ → ℕ → Kind → Certificate → Type 0
 Shows parts budget depth kinds.Serial (Order order) = Explains parts order
 Shows parts budget depth kinds.Pending (Order order) = Explains parts order
 Shows parts budget depth kinds.Violated (Refuted tree) = IsRefutation parts tree
-Shows parts budget depth kinds.Spent Nothing = MayBeSpent parts budget depth
+Shows parts budget depth kinds.Spent Nothing = IsSpent parts budget depth
 Shows parts budget depth kind certificate = ⊥
 
 -- the answer of a search that a certificate tells
@@ -202,6 +204,11 @@ answer_told (Order order) = answers.Yes order
 answer_told (Refuted tree) = answers.No tree
 answer_told Nothing = answers.Spent
 
+-- the answer of a search that says the same as what is handed in
+abbrev pub answer_claimed : Claim → Answer
+answer_claimed (claims.Order order) = answers.Yes order
+answer_claimed (claims.Refuted tree) = answers.No tree
+
 -- The report of a round whose snapshot are these parts.
 pub record IsRightReport (old : EngineState) (parts : Parts) (budget depth : ℕ) (report : Report) : Type 0 where
   pub number : report.round ≡ old.rounds + 1
@@ -209,8 +216,6 @@ pub record IsRightReport (old : EngineState) (parts : Parts) (budget depth : ℕ
   pub counts : report.counts ≡ received_counts parts
   pub kind : IsKindOf parts report.kind
   pub shown : Shows parts budget depth report.kind report.certificate
-  -- a search within this budget, split to this depth, may come to what it tells
-  pub within : MayComeTo parts budget depth (answer_told report.certificate)
 
 -- From the old engine, this reply to the step is right, and leads to the new engine. A fragment is judged as it was logged, and what is
 -- looked up and added is what it did.
@@ -225,8 +230,8 @@ StepsTo old Begin reply.Done new = MayBegin old × (new ≡ engine_begun old)
 StepsTo old Begin (reply.Refused refusal) new = IsBeginRefusal old refusal × (new ≡ old)
 StepsTo old (Finish budget depth workers) (reply.Report report) new = IsSomeAnd old.asked (λ parts. IsRightReport old parts budget depth report × IsHeldAfter parts report.kind old.held new.held) × IsFinished old new
 StepsTo old (Finish budget depth workers) (reply.Refused refusal) new = IsSolvedRefusal old refusal × (new ≡ old)
-StepsTo old (Judge certificate) (reply.Report report) new = IsSomeAnd old.asked (λ parts. IsReportOn parts (old.rounds + 1) (answer_told certificate) report × IsHeldAfter parts report.kind old.held new.held) × IsFinished old new
-StepsTo old (Judge certificate) (reply.Refused refusal) new = IsFinishRefusal old (answer_told certificate) refusal × (new ≡ old)
+StepsTo old (Judge claim) (reply.Report report) new = IsSomeAnd old.asked (λ parts. IsReportOn parts (old.rounds + 1) (answer_claimed claim) report × IsHeldAfter parts report.kind old.held new.held) × IsFinished old new
+StepsTo old (Judge claim) (reply.Refused refusal) new = IsFinishRefusal old (answer_claimed claim) refusal × (new ≡ old)
 StepsTo old Abandon reply.Done new = IsSome old.asked × (new ≡ engine_abandoned old)
 StepsTo old Abandon (reply.Refused refusal) new = IsAbandonRefusal old refusal × (new ≡ old)
 StepsTo old Truncate (reply.Cut cut) new = IsTruncated old cut new

@@ -17,4 +17,4 @@ mod tracking;
 pub use opening::{is_limit, is_sessions};
 pub use reports::{Certificate, Report, received_counts};
 pub use state::Engine;
-pub use steps::{Step, StepReply};
+pub use steps::{Claim, Step, StepReply};

@@ -1,13 +1,15 @@
-ghost use Rattle.std.specs.Prelude.{◌≡◌, ◌↔◌, map, not, IfOk, IsTrue};
+ghost use Rattle.std.specs.Prelude.{◌≡◌, ◌↔◌, length, map, not, IfOk, IsTrue};
 ghost use Rattle.order_check.specs.declared.remainder.Parts.{Parts};
 ghost use Rattle.order_check.specs.Based.{received_counts, HasPending};
 ghost use Rattle.order_check.specs.Explains.{Explains};
 ghost use Rattle.order_check.specs.Good.{IsGood};
 ghost use Rattle.refutation.specs.Refutes.{IsRefutation};
 ghost use Rattle.round_state.specs.OpenRounds.{IsOpenOn, IsSnapshotOf};
+ghost use Rattle.round_state.specs.Tracked.{IsIndexOf};
 
 use clock_choices::Saturated;
 use order_check::{Parts, explains_front};
+use pending_reads::PendingReads;
 use polygraph::Problem;
 use refutation::{Tree, check_front};
 use std::alloc::Global;
@@ -29,6 +31,8 @@ pub struct Snapshot<'a> {
     begun: &'a OpenRound,
     /// The relation of the snapshot.
     known: &'a Saturated,
+    /// The pending reads of the parts as they are now.
+    waits: &'a PendingReads,
 }
 
 impl<'a> Model for Snapshot<'a> {
@@ -36,6 +40,7 @@ impl<'a> Model for Snapshot<'a> {
     ghost use Rattle.order_check.specs.Codes.{coded_last};
     ghost use Rattle.order_check.specs.declared.remainder.Parts.{Parts};
     ghost use Rattle.round_state.specs.OpenRounds.{IsSnapshotOf};
+    ghost use Rattle.round_state.specs.Tracked.{IsIndexOf};
 
     ghost Value = { Parts };
 
@@ -43,7 +48,7 @@ impl<'a> Model for Snapshot<'a> {
 
     ghost view = { λ s. s.known.now.parts };
 
-    ghost invariant = { λ s. IsSnapshotOf s.parts.now s.begun.now s.known.now.parts };
+    ghost invariant = { λ s. IsSnapshotOf s.parts.now s.begun.now s.known.now.parts × IsIndexOf s.waits.now s.parts.now };
 }
 
 /// Which sessions are open.
@@ -82,15 +87,36 @@ pub(crate) fn asked_of(
     Ok((begun, kept, problem))
 }
 
+/// Whether so many were received of each session, and no more.
+fn are_received_counts(parts: &Parts, counts: &[u64]) -> bool
+    requires good { IsGood parts.now }
+    requires sessions { length counts.now ≡ length parts.now.remain }
+    ensures { IsTrue result ↔ (counts.now ≡ received_counts parts.now) }
+{
+    for session in 0..parts.sessions() {
+        if counts[session] != parts.received_count(session as u8) {
+            return false;
+        }
+    }
+    true
+}
+
 impl<'a> Snapshot<'a> {
-    pub fn new(parts: &'a Parts, begun: &'a OpenRound, known: &'a Saturated) -> Snapshot<'a>
-        requires { IsSnapshotOf parts.now begun.now known.now.parts }
+    pub fn new(
+        parts: &'a Parts,
+        begun: &'a OpenRound,
+        known: &'a Saturated,
+        waits: &'a PendingReads,
+    ) -> Snapshot<'a>
+        requires snapshot { IsSnapshotOf parts.now begun.now known.now.parts }
+        requires index { IsIndexOf waits.now parts.now }
         ensures { result ≡ known.now.parts }
     {
         Snapshot {
             parts,
             begun,
             known,
+            waits,
         }
     }
 
@@ -108,10 +134,14 @@ impl<'a> Snapshot<'a> {
         self.begun.counts.clone()
     }
 
-    /// Whether some read waited for an id that wasn't received.
+    /// Whether some read waited for an id that wasn't received. The index tells of the parts as they are now. So if something came since the
+    /// round began, each read of the snapshot is looked at instead.
     pub fn has_pending(&self) -> bool
         ensures { IsTrue result ↔ HasPending self.now }
     {
+        if are_received_counts(self.parts, self.begun.counts.as_slice()) {
+            return self.waits.any();
+        }
         self.known.parts().has_pending()
     }
 

@@ -238,7 +238,7 @@ impl Engine {
         let Phase::Open(begun, problem) = &self.phase else {
             return Err(Refusal::NoRound);
         };
-        let snapshot = Snapshot::new(&self.parts, begun, problem.known());
+        let snapshot = Snapshot::new(&self.parts, begun, problem.known(), &self.waits);
         let report = report_on(alloc, &snapshot, self.round + 1, answer, &mut self.held)?;
         self.phase.end();
         self.round += 1;

@@ -3,9 +3,9 @@ ghost use Rattle.order_check.specs.Effort.{IsEffort};
 ghost use Rattle.polygraph.specs.Solving.{IsLawful};
 ghost use Rattle.round_state.specs.EngineState.{EngineState};
 ghost use Rattle.round_state.specs.Runs.{HasLimits, StepsLegally, RunsLegally};
-ghost use Rattle.round_state.specs.Steps.{StepsTo, RunsTo, answer_told};
+ghost use Rattle.round_state.specs.Steps.{StepsTo, RunsTo, answer_claimed, answer_told};
 
-use crate::reports::{Certificate, Report};
+use crate::reports::Report;
 use crate::state::Engine;
 use logged_fragments::LoggedFragment;
 use order_check::{
@@ -13,10 +13,19 @@ use order_check::{
     verdict_as_stood_for,
 };
 use polygraph::{Answer, Effort, Solver};
-use refutation::refuted_has_no_order;
+use refutation::{Tree, refuted_has_no_order};
 use settle::Cut;
 use std::alloc::Global;
-use txn::{NoMemory, Refusal};
+use txn::{NoMemory, Refusal, Sequence, TxnId};
+
+/// What is handed in to be judged, wherever it comes from.
+#[derive(Drop, Debug)]
+pub enum Claim {
+    /// This order explains the snapshot.
+    Order(Sequence<TxnId>),
+    /// No order explains the snapshot, as this tree shows.
+    Refuted(Tree),
+}
 
 /// A step of an engine.
 #[derive(Drop, Debug)]
@@ -33,9 +42,8 @@ pub enum Step {
         depth: u64,
         workers: u64,
     },
-    /// Finishes the open round by what a certificate shows, where that is right. It may come from anywhere. One that shows nothing ends the
-    /// round as spent.
-    Judge(Certificate),
+    /// Finishes the open round by an order or a tree from anywhere, where that is right.
+    Judge(Claim),
     Abandon,
     /// Applies the held cut.
     Truncate,
@@ -53,14 +61,13 @@ pub enum StepReply {
     Cut(Cut),
 }
 
-/// The answer of a search that such a certificate tells.
-fn answer_told(certificate: Certificate) -> Answer
-    ensures { result ≡ answer_told certificate }
+/// The answer of a search that says the same.
+fn answer_claimed(claim: Claim) -> Answer
+    ensures { result ≡ answer_claimed claim }
 {
-    match certificate {
-        Certificate::Order(order) => Answer::Yes(order),
-        Certificate::Refuted(tree) => Answer::No(tree),
-        Certificate::Nothing => Answer::Spent,
+    match claim {
+        Claim::Order(order) => Answer::Yes(order),
+        Claim::Refuted(tree) => Answer::No(tree),
     }
 }
 
@@ -137,11 +144,11 @@ impl Engine {
         self.finish(alloc, answer)
     }
 
-    /// The certificate is judged as a search's answer is, and nothing is believed of it.
-    fn reply_to_judge(&mut self, alloc: Global, certificate: Certificate) -> StepReply
-        ensures right { StepsTo self.old (Step.Judge certificate) result self.new }
+    /// What is claimed is judged as a search's answer is, and nothing is believed of it.
+    fn reply_to_judge(&mut self, alloc: Global, claim: Claim) -> StepReply
+        ensures right { StepsTo self.old (Step.Judge claim) result self.new }
     {
-        match self.finish(alloc, answer_told(certificate)) {
+        match self.finish(alloc, answer_claimed(claim)) {
             Ok(report) => StepReply::Report(report),
             Err(refusal) => StepReply::Refused(refusal),
         }
@@ -215,7 +222,7 @@ impl Engine {
                 };
                 self.reply_to_finish(alloc, effort, solver)
             }
-            Step::Judge(certificate) => self.reply_to_judge(alloc, certificate),
+            Step::Judge(claim) => self.reply_to_judge(alloc, claim),
             Step::Abandon => self.reply_to_abandon(),
             Step::Truncate => self.reply_to_truncate(alloc),
             Step::Rebuild => self.reply_to_rebuild(alloc),

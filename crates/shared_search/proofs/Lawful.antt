@@ -21,7 +21,7 @@ use Rattle.polygraph.specs.declared.solving.Cube.TheVariants.{Yes, No, Spent}
 use Rattle.polygraph.specs.declared.solving.Answer.{Answer}
 use Rattle.polygraph.specs.declared.solving.Answer.TheVariants as answers
 use Rattle.polygraph.specs.Outcomes.{split_choices, cube_count, share_of, Finds, RefutesCube, IsCube, IsPicked}
-use Rattle.polygraph.specs.Solving.{MayComeTo, IsLawful}
+use Rattle.polygraph.specs.Solving.{IsLawful}
 use Rattle.shared_search.specs.Picks.{first_yes, has_spent, trees, AreOutcomes, Picked}
 use Rattle.shared_search.specs.Worked.{is_yes}
 use Rattle.shared_search.specs.Lent.{MayGive}
@@ -161,17 +161,14 @@ module _ (law : ScansFindOne) (problem : ProblemState) (budget depth : ℕ) wher
   small_of (inl none) = absurd cc
   small_of (inr (outs, are, (none, some))) = (spent_of_outs outs are none some).1
 
-  may_come : (answer : Answer) → IsProblem problem → IsPicked problem budget depth answer → MayComeTo problem.known.parts budget depth answer
-  may_come answer is picked = inl (problem, is, refl, picked)
-
   lawful_of : (answer : Answer) → depth ≤ 6 → IsProblem problem → Picked (MayGive problem depth share) (split_choices problem depth) (cube_count problem depth) answer → IsPicked problem budget depth answer → IsLawful problem.known.parts budget depth answer
-  lawful_of (answers.Yes order) low is p h = (h.0, may_come (answers.Yes order) is h)
-  lawful_of (answers.No tree) low is p h = (h.0, may_come (answers.No tree) is h)
+  lawful_of (answers.Yes order) low is p h = h.0
+  lawful_of (answers.No tree) low is p h = h.0
   lawful_of answers.Spent low is p h =
       let few = ap length (split_is is low) ∙ length-take depth is.all in
       let small = subst (λ n. share + 1 < 2 ^ (n - length (split_choices problem depth) + 1)) is.counted (small_of p) in
       let bound = budget_bound budget (length (split_choices problem depth)) (length is.all) share (omega (arith, few)) refl small in
-      ((is.all, is.open_choices, subst (λ n. budget + 2 ^ n < 2 ^ (length is.all + 1)) few bound), may_come answers.Spent is h)
+      ((is.all, is.open_choices, subst (λ n. budget + 2 ^ n < 2 ^ (length is.all + 1)) few bound), (problem, is, refl, h))
   lawful_of answers.NoMemory low is p h = tt
 
 -- both, where the count and the share are known by equations
@@ -181,8 +178,3 @@ both_laws law refute deep problem budget depth count answer low problem_is is p 
     let q = subst (λ (n : ℕ). Picked (MayGive problem depth (budget / n)) (split_choices problem depth) n answer) is p in
     let h = picked_of law problem budget depth refute deep answer low problem_is q in
     (lawful_of law problem budget depth answer low problem_is q h, h)
-
--- where a search may come to a no, it may come to one by another tree
-pub other_tree : (parts : Parts) (budget depth : ℕ) (tree other : Tree) → IsRefutation parts other → MayComeTo parts budget depth (answers.No tree) → MayComeTo parts budget depth (answers.No other)
-other_tree parts budget depth tree other refutes (inl (problem, is, about, picked)) = inl (problem, is, about, (subst (λ (p : Parts). IsRefutation p other) (sym about) refutes, picked.1))
-other_tree parts budget depth tree other refutes (inr decided) = inr tt

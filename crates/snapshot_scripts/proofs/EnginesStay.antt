@@ -354,10 +354,10 @@ module _ (keeps : SplitKeepsEffects) (can : EffectsCanBeSplit) where
   stay sessions old new (Finish budget depth workers) (reply.Refused refusal) made steps is = kept old new steps.1 is
   stay sessions old new (Finish budget depth workers) reply.Done made steps is = absurd steps
   stay sessions old new (Finish budget depth workers) (reply.Cut cut) made steps is = absurd steps
-  stay sessions old new (Judge certificate) (reply.Report report) made steps is = finished old new old.asked report.kind refl (only_held _ (λ parts. IsHeldAfter parts report.kind old.held new.held) old.asked steps.0) steps.1 is
-  stay sessions old new (Judge certificate) (reply.Refused refusal) made steps is = kept old new steps.1 is
-  stay sessions old new (Judge certificate) reply.Done made steps is = absurd steps
-  stay sessions old new (Judge certificate) (reply.Cut cut) made steps is = absurd steps
+  stay sessions old new (Judge claim) (reply.Report report) made steps is = finished old new old.asked report.kind refl (only_held _ (λ parts. IsHeldAfter parts report.kind old.held new.held) old.asked steps.0) steps.1 is
+  stay sessions old new (Judge claim) (reply.Refused refusal) made steps is = kept old new steps.1 is
+  stay sessions old new (Judge claim) reply.Done made steps is = absurd steps
+  stay sessions old new (Judge claim) (reply.Cut cut) made steps is = absurd steps
   stay sessions old new Abandon reply.Done made steps is = subst IsSplitEngine (sym steps.1) (record { parts = is.parts; asked = no_asked None refl; held = is.held })
   stay sessions old new Abandon (reply.Refused refusal) made steps is = kept old new steps.1 is
   stay sessions old new Abandon (reply.Report report) made steps is = absurd steps

@@ -27,7 +27,7 @@ use Rattle.settle.specs.declared.cuts.Cut.{Cut}
 use Rattle.round_state.specs.EngineState.{EngineState}
 use Rattle.round_state.specs.Opening.{empty_parts, no_history}
 use Rattle.round_state.specs.Solving.{IsReportOn, IsRight}
-use Rattle.round_state.specs.Steps.{IsFinished, IsHeldAfter, IsKindOf, IsRightReport, IsTruncated, Shows, answer_told, arrival_of, engine_abandoned, engine_begun, engine_closed, engine_joined, engine_offered, engine_rebuilt}
+use Rattle.round_state.specs.Steps.{IsFinished, IsHeldAfter, IsKindOf, IsRightReport, IsTruncated, Shows, answer_claimed, arrival_of, engine_abandoned, engine_begun, engine_closed, engine_joined, engine_offered, engine_rebuilt}
 use Rattle.round_state.specs.declared.reports.Certificate.{Certificate}
 use Rattle.round_state.specs.declared.reports.Certificate.TheVariants.{Order, Refuted, Nothing}
 use Rattle.round_state.specs.declared.reports.Report.{Report}
@@ -284,10 +284,10 @@ on laws old new whole asked (Finish budget depth workers) (reply.Report report) 
 on laws old new whole asked (Finish budget depth workers) (reply.Refused refusal) to holds = same_on old new whole asked to.1 holds
 on laws old new whole asked (Finish budget depth workers) reply.Done to holds = absurd to
 on laws old new whole asked (Finish budget depth workers) (reply.Cut cut) to holds = absurd to
-on laws old new whole asked (Judge certificate) (reply.Report report) to holds = by_judge old new whole asked (answer_told certificate) (old.rounds + 1) report old.asked refl to.0 to.1 holds
-on laws old new whole asked (Judge certificate) (reply.Refused refusal) to holds = same_on old new whole asked to.1 holds
-on laws old new whole asked (Judge certificate) reply.Done to holds = absurd to
-on laws old new whole asked (Judge certificate) (reply.Cut cut) to holds = absurd to
+on laws old new whole asked (Judge claim) (reply.Report report) to holds = by_judge old new whole asked (answer_claimed claim) (old.rounds + 1) report old.asked refl to.0 to.1 holds
+on laws old new whole asked (Judge claim) (reply.Refused refusal) to holds = same_on old new whole asked to.1 holds
+on laws old new whole asked (Judge claim) reply.Done to holds = absurd to
+on laws old new whole asked (Judge claim) (reply.Cut cut) to holds = absurd to
 on laws old new whole asked Abandon reply.Done to holds = same_on (engine_abandoned old) new whole asked to.1 (abandoned old whole asked holds)
 on laws old new whole asked Abandon (reply.Refused refusal) to holds = same_on old new whole asked to.1 holds
 on laws old new whole asked Abandon (reply.Report report) to holds = absurd to
@@ -333,7 +333,7 @@ judge_ends old new whole asked answer rounds report (Some front) is both holds =
 
 pub reported_ends : ReportedOrdersEndOrders
 reported_ends old new whole asked (Finish budget depth workers) report to holds = finish_ends old new whole asked budget depth report old.asked refl to.0 holds
-reported_ends old new whole asked (Judge certificate) report to holds = judge_ends old new whole asked (answer_told certificate) (old.rounds + 1) report old.asked refl to.0 holds
+reported_ends old new whole asked (Judge claim) report to holds = judge_ends old new whole asked (answer_claimed claim) (old.rounds + 1) report old.asked refl to.0 holds
 reported_ends old new whole asked (Offer logged) report to holds = absurd to
 reported_ends old new whole asked (Join logged) report to holds = absurd to
 reported_ends old new whole asked (Close s) report to holds = absurd to

@@ -30,7 +30,7 @@ from ..core._outcome import (
     Outcome,
 )
 from ..core._private_files import private
-from ..core.errors import FolderUnfitError, ZanteyardError
+from ..core.errors import FolderUnfitError, KeyFileError, ZanteyardError
 from ..explain._audited import from_start, refuted
 from ..explain._violation_text import tell_violation
 from ..journal._file import Journal
@@ -39,8 +39,9 @@ from ..program._auditor import Auditor
 from ..program._binaries import find_program
 from ..promises._kinds import LIVE as PROMISES
 from ..promises._kinds import SERIALIZABLE
-from ..remote._server import AuditServer
+from ..remote._server import AuditServer, ProcessServer
 from ..watch._options import FORM, add_logging, address, least_of, whole_of
+from ..watch._sharing import add_sharing, mistake_of
 from ._metrics import MetricsServer, families, text_of
 from ._parsing import add_old_name
 
@@ -81,6 +82,7 @@ def add_arguments(command: argparse.ArgumentParser) -> None:
         metavar="HOST:PORT",
         help="serve Prometheus metrics at http://HOST:PORT/metrics",
     )
+    add_sharing(command, "collectors", "; those of other machines use it")
     command.add_argument(
         "--every", type=whole_of(1), default=LiveAuditor.EVERY, metavar="N",
         help=f"transactions between two meetings ({LiveAuditor.EVERY})",
@@ -107,6 +109,9 @@ def run(asked: argparse.Namespace) -> int:
     """Runs until a signal or the end of the audit; returns the exit status."""
     if not asked.folder:
         raise FolderUnfitError("no folder was given: give --folder DIR or set ZANTEYARD_FOLDER")
+    mistake = mistake_of(asked)
+    if mistake is not None:
+        raise KeyFileError(mistake)
     logging.basicConfig(level=asked.log, format=FORM, stream=sys.stderr)
     stopped = threading.Event()
     for number in (signal.SIGTERM, signal.SIGINT, signal.SIGHUP):
@@ -124,9 +129,13 @@ def _audit(asked: argparse.Namespace, stack: contextlib.ExitStack, stopped: thre
     policy = RATHER_WAIT if asked.rather_wait else RATHER_LOSE_THE_AUDIT
     live = LiveAuditor(auditor, every=asked.every, policy=policy, redacts=asked.redact)
     live.count_awaited()
-    server = _server(asked, live)
+    servers = _servers(asked, live)
+
+    def clients() -> int:
+        return sum(server.clients for server in servers)
+
     if asked.metrics is not None:
-        metrics = MetricsServer(asked.metrics, lambda: text_of(families(live, server.clients)))
+        metrics = MetricsServer(asked.metrics, lambda: text_of(families(live, clients())))
         stack.callback(metrics.close)
         logger.info("serving metrics on port %d", metrics.port)
     about = auditor.promise.title
@@ -135,7 +144,8 @@ def _audit(asked: argparse.Namespace, stack: contextlib.ExitStack, stopped: thre
     _end_at_faults(faults)
     while not (live.is_over or faults or stopped.wait(LOOKS)):
         pass
-    server.close(5.0)
+    for server in servers:
+        server.close(5.0)
     outcome = live.stop()
     logger.info("%s", outcome)
     if outcome.handed_in == 0:
@@ -182,13 +192,24 @@ def _unused(script: str | None) -> str | None:
     return script and next(script + name for name in names if not os.path.isfile(script + name))
 
 
-def _server(asked: argparse.Namespace, live: LiveAuditor) -> AuditServer:
+def _servers(asked: argparse.Namespace, live: LiveAuditor) -> list[ProcessServer]:
+    servers: list[ProcessServer] = []
     try:
-        return AuditServer(live, os.path.join(asked.folder, SOCKET))
+        servers.append(AuditServer(live, os.path.join(asked.folder, SOCKET)))
+        if asked.audit:
+            try:
+                from ..remote._redis_server import RedisServer
+            except ImportError as error:
+                raise ZanteyardError("--redis needs redis-py: zanteyard[redis]") from error
+            servers.append(RedisServer(live, asked.redis, asked.audit, asked.key))
+            logger.info("collectors on other machines join by the audit %s", asked.audit)
     except BaseException:
+        for server in servers:
+            server.close(0.0)
         live.lose(ZanteyardError("clients can't connect"))
         live.stop(1.0)
         raise
+    return servers
 
 
 def _tell(asked: argparse.Namespace, auditor: Auditor, outcome: Outcome) -> None:

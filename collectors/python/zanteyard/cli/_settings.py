@@ -100,7 +100,7 @@ def _table(path: str, name: str) -> dict[str, Any]:
     return {key.replace("_", "-"): value for key, value in whole.get(name, {}).items()}
 
 
-def _text(value: Any, path: str, called: str) -> str:
+def _text(value: object, path: str, called: str) -> str:
     if isinstance(value, bool):
         return YES[1] if value else NO[1]
     if isinstance(value, (str, int, float)):

@@ -45,6 +45,8 @@ class CrashNote(NamedTuple):
 
 
 class Half:
+    """One of a session's two files, with room for its notes. Raises OSError if it can't be made."""
+
     def __init__(self, path: str) -> None:
         self.path, self.at = path, 0
         self.last: dict[int, int] = {}  # of each session in this file, the last number

@@ -33,7 +33,7 @@ def keep(session: Any) -> None:
         _leave(session)
 
 
-def is_forked(made: Any) -> bool:
+def is_forked(made: object) -> bool:
     """Whether this process was forked from the one that made this object."""
     process = getattr(made, "made_in", None)
     return isinstance(process, int) and process != os.getpid()

@@ -1,9 +1,16 @@
 """Locks that record whether they were taken, even if an interrupt arrives."""
 
-from typing import Any
+from typing import Protocol
 
 
-def take(lock: Any, seconds: float, taken: list[bool]) -> bool:
+class Lock(Protocol):
+    """A lock of `threading`, plain or reentrant."""
+
+    def acquire(self, blocking: bool = True, timeout: float = -1) -> bool: ...
+    def release(self) -> None: ...
+
+
+def take(lock: Lock, seconds: float, taken: list[bool]) -> bool:
     """Whether the lock was taken within this many seconds. The answer is also appended to `taken`.
     Both happen in one call of C code, so an interrupt comes before both or after both, and a
     `finally` clause that looks at `taken` knows whether to release the lock."""
@@ -11,7 +18,7 @@ def take(lock: Any, seconds: float, taken: list[bool]) -> bool:
     return taken[-1]
 
 
-def give_back(lock: Any, taken: list[bool]) -> None:
+def give_back(lock: Lock, taken: list[bool]) -> None:
     """Releases the lock once, if it was taken."""
     if taken and taken.pop():
         lock.release()

@@ -50,12 +50,11 @@ def bounded(known: str) -> str:
     return f"sum {hashlib.sha256(known.encode(errors='surrogatepass')).hexdigest()}"
 
 
-def checked(known: Any, shown: Any) -> StoreIdentity:
+def checked(known: object, shown: object) -> StoreIdentity:
     """Raises ValueError unless both are texts of allowed length."""
-    for text in (known, shown):
-        if not isinstance(text, str) or len(text) > LONGEST:
-            raise ValueError("a store's identity must be two strings of at most 1,000 characters")
-    return StoreIdentity(known, shown)
+    if isinstance(known, str) and isinstance(shown, str) and len(known) <= LONGEST >= len(shown):
+        return StoreIdentity(known, shown)
+    raise ValueError("a store's identity must be two strings of at most 1,000 characters")
 
 
 def known_of(identity: StoreIdentity | None) -> str | None:

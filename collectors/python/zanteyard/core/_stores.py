@@ -20,7 +20,7 @@ class Store(Protocol):
     def read(self, key: str) -> StoredValue | None:
         """The value and the name that was stored with it; None if the key doesn't exist."""
 
-    def write(self, key: str, value: Any, name: Name) -> None:
+    def write(self, key: str, value: object, name: Name) -> None:
         """Writes the value and the name. The value None deletes the key but keeps the name."""
 
     def commit(self) -> None:
@@ -32,6 +32,16 @@ class Store(Protocol):
     def outcome(self) -> str:
         """The outcome of the last transaction whose commit was sent and that had written:
         "committed", "aborted" or "unknown"."""
+
+
+class ConnectedStore(Store, Protocol):
+    """A store that opens its connection by itself, and closes it at its end."""
+
+    def connect(self) -> None:
+        ...
+
+    def close(self) -> None:
+        ...
 
 
 class BoundedStore(Protocol):
@@ -57,7 +67,7 @@ class BulkStore(Protocol):
     def read_all(self, keys: Sequence[str]) -> dict[str, StoredValue]:
         """By key what `read` returns, for the keys that exist."""
 
-    def exchange(self, key: str, value: Any, name: Name) -> StoredValue | None:
+    def exchange(self, key: str, value: object, name: Name) -> StoredValue | None:
         """Writes as `write` does and returns what `read` would have returned for the version that
         it overwrites. Both must be one atomic step at every isolation level of the store."""
 
@@ -78,7 +88,7 @@ class TracedStore(Protocol):
         """How to ask the store from another process, as plain values: the word for its kind
         (`core/_commit_status.py`) and the arguments of that kind's `asked`."""
 
-    def ticket(self, written: Sequence[Any]) -> Any:
+    def ticket(self, written: Sequence[object]) -> Any:
         """Plain values that identify the current transaction. `written` is a key and a name, `(key,
         *name)`, that it has written or is about to write."""
 

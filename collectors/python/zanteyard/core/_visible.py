@@ -13,7 +13,7 @@ import re
 import sys
 import unicodedata
 from collections.abc import Callable
-from typing import Any, TextIO
+from typing import TextIO
 
 LONGEST = 4000  # characters of one text
 
@@ -84,7 +84,7 @@ def visible_lines(text: str, longest: int = LONGEST) -> str:
     return _cut("\n".join(shown(line).rstrip() for line in lines).strip("\n"), longest)
 
 
-def html_text(text: Any) -> str:
+def html_text(text: object) -> str:
     """`shown`, for HTML."""
     return html.escape(shown(str(text)))
 

@@ -30,6 +30,7 @@ class Anomaly:
     transactions: tuple[ShownId, ...]
 
 
+ONE_IS_LOST = "one of the two updates is lost"
 MEANINGS: Mapping[str, str] = {
     "dirty read": "Adya's G1a: a read of what an aborted transaction wrote, or of what nobody "
     "wrote",
@@ -283,8 +284,7 @@ def _lost_updates(table: Transactions, _: object, name: Naming) -> Iterator[Anom
                 yield Anomaly(
                     "lost update",
                     f"{name(other)} and {name(id)} both read {_told(key)} "
-                    f"{version(key, source, name)} and both overwrote it: "
-                    "one of the two updates is lost",
+                    f"{version(key, source, name)} and both overwrote it: {ONE_IS_LOST}",
                     (other, id),
                 )
 

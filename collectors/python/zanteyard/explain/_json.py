@@ -12,7 +12,7 @@ from ._report import Story
 VERDICTS = {"spent": "undecided"}  # words of the auditor that people don't know
 
 
-def say_json(value: Any) -> None:
+def say_json(value: object) -> None:
     """Prints a value on a line of its own. What isn't ASCII is escaped, so it is safe anywhere."""
     say(json.dumps(value, separators=(",", ":")), flush=True)
 

@@ -65,7 +65,7 @@ def _is_json(text: str) -> bool:
     return text.lstrip()[:1] in ("[", "{") and text.lstrip("[{ \t\r\n")[:1] == '"'
 
 
-def _word(value: Any) -> str | None:
+def _word(value: object) -> str | None:
     return value.name if isinstance(value, Keyword) else value if isinstance(value, str) else None
 
 
@@ -150,7 +150,7 @@ class _Operations:
         micros = [] if has_none else [*self._micros(value, line)]
         return Operation(line, type, str(process), index, time, part, micros)
 
-    def _micros(self, value: Any, line: int) -> Iterator[Access]:
+    def _micros(self, value: object, line: int) -> Iterator[Access]:
         if not isinstance(value, (tuple, list)):
             raise ImportRefusedError(line, "the value of a txn must be a list of micro-operations")
         for micro in value:
@@ -183,13 +183,13 @@ class _Operations:
         return f"[{between.join((first, key, shown))}]"
 
 
-def _whole(value: Any, name: str, line: int) -> int | None:
+def _whole(value: object, name: str, line: int) -> int | None:
     if value is None or (isinstance(value, int) and not isinstance(value, bool)):
         return value
     raise ImportRefusedError(line, f"the {name} must be a whole number")
 
 
-def _elements(value: Any, line: int) -> tuple[str, ...] | None:
+def _elements(value: object, line: int) -> tuple[str, ...] | None:
     if value is None:
         return None
     if not isinstance(value, (tuple, list)):

@@ -3,7 +3,7 @@ each read came from."""
 
 import json
 from dataclasses import dataclass
-from typing import Any, NamedTuple
+from typing import NamedTuple
 
 from ..core.errors import ImportRefusedError
 from ._edn import Keyword
@@ -61,7 +61,7 @@ def counted(count: int, what: str) -> str:
     return f"{count:,} {what}{'' if count == 1 else 's'}"
 
 
-def token(value: Any, line: int, what: str) -> str:
+def token(value: object, line: int, what: str) -> str:
     """A text that distinguishes a key or value from others. Raises ImportRefusedError if a text
     can't do that."""
     if isinstance(value, Keyword):
@@ -73,6 +73,6 @@ def token(value: Any, line: int, what: str) -> str:
     raise ImportRefusedError(line, f"{what} must be a whole number, a string or a keyword")
 
 
-def optional_token(value: Any, line: int, what: str) -> str | None:
+def optional_token(value: object, line: int, what: str) -> str | None:
     """The same; None for None."""
     return None if value is None else token(value, line, what)

@@ -172,7 +172,7 @@ def line(text: bytes) -> bytes:
     return LINE + text
 
 
-def figures(*now: Any) -> bytes:
+def figures(*now: object) -> bytes:
     """The record of the head's changed values, in the order of `Head.take_figures`."""
     return FIGURES + _text(now)
 
@@ -181,5 +181,5 @@ def violated(violation: Violation) -> bytes:
     return VIOLATED + _text(violation)
 
 
-def _text(value: Any) -> bytes:
+def _text(value: object) -> bytes:
     return json.dumps(value, separators=(",", ":")).encode()

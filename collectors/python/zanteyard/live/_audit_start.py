@@ -1,10 +1,10 @@
 """Begins an audit while clients are running; `core/_window.py` says what it covers."""
 
 from collections.abc import Iterable, Sequence
-from typing import Any
 
 from ..core._window import SKIPPED, Coverage
 from ..session._place import Place
+from ..session._quiesce import Edge
 from ._backlog import Backlog
 from ._quiesce_coordinator import QuiesceGroup
 from ._session_pool import SessionPool
@@ -42,7 +42,7 @@ def coverage_from_now(
     return Coverage(early, first, unknown=unknown)
 
 
-def _asked(groups: Sequence[QuiesceGroup], places: SessionPool) -> Iterable[tuple[Any, ...]]:
+def _asked(groups: Sequence[QuiesceGroup], places: SessionPool) -> Iterable[Edge]:
     """For each session: how many of its transactions have been answered, the first number that
     hasn't been sent, and the numbers whose outcome is unknown."""
     edges = places.edges()

@@ -2,11 +2,11 @@
 
 import time
 from collections.abc import Sequence
-from typing import Any, NamedTuple, Protocol
+from typing import NamedTuple, Protocol
 
 from ..core._own_keys import FLAG, is_own
 from ..session._place import Place
-from ..session._quiesce import QuiesceMissed, Wait
+from ..session._quiesce import Edge, QuiesceMissed, Wait
 from ._backlog import Backlog
 from ._session_pool import SessionPool
 
@@ -52,7 +52,7 @@ class QuiesceGroup(Protocol):
     def release(self) -> None:
         ...
 
-    def edges(self) -> Sequence[tuple[Any, ...]] | None:
+    def edges(self) -> Sequence[Edge] | None:
         """None if the process doesn't answer; then none of its sessions is audited."""
 
     def reopen(self) -> None:

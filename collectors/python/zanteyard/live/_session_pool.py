@@ -4,11 +4,11 @@ import threading
 import time
 from collections import deque
 from collections.abc import Iterable, Mapping
-from typing import Any
 
 from ..core._tenancy import Tenancy
 from ..core._window import SESSIONS
 from ..session._place import Place
+from ..session._quiesce import Edge
 
 SPARE = 8  # sessions kept for clients that come, if there are enough
 # Seconds for a new session to join. After that it may never do so, for example if it is unknown
@@ -268,7 +268,7 @@ class SessionPool:
         with self._changed:
             return [place.number for place in [*self._left, *self._back]]
 
-    def edges(self) -> list[tuple[Any, ...]]:
+    def edges(self) -> list[Edge]:
         """As `SessionGroup.edges`; nothing runs in these."""
         with self._changed:
             places = [*self._left, *self._back, *filter(_is_over, self._ended.values())]

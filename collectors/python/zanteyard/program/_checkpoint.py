@@ -2,7 +2,6 @@
 
 import json
 from collections.abc import Generator, Sequence
-from typing import Any
 
 from ..core.errors import JournalError, ProgramEndedError, ZanteyardError
 from ..promises._asking import form_of
@@ -42,7 +41,7 @@ def saved_lines(limit: int, promise: Promise = SERIALIZABLE) -> Answers:
     return [opening, marks, *last, *remaining, RESUMED]
 
 
-def written(line: Sequence[Any]) -> bytes:
+def written(line: Sequence[object]) -> bytes:
     return json.dumps(line, separators=(",", ":")).encode()
 
 

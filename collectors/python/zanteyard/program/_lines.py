@@ -37,7 +37,7 @@ KINDS: Mapping[str, type[RefusedError]] = {
 }
 
 
-def written(line: Sequence[Any]) -> str:
+def written(line: Sequence[object]) -> str:
     return json.dumps(line, separators=(",", ":"))
 
 
@@ -64,7 +64,7 @@ class Lines(Intake):
             behind = f".{self.audits}" if self.audits > 1 else ""
             self.script = open(f"{self.script_path}{behind}", "wb", 0, opener=private)
 
-    def ask(self, line: Sequence[Any]) -> list[Any]:
+    def ask(self, line: Sequence[object]) -> list[Any]:
         """The reply to a line of docs/FORMATS.md. A line that is refused because memory ran out is
         sent again."""
         text = written(line)

@@ -135,7 +135,7 @@ def check_keys(session: int, first: int, transactions: Sequence[Any]) -> None:
                 )
 
 
-def is_number(value: Any) -> bool:
+def is_number(value: object) -> bool:
     """Whether it is a number as in lines."""
     return type(value) is int and 0 <= value < 1 << 64
 
@@ -149,7 +149,7 @@ def is_of_transactions(line: Sequence[Any]) -> bool:
     return all(map(_is_transaction, line[-1]))
 
 
-def _is_transaction(transaction: Any) -> bool:
+def _is_transaction(transaction: object) -> bool:
     if not isinstance(transaction, list) or len(transaction) not in (2, 3):
         return False
     reads, keys = transaction[:2]
@@ -158,7 +158,7 @@ def _is_transaction(transaction: Any) -> bool:
     return all(map(_is_read, reads)) and all(map(is_number, keys))
 
 
-def _is_read(read: Any) -> bool:
+def _is_read(read: object) -> bool:
     if not isinstance(read, list) or len(read) not in (2, 3) or not is_number(read[0]):
         return False
     return read[1:] == ["init"] or (len(read) == 3 and all(map(is_number, read[1:])))

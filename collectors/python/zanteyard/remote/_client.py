@@ -21,7 +21,8 @@ from ..session._local_sessions import PATIENCE, LocalSessions
 from ..session._place import Place
 from ..session._session import Session
 from ..session._store_calls import StoreCalls
-from ._connecting import ANSWERING, Door
+from ._connecting import ANSWERING, Door, is_redis
+from ._messages import AnyMessages
 from ._outbox import Outbox
 from ._quiesce_calls import QuiesceCalls
 from ._session_requests import SessionRequests
@@ -32,20 +33,25 @@ LEAVING = 30.0  # seconds for sessions to end their transactions
 
 
 class AuditClient(LocalSessions):
-    """Stands in for a LiveAuditor in another process of the same machine. `path` is that of an
-    AuditServer's socket. Call `leave` when the sessions do nothing more. If the process is killed,
-    its last transactions are recovered from its notes (`core/_crash_notes.py`).
+    """Stands in for a LiveAuditor in another process. `path` is that of an AuditServer's socket, or
+    the URL of the Redis by which a RedisServer on another machine serves the audit of this name;
+    `key` is then the file with the key that both have (the environment's ZANTEYARD_KEY). Call
+    `leave` when the sessions do nothing more. If a process behind a socket is killed, its last
+    transactions are recovered from its notes (`core/_crash_notes.py`); what one behind a Redis did
+    last is lost, which ends the audit.
 
     Raises OSError if there is no server, ProgramEndedError if it doesn't answer, OtherVersionError
-    if the versions of the two processes don't fit, and FolderUnfitError if another user listens at
-    the path or has the notes' folder. With `redacts`, neither values nor constants of statements
-    leave this process or get into its notes. Safe for use by several threads.
+    if the versions of the two processes don't fit, FolderUnfitError if another user listens at the
+    path or has the notes' folder, and KeyFileError. With `redacts`, neither values nor constants of
+    statements leave this process or get into its notes. Safe for use by several threads.
     """
 
-    def __init__(self, path: str, redacts: bool = False) -> None:
+    def __init__(
+        self, path: str, redacts: bool = False, *, audit: str = "audit", key: str | None = None
+    ) -> None:
         self.redacts = redacts
-        self._door = Door(path)
-        self._messages = self._door.messages
+        self._door: Any = _redis_door(path, audit, key) if is_redis(path) else Door(path)
+        self._messages: AnyMessages = self._door.messages
         run_name, self.is_named, self.token, most, policy = self._door.welcome()
         super().__init__(run_name, Policy(*policy))
         self._notes: dict[Any, int] = {}  # the numbers by which the auditor's process knows them
@@ -251,6 +257,8 @@ class AuditClient(LocalSessions):
             logger.error("the audit will end if this process is killed: %s", error)
             self._messages.tell("unnoted", seconds=ANSWERING)
             return None
+        if notes is None:  # behind a Redis
+            return None
         self._notes[notes] = which
         asks = StoreCalls(store).asks()
         if not self._messages.tell("noted", which, asks, seconds=ANSWERING):
@@ -329,6 +337,12 @@ class AuditClient(LocalSessions):
                 notes.let_go()
         except OSError:
             pass  # it was closed before the fork
+
+
+def _redis_door(url: str, audit: str, key: str | None) -> Any:
+    from ._redis_door import RedisDoor  # only here, since redis-py is optional
+
+    return RedisDoor(url, audit, key)
 
 
 _forked: "weakref.WeakSet[AuditClient]" = weakref.WeakSet()

@@ -13,6 +13,7 @@ from ..core._version import FORM, VERSION
 from ..core.errors import AuditLostError, ProgramEndedError
 from ..live._live_auditor import PAUSE, LiveAuditor
 from ..session._place import Place
+from ._messages import Channel
 from ._crash_recovery import CrashedProcess, LostError, Noted, handed_in
 from ._remote_sessions import RemoteGroup
 
@@ -26,8 +27,8 @@ class ClientProcess:
     was sent, and ends after the process has left. `SocketProcess` says what its connection is, and
     how it is noticed that the process is dead."""
 
-    def __init__(self, live: LiveAuditor, messages: Any) -> None:
-        self._live, self.messages = live, messages
+    def __init__(self, live: LiveAuditor, messages: Channel) -> None:
+        self._live, self.messages = live, messages  # type: LiveAuditor, Channel
         waits = live.policy.wait
         self.group = RemoteGroup(messages, waits, live.give_back_lent, live.give_back)
         self.thread = threading.Thread(target=self._listen, daemon=True)
@@ -214,12 +215,12 @@ class ClientProcess:
     def _take_overflow(self, asked: int) -> None:
         self.messages.tell("left", asked, astuple(self._live.take_unaudited()))
 
-    def _take_store(self, known: Any, shown: Any) -> None:
+    def _take_store(self, known: object, shown: object) -> None:
         """Notes the store of one of its clients, and tells it which store the audit is about."""
         first = self._live.audited_store.first(checked(known, shown))
         self.messages.tell("store", *first)
 
-    def _take_assumed(self, known: Any, shown: Any) -> None:
+    def _take_assumed(self, known: object, shown: object) -> None:
         """Checks the store in which it goes on after getting no answer in time."""
         self._live.audited_store.meet(checked(known, shown))
 

@@ -17,6 +17,11 @@ from ._peer import refuse_others
 ANSWERING = 5.0  # seconds for an answer of the auditor's process
 
 
+def is_redis(path: str) -> bool:
+    """Whether this is a Redis's URL, not the path of a socket."""
+    return path.startswith(("redis://", "rediss://", "unix://"))
+
+
 def welcomed(messages: Any) -> Any:
     """The auditor's welcome. Raises ProgramEndedError if nobody answers, and OtherVersionError."""
     if not messages.comes(ANSWERING):

@@ -6,12 +6,32 @@ import socket
 import struct
 import threading
 from multiprocessing.connection import Connection
-from typing import Any
+from typing import Any, Protocol
 
 from ..core._locks import give_back, take
+from ..core._records import Logged, as_bytes
 
 SENDING = 30.0  # seconds for the other end to accept a message
 HANDING_ON = 0.25  # seconds to wait for other threads' messages
+
+
+class Channel(Protocol):
+    """One end of a connection, over a socket or over a Redis. `Messages` says what each call
+    does."""
+
+    def send(self, *message: object, seconds: float = SENDING) -> None: ...
+    def tell(self, *message: object, seconds: float = SENDING) -> bool: ...
+    def hand_on(self, *message: object) -> None: ...
+    def receive(self) -> Any: ...
+    def close(self) -> None: ...
+
+
+class AnyMessages(Channel, Protocol):
+    """A client's end. `packed` makes bytes of what was logged, and raises ValueError if it can't be
+    sent."""
+
+    def packed(self, logged: Logged) -> bytes: ...
+    def comes(self, seconds: float) -> bool: ...
 
 
 class Messages:
@@ -24,10 +44,14 @@ class Messages:
             seconds = struct.pack("ll", int(SENDING), 0)
             same.setsockopt(socket.SOL_SOCKET, socket.SO_SNDTIMEO, seconds)
 
-    def send(self, *message: Any, seconds: float = SENDING) -> None:
+    def packed(self, logged: Logged) -> bytes:
+        return as_bytes(logged)
+
+    def send(self, *message: object, seconds: float = SENDING) -> None:
         """Sends a message. Waits up to `seconds` for other threads' messages. Raises OSError if the
         other end is gone or accepts nothing."""
-        text, taken = marshal.dumps(message), []  # type: bytes, list[bool]
+        plain: Any = message  # what marshal takes isn't a type
+        text, taken = marshal.dumps(plain), []  # type: bytes, list[bool]
         try:
             if not take(self._lock, seconds, taken):
                 raise OSError("another message is still being sent")
@@ -50,7 +74,7 @@ class Messages:
         except (OSError, TypeError):
             pass  # it is closed
 
-    def tell(self, *message: Any, seconds: float = SENDING) -> bool:
+    def tell(self, *message: object, seconds: float = SENDING) -> bool:
         """Sends a message and returns whether that succeeded."""
         try:
             self.send(*message, seconds=seconds)
@@ -58,7 +82,7 @@ class Messages:
             return False  # the receiving thread will find out why
         return True
 
-    def hand_on(self, *message: Any) -> None:
+    def hand_on(self, *message: object) -> None:
         """Sends a message before all that are sent later. Raises OSError."""
         self.send(*message, seconds=HANDING_ON)
 

@@ -7,9 +7,9 @@ from collections.abc import Sequence
 from typing import Any
 
 from ..core._own_keys import LONGEST
-from ..core._records import Logged, as_bytes
+from ..core._records import Logged
 from ..live._backlog import keys_written_unseen
-from ._messages import Messages
+from ._messages import AnyMessages
 
 # When it was done, the session, the number (None for the end of the session), the keys that were
 # written without being read, and what was logged, as bytes.
@@ -20,7 +20,7 @@ class Outbox:
     """Keeps what sessions did until it is sent. While `lost` gives a reason, nothing more should be
     put in. Safe for use by several threads."""
 
-    def __init__(self, messages: Messages, most: int) -> None:
+    def __init__(self, messages: AnyMessages, most: int) -> None:
         """At most `most` transactions per session are on their way before clients have to wait."""
         self._messages, self._most = messages, most
         self._waiting: queue.SimpleQueue[Packed] = queue.SimpleQueue()
@@ -39,14 +39,14 @@ class Outbox:
         """Raises ValueError if it can't be packed. `packed` is what was logged as bytes, if it is
         packed already."""
         unseen = keys_written_unseen(logged)
-        packed = as_bytes(logged) if packed is None else packed
+        packed = self._messages.packed(logged) if packed is None else packed
         self._waiting.put((time.monotonic(), session, number, unseen, packed))
 
     def put_close(self, session: int) -> None:
         """The session does nothing more."""
         self._waiting.put((time.monotonic(), session, None, (), b""))
 
-    def put_behind(self, *message: Any) -> None:
+    def put_behind(self, *message: object) -> None:
         """A message that is sent after everything done so far."""
         self._behind.put(message)
 

@@ -12,6 +12,8 @@ CREDENTIALS = struct.Struct("iII")  # the process's, the user's and the group's 
 
 @dataclass(frozen=True)
 class Peer:
+    """The process at the other end, and its user, by their numbers."""
+
     process: int
     user: int
 

@@ -8,8 +8,8 @@ from typing import Any
 
 from ..live._quiesce_coordinator import COMING
 from ..session._place import Place
-from ..session._quiesce import QuiesceMissed, SessionGroup
-from ._messages import Messages
+from ..session._quiesce import Edge, QuiesceMissed, SessionGroup
+from ._messages import AnyMessages
 from ._outbox import Outbox
 
 IncomingCall = tuple[
@@ -21,7 +21,7 @@ class QuiesceCalls:
     """Runs calls one after another in a thread of their own; any thread may add them."""
 
     def __init__(
-        self, group: SessionGroup, messages: Messages, outbox: Outbox, coming: set[int]
+        self, group: SessionGroup, messages: AnyMessages, outbox: Outbox, coming: set[int]
     ) -> None:
         """`coming` are the numbers of sessions that were given to clients of this process and may
         not have reached them yet."""
@@ -88,6 +88,6 @@ class QuiesceCalls:
             there.update(self._group.numbers())
         self._coming.clear()  # nothing is given out meanwhile
 
-    def _edges(self, _: Sequence[Place]) -> list[tuple[Any, ...]]:
+    def _edges(self, _: Sequence[Place]) -> list[Edge]:
         self._outbox.begin_anew()
         return self._group.edges()

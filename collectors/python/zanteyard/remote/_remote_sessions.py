@@ -8,8 +8,8 @@ from typing import Any
 
 from ..core.errors import ElsewhereError
 from ..session._place import Place
-from ..session._quiesce import QuiesceMissed, Wait
-from ._messages import Messages
+from ..session._quiesce import Edge, QuiesceMissed, Wait
+from ._messages import Channel
 
 LEFT = "a process has left"
 PATIENCE = 5.0  # seconds for an answer, added to those of the call itself
@@ -35,7 +35,7 @@ class RemoteGroup:
 
     def __init__(
         self,
-        messages: Messages,
+        messages: Channel,
         wait: float,
         give_back: Callable[[Iterable[Place]], None],
         leave: Callable[[Iterable[Place]], object] = list,
@@ -165,9 +165,9 @@ class RemoteGroup:
             place.must_join = False  # all are open then
         self._messages.tell("call", 0, "reopen", ([],), seconds=self.patience)
 
-    def edges(self) -> Sequence[tuple[Any, ...]] | None:
+    def edges(self) -> Sequence[Edge] | None:
         try:
-            edges: Sequence[tuple[Any, ...]]
+            edges: Sequence[Edge]
             edges = self._begin("edges")(time.monotonic() + self.patience)
             return edges
         except (QuiesceMissed, ElsewhereError):

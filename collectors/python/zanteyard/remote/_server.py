@@ -18,27 +18,68 @@ import shutil
 import threading
 import time
 from multiprocessing.connection import Client, Listener
-from typing import Any
+from typing import Any, Self
 
 from ..core._private_files import check_folder
 from ..core.errors import FolderUnfitError
 from ..live._live_auditor import PAUSE, LiveAuditor
+from ._client_process import ClientProcess
 from ._socket_process import SocketProcess
 
 logger = logging.getLogger("zanteyard")
 CLOSING = 30.0  # seconds for all processes to leave
 
 
-class AuditServer:
+class ProcessServer:
+    """The processes of clients that are connected to a live audit in one way."""
+
+    def __init__(self, live: LiveAuditor) -> None:
+        self._live, self._processes = live, []  # type: LiveAuditor, list[Any]
+        self._is_closing, self._has_closed = False, threading.Event()
+
+    def close(self, patience: float = CLOSING) -> None:
+        raise NotImplementedError
+
+    def __enter__(self) -> Self:
+        return self
+
+    def __exit__(self, *_: object) -> None:
+        self.close()
+
+    @property
+    def clients(self) -> int:
+        """How many processes of clients are connected."""
+        return sum(process.thread.is_alive() for process in list(self._processes))
+
+    def _add(self, process: ClientProcess) -> None:
+        living = (each for each in self._processes if each.thread.is_alive())
+        self._processes = [*living, process]
+        process.thread.start()
+
+    def _wait_for_all(self, patience: float) -> None:
+        """Waits up to this many seconds for all to leave. Those that remain are lost."""
+        self._tell_end()
+        until = time.monotonic() + patience
+        for process in self._processes:
+            process.thread.join(max(0.0, until - time.monotonic()))
+            if process.thread.is_alive():
+                process.lose(f"it didn't leave within {patience:g} s")
+
+    def _tell_end(self) -> None:
+        """Tells clients that nothing more is audited; they see it in `is_over`."""
+        for process in list(self._processes):
+            process.tell_end()
+
+
+class AuditServer(ProcessServer):
     """A socket at this path for AuditClients. Only this user can open it, and whoever can is
     trusted. Raises OSError if the socket can't be made, for example because another server uses it,
     and FolderUnfitError if the folder for the notes belongs to somebody else. Safe for use by
     several threads."""
 
     def __init__(self, live: LiveAuditor, path: str) -> None:
-        self.path, self._live = path, live
-        self._processes: list[SocketProcess] = []
-        self._is_closing, self._count = False, 0
+        super().__init__(live)
+        self.path, self._count = path, 0
         # The folder for the processes' notes. It is absolute, since they may run in other folders.
         self.notes = os.path.abspath(f"{path}.notes")
         try:
@@ -83,24 +124,8 @@ class AuditServer:
             self._listener.close()
         except OSError:
             pass  # the socket's file is gone, so nobody can connect
-        self._tell_end()
-        until = time.monotonic() + patience
-        for process in self._processes:
-            process.thread.join(max(0.0, until - time.monotonic()))
-            if process.thread.is_alive():
-                process.lose(f"it didn't leave within {patience:g} s")
+        self._wait_for_all(patience)
         shutil.rmtree(self.notes, ignore_errors=True)
-
-    def __enter__(self) -> AuditServer:
-        return self
-
-    def __exit__(self, *_: object) -> None:
-        self.close()
-
-    @property
-    def clients(self) -> int:
-        """How many processes of clients are connected."""
-        return sum(process.thread.is_alive() for process in list(self._processes))
 
     def _let_in(self) -> None:
         while True:
@@ -113,14 +138,4 @@ class AuditServer:
                 connection.close()
                 return
             self._count += 1
-            process = SocketProcess(self._live, connection, f"{self.notes}/{self._count}")
-            self._processes = [
-                *(living for living in self._processes if living.thread.is_alive()),
-                process,
-            ]
-            process.thread.start()
-
-    def _tell_end(self) -> None:
-        """Tells clients that nothing more is audited; they see it in `is_over`."""
-        for process in list(self._processes):
-            process.tell_end()
+            self._add(SocketProcess(self._live, connection, f"{self.notes}/{self._count}"))

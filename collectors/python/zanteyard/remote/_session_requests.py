@@ -9,7 +9,7 @@ from typing import Any
 from ..core._locks import give_back, take
 from ..core.errors import ProgramLateError
 from ..session._place import Place
-from ._messages import Messages
+from ._messages import AnyMessages
 
 PlaceAnswer = tuple[int, Sequence[Any] | None]  # the request's number, and a place or None
 
@@ -17,7 +17,7 @@ PlaceAnswer = tuple[int, Sequence[Any] | None]  # the request's number, and a pl
 class SessionRequests:
     """Safe for use by several threads; one request at a time."""
 
-    def __init__(self, messages: Messages) -> None:
+    def __init__(self, messages: AnyMessages) -> None:
         self._messages, self._asking = messages, threading.Lock()
         self._asked, self.has_ended = 0, False
         self._answers: queue.SimpleQueue[PlaceAnswer | None] = queue.SimpleQueue()

@@ -2,15 +2,15 @@
 
 import threading
 import time
-from typing import Any
 
 from ..core._store_identity import AuditedStore, StoreIdentity, checked
+from ._messages import Channel
 
 
 class StoreAnswers:
     """Asks once and remembers the answer; safe for use by several threads."""
 
-    def __init__(self, messages: Any) -> None:
+    def __init__(self, messages: Channel) -> None:
         self._messages, self._audited = messages, AuditedStore()
         self._has_answered, self._has_ended = threading.Event(), False
 
@@ -27,7 +27,7 @@ class StoreAnswers:
             self._audited.meet(identity)
         return True
 
-    def take_answer(self, known: Any, shown: Any) -> None:
+    def take_answer(self, known: object, shown: object) -> None:
         self._audited.first(checked(known, shown))
         self._has_answered.set()
 

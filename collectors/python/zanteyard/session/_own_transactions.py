@@ -21,24 +21,24 @@ class OwnTransactions:
     place: Any  # the session's Place
 
     @property
-    def number(self) -> Any:
+    def number(self) -> int | None:
         """The number of the auditor's session."""
         raise NotImplementedError
 
-    def start(self, begin: Callable[..., Any], holds: bool, *arguments: Any) -> Transaction:
+    def start(self, begin: Callable[..., None], holds: bool, *arguments: float) -> Transaction:
         """A transaction that the store begins by this call."""
         raise NotImplementedError
 
     def run_alone(
-        self, body: Callable[[Transaction], Any], seconds: float, attempts: int = 3
-    ) -> Any:
+        self, body: Callable[[Transaction], object], seconds: float, attempts: int = 3
+    ) -> None:
         ends = time.monotonic() + seconds
 
         def begin() -> Transaction:
             left = max(SHORTEST, ends - time.monotonic())
             return self.start(self.calls.begin_alone, False, left)
 
-        return attempted(begin, body, attempts, ends)
+        attempted(begin, body, attempts, ends)
 
     def fence(self, seconds: float = 60.0) -> None:
         self.run_alone(join_behind, seconds)

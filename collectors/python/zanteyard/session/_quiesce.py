@@ -10,6 +10,7 @@ overwrites what it read comes after it. Flags are written in parallel, and the m
 parallel: five statements are run one after another, however many sessions there are.
 """
 
+import functools
 import threading
 import time
 from collections.abc import Callable, Sequence
@@ -20,6 +21,9 @@ from ._attempts import Result
 from ._place import Place
 from ._session import Session
 
+# A session's number, how many of its transactions were answered, the first number that wasn't sent,
+# and the ranges of numbers whose outcome is unknown.
+Edge = tuple[int, int, int, tuple[tuple[int, int], ...]]
 Wait = Callable[[float], Result]  # its argument: until when, by the monotonic clock
 
 
@@ -27,8 +31,12 @@ class QuiesceMissed(Exception):
     """The meeting can't take place; the text says why."""
 
 
-def none_running() -> Future[Any]:
-    done: Future[Any] = Future()
+def _give_turn(session: Session, _: object) -> None:
+    session.turn.release()
+
+
+def none_running() -> Future[object]:
+    done: Future[object] = Future()
     done.set_result(None)
     return done
 
@@ -45,9 +53,9 @@ class SessionGroup:
         self.gate = threading.Lock()  # held during a meeting: no transaction begins
         self.lock = threading.Lock()  # protects what follows, since a timer may release
         self.meeting: int | None = None
-        self.held: dict[Session, Any] = {}
-        self.leader: Any = None  # the Session that leads, if it is one of these
-        self.timer: Any = None
+        self.held: dict[Session, Future[object]] = {}
+        self.leader: Session | None = None  # the one that leads, if it is one of these
+        self.timer: threading.Timer | None = None
         self.asked_at = 0.0  # when `edges` was called last, by the monotonic clock
         self._had_ended: list[Place] = []  # the places that had ended by then
         self.pool = ThreadPoolExecutor(64, "zanteyard-meeting")  # creates threads on demand
@@ -66,7 +74,7 @@ class SessionGroup:
 
     def gather(
         self, meeting: int, seconds: float, leads: bool, places: Sequence[Place], idle: float
-    ) -> tuple[list[Any], list[Place]]:
+    ) -> tuple[list[int], list[Place]]:
         """Holds all sessions and has flags written: by these sessions, and for the places in
         `places`, which are lent. Returns the numbers of those that have flags, and the places of
         sessions that were idle for `idle` seconds."""
@@ -99,7 +107,7 @@ class SessionGroup:
             if self.meeting != meeting:
                 raise QuiesceMissed("the meeting took too long")
             flags = [
-                session.number
+                session.place.number
                 for session in self.held
                 if session.is_open and session.place.has_flag
             ]
@@ -116,7 +124,7 @@ class SessionGroup:
 
     def begin_gather(
         self, meeting: int, seconds: float, leads: bool, places: Sequence[Place], idle: float
-    ) -> Wait[tuple[list[Any], list[Place]]]:
+    ) -> Wait[tuple[list[int], list[Place]]]:
         """The `begin_` methods start a step and return a function that waits for its end, so that
         other processes can work at the same time. Here the step ends before they return."""
         gathered = self.gather(meeting, seconds, leads, places, idle)
@@ -157,8 +165,9 @@ class SessionGroup:
                 session.is_open, session.place = False, None
         return places
 
-    def lead(self, meeting: int, lists: Any) -> Any:
+    def lead(self, meeting: int, lists: Sequence[Sequence[str]]) -> None:
         """Has the leader read these keys, then run its fence and write the mark."""
+        assert self.leader is not None
         for keys in lists:
             self.begin(meeting, self.leader, "read_all", keys)
             self.end_all()
@@ -166,7 +175,7 @@ class SessionGroup:
             self.begin(meeting, self.leader, deed)
             self.end_all()
 
-    def pass_on(self, meeting: int, places: Sequence[Place]) -> Any:
+    def pass_on(self, meeting: int, places: Sequence[Place]) -> None:
         """Has all other sessions read the mark, also for lent places."""
         for session in self.held:
             if session is not self.leader and session.is_open:
@@ -182,7 +191,7 @@ class SessionGroup:
                 self.begin(meeting, session, "lend", place, deed)
             self.end_all()
 
-    def begin(self, meeting: int, session: Session, deed: str, *arguments: Any) -> None:
+    def begin(self, meeting: int, session: Session, deed: str, *arguments: object) -> None:
         with self.lock:
             if self.meeting != meeting:
                 raise QuiesceMissed("the meeting took too long")
@@ -207,18 +216,19 @@ class SessionGroup:
         with self.lock:
             if self.meeting is None or meeting not in (None, self.meeting):
                 return
-            self.timer.cancel()
+            if self.timer is not None:
+                self.timer.cancel()
             self.meeting, held, self.held = None, self.held, {}
         for session, running in held.items():
-            running.add_done_callback(lambda _, turn=session.turn: turn.release())
+            running.add_done_callback(functools.partial(_give_turn, session))
         self.gate.release()
 
-    def edges(self) -> list[tuple[Any, ...]]:
+    def edges(self) -> list[Edge]:
         """For each session its number, how many of its transactions have been answered, the first
         number that hasn't been sent, and the numbers whose outcome is unknown. Call it twice:
         whatever had been answered when the first call returned had been answered before anything
         was sent that hadn't been sent at the second call."""
-        edges: list[tuple[Any, ...]] = []
+        edges: list[Edge] = []
         self.asked_at, self._had_ended = time.monotonic(), []
         for session in list(self.sessions):
             place = session.place  # its client may leave it meanwhile
@@ -251,7 +261,7 @@ class SessionGroup:
             place.is_ended = place.must_join = False
         self._had_ended = []
 
-    def numbers(self) -> list[Any]:
+    def numbers(self) -> list[int]:
         """The numbers of the sessions' places."""
         places = [session.place for session in list(self.sessions)]
         return [place.number for place in places if place is not None]

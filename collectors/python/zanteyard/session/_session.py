@@ -383,6 +383,9 @@ class Session(OwnTransactions):
 
     @contextmanager
     def transaction(self) -> Iterator[Transaction]:
+        """A transaction for a `with` block. It is committed at the block's end, or rolled back if
+        the block raises. Raises what `begin` and `Transaction.commit` raise; nothing is tried
+        again."""
         before = self.current
         try:
             with whole(self.begin()) as transaction:

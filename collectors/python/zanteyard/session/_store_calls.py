@@ -56,7 +56,7 @@ class StoreCalls(BoundedStore, BulkStore, TracedStore, ObservedStore, Identified
         """Whether `exchange` may be called: it has no substitute."""
         return self._own("exchange") is not None
 
-    def exchange(self, key: str, value: Any, name: Name) -> StoredValue | None:
+    def exchange(self, key: str, value: object, name: Name) -> StoredValue | None:
         overwritten: StoredValue | None = self._own("exchange")(key, value, name)
         return overwritten
 
@@ -84,7 +84,7 @@ class StoreCalls(BoundedStore, BulkStore, TracedStore, ObservedStore, Identified
             logger.warning("can't describe how to ask this store: %s", error)
             return None
 
-    def ticket(self, written: Sequence[Any]) -> Any:
+    def ticket(self, written: Sequence[object]) -> Any:
         """None if there is none."""
         ticket = self._own("ticket")
         return ticket(written) if ticket is not None else None

@@ -23,12 +23,20 @@ logger = logging.getLogger("zanteyard")
 
 
 class Transaction:
+    """A transaction of a session's client, for one thread at a time. Keys are texts. A value is
+    whatever the store keeps. Each call may raise the store's own errors, AbortedError if the store
+    aborted the transaction, and ValueError after its end.
+
+    Writes are sent once, at the commit, so no other transaction can read one that is overwritten.
+    `get` returns the transaction's own writes.
+    """
+
     def __init__(self, session: Session, number: int, holds: bool = True) -> None:
         self.session, self.store, self.number, self.holds = session, session.store, number, holds
         self.calls = session.calls  # the store's optional parts
         self.reads: set[Read] = set()
         self.from_before: set[str] = set()  # keys whose versions are from before this run
-        self.written: dict[str, Any] = {}
+        self.written: dict[str, object] = {}
         self.is_over = False
         self.is_committing = not holds  # from here on the store may have its writes
         self.is_in_doubt = False  # its commit was sent, and the outcome is unknown
@@ -64,6 +72,7 @@ class Transaction:
     def was_read(
         self, key: str, stored: StoredValue | None, statement: str | None = None
     ) -> Any:
+        """Notes the read of a version, as the store returned it, and returns its value."""
         read = (key, "init" if stored is None else self.source(stored[1]))
         if stored is not None and read[1] == "init" and self.holds:
             self.from_before.add(key)
@@ -74,28 +83,32 @@ class Transaction:
         return None if stored is None else stored[0]
 
     def was_run(self, deed: Deed, statement: str | None = None) -> None:
+        """Notes the statement of a read or a write, for explanations."""
         statement = statement or self.calls.statement
         if statement:
             self.statements.setdefault(deed, statement)
 
     def source(self, name: Name | None) -> Source:
+        """The writer by the name that is stored next to a value; "init" for one of no transaction
+        of this run."""
         if name is None or name[0] != self.session.run_name:
             return "init"  # from before this run
         if name[1] >= UNAUDITED > (self.session.number or 0) and self.unclear is None:
             self.unclear = AuditLostError("it read what a forked child wrote without being audited")
         return (name[1], name[2])
 
-    def put(self, key: str, value: Any, statement: str | None = None) -> None:
-        # Sent to the store once, at the commit, so that others can only read the last version.
+    def put(self, key: str, value: object, statement: str | None = None) -> None:
+        """Writes a key, at the commit. `statement` is as in `get`."""
         self.still_open()
         self.written[key] = value
         if statement:
             self.statements[(key,)] = statement
 
     def delete(self, key: str, statement: str | None = None) -> None:
+        """Deletes a key, at the commit. The store keeps the transaction's name there."""
         self.put(key, None, statement)
 
-    def exchange(self, key: str, value: Any) -> None:
+    def exchange(self, key: str, value: object) -> None:
         """Reads and writes the key, in one statement if the store can do that. This must be the
         transaction's last access to the key."""
         self.still_open()
@@ -118,6 +131,8 @@ class Transaction:
         return (self.session.run_name, self.session.number, self.number)
 
     def commit(self) -> None:
+        """Sends the writes and commits. Raises AbortedError if nothing was committed, and
+        OutcomeUnknownError if that can't be found out."""
         self.still_open()
         self.is_committing = True
         is_late = False  # whether its note can only be written once its ticket is known
@@ -194,6 +209,7 @@ class Transaction:
             notes.write(self.session.number or 0, self.number, outcome, *more)
 
     def rollback(self) -> None:
+        """Ends the transaction without an effect. Does nothing if it has ended."""
         if not self.is_over:
             try:
                 self.store.rollback()

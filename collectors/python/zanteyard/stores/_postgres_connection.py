@@ -74,7 +74,7 @@ def closed(late: Any) -> None:
 def answer(
     dsn: str,
     text: str,
-    values: Sequence[Any],
+    values: Sequence[object],
     seconds: float,
     its: tuple[str, str] | None = None,
 ) -> Sequence[Any] | None:
@@ -87,7 +87,7 @@ def answer(
 
 
 def outcome_told(
-    dsn: str, text: str, values: Sequence[Any], seconds: float, which: str | None = None
+    dsn: str, text: str, values: Sequence[object], seconds: float, which: str | None = None
 ) -> str:
     """"committed", "aborted" or "unknown". The statement returns the status of the transaction's
     number, whether its write exists, and which server and table answer. If that isn't `which`, if
@@ -109,7 +109,7 @@ def outcome_told(
 def first_row(
     dsn: str,
     text: str,
-    values: Sequence[Any],
+    values: Sequence[object],
     ends: float,
     its: tuple[str, str] | None = None,
 ) -> Sequence[Any] | None:
@@ -124,7 +124,7 @@ def first_row(
 
 
 def row_of(
-    connection: Any, text: str, values: Sequence[Any], ends: float
+    connection: Any, text: str, values: Sequence[object], ends: float
 ) -> Sequence[Any] | None:
     cursor = connection.cursor()
     cursor.execute(text, values)

@@ -105,7 +105,7 @@ class Asks:
     def left(self) -> float:
         return max(0.05, self.ends - time.monotonic())
 
-    def row(self, text: str, values: Sequence[Any]) -> Any:
+    def row(self, text: str, values: Sequence[object]) -> Any:
         its = (with_table(ITS, self.table), self.which)
         return answer(self.dsn, with_table(text, self.table), values, self.left(), its)
 

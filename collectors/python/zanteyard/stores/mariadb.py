@@ -235,7 +235,7 @@ class MariaDBStore:
         lost = isinstance(error, pymysql.InterfaceError) or code_of(error) in CLIENT_ERRORS
         return lost or connection is None or not connection.open
 
-    def send(self, text: str, values: Sequence[Any] = ()) -> Any:
+    def send(self, text: str, values: Sequence[object] = ()) -> Any:
         """Sends a statement; every statement of a transaction passes through here. Each call is one
         round trip."""
         cursor = self.connection.cursor()
@@ -244,7 +244,7 @@ class MariaDBStore:
         self.statement = query
         return cursor
 
-    def ask(self, text: str, values: Sequence[Any] = ()) -> Any:
+    def ask(self, text: str, values: Sequence[object] = ()) -> Any:
         if not self.is_alone:
             self.still_open()
         try:
@@ -257,7 +257,7 @@ class MariaDBStore:
             self.statement = self.statement[len(self.before) :]
         return cursor
 
-    def sent_in_time(self, text: str, values: Sequence[Any]) -> Any:
+    def sent_in_time(self, text: str, values: Sequence[object]) -> Any:
         """Sends a statement with a time limit of its own: the server's doesn't apply to a statement
         that waits at its commit, for example for a backup."""
         if not self.is_alone:
@@ -333,17 +333,17 @@ class MariaDBStore:
         rows = self.ask(READ_ALL + locks, ([*keys],)).fetchall()
         return {row[0]: (row[1], row[2:]) for row in rows}
 
-    def write(self, key: str, value: Any, name: Name) -> None:
+    def write(self, key: str, value: object, name: Name) -> None:
         self.put(key, value, name, "", "")
 
-    def exchange(self, key: str, value: Any, name: Name) -> StoredValue | None:
+    def exchange(self, key: str, value: object, name: Name) -> StoredValue | None:
         """Reads and writes in one statement, which locks the row first. So it returns the version
         that it overwrites, whatever the transaction's snapshot."""
         rows = self.put(key, value, name, KEEPING, BEFORE).fetchall()
         (row,) = [row[1:] for row in rows if row[0] == key]
         return None if row[1] is None else (row[0], row[1:])
 
-    def put(self, key: str, value: Any, name: Name, before: str, behind: str) -> Any:
+    def put(self, key: str, value: object, name: Name, before: str, behind: str) -> Any:
         """Writes a row, and in the transaction's first write also the store's own row."""
         own = () if self.has_written else (self.own, "committed", name[0], OWN, self.count)
         rows = f"{ROW}, {ROW}" if own else ROW
@@ -432,7 +432,7 @@ class MariaDBStore:
     def asks(self) -> Any:
         return ("mariadb", self.dsn, self.table, self.own)
 
-    def ticket(self, written: Sequence[Any]) -> Any:
+    def ticket(self, written: Sequence[object]) -> Any:
         return (self.count, self.is_alone, self.known, *written)
 
     def claim(self, run_name: str, token: str, seconds: float) -> None:

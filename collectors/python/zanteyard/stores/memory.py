@@ -43,6 +43,9 @@ class MemoryStore:
 
 
 class Connection:
+    """A client's connection to a MemoryStore, for one thread at a time. It has what a store
+    needs."""
+
     def __init__(self, shared: MemoryStore) -> None:
         self.shared, self.known = shared, True
         self.lost: str | None = None
@@ -67,7 +70,7 @@ class Connection:
             value, name, _ = shared.versions[key][at - 1]
         return value, name
 
-    def write(self, key: str, value: Any, name: Name) -> None:
+    def write(self, key: str, value: object, name: Name) -> None:
         self.writes[key] = (value, name)
 
     def commit(self) -> None:

@@ -208,14 +208,14 @@ class PostgresStore:
             self.connect()
         return self._identity
 
-    def send(self, text: str, values: Sequence[Any] = ()) -> Any:
+    def send(self, text: str, values: Sequence[object] = ()) -> Any:
         """Sends a statement; every statement of a transaction passes through here. Each call is one
         round trip."""
         cursor = self.connection.cursor()
         cursor.execute(text, values)
         return cursor
 
-    def ask(self, text: str, values: Sequence[Any] = (), is_reading: bool = False) -> Any:
+    def ask(self, text: str, values: Sequence[object] = (), is_reading: bool = False) -> Any:
         before, self.before = self.before, "" if not self.is_alone else self.before
         if is_reading and self.is_alone and self.level == "serializable":
             before = READING + before
@@ -264,11 +264,11 @@ class PostgresStore:
         rows = self.ask(READ_ALL, ([*keys],), is_reading=True)
         return {row[0]: (row[1], row[2:]) for row in rows}
 
-    def write(self, key: str, value: Any, name: Name) -> None:
+    def write(self, key: str, value: object, name: Name) -> None:
         self.written = (key, *name)
         (self.transaction_id,) = self.ask(WRITE, (key, value, *name)).fetchone()
 
-    def exchange(self, key: str, value: Any, name: Name) -> StoredValue | None:
+    def exchange(self, key: str, value: object, name: Name) -> StoredValue | None:
         self.written = (key, *name)
         keeps = KEPT if self.is_alone else "%s"
         values = (*name, key) if self.is_alone else (value, *name, key)
@@ -349,7 +349,7 @@ class PostgresStore:
         doesn't say."""
         return ("postgres", dict(extensions.parse_dsn(self.dsn)), environment(), self.table)
 
-    def ticket(self, written: Sequence[Any]) -> Any:
+    def ticket(self, written: Sequence[object]) -> Any:
         return (None if self.is_alone else self.transaction_id, *self.life, *written)
 
     def claim(self, run_name: str, token: str, seconds: float) -> None:

@@ -34,7 +34,7 @@ BARRED = redis.exceptions.NoPermissionError
 logger = logging.getLogger("zanteyard")
 
 
-def text_of(value: Any, name: Name) -> str:
+def text_of(value: object, name: Name) -> str:
     """Raises ValueError or TypeError if JSON has no such value, or would change it."""
     text = json.dumps([value, *name])
     if value is not None and not isinstance(value, str) and json.loads(text)[0] != value:
@@ -263,7 +263,7 @@ class RedisStore:
         finally:
             limit(self.connection)
 
-    def write(self, key: str, value: Any, name: Name) -> None:
+    def write(self, key: str, value: object, name: Name) -> None:
         command = ("SET", self.its(key), text_of(value, name))
         self.told(command)
         if self.level == SINGLE:
@@ -279,7 +279,7 @@ class RedisStore:
         except BROKEN as error:
             raise OutcomeUnknownError(str(error)) from error
 
-    def exchange(self, key: str, value: Any, name: Name) -> StoredValue | None:
+    def exchange(self, key: str, value: object, name: Name) -> StoredValue | None:
         """In a transaction the key is watched, at every level except "single commands"."""
         full_key = self.its(key)
         command = ("SET", full_key, text_of(value, name), "GET")
@@ -409,7 +409,7 @@ class RedisStore:
     def asks(self) -> Any:
         return ("redis", self.url, self.prefix, self.own)
 
-    def ticket(self, written: Sequence[Any]) -> Any:
+    def ticket(self, written: Sequence[object]) -> Any:
         its = (self.count, self.token)
         return None if self.level == SINGLE and not self.is_alone else its
 

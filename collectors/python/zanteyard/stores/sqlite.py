@@ -130,7 +130,7 @@ class SQLiteStore:
             self.connection.execute(f"PRAGMA busy_timeout = {int(1000 * seconds)}")
             self.waits = seconds
 
-    def send(self, text: str, values: Sequence[Any] = ()) -> Any:
+    def send(self, text: str, values: Sequence[object] = ()) -> Any:
         """Runs a statement; every statement of a transaction passes through here. Raises
         AbortedError if another connection was in the way."""
         try:
@@ -143,7 +143,7 @@ class SQLiteStore:
         self.statement = f"{text} -- {', '.join(map(repr, values))}" if values else text
         return cursor
 
-    def ask(self, text: str, values: Sequence[Any] = (), **more: str) -> Any:
+    def ask(self, text: str, values: Sequence[object] = (), **more: str) -> Any:
         if self.has_failed:
             raise AbortedError("the transaction had failed before")
         if not (self.is_alone or self.level == AUTOCOMMIT or self.connection.in_transaction):
@@ -207,11 +207,11 @@ class SQLiteStore:
                 self.rollback()
         return {row[0]: (row[1], row[2:]) for row in rows}
 
-    def write(self, key: str, value: Any, name: Name) -> None:
+    def write(self, key: str, value: object, name: Name) -> None:
         own = (self.own, None, name[0], OWN, self.count)
         self.ask(WRITE, [*own, key, value, *name], rows=f"{ROW}, {ROW}")
 
-    def exchange(self, key: str, value: Any, name: Name) -> StoredValue | None:
+    def exchange(self, key: str, value: object, name: Name) -> StoredValue | None:
         """Reads and writes; nobody else can write in between."""
         is_by_itself = self.is_alone or self.level == AUTOCOMMIT
         if is_by_itself:
@@ -324,7 +324,7 @@ class SQLiteStore:
     def asks(self) -> Any:
         return ("sqlite", os.path.abspath(self.path), self.table, self.own)
 
-    def ticket(self, written: Sequence[Any]) -> Any:
+    def ticket(self, written: Sequence[object]) -> Any:
         if self.level == AUTOCOMMIT and not self.is_alone:
             return None
         return (self.count, self.is_alone, self.known, *written)

@@ -250,10 +250,10 @@ class _OwnKeys:
     def read(self, key: str) -> Any:
         return self.store.read(self.prefix + key)
 
-    def write(self, key: str, value: Any, name: Any) -> None:
+    def write(self, key: str, value: object, name: Any) -> None:
         self.store.write(self.prefix + key, value, name)
 
-    def exchange(self, key: str, value: Any, name: Any) -> Any:
+    def exchange(self, key: str, value: object, name: Any) -> Any:
         return self.store.exchange(self.prefix + key, value, name)
 
 

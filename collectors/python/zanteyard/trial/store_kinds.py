@@ -8,6 +8,7 @@ import os
 from collections.abc import Callable, Mapping, Sequence
 from typing import Any
 
+from ..core._stores import ConnectedStore
 from ..core._visible import say
 from ..core.errors import ZanteyardError
 from ..stores.levels import LEVELS
@@ -16,7 +17,9 @@ from .mariadb_server import MariaDBGuest, MariaDBServer, mariadbd
 from .postgres_server import PostgresServer, program
 from .redis_server import RedisGuest, RedisServer, redis_server
 
-MakesStore = Callable[[], Any]
+MakesStore = Callable[[], ConnectedStore]
+StoreClass = Callable[..., ConnectedStore]
+Server = Any  # a context; what it has beside `dsn` differs from kind to kind
 
 
 class CantAuditError(ZanteyardError):
@@ -29,35 +32,35 @@ class MakeStore:
     def __init__(self, kind: str, *arguments: Any, **more: Any) -> None:
         self.kind, self.arguments, self.more = kind, arguments, more
 
-    def __call__(self) -> Any:
+    def __call__(self) -> ConnectedStore:
         return _STORES[self.kind]()(*self.arguments, **self.more)
 
 
-def _postgres_store() -> Any:
+def _postgres_store() -> StoreClass:
     from ..stores.postgres import PostgresStore
 
     return PostgresStore
 
 
-def _mariadb_store() -> Any:
+def _mariadb_store() -> StoreClass:
     from ..stores.mariadb import MariaDBStore
 
     return MariaDBStore
 
 
-def _redis_store() -> Any:
+def _redis_store() -> StoreClass:
     from ..stores.redis import RedisStore
 
     return RedisStore
 
 
-def _sqlite_store() -> Any:
+def _sqlite_store() -> StoreClass:
     from ..stores.sqlite import SQLiteStore
 
     return SQLiteStore
 
 
-_STORES: Mapping[str, Callable[[], Any]] = {
+_STORES: Mapping[str, Callable[[], StoreClass]] = {
     "postgres": _postgres_store,
     "mariadb": _mariadb_store,
     "redis": _redis_store,
@@ -66,6 +69,9 @@ _STORES: Mapping[str, Callable[[], Any]] = {
 
 
 class StoreKind:
+    """A kind of store: its name in the command line and for people, how to start or find its
+    server, and how to make a client's store."""
+
     command, name = "", ""
     server_help = ""
 
@@ -85,21 +91,21 @@ class StoreKind:
     def add_arguments(self, asked: argparse.ArgumentParser) -> None:
         asked.add_argument("--dsn", help=self.server_help)
 
-    def server(self, asked: argparse.Namespace) -> Any:
+    def server(self, asked: argparse.Namespace) -> Server:
         """The server to audit, a context that cleans up at its end. Raises CantAuditError."""
         lacking = self.lacking()
         if lacking:
             raise CantAuditError(lacking)
         return self._server(asked)
 
-    def _server(self, asked: argparse.Namespace) -> Any:
+    def _server(self, asked: argparse.Namespace) -> Server:
         raise NotImplementedError
 
-    def maker(self, asked: argparse.Namespace, server: Any, **more: Any) -> MakesStore:
+    def maker(self, asked: argparse.Namespace, server: Server, **more: Any) -> MakesStore:
         """A function that makes a client's store of the requested level."""
         raise NotImplementedError
 
-    def version(self, server: Any) -> str:
+    def version(self, server: Server) -> str:
         """The versions of the server and of the driver."""
         raise NotImplementedError
 
@@ -131,7 +137,7 @@ class _Postgres(StoreKind):
     def add_arguments(self, asked: argparse.ArgumentParser) -> None:
         asked.add_argument("--dsn", nargs="?", const="", help=self.server_help)
 
-    def server(self, asked: argparse.Namespace) -> Any:
+    def server(self, asked: argparse.Namespace) -> Server:
         if not _is_there("psycopg2"):
             raise CantAuditError(_wanted("psycopg2", "python3-psycopg2"))
         if asked.dsn is not None:
@@ -142,7 +148,7 @@ class _Postgres(StoreKind):
             raise CantAuditError("PostgreSQL is missing: apt-get install postgresql")
         return PostgresServer()
 
-    def maker(self, asked: argparse.Namespace, server: Any, **more: Any) -> MakesStore:
+    def maker(self, asked: argparse.Namespace, server: Server, **more: Any) -> MakesStore:
         if asked.dsn is None:
             from ..stores.postgres import prepare
 
@@ -154,7 +160,7 @@ class _Postgres(StoreKind):
 
     no_waiting = {"lock_wait": 20}  # milliseconds; 0 would mean no limit
 
-    def version(self, server: Any) -> str:
+    def version(self, server: Server) -> str:
         import psycopg2
 
         connection = psycopg2.connect(server.dsn)
@@ -175,20 +181,20 @@ class _MariaDB(StoreKind):
     def lacking(self) -> str:
         return "" if _is_there("pymysql") else _wanted("pymysql", "python3-pymysql")
 
-    def _server(self, asked: argparse.Namespace) -> Any:
+    def _server(self, asked: argparse.Namespace) -> Server:
         if asked.dsn is not None:
             return MariaDBGuest(words_of(asked.dsn))
         if not mariadbd():
             raise CantAuditError("MariaDB is missing: apt-get install mariadb-server")
         return MariaDBServer()
 
-    def maker(self, asked: argparse.Namespace, server: Any, **more: Any) -> MakesStore:
+    def maker(self, asked: argparse.Namespace, server: Server, **more: Any) -> MakesStore:
         from ..stores.mariadb import prepare
 
         prepare(server.dsn, server.table)
         return MakeStore(self.command, server.dsn, self.levels[asked.level], server.table, **more)
 
-    def version(self, server: Any) -> str:
+    def version(self, server: Server) -> str:
         import pymysql
 
         connection = pymysql.connect(**server.dsn)
@@ -224,17 +230,17 @@ class _Redis(StoreKind):
     def lacking(self) -> str:
         return "" if _is_there("redis") else _wanted("redis", "python3-redis")
 
-    def _server(self, asked: argparse.Namespace) -> Any:
+    def _server(self, asked: argparse.Namespace) -> Server:
         if asked.dsn is not None:
             return RedisGuest(asked.dsn)
         if not redis_server():
             raise CantAuditError("Redis is missing: apt-get install redis-server")
         return RedisServer()
 
-    def maker(self, asked: argparse.Namespace, server: Any, **more: Any) -> MakesStore:
+    def maker(self, asked: argparse.Namespace, server: Server, **more: Any) -> MakesStore:
         return MakeStore(self.command, server.dsn, self.levels[asked.level], server.prefix, **more)
 
-    def version(self, server: Any) -> str:
+    def version(self, server: Server) -> str:
         import redis
 
         with redis.Redis.from_url(server.dsn) as client:
@@ -256,16 +262,16 @@ class _SQLite(StoreKind):
         modes = ("wal", "delete")
         asked.add_argument("--journal-mode", choices=modes, default="wal", help=about)
 
-    def _server(self, asked: argparse.Namespace) -> Any:
+    def _server(self, asked: argparse.Namespace) -> Server:
         return SQLiteFile(asked.journal_mode) if asked.dsn is None else SQLiteGuest(asked.dsn)
 
-    def maker(self, asked: argparse.Namespace, server: Any, **more: Any) -> MakesStore:
+    def maker(self, asked: argparse.Namespace, server: Server, **more: Any) -> MakesStore:
         if asked.level == "uncommitted" and getattr(asked, "processes", False):
             raise CantAuditError("a shared cache works only within one process")
         server.prepare()
         return MakeStore(self.command, server.dsn, self.levels[asked.level], server.table, **more)
 
-    def version(self, server: Any) -> str:
+    def version(self, server: Server) -> str:
         import sqlite3
 
         return f"SQLite {sqlite3.sqlite_version}, journal {server.journal}"

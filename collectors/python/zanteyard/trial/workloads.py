@@ -2,6 +2,8 @@
 without an application."""
 
 import multiprocessing
+from multiprocessing.queues import SimpleQueue
+from multiprocessing.synchronize import Barrier, Event
 import random
 import signal
 import threading
@@ -10,8 +12,11 @@ from collections.abc import Callable, Sequence
 from typing import Any
 
 from ..core.errors import AbortedError
+from ..live._live_auditor import LiveAuditor
 from ..remote._client import AuditClient
 from ..session._session import Session
+from ..session._transaction import Transaction
+from .store_kinds import MakesStore
 
 PAIRS = 8  # of keys
 READY = 300.0  # seconds for all client processes to start
@@ -20,40 +25,40 @@ LOOKS = 0.2  # seconds between two checks whether client processes should end
 LIFE = 2.0  # seconds until a client is replaced by another one
 
 
-def number_at(transaction: Any, key: str) -> int:
+def number_at(transaction: Transaction, key: str) -> int:
     return int(transaction.get(key) or 0)
 
 
-def counter(transaction: Any, client: int) -> None:
+def counter(transaction: Transaction, client: int) -> None:
     key = f"count {random.randrange(PAIRS)}"
     transaction.put(key, str(number_at(transaction, key) + 1))
 
 
-def skew(transaction: Any, client: int) -> None:
+def skew(transaction: Transaction, client: int) -> None:
     pair = random.randrange(PAIRS)
     both = number_at(transaction, f"left {pair}") + number_at(transaction, f"right {pair}")
     side = random.choice((f"left {pair}", f"right {pair}"))
     transaction.put(side, str((both + 1) % 1000))  # else it would double again and again
 
 
-def mixed(transaction: Any, client: int) -> None:
+def mixed(transaction: Transaction, client: int) -> None:
     for key in random.sample(range(2 * PAIRS), 2):
         number_at(transaction, f"key {key}")
     transaction.put(f"key {random.randrange(2 * PAIRS)}", str(client))
 
 
-def blind(transaction: Any, client: int) -> None:
+def blind(transaction: Transaction, client: int) -> None:
     if random.random() < 0.5:
         number_at(transaction, f"key {random.randrange(2 * PAIRS)}")
     else:
         transaction.put(f"key {random.randrange(2 * PAIRS)}", str(client))
 
 
-Workload = Callable[[Any, int], None]
+Workload = Callable[[Transaction, int], None]
 WORKLOADS: dict[str, Workload] = {"counter": counter, "skew": skew, "mixed": mixed, "blind": blind}
 
 
-def pairs(transaction: Any, client: int) -> None:
+def pairs(transaction: Transaction, client: int) -> None:
     """Writes two keys, or reads both."""
     pair = random.randrange(PAIRS)
     for key in (f"left {pair}", f"right {pair}"):
@@ -63,7 +68,7 @@ def pairs(transaction: Any, client: int) -> None:
             transaction.put(key, str(client))
 
 
-def undone(transaction: Any, client: int) -> None:
+def undone(transaction: Transaction, client: int) -> None:
     """Reads a key, or writes it at once and mostly rolls that back."""
     key = f"key {random.randrange(PAIRS)}"
     if client % 2:
@@ -95,7 +100,7 @@ class Clients:
 
     def __init__(
         self,
-        sessions: Sequence[Any],
+        sessions: Sequence[Session | None],
         workload: Workload,
         seconds: float,
         is_over: Callable[[], bool],
@@ -122,10 +127,10 @@ class Clients:
         waited = sum(session.waited for session in sessions if session is not None)
         self.waited = waited / (self.took * len(sessions))
 
-    def client(self, number: int, session: Any) -> None:
+    def client(self, number: int, session: Session) -> None:
         self.live_until(self.until, number, session)
 
-    def live_until(self, until: float, number: int, session: Any) -> None:
+    def live_until(self, until: float, number: int, session: Session) -> None:
         committed = aborted = 0
         due = time.monotonic() + random.random() * self.pause  # not all at once
         longest = 0.0
@@ -168,8 +173,8 @@ class ChurningClients(Clients):
 
     def __init__(
         self,
-        live: Any,
-        make_store: Callable[[], Any],
+        live: LiveAuditor,
+        make_store: MakesStore,
         count: int,
         workload: Workload,
         seconds: float,
@@ -183,7 +188,7 @@ class ChurningClients(Clients):
         super().__init__([None] * count, workload, seconds, has_ended, rate)
         self.waited = self.total / (self.took * count)
 
-    def client(self, number: int, session: Any) -> None:
+    def client(self, number: int, session: Session) -> None:
         # So that they don't all change at once.
         until, life = self.until, random.uniform(0.5, 1.0) * self.life
         while not (self.is_over() or self.failures):
@@ -209,7 +214,7 @@ class ClientProcesses(Clients):
     def __init__(
         self,
         path: str | None,
-        make_store: Callable[[], Any],
+        make_store: MakesStore,
         count: int,
         workload: str,
         seconds: float,
@@ -265,12 +270,12 @@ class ClientProcesses(Clients):
 
 
 def client_process(
-    results: Any,
-    ready: Any,
+    results: SimpleQueue[tuple[Any, ...]],
+    ready: Barrier,
     number: int,
-    ended: Any,
+    ended: Event,
     path: str | None,
-    make_store: Callable[[], Any],
+    make_store: MakesStore,
     workload: str,
     seconds: float,
     rate: float | None,

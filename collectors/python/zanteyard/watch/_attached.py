@@ -246,8 +246,9 @@ class AttachedProxy:
 
 
 def _is_like(found: Who, mark: str, program: str) -> bool:
-    """Whether a proxy is what a call with this fingerprint would start."""
-    return found.fingerprint == mark and found.build == version_of(program)
+    """Whether a proxy is what a call with this fingerprint would start. If the program doesn't say
+    its version, as on a machine that is too busy, the proxy that runs keeps its connections."""
+    return found.fingerprint == mark and version_of(program) in (found.build, "")
 
 
 class OtherProcess:

@@ -9,27 +9,27 @@ import logging
 import os
 import re
 import uuid
-from collections import deque
 from collections.abc import Iterator, Sequence
 from typing import Any
 
-from ..core._own_keys import FENCE, FORM
+from ..core._own_keys import FENCE
 from ..core.errors import JournalError, ProgramEndedError, RefusedError
 from ..journal._file import Journal
 from ..journal._entries import Head
-from ..program._checkpoint import OK, saved_lines, why_not_resumed
+from ..program._checkpoint import MARKS, OK, saved_lines, why_not_resumed
 from ..program._lines import refusal_of as refused, written
 from ..program._pipes import Pipes
 from ..program._searched_round import SearchedRound
 from ..program._supervised import SupervisedProgram
 from ..program._resuming import journaled
-from ..promises._asking import Asking, begun_in, most_remaining
-from ..promises._kinds import SERIALIZABLE, Promise
+from ..promises._asking import Asking, asked_in, most_remaining
+from ..promises._kinds import SERIALIZABLE, SNAPSHOT, Promise
 from ._kept import Kept
 
 SECONDS = 60.0  # seconds for the reply to a line
-OPEN = re.compile(rb'\["open",(\d+),(\d+)')
-ROUND, TRUNCATE, CUT = b'["round",', b'["truncate"', b'["cut",'
+OPEN = re.compile(rb'\["open",(\d+),(\d+),(\d+)')
+ROUND, TRUNCATE, REPORT = b'["round",', b'["truncate"', b'["report",'
+HEAD = re.compile(rb'\["report",(\d+),"(\w+)",\[([\d,]*)\]')
 logger = logging.getLogger("zanteyard")
 
 Answered = tuple[bytes, bytes]  # a line and its reply
@@ -55,7 +55,8 @@ class Auditing:
         self.audits = 0
         self._round = 0  # number of the last one
         self._uncounted = 0  # skipped rounds, which the program doesn't count
-        self._refusal = b""  # the last reply that was a refusal
+        self._answer = self._refusal = b""  # the last reply, and the last one that was a refusal
+        self._rewrites = False  # lines have to be asked in other words
         self._limit = 0  # transactions that may remain
         self.run_name = uuid.uuid4().hex
         self._program: Pipes | SupervisedProgram | None = None
@@ -67,34 +68,35 @@ class Auditing:
         """How many programs were replaced in this audit."""
         return self._program.restarts if isinstance(self._program, SupervisedProgram) else 0
 
-    def give(self, lines: Sequence[bytes]) -> Iterator[Answered]:
-        """Yields each line with its reply, as the replies arrive. Raises ProgramEndedError if the
-        program ends or doesn't answer in time, and JournalError; then the audit is over. Lines
-        before the first `open`, or of an audit that is over, aren't answered."""
-        waiting: deque[bytes] = deque()
-        for line in lines:
-            if OPEN.match(line):
-                yield from self._answers(waiting)
-                self._begin(line)
+    def give(self, blocks: Sequence[bytes]) -> Iterator[Answered]:
+        """Gives these lines, as `Split` makes them: many at a time, which aren't read here. Yields
+        each `open`, `round` and `truncate` with its reply, as the replies arrive, and every other
+        line that wasn't answered ok. Raises ProgramEndedError if the program ends or doesn't answer
+        in time, and JournalError; then the audit is over. Lines before the first `open`, or of an
+        audit that is over, aren't answered."""
+        waiting: list[bytes] = []
+        for block in blocks:
+            is_opening = OPEN.match(block) is not None
+            if is_opening:
+                yield from self._refused(waiting)
+                self._begin(block)
             if self._program is None:
                 continue
-            if line.startswith(ROUND):
-                yield from self._answers(waiting)
-                yield line, self._searched(line)
-            elif not self.promise.asks_itself:
-                waiting.append(line)
-            elif line.startswith(TRUNCATE):
-                yield from self._answers(waiting)
-                yield line, self._cut(line)
+            if is_opening or block.startswith((ROUND, TRUNCATE)):
+                yield from self._refused(waiting)
+                yield block, self._searched(block) if block.startswith(ROUND) else self._one(block)
             else:
-                asked = self._asking.asked(json.loads(line))
-                waiting += (written(each).encode() for each in asked)
-        yield from self._answers(waiting)
+                waiting.append(block)
+        yield from self._refused(waiting)
 
     def ask(self, line: bytes) -> bytes:
         """The reply to one line. Raises what `give` raises."""
-        ((_, reply),) = self.give([line])
-        return reply
+        return next((reply for _, reply in self.give([line])), OK)
+
+    def marks(self) -> list[int]:
+        """How many transactions of each session are forgotten. Raises what `give` raises."""
+        marks: list[int] = json.loads(self._reply(MARKS))[1]
+        return marks
 
     @property
     def is_running(self) -> bool:
@@ -105,7 +107,7 @@ class Auditing:
         talk = saved_lines(self._limit, self.promise)
         lines = next(talk)
         while True:
-            answers = [answer for _, answer in self._answers(deque(lines))]
+            answers = self._replies(lines)
             try:
                 lines = talk.send(answers)
             except StopIteration as ended:
@@ -121,7 +123,7 @@ class Auditing:
             self._program.kill()
             self._program.end()
         self._program, self._uncounted = Pipes(self.path), self._round
-        for _, answer in self._answers(deque(lines)):
+        for answer in self._replies(lines):
             if answer != OK:
                 self._kill()
                 raise why_not_resumed(answer, "what the auditor gave out")
@@ -131,11 +133,12 @@ class Auditing:
         self.audits += 1
         self._round = self._uncounted = 0
         self._asking = Asking(self.promise, keeps_version=True)
+        self._rewrites = self.promise.asks_itself and asked_in(json.loads(line)) != SNAPSHOT
         found = OPEN.match(line)
         assert found is not None
         self._limit = int(found[2])
         if self.promise.asks_itself:
-            self._limit = min(self._limit, most_remaining(self.promise, FORM))
+            self._limit = min(self._limit, most_remaining(self.promise, int(found[3])))
         if self.journal is None:
             self._program = Pipes(self.path)
             return
@@ -143,17 +146,48 @@ class Auditing:
         head.promise = self.promise.name
         self._program = journaled(self.path, self.journal, lambda: head, [FENCE])
 
-    def _answers(self, waiting: deque[bytes]) -> Iterator[Answered]:
-        """Gives all these lines at once, and yields each with its reply."""
+    def _refused(self, blocks: list[bytes]) -> Iterator[Answered]:
+        """Gives these lines, and yields those that aren't answered ok. Empties the list."""
+        if self._rewrites:
+            lines = [json.loads(line) for block in blocks for line in block.split(b"\n")]
+            blocks[:] = [written(it).encode() for line in lines for it in self._asking.asked(line)]
+        counts = [block.count(b"\n") + 1 for block in blocks]
+        for block, answers in zip(blocks, self._exchanged(blocks, counts)):
+            if answers.count(OK) < len(answers):
+                pairs = zip(block.split(b"\n"), answers)
+                yield from ((line, answer) for line, answer in pairs if answer != OK)
+        blocks.clear()
+
+    def _exchanged(self, blocks: Sequence[bytes], counts: Sequence[int]) -> Iterator[list[bytes]]:
+        """Gives all these lines at once, and yields the replies to each block, so many."""
+        program = self._program
+        if program is None or not blocks:
+            return
         try:
-            if waiting and self._program is not None:
-                self._program.ask(list(waiting))
-            while waiting and self._program is not None:
-                (reply,) = self._program.answers(1, SECONDS + self.round_seconds)
-                yield waiting.popleft(), reply
+            if isinstance(program, SupervisedProgram):
+                program.ask([line for block in blocks for line in block.split(b"\n")])
+            else:
+                program.ask(blocks)
+            for count in counts:
+                yield program.answers(count, SECONDS + self.round_seconds)
         except (ProgramEndedError, JournalError):
             self._kill()
             raise
+
+    def _replies(self, lines: Sequence[bytes]) -> list[bytes]:
+        each = self._exchanged(lines, [1] * len(lines))
+        return [answer for answers in each for answer in answers]
+
+    def _reply(self, line: bytes) -> bytes:
+        (reply,) = self._replies([line])
+        return reply
+
+    def _one(self, line: bytes) -> bytes:
+        """The reply to a line that may have to be asked in other words."""
+        if self._rewrites:
+            (asked,) = self._asking.asked(json.loads(line))
+            line = written(asked).encode()
+        return self._reply(line)
 
     def _searched(self, line: bytes) -> bytes:
         """The reply to a round. The search runs while the program reads other lines, so that it can
@@ -165,34 +199,27 @@ class Auditing:
             while report is None and not search.is_skipped:
                 search.pause(SECONDS)
                 report = search.look()
-            if report is not None:
-                self._round = report[1] + self._uncounted
-            else:
+            if report is None:
                 self._round += 1
                 self._uncounted += not isinstance(self._program, SupervisedProgram)
-                report = ["report", 0, "spent", self._reply_to(["show"])[2]]
+                counts = self._reply_to(["show"])[2]
+                return written(["report", self._round, "spent", counts]).encode()
         except RefusedError:
             return self._refusal
-        report[1] = self._round
-        return written(report).encode()
-
-    def _cut(self, line: bytes) -> bytes:
-        """The reply to a truncate. A cut's has one more part: the transactions of which only the
-        begins are forgotten."""
-        ((_, answer),) = self._answers(deque([line]))
-        if not answer.startswith(CUT):
-            return answer
-        begun = begun_in(self._reply_to(["save", "marks"]))
-        return written([*json.loads(answer), [*begun]]).encode()
+        self._round = report[1] + self._uncounted
+        rest = self._answer[self._answer.index(b",", len(REPORT)) :]
+        return b"%s%d%s" % (REPORT, self._round, rest)
 
     def _reply_to(self, line: Sequence[Any]) -> list[Any]:
-        """The reply to a line. Raises RefusedError."""
+        """The reply to a line; of a report only its head. Raises RefusedError."""
         text = written(line)
-        ((_, answer),) = self._answers(deque([text.encode()]))
-        reply: list[Any] = json.loads(answer)
+        self._answer = self._reply(text.encode())
+        if self._answer.startswith(REPORT):
+            return ["report", *head_of(self._answer)]
+        reply: list[Any] = json.loads(self._answer)
         refusal = refused(text, reply)
         if refusal is not None:
-            self._refusal = answer
+            self._refusal = self._answer
             raise refusal
         return reply
 
@@ -220,6 +247,14 @@ def _set_aside(path: str) -> None:
             os.replace(path, f"{path}.old")
         finally:
             journal.close()
+
+
+def head_of(report: bytes) -> tuple[int, str, list[int]]:
+    """The round, its verdict, and how many transactions of each session it was about. The rest,
+    such as an order of all that remains, isn't read."""
+    found = HEAD.match(report)
+    assert found is not None
+    return int(found[1]), found[2].decode(), [*map(int, found[3].split(b","))] if found[3] else []
 
 
 def refusal_of(reply: bytes) -> str:

@@ -40,7 +40,7 @@ class Board:
         self._kinds: dict[str, int] = {}
         self._violations: list[Violation] = []
         self._notes: deque[str] = deque(maxlen=NOTES)
-        self._met = 0.0  # when the meeting was that the next round will cover
+        self._met = 0.0  # what was answered by then the next round will cover
 
     def status(self) -> Status:
         """The whole current state."""
@@ -70,6 +70,12 @@ class Board:
             )
             self._notes.extend(text(it) for it in listed(event.get("warnings")))
 
+    def earlier(self, event: Mapping[str, Any]) -> None:
+        """Notes what ended before this run, in a proxy that it took over."""
+        with self._turn:
+            unaudited, untold = whole(event.get("unaudited")), whole(event.get("untold"))
+            self._note(unaudited_before=unaudited, untold_before=untold)
+
     def coverage(self, event: Mapping[str, Any]) -> None:
         with self._turn:
             self._note(seen=seen_of(event))
@@ -85,6 +91,11 @@ class Board:
                 meetings_ms=status.meetings_ms + took,
                 fences=whole(event.get("fences")),
             )
+
+    def checks(self, event: Mapping[str, Any]) -> None:
+        """Notes that the next round is without a meeting, about what was reported by then."""
+        with self._turn:
+            self._met = number(event.get("at"))
 
     def round(self, kind: str, counts: Sequence[int], remaining: int) -> RoundSeen:
         """Notes a round that was reported just now."""

@@ -77,7 +77,7 @@ class Database:
             raise _told(error) from None
         return found
 
-    def run(self, text: str, values: Sequence[Any] = ()) -> list[Sequence[Any]]:
+    def run(self, text: str, values: Sequence[object] = ()) -> list[Sequence[Any]]:
         """The rows that the statement returns; an empty list if it returns none."""
         try:
             with self._connection.cursor() as cursor:
@@ -86,7 +86,7 @@ class Database:
         except self._driver.Error as error:
             raise _told(error) from None
 
-    def one(self, text: str, values: Sequence[Any] = ()) -> Any:
+    def one(self, text: str, values: Sequence[object] = ()) -> Any:
         """The first value of the first row; None if there is none."""
         rows = self.run(text, values)
         return rows[0][0] if rows else None

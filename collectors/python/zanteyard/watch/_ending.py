@@ -1,6 +1,7 @@
 """The outcome of an audit in words: how much was checked, what wasn't, and the exit status."""
 
-from collections.abc import Iterator, Mapping
+from collections import Counter
+from collections.abc import Iterator, Mapping, Sequence
 
 from ..core._visible import visible
 from ..promises._kinds import SERIALIZABLE, Promise
@@ -10,9 +11,11 @@ from ._remedies import with_remedy
 from ._state import Seen, Status
 from ._text import counted
 from ._totals import Totals
+from ._violations import Violation
 
 STATUSES: Mapping[str, int] = {"serial": 0, "violated": 1, "pending": 3}
 UNDECIDED = 4
+UNTOLD = "its writes couldn't be told apart"  # of rows: for any of several reasons
 TOO_LITTLE = 5
 SHOWN = 15  # statement shapes
 STATUS_WORDS = (
@@ -63,10 +66,12 @@ def lines_of(status: Status) -> Iterator[str]:
     totals = seen.totals.closed()
     word = word_of(kind, status.promise)
     yield f"{word}: {shares(totals)} were checked{about}, in {rounds}{audits}"
+    yield from (f"  {line}" for line in totals.level_lines())
     if status.new_count:
         its = counted(status.new_count, "violation")
         names = ", ".join(sorted({one.title for one in status.violations}))
         yield f"  {its} found" + (f": {names}" if names else "")
+        yield from (f"  {line}" for line in _allowed(status.violations))
         yield from (f"  {line}" for line in status.standing.lines())
     yield from (f"  {line}" for line in lines_of_groups(status.groups, status.ungrouped))
     if status.reads_unseen:
@@ -79,8 +84,28 @@ def lines_of(status: Status) -> Iterator[str]:
         yield f"  {counted(status.pending_count, 'read')} named transactions that never arrived"
     yield from (f"  {line}" for line in _table(totals))
     yield from (f"  {line}" for line in seen.more_lines())
+    yield from (f"  {line}" for line in _before(status))
     yield from (f"  {line}" for line in _reasons(totals))
     yield from _shapes(seen)
+
+
+def _before(status: Status) -> Iterator[str]:
+    """What ended before this run's first audit, and is in no outcome."""
+    for count, why in (
+        (status.untold_before, "in audits whose `watch` was killed: no outcome has them"),
+        (status.unaudited_before, "while nothing was audited"),
+    ):
+        if count:
+            yield f"before this run's first audit {counted(count, 'transaction')} ended {why}"
+
+
+def _allowed(violations: Sequence[Violation]) -> Iterator[str]:
+    """What PostgreSQL says to them at their levels."""
+    found = Counter(one.allowed for one in violations if one.allowed)
+    if len(found) == 1:
+        yield f"{[*found][0]}"
+    else:
+        yield from (f"of those explained, {count:,}: {told}" for told, count in found.most_common())
 
 
 def shares(totals: Totals) -> str:
@@ -121,7 +146,9 @@ def _reasons(totals: Totals) -> Iterator[str]:
         if rows:
             yield title
         for name, count, why in rows:
-            yield f"{count:>12,} {NAMES[name]:<13} {visible(with_remedy(why), 200)}"
+            is_told = name == "rows_written" and why == UNTOLD
+            told = f"{why}: its transactions say why" if is_told else with_remedy(why)
+            yield f"{count:>12,} {NAMES[name]:<13} {visible(told, 200)}"
 
 
 def _nothing(status: Status) -> Iterator[str]:
@@ -133,6 +160,7 @@ def _nothing(status: Status) -> Iterator[str]:
     else:
         its = counted(seen.connections_ever, "connection")
         yield f"nothing was checked: the audit saw no row that {its} to {named} read or wrote"
+    yield from (f"  {line}" for line in _before(status))
     yield from _shapes(seen)
 
 

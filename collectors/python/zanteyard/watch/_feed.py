@@ -13,12 +13,18 @@ from ._totals import Conditions, Total, Totals
 from ._violations import Answered, Row
 
 Event = dict[str, Any]
-Item = bytes | Event  # a line for the auditor, or an event
+# Lines for the auditor, or an event. Lines that are looked at by themselves (`SINGLE`) come alone.
+Item = bytes | Event
 OTHERS = "others"  # the shape that counts all remaining shapes
 
 
+# How lines begin that aren't passed on unread, each after the end of the line before it.
+SINGLE = (b"\n{", b'\n["open",', b'\n["round",', b'\n["truncate"')
+
+
 class Split:
-    """Cuts the proxy's output into items; not for several threads."""
+    """Cuts the proxy's output into items; not for several threads. Most of it is lines for the
+    auditor, which stay together."""
 
     def __init__(self) -> None:
         self._rest = b""
@@ -26,18 +32,40 @@ class Split:
 
     def items(self, data: bytes) -> list[Item]:
         """The items that are complete so far."""
-        *lines, self._rest = (self._rest + data).split(b"\n")
+        whole, newline, self._rest = (self._rest + data).rpartition(b"\n")
+        if not newline:
+            return []
+        text, at = b"\n" + whole, 0
         found: list[Item] = []
-        for line in lines:
-            if line.startswith(b"["):
-                found.append(line)
-                continue
-            event = _event(line)
-            if event is None:
-                self.wrong += 1
-            else:
-                found.append(event)
+        while at < len(text):
+            places = [place for each in SINGLE if (place := text.find(each, at)) >= 0]
+            start = min(places, default=len(text))
+            if at < start:
+                found += self._lines(text[at + 1 : start])
+            if start == len(text):
+                break
+            end = text.find(b"\n", start + 1)
+            at = end if end >= 0 else len(text)
+            found += self._single(text[start + 1 : at])
         return found
+
+    def _lines(self, lines: bytes) -> list[Item]:
+        """These lines, without those that aren't for the auditor."""
+        if lines.startswith(b"[") and lines.count(b"\n[") == lines.count(b"\n"):
+            return [lines]
+        each = lines.split(b"\n")
+        right = [line for line in each if line.startswith(b"[")]
+        self.wrong += len(each) - len(right)
+        return [b"\n".join(right)] if right else []
+
+    def _single(self, line: bytes) -> list[Item]:
+        if line.startswith(b"["):
+            return [line]
+        event = _event(line)
+        if event is None:
+            self.wrong += 1
+            return []
+        return [event]
 
 
 def _event(line: bytes) -> Event | None:
@@ -50,30 +78,30 @@ def _event(line: bytes) -> Event | None:
     return found if isinstance(found.get("event"), str) else None
 
 
-def number(value: Any) -> float:
+def number(value: object) -> float:
     """The value if it is a number, else 0."""
     if isinstance(value, (int, float)) and not isinstance(value, bool):
         return value
     return 0.0
 
 
-def whole(value: Any) -> int:
+def whole(value: object) -> int:
     return int(number(value))
 
 
-def text(value: Any) -> str:
+def text(value: object) -> str:
     return value if isinstance(value, str) else ""
 
 
-def table(value: Any) -> Mapping[str, Any]:
+def table(value: object) -> Mapping[str, Any]:
     return value if isinstance(value, dict) else {}
 
 
-def listed(value: Any) -> Sequence[Any]:
+def listed(value: object) -> Sequence[Any]:
     return value if isinstance(value, list) else ()
 
 
-def reasons(value: Any) -> Mapping[str, int]:
+def reasons(value: object) -> Mapping[str, int]:
     return {reason: whole(count) for reason, count in table(value).items()}
 
 
@@ -133,6 +161,9 @@ def totals_of(its: Mapping[str, Any]) -> Totals:
         of_unchecked=whole(rows.get("of_unchecked")),
         others=whole(others.get("transactions")),
         others_rows=whole(others.get("rows_written")),
+        untold=whole(others.get("untold")),
+        bypassed=whole(others.get("of_these_at_least")),
+        levels=reasons(table(its.get("transactions")).get("levels")),
     )
 
 
@@ -147,7 +178,7 @@ def _total(its: Mapping[str, Any]) -> Total:
     )
 
 
-def _others(its: Any) -> Others | None:
+def _others(its: object) -> Others | None:
     if not isinstance(its, dict):
         return None
     proxies = tuple(_other(table(one)) for one in listed(its.get("proxies")))

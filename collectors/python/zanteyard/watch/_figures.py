@@ -63,6 +63,9 @@ def families(status: Status) -> Iterator[Family]:
     yield one("longest_meeting_seconds", "gauge", about, status.longest_meeting_ms / 1000)
     since = max(0.0, status.now - status.told_at) if status.told_at else 0.0
     yield one("seconds_since_round", "gauge", "Seconds since the last round.", since)
+    age = max(0.0, status.now - status.checked_until) if status.checked_until else 0.0
+    about = "Seconds since the meeting up to which the last verdict goes."
+    yield one("verdict_age_seconds", "gauge", about, age)
     about = "Seconds from the last meeting to its verdict."
     yield one("seconds_behind", "gauge", about, status.behind)
     about = "How many seconds the reader of the server's log lags."
@@ -152,6 +155,8 @@ def _totals(totals: Totals) -> Iterator[Family]:
         ("rows_read_of_unchecked", totals.of_unchecked, "Checked rows by unchecked writers."),
         ("transactions_without_the_proxy", totals.others, "Transactions of other programs."),
         ("rows_written_without_the_proxy", totals.others_rows, "Rows that these wrote."),
+        ("commits_untold", totals.untold, "Commits of clients, or of other programs."),
+        ("commits_untold_without_the_proxy", totals.bypassed, "Of these, others' at least."),
     ):
         yield f"zanteyard_{name}_total", "counter", about, [((), count)]
 

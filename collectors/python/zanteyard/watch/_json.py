@@ -73,6 +73,10 @@ def status_json(status: Status, has_violations: bool = True) -> dict[str, Any]:
             {"at": one.at, "reason": one.reason} for one in status.ended if one.is_lost
         ],
         "seen": _seen(status.whole_seen),
+        "before": {
+            "unaudited": status.unaudited_before,
+            "untold": status.untold_before,
+        },
     }
     if has_violations:
         found["explained"] = [violation_json(one) for one in status.violations]

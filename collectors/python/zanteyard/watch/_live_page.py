@@ -205,7 +205,8 @@ def _shares(status: Status) -> Iterator[str]:
             told += f"; {count:,} {what}" if count else ""
         name = NAMES[key]
         yield from _bar(name[:1].upper() + name[1:], one.checked, one.all, told)
-    yield from (f"<p>{html_text(line)}.</p>" for line in seen.more_lines())
+    for line in (*totals.level_lines(), *seen.more_lines()):
+        yield f"<p>{html_text(_capital(line))}.</p>"
     if seen.shapes:
         shapes = counted(len(seen.shapes), "shape")
         yield (

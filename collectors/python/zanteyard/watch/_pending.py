@@ -12,15 +12,18 @@ def waiting_reads(
     transactions: Mapping[AuditId, Sequence[Any]], received: Sequence[int]
 ) -> tuple[list[str], int]:
     """Lines about the first of these reads, and how many there are. `received` is how many
-    transactions of each session the auditor has."""
+    transactions of each session the auditor has; others haven't joined."""
     lines: list[str] = []
     count = 0
-    for (session, number), its in sorted(transactions.items()):
+    for one, its in sorted(transactions.items()):
         for key, *source in its[0]:
-            if source == ["init"] or source[1] < received[source[0]]:
+            if source == ["init"]:
+                continue
+            session, place = source
+            if session < len(received) and place < received[session]:
                 continue
             count += 1
             if len(lines) < SHOWN:
-                read = f"{session}.{number} read key {key}"
-                lines.append(f"{read} from {source[0]}.{source[1]}, which hasn't arrived")
+                read = f"{one[0]}.{one[1]} read key {key}"
+                lines.append(f"{read} from {session}.{place}, which hasn't arrived")
     return lines, count

@@ -48,7 +48,7 @@ def add_arguments(command: argparse.ArgumentParser) -> None:
     )
     command.add_argument(
         "--aggregates", action="store_true",
-        help="also see which rows aggregates were made of, and what an index may answer alone: "
+        help="see all aggregates, groups, and what an index may answer alone, also where "
         "an answer may then have its rows in another order (docs/SQL.md)",
     )
     # The audit determines these.

@@ -1,27 +1,31 @@
-"""How several proxies feed one audit over a Redis: the options that `watch` and `proxy` share, and
-the proxy program's arguments for them."""
+"""How other machines feed an audit over a Redis: the options that `watch`, `proxy` and `serve`
+share, and the proxy program's arguments for them."""
 
 import argparse
 import os
 import stat
-from typing import Any
+
+from ..core._shared_key import ENVIRONMENT as KEY
 
 REDIS = "ZANTEYARD_REDIS"  # the environment variable with its URL
-KEY = "ZANTEYARD_KEY"  # and that with the path of the key
 LEAST = 16  # bytes of a key
 MAKE = "(umask 077; head -c 32 /dev/urandom | base64 > FILE) makes one"
 
 
-def add_sharing(command: argparse.ArgumentParser) -> None:
+def add_sharing(
+    command: argparse.ArgumentParser,
+    others: str = "proxies",
+    more: str = "; see the example in `zanteyard proxy --help`",
+) -> None:
     command.add_argument(
         "--redis", metavar="URL",
-        help=f"the Redis by which several proxies feed one audit (or the environment's {REDIS}); "
-        "see the example in `zanteyard proxy --help`",
+        help=f"the Redis by which several {others} feed one audit (or the environment's {REDIS})"
+        f"{more}",
     )
     command.add_argument("--audit", metavar="NAME", help="the audit's name in that Redis")
     command.add_argument(
         "--key", metavar="FILE",
-        help="the key file that proxies and audit share; only its owner may read it",
+        help=f"the key file that {others} and audit share; only its owner may read it",
     )
 
 

@@ -11,7 +11,7 @@ from dataclasses import dataclass, replace
 from typing import Any
 
 from ..core._records import ABORTED, AuditId, History, Logged, Naming, ShownId, Source
-from ..explain._anomalies import UNREPEATABLE, Anomaly
+from ..explain._anomalies import ONE_IS_LOST, UNREPEATABLE, Anomaly
 from ..explain._report import Story
 from ..explain._shrinking import Part, is_violated
 from ..explain._words import version
@@ -116,6 +116,21 @@ def over_conditions(story: Story, small: History, conditions: Container[str]) ->
         if key not in small[session][number].writes
     )
     return replace(story, anomaly=replace(anomaly, name=called)) if passed else story
+
+
+def whose_is_lost(
+    story: Story, name: Naming, replaced: tuple[ShownId, ShownId] | None
+) -> Story:
+    """The story of a lost update, if the first one's write replaced the second one's: then that one
+    is lost. Only the application knows whether a statement computed its value from what it
+    replaced, as UPDATE .. SET n = n + 1 does."""
+    anomaly = story.anomaly
+    if anomaly is None or anomaly.name != "lost update" or replaced is None:
+        return story
+    later, earlier = map(name, replaced)
+    told = f"{earlier}'s update is lost unless {later}'s built on it"
+    sentence = anomaly.sentence.replace(ONE_IS_LOST, told)
+    return replace(story, anomaly=replace(anomaly, sentence=sentence))
 
 
 def named(story: Story, small: History, name: Naming) -> Story:

@@ -117,16 +117,7 @@ class Seen:
         if its.other_statements:
             told = counted(its.other_statements, "more statement")
             yield f"{told} defined something, called a procedure or the like: not looked into"
-        unknown = its.rows_written.not_checked.get("its writes couldn't be told apart", 0)
-        if unknown:
-            yield (
-                f"{unknown:,} of the rows written may be those of one of several transactions, "
-                "or of a program that bypasses the proxy"
-            )
-        if its.others:
-            told = counted(its.others, "more transaction")
-            rows = counted(its.others_rows, "row")
-            yield f"{told}, with {rows} written, bypassed the proxy"
+        yield from its.bypassing()
         if self.bare:
             told = counted(self.bare, "more commit")
             yield f"{told} had no row, such as those of the server's own ANALYZE"
@@ -194,6 +185,10 @@ class Status:
     notes: tuple[str, ...] = ()  # warnings
     restarts: int = 0
     at_least: float = 0.0  # percent that have to be checked
+    # Transactions that ended before this run's first audit, and that no outcome has: while nothing
+    # was audited, and in audits whose `watch` was killed.
+    unaudited_before: int = 0
+    untold_before: int = 0
 
     @property
     def whole_seen(self) -> Seen:

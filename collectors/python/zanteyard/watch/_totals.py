@@ -120,6 +120,9 @@ class Totals:
     of_unchecked: int = 0  # checked rows in a version that an unchecked transaction wrote
     others: int = 0  # transactions that programs committed without the proxy
     others_rows: int = 0  # and the rows that these wrote
+    untold: int = 0  # commits of which it isn't known whether they are of a client or of others
+    bypassed: int = 0  # of these, how many at least are of others
+    levels: Mapping[str, int] = field(default_factory=dict)  # transactions by isolation level
 
     def named(self) -> Iterator[tuple[str, Total]]:
         """Each total with its name in the feed, in metrics and in JSON."""
@@ -137,15 +140,13 @@ class Totals:
                 yield name, its[why], why
 
     def plus(self, other: "Totals") -> "Totals":
-        mine, its = vars(self), vars(other)
-        return Totals(
-            **{
-                name: mine[name].plus(its[name])
-                if isinstance(mine[name], Total)
-                else mine[name] + its[name]
-                for name in mine
-            }
-        )
+        def added(one: Any, another: Any) -> Any:
+            if isinstance(one, Total):
+                return one.plus(another)
+            return both(one, another) if isinstance(one, Mapping) else one + another
+
+        its = vars(other)
+        return Totals(**{name: added(mine, its[name]) for name, mine in vars(self).items()})
 
     def closed(self) -> "Totals":
         """The same once no round follows."""
@@ -156,18 +157,55 @@ class Totals:
             }
         )
 
+    def level_lines(self) -> Iterator[str]:
+        """At which isolation levels the transactions ran, most frequent first."""
+        its = sorted(self.levels.items(), key=lambda one: -one[1])
+        if len(its) == 1:
+            yield f"all that committed ran at {level_named(its[0][0])}"
+        elif its:
+            told = [f"{count:,} at {level_named(level)}" for level, count in its]
+            yield f"{', '.join(told[:-1])} and {told[-1]}"
+
+    def bypassing(self) -> Iterator[str]:
+        """What is known of transactions that bypassed the proxy, or that there were none."""
+        rows = self.rows_written.not_checked.get("its writes couldn't be told apart", 0)
+        if rows:
+            yield (
+                f"{rows:,} of the rows written may be those of one of several transactions, or of "
+                "a program that bypasses the proxy"
+            )
+        if self.bypassed:
+            yield (
+                f"at least {self.bypassed:,} of the {self.untold:,} commits with such rows "
+                "bypassed the proxy: there were fewer such transactions"
+            )
+        if self.others:
+            told = counted(self.others, "more transaction")
+            yield f"{told}, with {counted(self.others_rows, 'row')} written, bypassed the proxy"
+        elif not self.bypassed:
+            known = " is known to have" if rows else ""
+            yield f"no transaction that wrote a row{known} bypassed the proxy"
+
     def values(self) -> dict[str, Any]:
         """As JSON has them."""
         found = {name: total.values() for name, total in self.named()}
-        found["transactions"].update(only_read=self.only_read)
+        found["transactions"].update(only_read=self.only_read, levels=dict(self.levels))
         found["selects"].update(by_condition=self.by_condition, found_no_row=self.found_no_row)
         found["rows_read"].update(
             own=self.own, from_before=self.from_before, of_unchecked=self.of_unchecked
         )
-        outside = {"transactions": self.others, "rows_written": self.others_rows}
+        outside = {
+            "transactions": self.others, "rows_written": self.others_rows, "untold": self.untold,
+            "of_these_at_least": self.bypassed,
+        }
         return {
             **found, "other_statements": self.other_statements, "without_the_proxy": outside
         }
+
+
+def level_named(level: str) -> str:
+    """An isolation level in words."""
+    return "a level that isn't known" if level in ("", "unknown") else level
 
 
 def both(one: Mapping[str, int], other: Mapping[str, int]) -> Mapping[str, int]:

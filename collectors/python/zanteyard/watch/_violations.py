@@ -15,14 +15,23 @@ from ..explain._shrinking import Part, is_violated, smaller
 from ..explain._standing import standing
 from ..explain._words import version
 from ..promises._asking import ids_of
-from ..promises._kinds import SERIALIZABLE, Promise
+from ..promises._kinds import SERIALIZABLE, SNAPSHOT, Promise
 from ._conflicts import READ_BEFORE, Cycle
 from ._described import Described, by_time, clock, lines_of
 from ._kept import Kept, Transaction
-from ._sql_anomalies import LostUpdate, both_replaced, lost_update, over_conditions
+from ._sql_anomalies import (
+    LostUpdate, both_replaced, lost_update, over_conditions, whose_is_lost
+)
 from ._sql_anomalies import named as named_story
 from ._statement_reads import as_shown, by_statement
 
+READ_COMMITTED, REPEATABLE_READ = "read committed", "repeatable read"
+SERIALIZABLE_LEVEL = "serializable"
+# What isn't serial and nothing worse: read committed allows all of these.
+ALLOWED = (
+    "lost update", "non-repeatable read", "fractured read", "long fork", "write skew",
+    "write skew over a condition", "phantom", "G-single", "G-nonadjacent", "G2",
+)
 EXPLAINING = 15.0  # seconds for reducing a violated history, and the same for its promises
 
 
@@ -105,6 +114,24 @@ class Violation:
         if anomaly is not None:
             return anomaly.sentence
         return self.story.reasons.end or self.story.sentence
+
+    @property
+    def allowed(self) -> str:
+        """Whether PostgreSQL allows it at the levels of its transactions; empty if that isn't
+        known. Only the levels of all of them together promise anything."""
+        if self.story.anomaly is not None and self.title not in ALLOWED:
+            return ""
+        its = [one.its for one in self.told if one.its is not None]
+        levels = {one.level for one in its if not one.is_fence}
+        if READ_COMMITTED in levels:
+            return f"{READ_COMMITTED} allows that"
+        if not levels or not levels <= {REPEATABLE_READ, SERIALIZABLE_LEVEL}:
+            return ""
+        if REPEATABLE_READ not in levels:
+            return f"{SERIALIZABLE_LEVEL} doesn't allow that: please report it"
+        if SNAPSHOT in self.story.standing.broken:
+            return f"{REPEATABLE_READ} doesn't allow that: please report it"
+        return f"{REPEATABLE_READ} allows that" if SNAPSHOT in self.story.standing.kept else ""
 
     def lines(self) -> Iterator[str]:
         """All of it as text."""
@@ -314,6 +341,7 @@ def explained(
     story = story_of(renamed, called, explanation, audited.script, counts, promise)
     conditions = {shown[key_text(key)] for key, row in answered.keys.items() if row.condition}
     story = over_conditions(named_story(story, renamed, called), renamed, conditions)
+    story = whose_is_lost(story, called, _replaces(story, held, ids))
     story = story.with_standing(standing(small, program, promise, seconds))
     gone = next((one for one, there in places.items() if there == (0, 0) and one not in ids), None)
     writers = as_shown({there: one for one, there in ids.items()}, gone, held.base)
@@ -338,6 +366,22 @@ def explained(
         Told(labels[one], one, answered.transactions.get(one), reads[one]) for one in ordered
     )
     return Violation(number, round_number, now, _with_clocks(story, told), told)
+
+
+def _replaces(
+    story: Story, held: Held, ids: Mapping[ShownId, AuditId]
+) -> tuple[ShownId, ShownId] | None:
+    """Of the two transactions of a lost update, the one whose write replaced the other one's, and
+    that other one; None if neither's did directly."""
+    anomaly = story.anomaly
+    if anomaly is None or held.lost is None:
+        return None
+    its = anomaly.transactions
+    for later, earlier in zip(its, its[::-1]):
+        if later in ids and earlier in ids:
+            if (key_text(held.lost.key), tuple(ids[earlier])) in held.reads(ids[later]):
+                return later, earlier
+    return None
 
 
 def compact(

@@ -10,7 +10,7 @@ from collections.abc import Callable, Sequence
 from typing import Any
 
 from ..core.errors import JournalError, ProgramEndedError, ZanteyardError
-from ._auditing import OPEN, Auditing, refusal_of
+from ._auditing import OPEN, ROUND, TRUNCATE, Auditing, head_of, refusal_of
 from ._board import Board
 from ._ending import word_of
 from ._explaining import Explaining
@@ -22,7 +22,6 @@ from ._found import Found, found_in
 from ._stopping import STOPS
 
 OK, REPORT, CUT = b'["ok"]', b'["report",', b'["cut",'
-TRUNCATE, ROUND = b'["truncate"', b'["round"'
 GONE = "gone"  # an event of this program: the proxy has ended
 LOOKS = 0.2  # seconds between two checks whether another audit should begin
 PAUSES = (1.0, 2.0, 5.0, 15.0, 60.0)  # seconds before another audit begins, each time longer
@@ -140,9 +139,8 @@ class Watching:
             if self._reported(reply):
                 self._go_on_after(line, json.loads(reply))
         elif line.startswith(TRUNCATE):
-            if reply.startswith(CUT):
-                self._cut(reply)
-            self._owed.append([*self._marks])
+            self._cut(reply.startswith(CUT))
+            self._owed.append(self._marks)
             self._tell_cuts()
         elif line.startswith(ROUND):
             logger.warning("a round was refused: %s", refusal_of(reply))
@@ -152,7 +150,7 @@ class Watching:
 
     def _reported(self, reply: bytes) -> bool:
         """Notes a round, and returns whether it was violated."""
-        _, number, kind, counts, *_ = json.loads(reply)
+        number, kind, counts = head_of(reply)
         self._received = sum(counts)
         seen = self.board.round(kind, counts, self._remaining)
         now = time.monotonic()
@@ -169,11 +167,12 @@ class Watching:
             self.board.waits(*waiting_reads(self.auditing.kept().transactions, counts))
         return bool(kind == "violated")
 
-    def _cut(self, reply: bytes) -> None:
-        _, _, gone, *_ = json.loads(reply)
-        for session, _ in gone:
-            self._marks[session] += 1
-        self.board.cut(len(gone), self._remaining)
+    def _cut(self, is_cut: bool) -> None:
+        """Notes what is forgotten. Sessions may have joined, too."""
+        before = sum(self._marks)
+        self._marks = self.auditing.marks()
+        if is_cut:
+            self.board.cut(sum(self._marks) - before, self._remaining)
 
     def _tell_cuts(self) -> None:
         """Lets the proxy forget, once it has described what it was asked about."""
@@ -276,10 +275,14 @@ class Watching:
             self.board.coverage(event)
         elif name == "meeting":
             self.board.met(event)
+        elif name == "checking":
+            self.board.checks(event)
         elif name == "transactions":
             answered = answered_of(event)
             answered = without_values(answered) if self.redacts else answered
             self.explaining.answered(whole(event.get("id")), answered)
+        elif name == "earlier":
+            self.board.earlier(event)
         elif name == "started":
             if self._has_started:  # for example by another proxy
                 self._begin_anew()
@@ -291,6 +294,8 @@ class Watching:
             self._begin_anew()
         elif name == "warning":
             self._warn(text(event.get("text")))
+        elif name == "behind":
+            self._lose(text(event.get("reason")) or "the auditor fell behind")
         elif name == "ended":
             self.explaining.expect_no_answers()
             if not self.stopped.is_set():  # else it was told to end

@@ -45,6 +45,7 @@ type Audit struct {
 	cancel func()       // ends it while it begins
 	joiner *join.Joiner // nil until it has begun
 	failed error        // why it ended
+	late   join.Totals  // what ended since, as far as its parent was told of it
 
 	reading sync.WaitGroup // whoever reads the parent's commands
 }
@@ -66,25 +67,60 @@ func New(config Config) *Audit {
 // Sink takes the sessions' records.
 func (a *Audit) Sink() record.Sink { return a.inbox }
 
-// After makes what ended between an audit that is over and this one count in this one.
-func (a *Audit) After(before *Audit) { a.inbox.After(before.inbox) }
+// None is an audit that is over: what ends before the first one counts as what ended since this one.
+func None() *Audit {
+	a := New(Config{Out: io.Discard})
+	a.inbox.Close()
+	return a
+}
 
-// Late tells the parent of an audit that is over what has ended since, while no audit ran.
-func (a *Audit) Late() {
-	late := a.inbox.Late()
+// After makes what ended between an audit that is over and this one count in this one.
+func (a *Audit) After(before *Audit) {
+	late := a.inbox.After(before.inbox)
+	a.inbox.Adds(&late)
+}
+
+// Succeeds begins where the audit of another parent has ended: it returns what has ended since. What ends from now on
+// counts in this one.
+func (a *Audit) Succeeds(before *Audit) join.Totals { return a.inbox.After(before.inbox) }
+
+// Earlier tells the parent what ended before its first audit: this while nothing was audited, and so many transactions in
+// audits whose parents told nobody.
+func (a *Audit) Earlier(unaudited join.Totals, untold uint64) {
+	a.writer.Event(join.Earlier{At: time.Now(), Unaudited: unaudited, Untold: untold})
+}
+
+// Untold returns, once Run has returned, how many transactions the audit has counted since its parent stopped it, and
+// whether the parent did. If not, these are all.
+func (a *Audit) Untold() (n uint64, wasStopped bool) {
 	a.lock.Lock()
 	joiner := a.joiner
 	a.lock.Unlock()
+	if joiner == nil {
+		return 0, false
+	}
+	return joiner.Untold()
+}
+
+// Late tells the parent of an audit that is over what has ended since, while no audit ran. It returns what it hadn't told
+// before.
+func (a *Audit) Late() (news join.Totals) {
+	late := a.inbox.Late()
+	news = late.Copied()
+	a.lock.Lock()
+	joiner := a.joiner
+	a.late.Add(&late)
+	late = a.late.Copied()
+	a.lock.Unlock()
 	var its join.Coverage
 	if joiner != nil {
-		if its = joiner.Coverage(); its.At.IsZero() {
-			return // it ended by a fault: what it told last stands
-		}
+		its = joiner.Coverage()
 	}
 	its.Totals = its.Totals.Copied() // the joiner's own stay as they are: this may be told again
 	its.Totals.Add(&late)
 	its.At, its.Last = time.Now(), true
 	feed.Write(a.config.Out, its)
+	return news
 }
 
 // Drained tells the parent that no connection is left, and none will come.
@@ -233,7 +269,7 @@ func (a *Audit) begin(ctx context.Context) (*running, error) {
 		its.close()
 		return nil, err
 	}
-	started.Opened = opened
+	started.Asked, started.Opened = its.reader.Asked(), opened
 	started.Slot, started.Plugin, started.Temporary = a.config.Slot.Name, string(its.reader.Plugin()), !a.config.Slot.Permanent
 	started.Subtransactions = "pg_walinspect"
 	if why != "" {

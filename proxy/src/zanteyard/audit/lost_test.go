@@ -18,10 +18,16 @@ import (
 // start begins an audit of nothing, and returns its events as they arrive.
 func start(t *testing.T, s *server, options slot.Options) (a *Audit, events <-chan map[string]any, commands io.Writer, ended <-chan error) {
 	t.Helper()
+	return startWith(t, s, options, join.Options{Between: 10 * time.Millisecond})
+}
+
+func startWith(t *testing.T, s *server, options slot.Options, more join.Options) (a *Audit, events <-chan map[string]any, commands io.Writer,
+	ended <-chan error) {
+	t.Helper()
 	options.Source, options.Canonical = s.source(), canonical
 	commandsOut, commandsIn := io.Pipe()
 	feedOut, feedIn := io.Pipe()
-	a = New(Config{Slot: options, Meeter: nobody{}, In: commandsOut, Out: feedIn, Join: join.Options{Between: 10 * time.Millisecond}})
+	a = New(Config{Slot: options, Meeter: nobody{}, In: commandsOut, Out: feedIn, Join: more})
 	ctx, cancel := context.WithCancel(context.Background())
 	t.Cleanup(cancel)
 	its, done := make(chan map[string]any, 1000), make(chan error, 1)
@@ -66,7 +72,7 @@ func TestLostSlot(t *testing.T) {
 	must(t, conn, someTables)
 	a, events, _, ended := start(t, s, slot.Options{})
 	await(t, events, "started")
-	await(t, events, `["open",64,4096,2]`)
+	await(t, events, `["open",8,131072,3]`)
 	must(t, conn, "SELECT pg_terminate_backend(pid) FROM pg_stat_replication")
 	if it := await(t, events, "ended"); !strings.Contains(it["reason"].(string), "slot") {
 		t.Errorf("the audit has ended: %v", it)

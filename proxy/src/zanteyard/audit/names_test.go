@@ -155,16 +155,28 @@ func hearSlot(t *testing.T, plugin slot.Plugin) {
 		"ALTER TABLE a RENAME TO b; ALTER TABLE c RENAME TO a; COMMIT")
 	swapped := h.next(t) // by the wrong name
 	place, err := control.Place(ctx)
-	by := map[record.Relation]uint32{}
+	by := map[record.Relation]string{}
 	for _, one := range place.Rewritten {
-		by[one.Relation] = one.By
+		by[one.Relation] = fmt.Sprint(one.By)
 	}
-	if err != nil || len(place.Changed) != 0 || len(by) != 2 || by[a] != swapped.Number || by[b] != swapped.Number || place.Names != after.Names {
+	one := fmt.Sprint([]uint32{swapped.Number})
+	if err != nil || len(place.Changed) != 0 || len(by) != 2 || by[a] != one || by[b] != one || place.Names != after.Names {
 		t.Errorf("two tables' names were changed and changed back by %d, and the place is %+v (%v)", swapped.Number, place, err)
 	}
 	must(t, conn, "ALTER TABLE full_row REPLICA IDENTITY NOTHING; ALTER TABLE full_row REPLICA IDENTITY FULL")
 	if place, err := control.Place(ctx); err != nil || len(place.Changed) != 0 || len(place.Rewritten) != 1 || place.Rewritten[0].Relation != oid("full_row") {
 		t.Errorf("a replica identity was changed and changed back, and the place is %+v (%v)", place, err)
+	}
+	must(t, conn, "ALTER TABLE full_row SET (fillfactor = 90)")
+	must(t, conn, "BEGIN; ALTER SCHEMA public RENAME TO x; ALTER SCHEMA x RENAME TO public; COMMIT")
+	place, err = control.Place(ctx)
+	for _, its := range place.Rewritten {
+		if n := len(its.By); n != 1 && (n != 2 || its.Relation != oid("full_row") || its.By[1] <= its.By[0]) {
+			t.Errorf("a table's row was written, and later its schema's, by %v", its)
+		}
+	}
+	if err != nil || len(place.Changed) != 0 || len(place.Rewritten) < 3 {
+		t.Errorf("a schema was renamed and renamed back, and the place is %+v (%v)", place, err)
 	}
 	if place, err := control.Place(ctx); err != nil || len(place.Changed)+len(place.Rewritten) != 0 {
 		t.Errorf("nothing has changed, and the place is %+v (%v)", place, err)

@@ -93,7 +93,7 @@ func runLockstep(t *testing.T, s *server, seed int64, commits int, plugin slot.P
 	inbox := join.NewInbox(1 << 30)
 	out := &output{events: make(chan join.Event, 10)}
 	// A commit counts as somebody else's after a time in which no test could pause: the whole run is over by then.
-	joiner := join.New(join.Options{Every: 1 << 20, Within: time.Hour, Late: time.Hour, Stale: time.Hour}, inbox, tables, control,
+	joiner := join.New(join.Options{Between: time.Hour, Late: time.Hour, Stale: time.Hour}, inbox, tables, control,
 		unseen == "" && plugin == slot.Wal2json, nobody{}, out)
 	ended := make(chan error, 2)
 	go func() { ended <- reader.Read(ctx, joiner) }()
@@ -215,8 +215,6 @@ func (l *lockstepper) judge(given []join.Description) {
 		reads, writes = reads+len(got), writes+len(wrote)
 		for one := range folds {
 			switch {
-			case got[one] && !want[one]:
-				delete(got, one)
 			case want[one] && !got[one]:
 				delete(want, one)
 			case want[one]:
@@ -302,32 +300,31 @@ func (l *lockstepper) got(it *join.Description) (map[string]bool, map[cell]bool)
 }
 
 // want is what has to be offered, according to the rows' tags and the order of the commits. Of the table that TRUNCATE
-// empties more is folded: what was committed shortly before, since its definition has been written. So the read of an
-// earlier version may be offered there, or of none; folds has all of these.
+// empties more is folded: what was committed shortly before, since its definition has been written. Which writes these are
+// depends on when the server was asked, so there the writes that were offered count; each read has to name the last of
+// them at or before its version. A read may also be left out, if its reader had begun before, and of a row that wasn't
+// there only the next one may be known; folds has those.
 func (l *lockstepper) want(it *done, names map[string]string) (want, folds map[string]bool) {
 	want, folds = map[string]bool{}, map[string]bool{}
-	add := func(at cell, upTo int) { // the row's last offered version among the first upTo ones
-		if at.table == "whole" {
-			folds[fmt.Sprint(at, " from init")] = true
-			for _, v := range l.history[at][:upTo] {
-				if name, offered := names[v.tag]; offered {
-					folds[fmt.Sprint(at, " from ", name)] = true
-				}
-			}
-		}
+	add := func(at cell, upTo int, is bool) { // the row's last offered version among the first upTo ones
 		from := "init"
 		for _, v := range l.history[at][l.began(at, upTo):upTo] {
-			if name, offered := names[v.tag]; offered && !(v.deleted && l.emptied(at, l.owned[v.tag])) {
+			by := l.owned[v.tag]
+			if name, offered := names[v.tag]; offered && !(v.deleted && l.emptied(at, by)) && (at.table != "whole" || by.given[at]) {
 				from = name
 			}
 		}
-		want[fmt.Sprint(at, " from ", from)] = true
+		one := fmt.Sprint(at, " from ", from)
+		want[one] = true
+		if at.table == "whole" && is {
+			folds[one] = true
+		}
 	}
 	for at, tags := range it.reads {
 		for tag := range tags {
 			for i := len(l.history[at]); i >= 0 && tag != it.tag; i-- {
 				if i == 0 || l.history[at][i-1].tag == tag && !l.history[at][i-1].deleted {
-					add(at, i)
+					add(at, i, true)
 					break
 				}
 			}
@@ -335,16 +332,13 @@ func (l *lockstepper) want(it *done, names map[string]string) (want, folds map[s
 	}
 	for at := range it.wrote {
 		for i, v := range l.history[at] {
-			if v.tag != it.tag || v.deleted && l.emptied(at, it) {
+			if v.tag != it.tag || v.deleted && l.emptied(at, it) || at.table == "whole" && !it.given[at] {
 				continue
 			}
 			if l.began(at, i+1) == i {
 				want[fmt.Sprint(at, " from init")] = true
-				if at.table == "whole" {
-					folds[fmt.Sprint(at, " from init")] = true
-				}
 			} else {
-				add(at, i)
+				add(at, i, false)
 			}
 		}
 	}
@@ -356,8 +350,11 @@ func (l *lockstepper) want(it *done, names map[string]string) (want, folds map[s
 		isThere := upTo == 0 && l.first[at] || upTo > 0 && !l.history[at][upTo-1].deleted
 		ownTruncate := at.table == "whole" && it.empties
 		if it.level != record.ReadCommitted && !it.wrote[at] && !isThere && !ownTruncate { // else it is left out
-			add(at, upTo)
-			want[fmt.Sprint(at, " from init")] = true // of the row that comes next
+			add(at, upTo, true)
+			next := fmt.Sprint(at, " from init") // of the row that comes next
+			if want[next] = true; at.table == "whole" {
+				folds[next] = true
+			}
 		}
 	}
 	return want, folds

@@ -11,6 +11,7 @@ import (
 	"os"
 	"os/exec"
 	"strconv"
+	"strings"
 	"sync"
 	"testing"
 	"time"
@@ -148,6 +149,14 @@ func (p *parent) give(line string) {
 		fmt.Fprintln(p.keep, line)
 	}
 	fmt.Fprintln(p.in, line)
+	switch {
+	case strings.HasPrefix(line, `["open",`):
+		sessions := 0
+		fmt.Sscanf(line, `["open",%d`, &sessions)
+		p.marks = make([]uint64, sessions)
+	case strings.HasPrefix(line, `["join",`):
+		p.marks = append(p.marks, 0)
+	}
 	if !p.replies.Scan() {
 		p.t.Fatal("the auditor doesn't answer")
 	}
@@ -231,11 +240,11 @@ func runSoak(t *testing.T, s *server, work func(*member) record.Transaction, bes
 	c := &crowd{}
 	a := New(Config{
 		Slot: slot.Options{Source: s.source(), Canonical: canonical},
-		Join: join.Options{Every: 300, Between: 500 * time.Millisecond, Within: time.Second}, Meeter: c, In: commandsOut, Out: feedIn,
+		Join: join.Options{Between: 500 * time.Millisecond}, Meeter: c, In: commandsOut, Out: feedIn,
 	})
 	c.sink = a.Sink()
 	p := &parent{
-		t: t, commands: commandsIn, in: in, replies: replies, marks: make([]uint64, 64), verdicts: map[string]int{},
+		t: t, commands: commandsIn, in: in, replies: replies, verdicts: map[string]int{},
 		events: map[string]int{},
 	}
 	if *keep != "" {

@@ -46,6 +46,9 @@ type Table struct {
 	Rules bool
 	// Triggers says that user triggers may write when the table is written to.
 	Triggers bool
+	// Planned says that to plan a statement that reads the table may call what others have made: functions of indexes, of a
+	// range's type and the like.
+	Planned bool
 	// Foreign says that writing to the table may call what others have made: triggers, or functions of defaults and the like.
 	Foreign bool
 	// Indexes are the sets of columns, by number, that a single index can return.
@@ -112,7 +115,7 @@ type Catalog struct {
 	functions map[string]*functions
 	cascades  map[uint32][]uint32 // tables whose rows change with those of another one
 	operators map[string]bool     // names of operators whose functions aren't pure
-	listless  bool                // WithoutLists was given
+	certain   bool                // OnlyCertainLists was given
 	elsewhere *elsewhere
 	columns   map[uint32]record.Identity // of tables
 }
@@ -123,12 +126,12 @@ type Option func(*Catalog)
 // WithColumns makes Load read the identities of tables' columns, which reads by conditions need.
 func WithColumns(c *Catalog) { c.columns = map[uint32]record.Identity{} }
 
-// WithoutLists makes plans leave statements as they are whose rows could only be seen by a hidden aggregate, or by a look
-// into a table of which an index has all.
-func WithoutLists(c *Catalog) { c.listless = true }
+// OnlyCertainLists makes plans list the rows that an aggregate was made of, and look into tables of which an index has all,
+// only for statements whose answers are the same whatever plan the server chooses.
+func OnlyCertainLists(c *Catalog) { c.certain = true }
 
-// Lists reports whether plans may list the rows that an aggregate was made of, and look into tables beside an index.
-func (c *Catalog) Lists() bool { return !c.listless }
+// ListsAll reports whether plans may do so for all statements.
+func (c *Catalog) ListsAll() bool { return !c.certain }
 
 // WithConditions reports whether the identities of columns were read.
 func (c *Catalog) WithConditions() bool { return c.columns != nil }
@@ -166,6 +169,7 @@ func Load(ctx context.Context, query Query, options ...Option) (*Catalog, error)
 		{"indexes", indexesSQL, c.takeIndex}, // whose columns are copies
 		{"triggers", triggersSQL, c.takeTrigger},
 		{"what tables call", callsSQL, c.takeCall},
+		{"what planning calls", plannedSQL, c.takePlanned},
 		{"what statements call", foreignSQL, c.takeForeign},
 		{"functions", functionsSQL, c.takeFunction},
 		{"operators", operatorsSQL, c.takeOperator},

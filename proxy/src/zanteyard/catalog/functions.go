@@ -14,6 +14,7 @@ type Function struct {
 	Made      bool // it isn't the server's own, and may do more than compute a value
 	Names     bool // it may change the meaning of names: SET search_path, SET ROLE, temporary tables
 	Foreign   bool // it isn't the server's own, nor written in C, so it may run any statement
+	Steady    bool // it returns the same for the same arguments throughout a statement, and does nothing else
 }
 
 // functions are those of one name: the server's own, and those of other schemas.
@@ -48,6 +49,19 @@ func (c *Catalog) Function(schema, name string) Function {
 	return found.other
 }
 
+// Steady says that a call of a function with this name is surely of the server's own, which returns the same for the same
+// arguments throughout a statement, and does nothing else.
+func (c *Catalog) Steady(schema, name string) bool {
+	found, ok := c.functions[name]
+	return ok && found.isOwn && found.own.Steady && (schema == "pg_catalog" || schema == "" && !found.isOther)
+}
+
+// MadeByOthers reports whether there is a function of this name that isn't the server's own, nor written in C.
+func (c *Catalog) MadeByOthers(name string) bool {
+	found, ok := c.functions[name]
+	return ok && found.isOther && found.other.Foreign
+}
+
 // PureOperator says that no operator of this name calls a function that may read or write tables.
 func (c *Catalog) PureOperator(name string) bool { return !c.operators[name] }
 
@@ -60,6 +74,7 @@ func (c *Catalog) takeFunction(row []string) error {
 	f := Function{Aggregate: row[2] == "true", Window: row[3] == "true", Set: row[4] == "true",
 		Always: row[9] == "true"}
 	pure := row[5] == "true"
+	f.Steady = pure
 	if own {
 		f.Reads = readsTables(name)
 		f.Writes = !pure && !harmless(name) || f.Reads

@@ -65,6 +65,28 @@ UNION ALL SELECT DISTINCT tgrelid::pg_catalog.text, '0' FROM pg_catalog.pg_trigg
 UNION ALL SELECT DISTINCT confrelid::pg_catalog.text, conrelid::pg_catalog.text FROM pg_catalog.pg_constraint
 WHERE contype = 'f' AND (confupdtype IN ('c', 'n', 'd') OR confdeltype IN ('c', 'n', 'd'))`)
 
+// What reading a table may call of what others have made: the server evaluates parts of indexes, checks, partition keys and
+// statistics when it plans, and estimates ranges by their types' own functions. What a partition does, its parents do.
+var plannedSQL = own.SQL(`WITH RECURSIVE its AS (SELECT x.relation FROM (
+    SELECT conrelid AS relation, 'pg_catalog.pg_constraint'::pg_catalog.regclass AS class, oid AS object FROM pg_catalog.pg_constraint
+    WHERE conrelid <> 0 AND contype = 'c'
+    UNION ALL SELECT indrelid, 'pg_catalog.pg_class'::pg_catalog.regclass, indexrelid FROM pg_catalog.pg_index
+      WHERE indexprs IS NOT NULL OR indpred IS NOT NULL
+    UNION ALL SELECT partrelid, 'pg_catalog.pg_class'::pg_catalog.regclass, partrelid FROM pg_catalog.pg_partitioned_table
+    UNION ALL SELECT stxrelid, 'pg_catalog.pg_statistic_ext'::pg_catalog.regclass, oid FROM pg_catalog.pg_statistic_ext) x
+  JOIN pg_catalog.pg_depend d ON d.classid = x.class AND d.objid = x.object
+  LEFT JOIN pg_catalog.pg_operator o ON d.refclassid = 'pg_catalog.pg_operator'::pg_catalog.regclass AND o.oid = d.refobjid
+  JOIN pg_catalog.pg_proc p ON p.oid = coalesce(o.oprcode, d.refobjid)
+  JOIN pg_catalog.pg_language l ON l.oid = p.prolang
+  WHERE (o.oid IS NOT NULL OR d.refclassid = 'pg_catalog.pg_proc'::pg_catalog.regclass) AND l.lanname NOT IN ('c', 'internal')
+  UNION SELECT a.attrelid FROM pg_catalog.pg_attribute a JOIN pg_catalog.pg_type t ON t.oid = a.atttypid
+  JOIN pg_catalog.pg_range r ON CASE t.typtype WHEN 'd' THEN t.typbasetype ELSE t.oid END::pg_catalog.text
+    IN (r.rngtypid::pg_catalog.text, pg_catalog.to_jsonb(r) ->> 'rngmultitypid')
+  JOIN pg_catalog.pg_proc p ON p.oid IN (r.rngsubdiff, r.rngcanonical) JOIN pg_catalog.pg_language l ON l.oid = p.prolang
+  WHERE l.lanname NOT IN ('c', 'internal')
+  UNION SELECT h.inhparent FROM its JOIN pg_catalog.pg_inherits h ON h.inhrelid = its.relation)
+SELECT DISTINCT its.relation::pg_catalog.text FROM its`)
+
 // Whether any statement may call what others have made, without naming it: operators, casts, and domains that are
 // checked by functions.
 var foreignSQL = own.SQL(`SELECT (EXISTS (SELECT FROM pg_catalog.pg_operator o JOIN pg_catalog.pg_proc p ON p.oid = o.oprcode

@@ -253,6 +253,14 @@ func (c *Catalog) takeCall(row []string) error {
 	return nil
 }
 
+func (c *Catalog) takePlanned(row []string) error {
+	oid, err := number(row, 0)
+	if t, ok := c.tables[oid]; ok {
+		t.Planned = true
+	}
+	return err
+}
+
 func (c *Catalog) takeForeign(row []string) error {
 	c.Foreign = len(row) == 1 && row[0] == "true"
 	return width(row, 1)

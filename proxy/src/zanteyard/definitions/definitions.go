@@ -39,6 +39,7 @@ const (
 	// newestCalls is about what tables call when they are written to.
 	newestCalls = newest + "pg_catalog.pg_trigger WHERE NOT tgisinternal AND tgrelid NOT IN" + temporary +
 		newest + "pg_catalog.pg_attrdef WHERE adrelid NOT IN" + temporary +
+		newest + "pg_catalog.pg_statistic_ext)" +
 		newest + "pg_catalog.pg_constraint WHERE contype IN ('c', 'f') AND conrelid NOT IN" + temporary
 )
 
@@ -88,8 +89,9 @@ func (d *Definitions) Only(filter catalog.Filter) { d.only = filter }
 // WithConditions makes plans follow the conditions that SELECTs ask by. Call it before Run.
 func (d *Definitions) WithConditions() { d.reads = append(d.reads, catalog.WithColumns) }
 
-// WithoutLists makes plans leave aggregates, and what an index may answer alone, as they are. Call it before Run.
-func (d *Definitions) WithoutLists() { d.reads = append(d.reads, catalog.WithoutLists) }
+// OnlyCertainLists makes plans leave aggregates, and what an index may answer alone, as they are if their answers may
+// depend on the server's plan. Call it before Run.
+func (d *Definitions) OnlyCertainLists() { d.reads = append(d.reads, catalog.OnlyCertainLists) }
 
 // FollowsTable reports whether a plan was made that follows a condition on this table's rows.
 func (d *Definitions) FollowsTable(relation record.Relation) bool {

@@ -24,12 +24,19 @@ func encode(it join.Event) ([]byte, error) {
 		})
 	case join.Warning:
 		return object("warning", it.At, map[string]any{"text": it.Text})
+	case join.Checking:
+		return object("checking", it.At, nil)
+	case join.Behind:
+		return object("behind", it.At, map[string]any{"reason": it.Reason})
 	case join.Ended:
 		return object("ended", time.Now(), map[string]any{"reason": it.Reason, "blocked": it.Blocked})
 	case join.Restarted:
 		return object("restarted", it.At, nil)
 	case join.Stopped:
 		return object("stopped", it.At, nil)
+	case join.Earlier:
+		return object("earlier", it.At, map[string]any{"unaudited": it.Unaudited.Ended(), "untold": it.Untold,
+			"sums": unaudited(&it.Unaudited)})
 	case join.Drained:
 		return object("drained", it.At, nil)
 	case join.Coverage:
@@ -111,12 +118,28 @@ func coverage(it join.Coverage) map[string]any {
 func totals(it *join.Totals) map[string]any {
 	selects, read, transactions := total(&it.Selects), total(&it.RowsRead), total(&it.Transactions)
 	transactions["only_read"] = it.OnlyRead
+	ran := map[string]uint64{}
+	for level, n := range it.Levels {
+		if n > 0 {
+			ran[levels[record.Level(level)]] = n
+		}
+	}
+	transactions["levels"] = ran
 	selects["by_condition"], selects["found_no_row"] = it.Conditions, it.Empty
 	read["own"], read["from_before"], read["of_unchecked"] = it.Own, it.Before, it.OfUnchecked
 	return map[string]any{
 		"transactions": transactions, "selects": selects, "writes": total(&it.Writes),
 		"rows_read": read, "rows_written": total(&it.RowsWritten), "other_statements": it.Others,
-		"without_the_proxy": map[string]any{"transactions": it.Outside, "rows_written": it.OutsideRows},
+		"without_the_proxy": map[string]any{"transactions": it.Outside, "rows_written": it.OutsideRows, "untold": it.Untold,
+			"of_these_at_least": it.Bypassed},
+	}
+}
+
+// unaudited are sums of what ended while nothing was audited.
+func unaudited(it *join.Totals) map[string]any {
+	return map[string]any{
+		"transactions": it.Transactions.All, "rolled_back": it.Transactions.RolledBack, "selects": it.Selects.All,
+		"writes": it.Writes.All, "rows_read": it.RowsRead.All, "rows_written": it.RowsWritten.All,
 	}
 }
 

@@ -149,10 +149,10 @@ func TestWriter(t *testing.T) {
 	w := NewWriter(&to)
 	done := make(chan error)
 	go func() { done <- w.Run() }()
-	w.Line([]byte(`["open",64,4096,2]`))
+	w.Line([]byte(`["open",8,131072,3]`))
 	w.Event(join.Stopped{At: time.Unix(1, 0)})
 	w.Close()
-	if err := <-done; err != nil || to.String() != "[\"open\",64,4096,2]\n{\"event\":\"stopped\",\"at\":1}\n" {
+	if err := <-done; err != nil || to.String() != "[\"open\",8,131072,3]\n{\"event\":\"stopped\",\"at\":1}\n" {
 		t.Errorf("%q (%v)", to.String(), err)
 	}
 	w = NewWriter(&failing{left: 10})

@@ -26,7 +26,7 @@ type load struct {
 
 func newLoad(keys int) *load {
 	l := &load{now: time.Unix(1000, 0), r: rand.New(rand.NewSource(1)), last: make([]uint32, keys), next: base}
-	l.core = newCore(Options{}, plainTables{}, base, func(line []byte) { l.bytes += len(line) }, l.now)
+	l.core = newCore(Options{First: 32}, plainTables{}, base, func(line []byte) { l.bytes += len(line) }, l.now)
 	for i := range l.last {
 		l.last[i] = 5
 		l.keys = append(l.keys, record.Key(fmt.Sprintf("%d", i)))
@@ -68,7 +68,7 @@ func (l *load) transaction() {
 		l.core.flush()
 	}
 	if l.next%1000 == 0 {
-		marks := make([]uint64, 64)
+		marks := make([]uint64, len(l.core.sessions))
 		for i, s := range l.core.sessions {
 			marks[i] = s.written
 		}
@@ -142,7 +142,7 @@ func TestHotRow(t *testing.T) {
 			b.pass()
 		}
 		if n%2000 == 0 {
-			marks := make([]uint64, 64)
+			marks := make([]uint64, len(b.core.sessions))
 			marks[0] = b.core.sessions[0].written
 			b.model.sessions[0].mark = int(marks[0])
 			b.core.cut(marks)

@@ -7,6 +7,7 @@ func (j *Joiner) Cut(marks []uint64) {
 	j.command(func() {
 		if j.unanswered > 0 {
 			j.unanswered--
+			j.core.roundAnswered(j.unanswered)
 		}
 		if !j.core.cut(marks) {
 			j.warn(fmt.Sprintf("these marks belong to another audit: %v", marks))

@@ -20,7 +20,9 @@ type core struct {
 	out         func(line []byte) // takes a line for the auditor, without its newline; it copies what it keeps
 	began, now  time.Time
 	slotted     time.Time // what was committed before this may be missing in the slot
-	opened      time.Time // what had ended before this is
+	spare       *spare
+	sought      time.Time // what had ended before this is
+	opened      time.Time // what had begun before this may be
 	connections map[uint64]*connection
 	queue       []*connection // those without a session
 	sessions    []*session
@@ -29,6 +31,13 @@ type core struct {
 	moments     moments
 	ended       time.Time // when the last one of the named transactions had ended
 	last        name      // the last fence
+	met         time.Time // its moment
+	metAt       uint64    // the place of the last commit that the slot had reported then
+	short       bool      // since the last meeting a connection that works has found no session
+	remain      int       // how many transactions count towards the limit: named, and not gone
+	bytes       int       // about how many bytes these take
+	asking      time.Time // since when a round isn't answered; zero if each is
+	full        time.Time // since when there is no room; zero if there is
 
 	rows       *rows
 	writers    map[uint32]*writer // those that only the slot or only a session has reported
@@ -54,14 +63,16 @@ type core struct {
 	deduced    uint64    // what was reported up to this batch has told what it passed over
 	shows      *snapshot // the latest one
 	progress   uint64
-	since      int       // number of transactions named since the last meeting
-	oldest     time.Time // when the first of them was named
-	counts     counts
-	questions  *conditions
-	besides    []besides // oldest first
-	beside     time.Time // what was reported by then waits for nobody any more
-	looked     time.Time // when the last of besides was taken; zero if nobody takes them
-	writes     time.Time // when a writer was reported last
+	since      int // number of transactions named since the last meeting
+	unchecked  int // and since the last round
+	// foldedBefore is how many were folded since they ran across a moment, up to the last meeting.
+	foldedBefore uint64
+	counts       counts
+	questions    *conditions
+	besides      []besides // oldest first
+	beside       time.Time // what was reported by then waits for nobody any more
+	looked       time.Time // when the last of besides was taken; zero if nobody takes them
+	writes       time.Time // when a writer was reported last
 }
 
 type batchAt struct {
@@ -84,7 +95,7 @@ func newCore(opt Options, tables Tables, base uint32, out func([]byte), now time
 		counts:      newCounts(),
 		questions:   newConditions(opt.Conditions),
 	}
-	for i := 0; i < opt.Sessions; i++ {
+	for i := 0; i < opt.First; i++ {
 		c.sessions = append(c.sessions, &session{index: i, fenced: true})
 	}
 	return c
@@ -309,49 +320,86 @@ func (c *core) end(rest []message) {
 			c.await(it)
 		case !c.isReported(it.Number):
 			c.counts.wrote(it.Did.Written)
+		default:
+			if w := c.writers[uint32(it.Number)]; w != nil {
+				w.named = true
+			}
 		}
 	}
 	c.endUnnumbered()
-	for _, s := range c.sessions {
-		c.endEntries(s.waiting)
-	}
-	c.endEntries(c.held)
-	for _, one := range c.expected {
-		if c.isAwaited(one.writer) {
-			c.missing(one, true)
+	for number, rows := range c.unreportedRows() {
+		c.counts.wrote(rows)
+		if why, is := c.owed[number]; is {
+			c.counts.leaveWrites(why, rows)
 		}
 	}
 	c.counts.totals.close(auditEnded)
 }
 
-// endUnnumbered counts the rows of those whose number isn't known, as far as the slot hasn't reported as many: at most those
-// of what it hasn't passed.
-func (c *core) endUnnumbered() {
-	most, reported := uint64(0), c.counts.leftWrites[noNumber]
+// endUnnumbered counts the rows of those whose number isn't known, as far as the slot hasn't reported them.
+func (c *core) endUnnumbered() { c.counts.wrote(c.unreported()) }
+
+// unreported is how many rows of those whose number isn't known the slot has yet to report, by their statements' own words:
+// at most those of what it hasn't passed, and of what may have ended before it began.
+func (c *core) unreported() uint64 {
+	most, reported := c.counts.early, c.counts.leftWrites[noNumber]
 	for _, u := range c.unnumbered {
 		if u.batch > c.passed {
 			most += u.rows
 		}
 	}
+	reported += c.unnamedRows()
+	if n := c.counts.unnumbered; n > reported {
+		return min(n-reported, most)
+	}
+	return 0
+}
+
+// unnamedRows is how many rows the slot has reported of commits of which it isn't decided whose they are.
+func (c *core) unnamedRows() (n uint64) {
 	for _, w := range c.late {
 		if w.fate == undecided && !w.named {
-			reported += uint64(len(w.writes()))
+			n += uint64(len(w.writes()))
 			for _, left := range w.leftOut() {
-				reported += left.rows
+				n += left.rows
 			}
 		}
 	}
-	if n := c.counts.unnumbered; n > reported {
-		c.counts.wrote(min(n-reported, most))
-	}
+	return n
 }
 
-func (c *core) endEntries(its []*entry) {
-	for _, e := range its {
-		if !e.fence && e.writer != nil && e.writer.place == 0 {
-			c.counts.wrote(e.its.Did.Written)
+// unclaimed is how many of these rows those whose number isn't known don't account for: whose transactions nobody has told.
+func (c *core) unclaimed() uint64 {
+	rows, told := c.unnamedRows(), c.counts.leftWrites[noNumber]
+	if n := c.counts.unnumbered; n > told {
+		rows -= min(rows, n-told)
+	}
+	return rows
+}
+
+// unreportedRows are the rows that transactions wrote by their statements' own words, by number, of those that the slot hasn't
+// reported.
+func (c *core) unreportedRows() map[uint32]uint64 {
+	its := map[uint32]uint64{}
+	for _, one := range c.expected {
+		if c.isAwaited(one.writer) {
+			its[one.writer.number] = one.rows
 		}
 	}
+	add := func(e *entry) {
+		if !e.fence && e.writer != nil && e.writer.place == 0 {
+			its[e.writer.number] = e.its.Did.Written
+		}
+	}
+	for _, s := range c.sessions {
+		for _, e := range s.waiting {
+			add(e)
+		}
+	}
+	for _, e := range c.held {
+		add(e)
+	}
+	return its
 }
 
 // isReported reports whether the slot has reported the commit of a number that no session has named.

@@ -127,6 +127,15 @@ func TestStories(t *testing.T) {
 				Absent: []record.Absence{absent("a")}})
 			b.settle()
 		}, []string{`["offer",0,0,[[[[1,"init"]],[1]]]]`}, absentOwn},
+		{"an absent row that was asked for after a write which is undone is left out", func(b *bench) {
+			b.connect(1)
+			b.commit(1001, "b")
+			gone := absent("a")
+			gone.Wrote, gone.Undone = true, true
+			b.tell(1, 0, record.Transaction{Number: 1001, Level: record.Serializable, Snapshot: "1001:1001:",
+				Absent: []record.Absence{gone}})
+			b.settle()
+		}, []string{`["offer",0,0,[[[[1,"init"]],[1]]]]`}, absentUndone},
 		{"aborted and empty transactions take no number", func(b *bench) {
 			b.connect(1)
 			b.commit(1001, "a")

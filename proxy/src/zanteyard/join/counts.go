@@ -13,6 +13,9 @@ type counts struct {
 	writes, writesOffered                                                    uint64
 	leftWrites                                                               map[string]uint64
 	unnumbered                                                               uint64 // rows of such transactions, by their own words
+	early                                                                    uint64 // of these, those of transactions that may have ended before the slot began
+	awaited                                                                  uint64 // such transactions, each of which has one commit at most
+	procedures                                                               bool   // one of them may have several
 	// totals has what is decided, except that what was offered since the last round is in fresh.
 	totals, fresh              Totals
 	asks, asksFollowed, passed uint64 // conditions, and rows they passed over
@@ -72,6 +75,20 @@ func (c *counts) outside(commits, rows int64) {
 	c.totals.OutsideRows += uint64(rows)
 	c.totals.RowsWritten.All -= uint64(rows)
 	c.leftWrites[byOthers] += uint64(rows)
+}
+
+// awaits counts a transaction whose number isn't known. One with a procedure may have committed several times.
+func (c *counts) awaits(hasProcedures bool) {
+	c.awaited++
+	c.procedures = c.procedures || hasProcedures
+}
+
+// bypassed is how many of the commits of which it isn't known whose they are can't be of these transactions.
+func (c *counts) bypassed() uint64 {
+	if untold := c.totals.Untold; untold > c.awaited && !c.procedures {
+		return untold - c.awaited
+	}
+	return 0
 }
 
 // put counts a transaction that is offered. One of which nothing was offered after all counts as left out.

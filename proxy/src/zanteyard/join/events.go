@@ -18,7 +18,7 @@ type Started struct {
 	Temporary        bool
 	Subtransactions  string
 	Warnings         []string
-	Opened           time.Time // when the slot had begun: what had ended by then isn't in it
+	Asked, Opened    time.Time // when the slot was asked for, and when it had begun: what had ended by the first isn't in it
 }
 
 // Meeting reports a quiet moment, for which clients were held that long, and how many fences were written for it.
@@ -28,10 +28,19 @@ type Meeting struct {
 	Took   time.Duration
 }
 
+// Checking reports that a round without a meeting follows, about everything that was reported by that time.
+type Checking struct{ At time.Time }
+
 // Warning reports something that people should know.
 type Warning struct {
 	At   time.Time
 	Text string
+}
+
+// Behind reports that the auditor has fallen behind for good: another audit should begin.
+type Behind struct {
+	At     time.Time
+	Reason string
 }
 
 // Ended reports that the audit has ended; traffic goes on. Blocked: it couldn't begin, because an earlier transaction
@@ -49,6 +58,14 @@ type Stopped struct{ At time.Time }
 
 // Drained reports that the proxy has no connection left, accepts none, and waits for the parent alone.
 type Drained struct{ At time.Time }
+
+// Earlier reports what ended before the parent's first audit, of which no parent has told its outcome: while nothing was
+// audited, and, how many transactions, in audits whose parents are gone.
+type Earlier struct {
+	At        time.Time
+	Unaudited Totals
+	Untold    uint64
+}
 
 // Coverage reports how much of what happened was offered, from the beginning of the audit.
 type Coverage struct {
@@ -137,10 +154,13 @@ type Row struct {
 func (Started) event()      {}
 func (Meeting) event()      {}
 func (Warning) event()      {}
+func (Behind) event()       {}
+func (Checking) event()     {}
 func (Ended) event()        {}
 func (Restarted) event()    {}
 func (Stopped) event()      {}
 func (Drained) event()      {}
+func (Earlier) event()      {}
 func (Coverage) event()     {}
 func (Transactions) event() {}
 
@@ -151,6 +171,7 @@ func (j *Joiner) coverageEvent(isLast bool) Coverage {
 	unseen, gone, lost, totals := j.inbox.counted(isLast)
 	n.lost = lost
 	totals.add(&n.totals)
+	totals.Bypassed += n.bypassed()
 	it := Coverage{
 		Totals: totals,
 		At:     time.Now(), Committed: n.committed, Offered: n.offered, Fences: n.fences, Aborted: n.aborted, Bare: n.bare,
@@ -163,7 +184,7 @@ func (j *Joiner) coverageEvent(isLast bool) Coverage {
 		AsksDropped: c.questions.dropped,
 		Unseen:      unseen, Connections: len(c.connections), ConnectionsEver: n.ever,
 		Lag: c.lag(), Rows: len(c.rows.by), Rounds: n.rounds, StatementsDropped: n.dropped, Lost: n.lost, SubsLost: n.unread,
-		Remaining: c.remaining(),
+		Remaining: c.remain,
 	}
 	if n.lost > 0 {
 		it.Folded[tooFast] = n.lost

@@ -16,21 +16,23 @@ type gate struct {
 	used     uint64 // so many tables were looked at
 	shows    snapshot
 	changed  map[record.Relation]change
-	awaited  int // of these, how many wait for a commit
+	awaited  map[uint32][]record.Relation // of these, which wait for a commit, by its transaction's number
+	until    uint64                       // after this place, and with these names, all are right again
+	names    uint64
 }
 
 // change says of a table up to where its name may have had another meaning.
 type change struct {
 	names, place uint64
-	// Its definition was written before this place, by this transaction: after its commit the name is right.
+	// Its definition was written before this place, by so many transactions that haven't come yet: after their commits the
+	// name is right.
 	rewritten uint64
-	by        uint32
-	isOver    bool
+	by        int
 }
 
 // isUnsure reports whether the table's name in a commit may have had another meaning.
 func (c change) isUnsure(it *record.Commit) bool {
-	return it.Names < c.names || it.LSN <= c.place || it.LSN <= c.rewritten && !c.isOver
+	return it.Names < c.names || it.LSN <= c.place || it.LSN <= c.rewritten && c.by > 0
 }
 
 // mostHeld is how many commits may wait before the slot has to.
@@ -43,7 +45,7 @@ func (g *gate) waits() bool     { return len(g.queue) > 0 }
 // verify records what names mean at a place, and releases what comes before it.
 func (g *gate) verify(place Place, to *core) {
 	if g.changed == nil {
-		g.changed = map[record.Relation]change{}
+		g.changed, g.awaited = map[record.Relation]change{}, map[uint32][]record.Relation{}
 	}
 	forgotten := map[record.Relation]bool{}
 	for _, relation := range place.Changed {
@@ -52,18 +54,46 @@ func (g *gate) verify(place Place, to *core) {
 		g.changed[relation], forgotten[relation] = its, true
 	}
 	for _, one := range place.Rewritten {
-		its := g.changed[one.Relation]
-		if its.by == 0 || its.isOver {
-			g.awaited++
-		}
-		its.rewritten, its.by, its.isOver = place.At, one.By, false
-		g.changed[one.Relation], forgotten[one.Root] = its, true
+		g.rewrite(one, place.At)
+		forgotten[one.Root] = true
+	}
+	if len(forgotten) > 0 && place.At > g.until {
+		g.until = place.At
+	}
+	if len(place.Changed) > 0 && place.Names > g.names {
+		g.names = place.Names
 	}
 	to.forgetTables(forgotten)
 	if shows, ok := snapshotOf(place.Shows); ok && !place.Unsure && place.At >= g.verified {
 		g.verified, g.used, g.shows = place.At, place.Used, shows
 	}
 	g.release(to)
+}
+
+// rewrite records that a table's definition was written before a place. Who wrote it hasn't come yet: the place before
+// this one didn't show it.
+func (g *gate) rewrite(one Rewritten, at uint64) {
+	its := g.changed[one.Relation]
+	if len(one.By) == 0 {
+		its.place = at
+	}
+	for _, number := range one.By {
+		if !g.awaits(number, one.Relation) {
+			g.awaited[number] = append(g.awaited[number], one.Relation)
+			its.by++
+		}
+	}
+	its.rewritten = at
+	g.changed[one.Relation] = its
+}
+
+func (g *gate) awaits(number uint32, relation record.Relation) bool {
+	for _, one := range g.awaited[number] {
+		if one == relation {
+			return true
+		}
+	}
+	return false
 }
 
 // release lets through what is verified. The slot reports in the log's order: if its next commit comes after a place,
@@ -83,7 +113,7 @@ func (g *gate) release(to *core) {
 			break
 		}
 		to.commit(g.sure(*it.commit))
-		g.passes(it.commit.Number)
+		g.passes(it.commit)
 		to.advance(it.commit.LSN)
 	}
 	if n < len(g.queue) && g.queue[n].after(g.verified) {
@@ -96,18 +126,21 @@ func (g *gate) release(to *core) {
 	g.queue = append(g.queue[:0], g.queue[n:]...)
 }
 
-// passes notices the commit of a transaction that wrote definitions.
-func (g *gate) passes(number uint32) {
-	if g.awaited == 0 {
+// passes notices the commit of a transaction that wrote definitions, and forgets all changes once names are right again.
+func (g *gate) passes(it *record.Commit) {
+	if len(g.changed) == 0 {
 		return
 	}
-	for relation, its := range g.changed {
-		if its.by == number && !its.isOver {
-			its.isOver = true
-			g.changed[relation] = its
-			g.awaited--
-		}
+	if it.LSN > g.until && it.Names >= g.names {
+		g.changed, g.awaited = nil, nil
+		return
 	}
+	for _, relation := range g.awaited[it.Number] {
+		its := g.changed[relation]
+		its.by--
+		g.changed[relation] = its
+	}
+	delete(g.awaited, it.Number)
 }
 
 // sure returns the commit without the writes of tables that may be others, which are counted.

@@ -1,7 +1,9 @@
 package join
 
 import (
+	"fmt"
 	"reflect"
+	"sort"
 	"testing"
 	"time"
 
@@ -68,8 +70,8 @@ func TestRewrittenTables(t *testing.T) {
 	tell(1002, 200, "between")
 	tell(1003, 300, "by it")
 	tell(1004, 400, "after it")
-	g.verify(Place{At: 500, Shows: all, Rewritten: []Rewritten{{Relation: 1, Root: 1, By: 1003}}}, b.core)
-	g.verify(Place{At: 600, Shows: all, Rewritten: []Rewritten{{Relation: 1, Root: 1, By: 1009}}}, b.core) // which isn't reported
+	g.verify(Place{At: 500, Shows: all, Rewritten: []Rewritten{{Relation: 1, Root: 1, By: []uint32{1003}}}}, b.core)
+	g.verify(Place{At: 600, Shows: all, Rewritten: []Rewritten{{Relation: 1, Root: 1, By: []uint32{1009}}}}, b.core) // which isn't reported
 	tell(1005, 590, "before another one")
 	tell(1006, 610, "after that")
 	g.verify(Place{At: 700, Shows: all}, b.core)
@@ -84,6 +86,51 @@ func TestRewrittenTables(t *testing.T) {
 	}
 	if began := b.core.now.Add(-time.Second); !b.core.isFromBefore(1, &record.Transaction{Began: began, Ended: began}) {
 		t.Error("who began before it was seen may count")
+	}
+}
+
+// TestRewrittenByTwo: what is committed between two that have written parts of a definition isn't right yet, whichever of
+// them wrote the table's own row, and whether they are found together or not. If nothing says who did, all waits for the
+// place. What was changed long ago is forgotten.
+func TestRewrittenByTwo(t *testing.T) {
+	one := func(by ...uint32) []Rewritten {
+		return []Rewritten{{Relation: 1, Root: 1, By: by}, {Relation: 2, Root: 2, By: by}}
+	}
+	for _, x := range []struct {
+		name  string
+		finds [2][]Rewritten
+		right []string
+	}{
+		{"one after the other", [2][]Rewritten{one(1002, 1004)}, []string{"5", "6", "7"}},
+		{"found in turn", [2][]Rewritten{one(1002), one(1004)}, []string{"5", "6", "7"}},
+		{"the later one is found first", [2][]Rewritten{one(1004), one(1002)}, []string{"5", "6", "7"}},
+		{"found twice", [2][]Rewritten{one(1002, 1004), one(1004)}, []string{"5", "6", "7"}},
+		{"who isn't known", [2][]Rewritten{one()}, []string{"7"}},
+		{"who isn't known, and one who is", [2][]Rewritten{one(), one(1002)}, []string{"7"}},
+		{"nothing", [2][]Rewritten{}, []string{"2", "3", "4", "5", "6", "7"}},
+	} {
+		b := newBench(t, Options{})
+		var g gate
+		for number := uint32(1002); number <= 1006; number++ {
+			g.put(fromSlot{commit: &record.Commit{Number: number, LSN: uint64(number), Writes: []record.Write{{Relation: 1, Key: record.Key(fmt.Sprint(number - 1000))}}}})
+		}
+		g.verify(Place{At: 1008, Shows: "1001:1001:", Rewritten: x.finds[0]}, b.core)
+		g.verify(Place{At: 1009, Shows: all, Rewritten: x.finds[1]}, b.core)
+		g.put(fromSlot{commit: &record.Commit{Number: 1007, LSN: 1010, Writes: []record.Write{{Relation: 1, Key: "7"}}}})
+		g.verify(Place{At: 1011, Shows: all}, b.core)
+		var keys []string
+		for id := range b.core.rows.by {
+			if id.relation == 1 {
+				keys = append(keys, string(id.key))
+			}
+		}
+		sort.Strings(keys)
+		if !reflect.DeepEqual(keys, x.right) {
+			t.Errorf("%s: the table has the rows %q", x.name, keys)
+		}
+		if len(g.changed)+len(g.awaited) > 0 {
+			t.Errorf("%s: %v and %v are remembered", x.name, g.changed, g.awaited)
+		}
 	}
 }
 

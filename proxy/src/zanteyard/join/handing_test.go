@@ -222,11 +222,11 @@ func TestNoRoomForFences(t *testing.T) {
 	if n := b.core.counts; n.offered != 7 || n.folded[noRoom] != 4 {
 		t.Errorf("offered %d, folded %v", n.offered, n.folded)
 	}
-	if !b.core.wantsMeeting(b.now.Add(-time.Hour)) {
+	if !b.core.wantsMeeting(b.now.Add(-time.Hour), nobody) {
 		t.Error("there is no room, and no meeting is wanted to make some")
 	}
 	marks, found := b.model.settled()
-	if !found || !b.core.cut(marks) || b.core.wantsMeeting(b.now.Add(-time.Hour)) {
+	if !found || !b.core.cut(marks) || b.core.wantsMeeting(b.now.Add(-time.Hour), nobody) {
 		t.Errorf("after a cut at %v there is still no room", marks)
 	}
 }

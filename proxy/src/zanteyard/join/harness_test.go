@@ -46,6 +46,9 @@ type bench struct {
 const base = 1000 // transactions with lower numbers were over when the audit began
 
 func newBench(t testing.TB, opt Options) *bench {
+	if opt.First == 0 {
+		opt.First = opt.Sessions // none joins later
+	}
 	b := &bench{t: t, now: time.Unix(1000, 0), place: 100, shows: "3:2000000000:"}
 	b.core = newCore(opt, plainTables{}, base, b.line, b.now)
 	b.core.open()
@@ -60,6 +63,9 @@ func (b *bench) line(text []byte) {
 	}
 	if b.model == nil {
 		b.model = &model{sessions: make([]modelSession, int(it[1].(float64))), limit: int(it[2].(float64))}
+		if it[3].(float64) != 3 {
+			b.t.Errorf("opened by %s", text)
+		}
 		return
 	}
 	if refusal := b.model.take(it); refusal != "" {

@@ -16,13 +16,19 @@ type Inbox struct {
 	wake chan struct{} // it is half full
 	now  func() time.Time
 
-	lock    sync.Mutex
-	its     []message
-	bytes   int
-	most    int
-	closed  bool
-	late    Totals // of what ended since it was closed
-	next    *Inbox // the one of the next audit, to which that goes
+	lock   sync.Mutex
+	its    []message
+	bytes  int
+	most   int
+	stuck  bool // the server doesn't answer: nothing is taken out until it does
+	closed bool
+	late   Totals // of what ended since it was closed
+	next   *Inbox // the one of the next audit, to which that goes
+	told   bool   // somebody was told its totals
+	spare  *spare // of the audit before, until it is closed
+	// Between the two what arrives waits.
+	ending  bool
+	waiting []*record.Transaction
 	lost    uint64
 	gone    map[string]uint64 // by reason
 	totals  Totals            // of transactions that never reach the joiner
@@ -37,6 +43,7 @@ type message struct {
 	transaction *record.Transaction
 	moment      *moment
 	dropped     *record.Transaction // without anything that takes room: there was none for more
+	why         string              // and why not
 }
 
 // mostDropped is how many transactions for which there is no room may wait to be counted.
@@ -83,7 +90,7 @@ func (b *Inbox) Transaction(it record.Transaction) {
 		}
 		b.lose(otherServer, 1)
 		b.totals.apart(&it, otherServer)
-		b.totals.wrote(&it, otherServer)
+		b.totals.wrote(&it, it.Did.Written, otherServer)
 		return
 	}
 	b.put(message{transaction: &it}, sizeOf(&it))
@@ -128,16 +135,24 @@ func (b *Inbox) add(it message, bytes int) bool {
 
 // drop counts a transaction for which there is no room.
 func (b *Inbox) drop(it *record.Transaction) {
-	b.totals.apart(it, tooFast)
+	why := tooFast
+	if b.stuck {
+		why = unanswered
+	}
+	b.totals.apart(it, why)
 	if it.Outcome == record.Aborted {
 		return
 	}
-	b.lost++
+	if b.stuck {
+		b.lose(why, 1)
+	} else {
+		b.lost++
+	}
 	if it.Number == 0 && !it.MayHaveWritten || b.dropped >= mostDropped {
 		return
 	}
 	b.dropped++
-	b.its = append(b.its, message{dropped: &record.Transaction{Connection: it.Connection, Began: it.Began, Ended: it.Ended,
+	b.its = append(b.its, message{why: why, dropped: &record.Transaction{Connection: it.Connection, Began: it.Began, Ended: it.Ended,
 		After: it.After, Known: it.Known, Number: it.Number, MayHaveWritten: it.MayHaveWritten, Defines: it.Defines,
 		Did: record.Did{Written: it.Did.Written}}})
 }
@@ -191,18 +206,12 @@ const otherServer = "on a connection to another server than the audited one, or 
 func (b *Inbox) Lose(reason string, n uint64) {
 	b.lock.Lock()
 	defer b.lock.Unlock()
-	to := &b.totals
-	switch {
-	case b.next != nil:
-		b.next.Lose(reason, n)
-		return
-	case b.closed:
-		to = &b.late
-	default:
+	if !b.closed {
 		b.lose(reason, n)
+		b.totals.lose(reason, n)
+		return
 	}
-	to.Transactions.All += n
-	to.Transactions.leave(reason, n)
+	b.sinceClosed(func(to *Totals) { to.lose(reason, n) })
 }
 
 func (b *Inbox) lose(reason string, n uint64) {
@@ -210,6 +219,13 @@ func (b *Inbox) lose(reason string, n uint64) {
 		b.gone = map[string]uint64{}
 	}
 	b.gone[reason] += n
+}
+
+// wait says whether what is told now waits for the server's answer.
+func (b *Inbox) wait(is bool) {
+	b.lock.Lock()
+	defer b.lock.Unlock()
+	b.stuck = is
 }
 
 // take empties the inbox.
@@ -236,37 +252,129 @@ func (b *Inbox) tellLate(its []message) {
 
 // countLate counts a transaction that ended while no audit ran. Called with lock held.
 func (b *Inbox) countLate(it *record.Transaction) {
-	to := &b.late
-	if b.next != nil {
-		b.next.lock.Lock()
-		defer b.next.lock.Unlock()
-		to = &b.next.totals
+	if b.ending {
+		b.waiting = append(b.waiting, it)
+		return
 	}
-	to.apart(it, noAudit)
-	to.wrote(it, noAudit)
+	rows := b.spare.without(it)
+	b.sinceClosed(func(to *Totals) {
+		to.apart(it, noAudit)
+		to.wrote(it, rows, noAudit)
+	})
 }
 
-// Late returns what was counted since it was closed.
+// spare are rows that the slot had reported by an audit's end, and of whose transactions no session had by then: they
+// are counted. What is told afterwards of a transaction that had begun by then may be of these. Safe for use by many
+// goroutines.
+type spare struct {
+	lock  sync.Mutex
+	until time.Time
+	rows  uint64
+}
+
+// without returns how many rows a transaction wrote by its statements' own words, without those that are counted.
+func (s *spare) without(it *record.Transaction) uint64 {
+	rows := it.Did.Written
+	if s == nil || it.Outcome == record.Aborted || !it.Began.Before(s.until) {
+		return rows
+	}
+	s.lock.Lock()
+	defer s.lock.Unlock()
+	taken := min(rows, s.rows)
+	s.rows -= taken
+	return rows - taken
+}
+
+// spares records how many such rows an audit's end has left.
+func (b *Inbox) spares(rows uint64) {
+	b.lock.Lock()
+	defer b.lock.Unlock()
+	b.spare = &spare{until: b.now(), rows: rows}
+	waiting := b.waiting
+	b.ending, b.waiting = false, nil
+	for _, it := range waiting {
+		b.countLate(it)
+	}
+}
+
+// end closes it, and returns what is in it; spares has to be called.
+func (b *Inbox) end() []message {
+	b.lock.Lock()
+	defer b.lock.Unlock()
+	b.ending = true
+	return b.shut()
+}
+
+// ends counts what waits, if nobody has called spares after all.
+func (b *Inbox) ends() {
+	b.lock.Lock()
+	waits := b.ending
+	b.lock.Unlock()
+	if waits {
+		b.spares(0)
+	}
+}
+
+// sinceClosed counts something that was told since it was closed: in the next audit, if there is one. Called with lock
+// held.
+func (b *Inbox) sinceClosed(count func(*Totals)) {
+	next := b.next
+	if next == nil {
+		count(&b.late)
+		return
+	}
+	next.lock.Lock()
+	defer next.lock.Unlock()
+	if next.closed {
+		next.sinceClosed(count)
+		return
+	}
+	count(&next.totals)
+}
+
+// Late takes out what was counted since it was closed, and isn't in a next audit; and, if nobody was told of it, what was
+// counted before, as of an audit that never began.
 func (b *Inbox) Late() Totals {
 	b.lock.Lock()
 	defer b.lock.Unlock()
-	return b.late.Copied()
+	return b.takeLate()
 }
 
-// After makes an inbox that was closed count for this one, of the next audit.
-func (b *Inbox) After(closed *Inbox) {
+// takeLate is Late. Called with lock held.
+func (b *Inbox) takeLate() Totals {
+	late := b.late
+	if b.late = (Totals{}); !b.told {
+		late.add(&b.totals)
+		b.totals, b.told = Totals{}, true
+	}
+	return late
+}
+
+// After makes an inbox that was closed count for this one, of the next audit, from now on, and takes out what was counted
+// since it was closed (Late).
+func (b *Inbox) After(closed *Inbox) Totals {
 	closed.lock.Lock()
 	defer closed.lock.Unlock()
+	closed.next, b.spare = b, closed.spare
+	return closed.takeLate()
+}
+
+// Adds counts what had ended before.
+func (b *Inbox) Adds(late *Totals) {
 	b.lock.Lock()
 	defer b.lock.Unlock()
-	b.totals.add(&closed.late)
-	closed.late, closed.next = Totals{}, b
+	b.totals.add(late)
 }
 
 // close closes it, and returns what is in it.
 func (b *Inbox) close() []message {
 	b.lock.Lock()
 	defer b.lock.Unlock()
+	return b.shut()
+}
+
+// shut is close. Called with lock held.
+func (b *Inbox) shut() []message {
 	its := b.its
 	b.its, b.bytes, b.dropped, b.closed = nil, 0, 0, true
 	return its
@@ -284,7 +392,7 @@ func (b *Inbox) counted(isLast bool) (its []Unseen, gone map[string]uint64, lost
 	if b.outside != nil {
 		its = append(its, *b.outside)
 	}
-	gone, lost, totals = copyOf(b.gone), b.lost, b.totals.Copied()
+	gone, lost, totals, b.told = copyOf(b.gone), b.lost, b.totals.Copied(), true
 	if isLast {
 		b.unseen, b.outside, b.gone, b.lost, b.totals = map[unseenKey]*Unseen{}, nil, nil, 0, Totals{}
 	}

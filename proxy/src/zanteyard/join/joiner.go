@@ -41,10 +41,11 @@ type Place struct {
 }
 
 // Rewritten is a table whose definition was written, or one of its indexes' or its schema's: names may have been changed,
-// and changed back. By is who wrote the table's own row last: what is committed after that has the right names.
+// and changed back. By is who wrote the parts that have changed: what is committed after all of them has the right names.
+// If it is empty, that isn't known.
 type Rewritten struct {
 	Relation, Root record.Relation
-	By             uint32
+	By             []uint32
 }
 
 // Meeter makes the proxy's sessions meet. Other connections than those that are named wait for nothing, and are waited
@@ -87,17 +88,23 @@ type Joiner struct {
 	meetings   uint64    // how many have begun
 	last       time.Time // when the last one did
 	sought     time.Time // since when one is wanted for which nobody has to wait
+	rounded    time.Time // when what the last round is about was noted
 	wanted     bool      // a meeting is wanted at once
 	stopping   bool
 	again      bool // a new audit is wanted
 	restarts   atomic.Bool
 	failed     error
-	ended      Coverage // once Run has returned
-	unanswered int      // number of rounds whose truncate wasn't answered by a cut
-	placing    bool     // a question for the log's place is under way
+	taken      []message // out of the inbox, and not yet processed
+	counted    uint64    // transactions, before the first of them
+	ended      Coverage  // once Run has returned
+	earlier    uint64    // transactions of the audits before it, which Restart has ended
+	heard      uint64    // of all that, what its parent was told of when the audit was stopped
+	hasStopped bool
+	leftOut    uint64 // how many were left out since the auditor fell behind, at the last look
+	unanswered int    // number of rounds whose truncate wasn't answered by a cut
+	placing    bool   // a question for the log's place is under way
 	placedAt   time.Time
-	failing    time.Time // since when that question has failed
-	failure    error
+	answers    answers
 	asking     bool // a question for subtransactions is under way
 	warned     sync.Mutex
 	warnings   map[string]time.Time // when each was last given
@@ -122,8 +129,9 @@ var errEnded = errors.New("the audit has ended")
 
 // New makes a joiner, which begins with Run. It asks for subtransactions if inspects is set.
 func New(opt Options, inbox *Inbox, tables Tables, server Server, inspects bool, meeter Meeter, output Output) *Joiner {
+	opt = opt.withDefaults()
 	return &Joiner{
-		opt: opt.withDefaults(), tables: tables, server: server, meeter: meeter, output: output, inbox: inbox,
+		opt: opt, answers: answers{first: opt.Answer}, tables: tables, server: server, meeter: meeter, output: output, inbox: inbox,
 		told: make(chan fromSlot, 4096), replies: make(chan func(), 16), commands: make(chan func(), 16),
 		done: make(chan struct{}), inspects: inspects, made: time.Now(),
 	}
@@ -150,14 +158,13 @@ func (j *Joiner) give(it fromSlot) error {
 }
 
 const (
-	step      = 5 * time.Millisecond
-	giveOut   = 50 * time.Millisecond // each line costs its receivers, however little is in it
-	askSoon   = 20 * time.Millisecond
-	askPlace  = 100 * time.Millisecond
-	each      = time.Second
-	questions = 5 * time.Second // how long to wait for the server
-	patience  = time.Minute     // with a server that doesn't answer
-	mostSubs  = 200             // commits in one question
+	step     = 5 * time.Millisecond
+	giveOut  = 50 * time.Millisecond // each line costs its receivers, however little is in it
+	askSoon  = 20 * time.Millisecond
+	askPlace = 100 * time.Millisecond
+	each     = time.Second
+	patience = time.Minute // with an auditor that doesn't answer, and a server that answers with errors
+	mostSubs = 200         // commits in one question
 )
 
 // Start sets what the feed reports when the audit begins. Must be called before Run.
@@ -168,22 +175,50 @@ func (j *Joiner) Start(it Started) { j.started = it }
 func (j *Joiner) Run(ctx context.Context) error {
 	err := guard.Run("the joiner", func() error { return j.run(ctx) })
 	close(j.done)
-	rest := j.inbox.close()
-	if j.core != nil && !guard.IsFault(err) { // after a fault, nothing that it holds can be relied on
+	rest := j.inbox.end()
+	defer j.inbox.ends() // also after a fault in what follows: else all that arrives would wait
+	switch {
+	case j.core == nil:
+		j.inbox.spares(0)
+		j.inbox.tellLate(rest)
+	case guard.IsFault(err):
+		j.inbox.spares(0)
+		j.salvage(rest)
+	default:
 		j.core.flush()
 		j.core.end(rest)
+		j.inbox.spares(j.core.unclaimed())
 		j.ended = j.coverageEvent(false)
+	}
+	if j.core != nil {
 		j.ended.Last = true
 		j.output.Event(j.ended)
-	} else {
-		j.inbox.tellLate(rest)
 	}
 	j.output.Event(Ended{Reason: err.Error()})
 	return err
 }
 
+// salvage counts after a fault. Of what the audit holds only its sums can be relied on: whatever isn't decided is not
+// checked.
+func (j *Joiner) salvage(rest []message) {
+	totals := &j.core.counts.totals
+	if len(j.taken) > 0 && totals.Transactions.ended() != j.counted {
+		j.taken = j.taken[1:] // it was counted before the fault
+	}
+	j.inbox.tellLate(append(j.taken, rest...))
+	totals.settle(auditEnded)
+	guard.Do("the sums after a fault", func(error) { j.ended = Coverage{At: time.Now(), Totals: totals.Copied()} },
+		func() { j.ended = j.coverageEvent(false) })
+}
+
 // Coverage returns the state of the audit when Run returned.
 func (j *Joiner) Coverage() Coverage { return j.ended }
+
+// Untold returns, once Run has returned, how many transactions were counted after the audit was stopped, and whether it
+// was. If nobody stopped it, these are all.
+func (j *Joiner) Untold() (n uint64, wasStopped bool) {
+	return j.earlier + j.ended.Totals.Transactions.ended() - j.heard, j.hasStopped
+}
 
 func (j *Joiner) run(ctx context.Context) error {
 	j.started.At, j.started.Limit, j.started.Sessions = time.Now(), j.opt.Limit, j.opt.Sessions
@@ -225,20 +260,21 @@ func (j *Joiner) run(ctx context.Context) error {
 
 // begin starts an audit: what a snapshot shows now is the initial state.
 func (j *Joiner) begin(ctx context.Context) error {
-	asking, cancel := context.WithTimeout(ctx, questions)
-	defer cancel()
-	base, err := j.server.Base(asking)
+	base, err := j.base(ctx)
 	if err != nil {
 		return fmt.Errorf("begin the audit: %w", err)
 	}
 	connections, before := j.connections(), j.core
 	j.core = newCore(j.opt, j.tables, base, j.output.Line, time.Now())
 	j.core.inspects, j.core.database, j.core.slotted = j.inspects, j.started.Database, j.made
-	j.core.opened = j.started.Opened
+	j.core.spare = j.inbox.spare
+	j.core.sought, j.core.opened = j.started.Asked, j.started.Opened
 	if before != nil {
 		j.core.inherit(before)
 	}
-	j.meeting, j.last, j.sought, j.unanswered = meeting{}, time.Now(), time.Time{}, 0
+	j.meeting, j.last, j.sought, j.unanswered, j.leftOut = meeting{}, time.Now(), time.Time{}, 0, 0
+	j.rounded = j.last
+	j.wanted = j.wanted || j.stopping // the last round is still owed, though its meeting was the other audit's
 	j.core.open()
 	for _, one := range connections {
 		j.core.enter(one)
@@ -266,10 +302,34 @@ func (j *Joiner) slot() <-chan fromSlot {
 	return j.told
 }
 
+// base asks for the number below which all transactions are over, until the server answers.
+func (j *Joiner) base(ctx context.Context) (base uint32, err error) {
+	its := answers{first: j.opt.Answer}
+	for {
+		its.begin(time.Now())
+		asking, cancel := context.WithTimeout(ctx, its.limit())
+		base, err = j.server.Base(asking)
+		late := isLate(asking, err)
+		cancel()
+		j.answered(its.take(err, late, time.Now()))
+		if !late || ctx.Err() != nil {
+			return base, err
+		}
+	}
+}
+
+// empty takes out what was reported. While the server doesn't answer, nothing can be done with it. So it stays in the
+// inbox, which is bounded.
 func (j *Joiner) empty() {
+	waits := j.answers.isSlow(time.Now()) && !j.stopping
+	if j.inbox.wait(waits); waits {
+		return
+	}
 	its, lost := j.inbox.take()
 	j.core.now = time.Now()
-	for _, one := range its {
+	for j.taken = its; len(j.taken) > 0; j.taken = j.taken[1:] { // after a fault, the rest is still there
+		one := j.taken[0]
+		j.counted = j.core.counts.totals.Transactions.ended()
 		switch {
 		case one.connection != nil:
 			guard.At("a connection")
@@ -278,12 +338,12 @@ func (j *Joiner) empty() {
 			guard.At("a transaction")
 			j.core.tell(*one.transaction)
 		case one.dropped != nil:
-			j.core.drop(one.dropped)
+			j.core.drop(one.dropped, one.why)
 		default:
 			j.moment(*one.moment)
 		}
 	}
-	j.core.counts.lost = lost
+	j.taken, j.core.counts.lost = nil, lost
 }
 
 func (j *Joiner) tick(ctx context.Context) error {
@@ -296,6 +356,7 @@ func (j *Joiner) tick(ctx context.Context) error {
 		j.core.flush()
 		j.core.counts.totals.close(auditEnded)
 		last := j.coverageEvent(true)
+		j.earlier += last.Totals.Transactions.ended()
 		last.Last = true
 		j.output.Event(last)
 		j.output.Event(Restarted{At: now})
@@ -305,6 +366,7 @@ func (j *Joiner) tick(ctx context.Context) error {
 	}
 	j.core.step(now)
 	j.lookBeside(now)
+	j.lookBehind()
 	if now.Sub(j.given) >= giveOut {
 		j.given = now
 		j.core.flush()
@@ -331,8 +393,8 @@ func (j *Joiner) tick(ctx context.Context) error {
 	if j.failed != nil {
 		return j.failed
 	}
-	if !j.failing.IsZero() && now.Sub(j.failing) > patience {
-		return fmt.Errorf("ask the server for its WAL position: %w", j.failure)
+	if err := j.answers.refusal(now); err != nil {
+		return fmt.Errorf("ask the server for its WAL position: %w", err)
 	}
 	return nil
 }
@@ -359,20 +421,18 @@ func (j *Joiner) askPlace(ctx context.Context, now time.Time) {
 		return
 	}
 	j.placing, j.placedAt = true, now
+	j.answers.begin(now)
 	core := j.core
 	j.ask(ctx, func(asking context.Context) func() {
 		place, err := j.server.Place(asking)
+		late := isLate(asking, err)
 		return func() {
 			j.placing = false
+			j.answered(j.answers.take(err, late, time.Now()))
 			if err != nil { // it is asked again, with what is reported by then
 				j.core.batched = true
-				if j.failing.IsZero() {
-					j.failing = now
-				}
-				j.failure = err
 				return
 			}
-			j.failing = time.Time{}
 			j.gate.verify(place, j.core)
 			if wanted && core == j.core {
 				core.placed(batch, place, now)
@@ -381,10 +441,18 @@ func (j *Joiner) askPlace(ctx context.Context, now time.Time) {
 	})
 }
 
+// answered tells people what they should know of the server's answers, if anything.
+func (j *Joiner) answered(words string) {
+	if words != "" {
+		j.output.Event(Warning{At: time.Now(), Text: words})
+	}
+}
+
 // ask runs a question beside the joiner's loop, and the function that it returns in the loop.
 func (j *Joiner) ask(ctx context.Context, question func(context.Context) func()) {
+	limit := j.answers.limit()
 	guard.Go("a question to the server", j.End, func() {
-		asking, cancel := context.WithTimeout(ctx, questions)
+		asking, cancel := context.WithTimeout(ctx, limit)
 		defer cancel()
 		answer := question(asking)
 		select {

@@ -9,12 +9,13 @@ import (
 	"testing"
 	"time"
 
+	"zanteyard/guard"
 	"zanteyard/record"
 )
 
 // often are options of an audit whose sessions meet as often as they can.
 var often = Options{
-	Sessions: 4, Every: 1, Between: 30 * time.Millisecond, Within: 30 * time.Millisecond, Late: time.Minute, Stale: time.Hour,
+	Sessions: 4, First: 4, Between: 30 * time.Millisecond, Late: time.Minute, Stale: time.Hour,
 	Idle: time.Hour,
 }
 
@@ -53,7 +54,10 @@ func TestMeetings(t *testing.T) {
 	}
 	moments := 0
 	for _, one := range s.events {
-		if it, is := one.(Meeting); is {
+		switch it := one.(type) {
+		case Checking:
+			moments++
+		case Meeting:
 			moments++
 			if it.Fences < 4 || it.Fences > 7 || it.Took != time.Millisecond {
 				t.Errorf("told: %+v", it)
@@ -155,7 +159,7 @@ func TestServerThatDoesntTellItsPlace(t *testing.T) {
 // Stop makes a last round and reports it; the audit goes on.
 func TestStop(t *testing.T) {
 	opt := often
-	opt.Every, opt.Between, opt.Within = 1<<20, time.Hour, time.Hour
+	opt.Between = time.Hour
 	s := newStage(t, opt)
 	s.connect(1)
 	s.update(1, "a")
@@ -184,11 +188,32 @@ func TestStop(t *testing.T) {
 	}
 }
 
+// TestStopAsItRestarts: an audit that is to stop, and begins anew before its last meeting has ended, stops all the same.
+func TestStopAsItRestarts(t *testing.T) {
+	opt := often
+	opt.Between = time.Hour
+	s := newStage(t, opt)
+	slow := make(chan struct{})
+	s.slow = slow
+	s.connect(1)
+	s.update(1, "a")
+	s.until("an offer", func() bool { return s.lined("offer") > 0 })
+	s.joiner.Stop()
+	s.until("that they meet", func() bool { return s.slow == nil })
+	s.joiner.Restart()
+	s.until("another audit", func() bool { return s.lined("open") == 2 })
+	close(slow)
+	s.until("that it has stopped", func() bool {
+		_, is := s.events[len(s.events)-1].(Stopped)
+		return is
+	})
+}
+
 // Restart begins again with the existing connections. What was under way for the previous audit is dropped: a meeting
 // that it began reports nothing to the new one.
 func TestRestart(t *testing.T) {
 	opt := often
-	opt.Every, opt.Between, opt.Within = 1<<20, time.Hour, time.Hour
+	opt.Between = time.Hour
 	s := newStage(t, opt)
 	slow := make(chan struct{})
 	s.slow = slow
@@ -252,6 +277,54 @@ func TestEnd(t *testing.T) {
 	}
 }
 
+// faulty are tables that break after a while.
+type faulty struct {
+	plainTables
+	broken bool
+}
+
+func (f *faulty) Use(record.Relation) {
+	if f.broken {
+		panic("broken")
+	}
+}
+
+// TestFaultIsCounted: after a fault in the middle of what was reported, each transaction is still in one place: those before
+// it in the audit's own sums, and those from there on among what ended later.
+func TestFaultIsCounted(t *testing.T) {
+	tables := &faulty{}
+	s := &stage{t: t, inbox: NewInbox(1 << 20), failing: map[string]error{}}
+	j := New(often, s.inbox, tables, s, false, s, s)
+	j.core = newCore(j.opt, tables, base, s.Line, time.Now())
+	j.core.open()
+	one := record.Transaction{Connection: 1, Reads: []record.Read{read("a", 7)}, Did: record.Did{Again: 1}}
+	s.inbox.Connection(record.Connection{Number: 1})
+	for i := uint64(0); i < 3; i++ {
+		one.Place = i
+		s.inbox.Transaction(one)
+	}
+	j.empty()
+	tables.broken = true
+	for i := uint64(3); i < 8; i++ {
+		one.Place = i
+		s.inbox.Transaction(one)
+	}
+	err := guard.Run("a fault", func() error { j.empty(); return nil })
+	if !guard.IsFault(err) {
+		t.Fatal(err)
+	}
+	j.inbox.close()
+	j.salvage(nil)
+	s.inbox.Transaction(one) // after it
+	its, late := j.Coverage().Totals, s.inbox.Late()
+	if n := its.Ended(); n != 4 || its.Transactions.Waiting() != 0 {
+		t.Errorf("the audit has %+v", its.Transactions)
+	}
+	if n := late.Ended(); n != 5 || late.Transactions.NotChecked[noAudit] != 5 {
+		t.Errorf("later ended %+v", late.Transactions)
+	}
+}
+
 // An audit that can't begin ends with that reason.
 func TestServerThatIsAwayAtFirst(t *testing.T) {
 	s := &stage{t: t, inbox: NewInbox(1000), failing: map[string]error{"base": errors.New("away")}}
@@ -264,7 +337,7 @@ func TestServerThatIsAwayAtFirst(t *testing.T) {
 // Marks of another audit are reported, and nothing is forgotten because of them.
 func TestCutOfAnotherAudit(t *testing.T) {
 	opt := often
-	opt.Every, opt.Between, opt.Within = 1<<20, time.Hour, time.Hour
+	opt.Between = time.Hour
 	s := newStage(t, opt)
 	s.connect(1)
 	s.update(1, "a")

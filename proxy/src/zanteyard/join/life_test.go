@@ -177,8 +177,9 @@ func (l *life) meet() {
 		}
 	}
 	l.tick()
-	if n := l.core.meet(l.now); n < 8 || n > 15 {
-		l.t.Errorf("8 sessions have %d fences", n)
+	sessions := len(l.core.sessions)
+	if n := l.core.meet(l.now); n < sessions || n > 2*sessions-1 {
+		l.t.Errorf("%d sessions have %d fences", sessions, n)
 	}
 	upTo := l.core.numbers()
 	l.bench.settle()
@@ -223,7 +224,7 @@ func (l *life) note() {
 func TestLives(t *testing.T) {
 	for seed := int64(0); seed < 12; seed++ {
 		r := rand.New(rand.NewSource(seed))
-		l := &life{bench: newBench(t, Options{Sessions: 8, Limit: 600, Late: time.Second}), r: r, next: base,
+		l := &life{bench: newBench(t, Options{Sessions: 8, First: 8 - 6*int(seed%2), Limit: 600, Late: time.Second}), r: r, next: base,
 			offers: map[name][2]time.Time{}, whose: map[name]uint64{}}
 		for meetings := 0; meetings < 40; meetings++ {
 			for n := 0; n < 60; n++ {
@@ -245,8 +246,8 @@ func TestLives(t *testing.T) {
 				ended = l.offers[this][1]
 			}
 		}
-		if l.missed > 0 || l.core.remaining() > 8 {
-			t.Errorf("seed %d: %d cuts, %d missed, %d remain", seed, l.cuts, l.missed, l.core.remaining())
+		if l.missed > 0 || l.core.remain > 8 {
+			t.Errorf("seed %d: %d cuts, %d missed, %d remain", seed, l.cuts, l.missed, l.core.remain)
 		}
 		if l.ever > 12 && l.core.counts.offered < 300 {
 			t.Errorf("seed %d: of %d connections %d transactions were offered: %v", seed, l.ever, l.core.counts.offered, l.core.counts.folded)

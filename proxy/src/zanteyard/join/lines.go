@@ -35,20 +35,18 @@ func (c *core) put(s *session, e *entry, to *resolution) {
 	} else {
 		s.line = append(s.line, ',')
 	}
+	before := len(s.line)
 	s.line = appendTransaction(s.line, to)
 	s.count++
 	s.written = e.name.number() + 1
-	c.keep(s, e, to)
+	c.keep(s, e, to, len(s.line)-before)
 	if e.writer != nil {
 		e.writer.forgetWrites()
 	}
-	if s.count == mostInLine {
+	if s.count == c.opt.mostInLine() {
 		c.writeOffer(s)
 	}
 }
-
-// mostInLine is how many transactions the auditor takes at a time.
-const mostInLine = 256
 
 // appendTransaction appends [[read,..],[key,..]].
 func appendTransaction(to []byte, its *resolution) []byte {
@@ -83,10 +81,17 @@ func (c *core) writeOffer(s *session) {
 		return
 	}
 	line := make([]byte, 0, len(s.line)+40)
-	line = append(line, `["offer",`...)
-	line = strconv.AppendInt(line, int64(s.index), 10)
-	line = append(line, ',')
-	line = strconv.AppendUint(line, s.first, 10)
+	if s.joins {
+		c.writeOffer(c.sessions[s.after.session()]) // it has the fence that this one reads
+		s.joins = false
+		line = append(line, `["join",`...)
+		line = strconv.AppendInt(line, int64(s.index), 10)
+	} else {
+		line = append(line, `["offer",`...)
+		line = strconv.AppendInt(line, int64(s.index), 10)
+		line = append(line, ',')
+		line = strconv.AppendUint(line, s.first, 10)
+	}
 	line = append(line, `,[`...)
 	line = append(line, s.line...)
 	line = append(line, `]]`...)
@@ -103,7 +108,11 @@ func (c *core) flush() {
 
 // open writes the first line of an audit.
 func (c *core) open() {
-	c.out([]byte(`["open",` + strconv.Itoa(len(c.sessions)) + `,` + strconv.Itoa(c.opt.Limit) + `,2]`))
+	promise := ""
+	if c.opt.Snapshot {
+		promise = `,"snapshot"`
+	}
+	c.out([]byte(`["open",` + strconv.Itoa(len(c.sessions)) + `,` + strconv.Itoa(c.opt.Limit) + `,3` + promise + `]`))
 }
 
 // round makes the auditor check everything that was offered, and forget what is settled.
@@ -117,7 +126,7 @@ func (c *core) round() {
 }
 
 // keep stores what people may ask about a transaction, until it is gone.
-func (c *core) keep(s *session, e *entry, to *resolution) {
+func (c *core) keep(s *session, e *entry, to *resolution, inLine int) {
 	one := &told{its: e.its, fence: e.fence, reads: to.reads, writes: to.writes, used: c.used, dropped: e.its.Dropped}
 	one.its.Reads, one.its.Absent, one.its.Versions, one.its.Did = nil, nil, nil, record.Did{}
 	if e.conn != nil {
@@ -129,6 +138,8 @@ func (c *core) keep(s *session, e *entry, to *resolution) {
 	}
 	c.counts.dropped += uint64(one.dropped)
 	c.texts += one.bytes
+	one.size = sizeOfTold + inLine + one.bytes + 40*len(one.reads) + 8*len(one.writes)
+	c.bytes += one.size - e.size
 	s.kept = append(s.kept, one)
 }
 
@@ -145,21 +156,24 @@ func textsOf(its []record.Statement) int {
 
 // cut records how many transactions of each session are gone, and forgets them.
 func (c *core) cut(marks []uint64) bool {
-	if len(marks) != len(c.sessions) {
+	if len(marks) < c.opt.First || len(marks) > len(c.sessions) {
 		return false
 	}
-	for i, s := range c.sessions {
-		if marks[i] < s.mark || marks[i] > s.written {
+	for i, mark := range marks { // sessions that have joined since come behind these
+		if s := c.sessions[i]; mark < s.mark || mark > s.written {
 			return false
 		}
 	}
-	for i, s := range c.sessions {
-		gone := int(marks[i] - s.mark)
-		for j := range s.kept[:gone] {
-			c.texts -= s.kept[j].bytes
+	for i, mark := range marks {
+		s := c.sessions[i]
+		gone := int(mark - s.mark)
+		for j, one := range s.kept[:gone] {
+			c.texts -= one.bytes
+			c.bytes -= one.size
 			s.kept[j] = nil
 		}
-		s.kept, s.mark = s.kept[gone:], marks[i]
+		c.remain -= gone
+		s.kept, s.mark = s.kept[gone:], mark
 	}
 	remain := c.fences[:0]
 	for _, one := range c.fences {

@@ -15,9 +15,13 @@ func (j *Joiner) meet(ctx context.Context, now time.Time) {
 	switch j.meeting.phase {
 	case apart:
 		// While a round isn't answered yet, another one would only wait behind it.
-		if j.wanted || j.core.wantsMeeting(j.last) && (j.unanswered == 0 || now.Sub(j.last) > patience) {
+		may := j.unanswered == 0 || now.Sub(j.last) > patience
+		switch {
+		case j.wanted || may && j.core.wantsMeeting(j.last, j.busy):
 			j.comeTogether(ctx, now)
-		} else {
+		case may && j.core.wantsRound(j.rounded):
+			j.checkAlone(now)
+		default:
 			j.sought = time.Time{}
 		}
 	case settling:
@@ -58,19 +62,33 @@ func (j *Joiner) moment(it moment) {
 	guard.At("a moment")
 	fences := j.core.meet(it.at)
 	j.meeting.phase, j.meeting.noted, j.meeting.upTo = settling, j.core.now, j.core.numbers()
+	j.rounded, j.core.unchecked = j.core.now, 0
 	j.output.Event(Meeting{At: it.at, Fences: fences, Took: it.held})
+}
+
+// checkAlone begins a round of what was reported by now, without a meeting.
+func (j *Joiner) checkAlone(now time.Time) {
+	j.sought, j.rounded = time.Time{}, now
+	j.core.unchecked = 0
+	j.meeting = meeting{phase: settling, noted: now, upTo: j.core.numbers(), alone: true}
 }
 
 // endMeeting makes the auditor check and forget.
 func (j *Joiner) endMeeting() {
 	guard.At("a round")
+	if j.meeting.alone {
+		j.output.Event(Checking{At: j.meeting.noted})
+	}
 	j.core.round()
-	j.unanswered++
+	if j.unanswered++; j.unanswered == 1 {
+		j.core.asking = j.core.now
+	}
 	isLast := j.meeting.isLast
 	j.meeting = meeting{}
 	if isLast {
 		j.stopping = false
 		last := j.coverageEvent(false)
+		j.heard, j.hasStopped = j.earlier+last.Totals.Transactions.ended(), true
 		last.Last = true
 		j.output.Event(last)
 		j.output.Event(Stopped{At: j.core.now})

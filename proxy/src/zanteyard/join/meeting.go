@@ -27,29 +27,45 @@ type meeting struct {
 	upTo   []uint64 // for each session, the numbers that have to be in lines before the round
 	noted  time.Time
 	isLast bool // it was requested by stop
+	alone  bool // it is a round alone: no moment was sought
 }
 
 // mostSettling is how long a round waits for what was reported before its meeting.
 const mostSettling = 5 * time.Second
 
 // room returns how many more transactions may be named.
-func (c *core) room() int { return c.opt.Limit - c.opt.fenceRoom() - c.remaining() }
+func (c *core) room() int { return c.opt.Limit - c.opt.fenceRoom() - c.remain }
 
-// isShort reports whether soon nothing more is taken.
-func (c *core) isShort() bool { return c.room() <= c.opt.Limit/8 }
+// isShort reports whether a meeting is wanted soon: before nothing more is taken, or since connections that work have no
+// session.
+func (c *core) isShort() bool {
+	return c.room() <= c.opt.Limit/8 || c.bytes >= c.opt.Bytes/8*7 || c.short
+}
 
-// wantsMeeting reports whether it is time for a meeting.
-func (c *core) wantsMeeting(last time.Time) bool {
+// worth is how many offered transactions a meeting should let the auditor forget for each one that it folds.
+const worth = 1000
+
+// wantsMeeting reports whether it is time for a meeting. What runs across a meeting is folded. So unless nothing is under
+// way, one after which many were folded isn't soon followed by another one.
+func (c *core) wantsMeeting(last time.Time, busy func() int) bool {
 	passed := c.now.Sub(last)
 	switch {
+	case c.short && c.last == initial:
+		return true // no session can join before there is a fence
 	case c.isShort():
 		return passed >= c.opt.Between/4
-	case c.since == 0:
+	case c.since == 0 || passed < c.opt.Between:
 		return false
-	case c.since >= c.opt.Every, c.room() <= c.opt.Limit/2:
-		return passed >= c.opt.Between
+	case passed >= c.opt.Within:
+		return true
 	}
-	return passed >= c.opt.Between && c.now.Sub(c.oldest) >= c.opt.Within
+	folded := c.counts.folded[acrossMoment] - c.foldedBefore
+	return uint64(c.since)/worth >= folded || busy() == 0
+}
+
+// wantsRound reports whether it is time for a round without a meeting.
+func (c *core) wantsRound(last time.Time) bool {
+	return c.unchecked > 0 && c.now.Sub(last) >= c.opt.Between
 }
 
 // fence is one that may remain.
@@ -62,7 +78,7 @@ type fence struct {
 // of them.
 func (c *core) meet(at time.Time) int {
 	c.quiet(at)
-	c.since = 0
+	c.since, c.short, c.metAt, c.foldedBefore = 0, false, c.commits, c.counts.folded[acrossMoment]
 	var first []*session
 	for _, s := range c.sessions {
 		if !s.fenced {
@@ -73,7 +89,7 @@ func (c *core) meet(at time.Time) int {
 		first = c.sessions[:1]
 	}
 	n := len(first) + len(c.sessions) - 1
-	if n > c.opt.Limit-c.remaining() {
+	if n > c.opt.Limit-c.remain {
 		return 0
 	}
 	for _, s := range first {
@@ -90,12 +106,18 @@ func (c *core) meet(at time.Time) int {
 // fence writes a fence of a moment into a session, as the last one of all.
 func (c *core) fence(s *session, moment time.Time) {
 	e := &entry{its: record.Transaction{Began: moment, Ended: moment}, session: s, name: named(s.index, s.next), fence: true,
-		from: c.last}
+		from: c.last, size: sizeOfTold}
 	s.next++
+	c.remain++
+	c.bytes += e.size
 	s.fence, s.fenced = moment, true
 	s.waiting = append(s.waiting, e)
-	c.last = e.name
-	c.fences = append(c.fences, fence{e.name, c.commits})
+	c.last, c.met = e.name, moment
+	place := c.commits
+	if s.joins {
+		place = c.metAt
+	}
+	c.fences = append(c.fences, fence{e.name, place})
 }
 
 // numbers returns the sessions' next ones.
@@ -109,8 +131,8 @@ func (c *core) numbers() []uint64 {
 
 // isWritten reports whether everything below these numbers is in lines.
 func (c *core) isWritten(numbers []uint64) bool {
-	for i, s := range c.sessions {
-		if s.written < numbers[i] {
+	for i, number := range numbers { // a session may have joined since
+		if c.sessions[i].written < number {
 			return false
 		}
 	}

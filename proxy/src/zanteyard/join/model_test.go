@@ -35,6 +35,8 @@ func (m *model) take(it []any) string {
 	switch it[0] {
 	case "offer":
 		return m.offer(int(it[1].(float64)), int(it[2].(float64)), it[3].([]any))
+	case "join":
+		return m.join(int(it[1].(float64)), it[2].([]any))
 	case "round":
 		m.rounds++
 	case "truncate":
@@ -42,6 +44,22 @@ func (m *model) take(it []any) string {
 		return "BadLine"
 	}
 	return ""
+}
+
+// join takes a new session that begins with a fence, which reads one that is there.
+func (m *model) join(session int, its []any) string {
+	if session != len(m.sessions) || session >= 256 {
+		return "BadSession"
+	}
+	first, refusal := parse(its[0].([]any), session, 0)
+	if refusal != "" || !first.isFence() || first.reads[0][1] < 0 {
+		return "NotAnchored: " + refusal
+	}
+	if from := first.reads[0]; from[1] >= int64(session) || from[2] >= int64(len(m.sessions[from[1]].its)) {
+		return "NotAnchored: that fence isn't there"
+	}
+	m.sessions = append(m.sessions, modelSession{})
+	return m.offer(session, 0, its)
 }
 
 func (m *model) offer(session, first int, its []any) string {

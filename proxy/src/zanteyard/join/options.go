@@ -16,14 +16,17 @@ import (
 
 // Options are the limits of an audit. Zero values stand for the defaults.
 type Options struct {
-	Sessions int           // of the auditor: 1 to 64
-	Limit    int           // how many transactions may remain at a time: at most 4,096, with Snapshot 2,048
-	Every    int           // offered transactions after which the sessions should meet
-	Between  time.Duration // the least time between two meetings, unless the limit is near
-	Within   time.Duration // how long an offered transaction waits for a round, at most, about
+	Sessions int           // of the auditor, at most: 1 to 256
+	First    int           // how many of them an audit begins with; the others join when connections need them
+	Limit    int           // how many transactions may remain at a time: at most 1,048,576, with Snapshot half of that
+	Bytes    int           // about how many bytes these may take
+	Between  time.Duration // the time between two rounds, and the least one between two meetings unless sessions or room are short
+	Within   time.Duration // the longest time between two meetings, if anything was offered
+	Behind   time.Duration // a round that isn't answered for so long means that the auditor has fallen behind
 	Late     time.Duration // how long a commit waits for the session that made it, before it counts as somebody else's
 	Stale    time.Duration // versions that were overwritten longer ago than this are forgotten, even without a cut
 	Idle     time.Duration // a connection that has been idle for this long gives its session to one that waits
+	Answer   time.Duration // how long the server's answer is waited for before it is asked again, at first
 	Sample   float64       // the part of the connections that is audited: 0 to 1
 	Rows     int           // number of rows whose last versions are kept
 	Texts    int           // bytes of statements that are kept
@@ -36,6 +39,12 @@ type Options struct {
 	// (record.Transaction.OnlyRead).
 	Rollbacks bool
 }
+
+// The bounds of version 3 of the auditor's lines (docs/FORMATS.md, "Longer histories").
+const (
+	mostSessions  = 256
+	greatestLimit = 1 << 20
+)
 
 func (o Options) withDefaults() Options {
 	number := func(at *int, least, otherwise, most int) {
@@ -51,26 +60,26 @@ func (o Options) withDefaults() Options {
 			*at = otherwise
 		}
 	}
-	number(&o.Limit, 4, 4096, 4096)
+	most := greatestLimit
 	if o.Snapshot {
-		number(&o.Limit, 4, 2048, 2048) // each takes the room of two
+		most /= 2 // each takes the room of two
 	}
-	number(&o.Sessions, 1, 64, 64)
-	number(&o.Sessions, 1, 64, o.Limit/4) // so that fences take half of the room at most
-	every := 2560
-	if o.Snapshot {
-		every = 1280
-	}
-	number(&o.Every, 1, every, 1<<30)
+	number(&o.Limit, 4, 131_072, most)
+	number(&o.Sessions, 1, mostSessions, mostSessions)
+	number(&o.Sessions, 1, mostSessions, o.Limit/4) // so that fences take half of the room at most
+	number(&o.First, 1, 8, o.Sessions)
+	number(&o.Bytes, 1, 128<<20, 1<<40)
 	number(&o.Rows, 1, 250_000, 1<<30)
 	number(&o.Texts, 1, 32<<20, 1<<40)
 	number(&o.Budget, 1, 65536, 1<<32)
 	number(&o.Conditions, 1, 32<<20, 1<<40)
-	duration(&o.Between, 2*time.Second)
+	duration(&o.Between, time.Second)
 	duration(&o.Within, 5*time.Second)
+	duration(&o.Behind, 5*time.Second)
 	duration(&o.Late, time.Second)
 	duration(&o.Stale, 20*time.Second)
 	duration(&o.Idle, 5*time.Second)
+	duration(&o.Answer, 5*time.Second)
 	if o.Sample <= 0 || o.Sample > 1 {
 		o.Sample = 1
 	}
@@ -80,6 +89,14 @@ func (o Options) withDefaults() Options {
 // fenceRoom is how many of the limit's places are reserved for fences: a meeting has up to two for each session. A
 // transaction that took the last place would prevent the cut that makes room.
 func (o Options) fenceRoom() int { return 2 * o.Sessions }
+
+// mostInLine is how many transactions the auditor takes at a time.
+func (o Options) mostInLine() int {
+	if o.Snapshot {
+		return 128
+	}
+	return 256
+}
 
 // Columns is what Tables has to know, too, for reads by conditions to be followed. Safe for use by many goroutines.
 type Columns interface {

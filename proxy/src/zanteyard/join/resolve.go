@@ -22,6 +22,7 @@ const (
 	absentAtLevel  = "an absent row, read without a snapshot"
 	absentUnknown  = "an absent row whose last known version exists"
 	absentOwn      = "an absent row that the transaction itself wrote"
+	absentUndone   = "an absent row, asked for after a write that ROLLBACK TO may have undone"
 	tooMany        = "more than 256 reads of one transaction"
 )
 
@@ -103,6 +104,9 @@ func (r *resolution) offersNothing() bool {
 func (c *core) resolve(e *entry) (resolution, bool) {
 	var to resolution
 	if e.fence {
+		if e.session.joins && !c.isGiven(e.from) {
+			return to, false // the auditor takes no session that begins with a fence which reads an unknown one
+		}
 		to.reads, to.writes = []source{{row: c.rows.fence, from: e.from}}, []*row{c.rows.fence}
 		return to, true
 	}
@@ -243,6 +247,10 @@ func (c *core) resolveAbsent(e *entry, to *resolution) bool {
 		return true
 	}
 	for i, one := range e.its.Absent {
+		if one.Undone {
+			to.leave(-i-1, absentUndone)
+			continue
+		}
 		if !c.tables.Same(one.Relation, one.Identity) {
 			to.leave(-i-1, keyChanged)
 			continue

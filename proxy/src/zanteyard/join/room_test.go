@@ -36,7 +36,9 @@ func TestLimit(t *testing.T) {
 
 // An audit with a small limit has fewer sessions, so that their fences leave room for transactions.
 func TestSessionsOfASmallLimit(t *testing.T) {
-	for _, one := range []struct{ sessions, limit, want int }{{64, 4096, 64}, {64, 100, 25}, {3, 100, 3}, {0, 8, 2}, {9, 1, 9}} {
+	for _, one := range []struct{ sessions, limit, want int }{
+		{64, 4096, 64}, {64, 100, 25}, {3, 100, 3}, {0, 8, 2}, {9, 1, 9}, {0, 0, 256}, {1000, 1 << 30, 256},
+	} {
 		if got := (Options{Sessions: one.sessions, Limit: one.limit}).withDefaults().Sessions; got != one.want {
 			t.Errorf("%+v: %d sessions", one, got)
 		}
@@ -107,49 +109,6 @@ func TestConnectionsBeyondTheSessions(t *testing.T) {
 	}
 	if n := b.core.counts.folded[noSession]; n != 3 {
 		t.Errorf("%d are folded for want of a session", n)
-	}
-}
-
-// Of many connections few work: these have the sessions, however many others have come first.
-func TestSessionsAreForConnectionsThatWork(t *testing.T) {
-	b := newBench(t, Options{Sessions: 20, Idle: time.Second})
-	for number := uint64(1); number <= 100; number++ {
-		b.connect(number)
-	}
-	places := map[uint64]uint64{}
-	number := uint32(1000)
-	work := func() {
-		for connection := uint64(5); connection <= 100; connection += 10 {
-			number++
-			b.commit(number, "a")
-			b.tell(connection, places[connection], record.Transaction{Number: uint64(number)})
-			places[connection]++
-		}
-	}
-	for second := 0; second < 3; second++ {
-		work()
-		b.later(600 * time.Millisecond)
-		b.core.reseat()
-		b.quiet()
-		b.core.place()
-	}
-	b.settle()
-	before := b.core.counts.folded[noSession]
-	for n := 0; n < 50; n++ {
-		work()
-	}
-	b.settle()
-	if n := b.core.counts.folded[noSession]; before == 0 || n != before {
-		t.Errorf("%d were left out for want of a session, %d of them before those that work had one", n, before)
-	}
-	seated := 0
-	for _, s := range b.core.sessions {
-		if s.tenant != nil && s.tenant.its.Number%10 == 5 {
-			seated++
-		}
-	}
-	if seated != 10 {
-		t.Errorf("%d connections that work have a session", seated)
 	}
 }
 

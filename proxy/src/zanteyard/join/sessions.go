@@ -21,15 +21,14 @@ type session struct {
 	had     uint64    // the connection whose transaction was named last
 	place   uint64    // of that in its connection
 	fenced  bool      // nothing comes after its last fence, or it never had anything
+	joins   bool      // it joins, and no line of it is written yet
+	after   name      // the fence that its first one reads, if it joins
 	waiting []*entry  // named, but not in a line yet
 	kept    []*told   // of numbers from mark on
 	line    []byte    // a fragment that is being built
 	first   uint64
 	count   int
 }
-
-// remains returns how many of its transactions count towards the limit.
-func (s *session) remains() int { return int(s.next - s.mark) }
 
 // connection is a client's connection.
 type connection struct {
@@ -47,7 +46,8 @@ type told struct {
 	from    record.Connection
 	reads   []source
 	writes  []*row
-	bytes   int
+	bytes   int    // of its statements' texts
+	size    int    // what it counts with in core.bytes
 	used    uint64 // the count of transactions in lines
 	dropped int    // number of statements that were dropped
 }
@@ -63,6 +63,7 @@ type entry struct {
 	told    time.Time   // when it was reported
 	asked   bool        // subtransactions were asked for because of it
 	late    string      // why its writes are left out, though its number is known, or ""
+	size    int         // about how many bytes it takes
 	fence   bool        // nobody ran it
 	from    name        // if it is a fence, the one before it
 	asks    []*question // of its.Asks, nil for those that aren't followed
@@ -141,81 +142,4 @@ func (c *core) sampled(number uint64) bool {
 	x = (x ^ x>>30) * 0xbf58476d1ce4e5b9
 	x = (x ^ x>>27) * 0x94d049bb133111eb
 	return float64((x^x>>31)>>11)/(1<<53) < c.opt.Sample
-}
-
-// release gives a connection's session back.
-func (c *core) release(conn *connection) {
-	if conn.held != nil {
-		return // once it is known
-	}
-	if s := conn.session; s != nil {
-		conn.session, s.tenant, s.own = nil, nil, false
-	}
-	c.place()
-}
-
-// place gives sessions to waiting connections, in order: first to those that work.
-func (c *core) place() {
-	for len(c.queue) > 0 {
-		s := c.vacant()
-		if s == nil {
-			return
-		}
-		at := 0
-		for i, one := range c.queue {
-			if c.works(one) {
-				at = i
-				break
-			}
-		}
-		conn := c.queue[at]
-		conn.session, conn.active = s, c.now
-		s.tenant, s.own = conn, false
-		c.queue = append(c.queue[:at], c.queue[at+1:]...)
-	}
-}
-
-// works reports whether a connection has had a transaction lately, or is new.
-func (c *core) works(conn *connection) bool { return c.now.Sub(conn.active) < c.opt.Idle }
-
-// vacant returns a session without a connection that may be handed on, or nil if there is none.
-func (c *core) vacant() *session {
-	for _, s := range c.sessions {
-		if s.tenant == nil && c.isReady(s) {
-			return s
-		}
-	}
-	return nil
-}
-
-// reseat takes sessions from connections that were idle for long: as many as wait and work, or one for the first that
-// waits.
-func (c *core) reseat() {
-	if len(c.queue) == 0 {
-		return
-	}
-	wanted := 0
-	for _, conn := range c.queue {
-		if c.works(conn) {
-			wanted++
-		}
-	}
-	if wanted == 0 {
-		wanted = 1
-	}
-	for _, s := range c.sessions {
-		if s.tenant == nil { // at the next moment somebody has it
-			wanted--
-		}
-	}
-	for _, s := range c.sessions {
-		if wanted <= 0 {
-			return
-		}
-		if conn := s.tenant; conn != nil && conn.held == nil && !c.works(conn) {
-			c.queue = append(c.queue, conn)
-			c.release(conn)
-			wanted--
-		}
-	}
 }

@@ -34,6 +34,7 @@ type stage struct {
 	held    bool          // the auditor doesn't answer
 	slow    chan struct{} // if not nil, the first meeting waits for it
 	failing map[string]error
+	hung    chan struct{} // if not nil, the server answers once it is closed
 }
 
 func newStage(t testing.TB, opt Options) *stage {
@@ -51,7 +52,10 @@ func newStage(t testing.TB, opt Options) *stage {
 }
 
 // Place implements Server.
-func (s *stage) Place(context.Context) (Place, error) {
+func (s *stage) Place(ctx context.Context) (Place, error) {
+	if err := s.wait(ctx); err != nil {
+		return Place{}, err
+	}
 	s.lock.Lock()
 	defer s.lock.Unlock()
 	s.joiner.Advance(s.at)
@@ -59,7 +63,10 @@ func (s *stage) Place(context.Context) (Place, error) {
 }
 
 // Base implements Server.
-func (s *stage) Base(context.Context) (uint32, error) {
+func (s *stage) Base(ctx context.Context) (uint32, error) {
+	if err := s.wait(ctx); err != nil {
+		return 0, err
+	}
 	s.lock.Lock()
 	defer s.lock.Unlock()
 	return s.number, s.failing["base"]

@@ -24,6 +24,7 @@ const (
 	auditEnded     = "the audit ended before its next round"
 	noAudit        = "no audit was running"
 	tooFast        = "reported faster than they could be processed"
+	unanswered     = "the server didn't answer the audit for long"
 )
 
 // unnumbered is a transaction that may have written, and whose number isn't known: its commit is one of those that no
@@ -57,8 +58,16 @@ func (c *core) await(it *record.Transaction) {
 	if len(c.unnumbered) >= mostUnnumbered {
 		c.unnumbered = c.unnumbered[1:]
 	}
-	c.counts.unnumbered += it.Did.Written
-	its := unnumbered{began: began, batch: c.batch, defines: it.Defines, rows: it.Did.Written}
+	rows := it.Did.Written
+	if began.Before(c.opened) {
+		if c.mayBeBefore(it) {
+			rows = c.spare.without(it)
+		}
+		c.counts.early += rows
+	}
+	c.counts.unnumbered += rows
+	c.counts.awaits(it.Did.Others > 0)
+	its := unnumbered{began: began, batch: c.batch, defines: it.Defines, rows: rows}
 	if it.Outcome == record.Unclear {
 		its.open = c.now.Add(stillOpen * c.opt.Late)
 	}
@@ -144,6 +153,7 @@ func (c *core) unclaim(number uint64, reason string) (why string) {
 		c.counts.bare--
 		return ""
 	case it.unknown:
+		c.counts.totals.Untold--
 		c.counts.unleaveWrites(noNumber, it.writes)
 	default:
 		c.counts.folded[byOthers]--
@@ -159,6 +169,7 @@ func (c *core) foldOther(w *writer) {
 	switch {
 	case c.mayBeUnnumbered(w):
 		its.bare, its.unknown = false, true
+		c.counts.totals.Untold++
 		c.counts.leaveWrites(noNumber, its.writes)
 	case w.bare:
 		c.counts.bare++
@@ -177,9 +188,10 @@ func (c *core) foldOther(w *writer) {
 // inherit takes over from the audit before what the slot and the sessions have yet to report of transactions that were
 // counted there: they are in no place of this one.
 func (c *core) inherit(from *core) {
+	rows := from.unreportedRows()
 	for number, w := range from.writers {
 		if w.named && w.place == 0 {
-			c.owe(&writer{number: number, named: true, fate: folded}, betweenAudits, 0)
+			c.owe(&writer{number: number, named: true, fate: folded}, betweenAudits, rows[number])
 			c.writers[number] = c.expected[len(c.expected)-1].writer
 		}
 	}
@@ -191,31 +203,42 @@ func (c *core) inherit(from *core) {
 			c.others.put(w.number, claim{earlier: true})
 		}
 	}
+	c.counts.unnumbered = from.unreported()
+	c.counts.early = min(from.counts.early, c.counts.unnumbered)
 	for _, u := range from.unnumbered {
 		if !u.over {
 			u.batch = c.batch
 			c.unnumbered = append(c.unnumbered, u)
+			c.counts.awaits(from.counts.procedures)
 			c.batched = true
 		}
 	}
 }
 
 // drop counts a transaction for which there was no room before the joiner. Nothing else of it is known.
-func (c *core) drop(it *record.Transaction) {
+func (c *core) drop(it *record.Transaction, why string) {
 	c.await(it)
-	if it.Number == 0 || c.unclaim(it.Number, tooFast) != "" {
+	if it.Number == 0 || c.unclaim(it.Number, why) != "" {
 		return
 	}
 	if w := c.writer(*it); w.fate == undecided {
-		c.leaveWriter(w, tooFast, it.Did.Written)
+		c.leaveWriter(w, why, it.Did.Written)
 	}
+}
+
+// whyUnnumbered returns why the number of a transaction that may have written isn't known.
+func whyUnnumbered(it *record.Transaction) string {
+	if it.Unnumbered != "" {
+		return it.Unnumbered
+	}
+	return noNumber
 }
 
 // whyEmpty returns why a transaction has nothing to offer.
 func whyEmpty(it *record.Transaction) string {
 	switch {
 	case it.MayHaveWritten:
-		return noNumber
+		return whyUnnumbered(it)
 	case isUnseen(it):
 		return nothingSeen
 	}
@@ -236,7 +259,7 @@ func isUnseen(it *record.Transaction) bool {
 func (e *entry) whyPartly(to *resolution) string {
 	switch {
 	case e.its.Number == 0 && e.its.MayHaveWritten:
-		return noNumber
+		return whyUnnumbered(&e.its)
 	case e.late != "":
 		return e.late
 	case len(to.left) > 0, e.its.Beyond > 0, e.writer != nil && e.writer.lacks:

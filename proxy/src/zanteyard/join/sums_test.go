@@ -159,7 +159,7 @@ func TestEachTransactionIsInOnePlace(t *testing.T) {
 			if len(its) != 1 || lost != 1 {
 				b.t.Fatalf("%d messages, %d lost", len(its), lost)
 			}
-			b.core.drop(its[0].dropped)
+			b.core.drop(its[0].dropped, its[0].why)
 			b.commit(1001, "a", "b")
 			_, _, _, totals := in.counted(false)
 			b.core.counts.totals.add(&totals)
@@ -169,7 +169,7 @@ func TestEachTransactionIsInOnePlace(t *testing.T) {
 			in := NewInbox(1)
 			in.Transaction(record.Transaction{MayHaveWritten: true, Connection: 1, Began: b.now})
 			its, _ := in.take()
-			b.core.drop(its[0].dropped)
+			b.core.drop(its[0].dropped, its[0].why)
 		}, counted{leftWrites: one(noNumber, 2)}},
 		{"an unclear one that was counted as somebody else's", func(b *bench) {
 			b.commit(1001, "a")
@@ -370,6 +370,31 @@ func TestRollbacks(t *testing.T) {
 		if its.Transactions.Checked != checked || its.RowsRead.Checked != 2*checked || its.Transactions.RolledBack != undone ||
 			its.OnlyRead != undone-1 {
 			t.Errorf("wanted %v: %+v", wanted, its)
+		}
+	}
+}
+
+// TestBypassing: commits of which it isn't known whose they are, beyond the transactions that may have made one, bypassed the
+// proxy; not if one of these transactions may have made several.
+func TestBypassing(t *testing.T) {
+	for _, x := range []struct {
+		clients, commits int
+		procedures       uint64
+		untold, bypassed uint64
+	}{{1, 3, 0, 3, 2}, {3, 3, 0, 3, 0}, {3, 1, 0, 1, 0}, {1, 3, 1, 3, 0}, {0, 3, 0, 0, 0}} {
+		b := newBench(t, Options{Sessions: 2, Late: time.Second})
+		b.connect(1)
+		for i := 0; i < x.commits; i++ {
+			b.commit(uint32(1001+i), fmt.Sprint("k", i))
+		}
+		for i := 0; i < x.clients; i++ {
+			b.tell(1, uint64(i), record.Transaction{Level: record.RepeatableRead, MayHaveWritten: true, Did: record.Did{Others: x.procedures}})
+		}
+		b.settle()
+		its := b.totals()
+		if n := b.core.counts.bypassed(); its.Untold != x.untold || n != x.bypassed || its.Outside != uint64(x.commits)-x.untold ||
+			its.Levels[record.RepeatableRead] != uint64(x.clients) {
+			t.Errorf("%+v: %d untold, %d bypassed, %+v", x, its.Untold, n, its)
 		}
 	}
 }

@@ -9,7 +9,7 @@ const (
 	noSession    = "its connection has no session"
 	isHeld       = "the outcome of the one before it on its connection was unknown"
 	acrossMoment = "it ran during a meeting, or while sessions changed hands"
-	noRoom       = "the auditor's limit was reached"
+	noRoom       = "the auditor fell behind"
 	isUnclear    = "its outcome is unknown"
 	elsewhere    = "its connection uses another database"
 	sampledOut   = "its connection isn't in the sample"
@@ -29,6 +29,9 @@ func (c *core) tell(it record.Transaction) {
 	}
 	if it.Outcome != record.Aborted && (conn == nil || !c.isElsewhere(conn.its)) && !c.isOutside(&it) {
 		c.await(&it)
+	}
+	if conn != nil && conn.session == nil && c.mayHaveSeat(conn, &it) {
+		c.seat(conn, &it)
 	}
 	switch {
 	case it.Outcome == record.Aborted:
@@ -56,6 +59,11 @@ func (c *core) tell(it record.Transaction) {
 	}
 }
 
+// mayHaveSeat reports whether a connection is audited, and works.
+func (c *core) mayHaveSeat(conn *connection, it *record.Transaction) bool {
+	return it.Outcome != record.Aborted && !it.Unaudited && !isEmpty(*it) && c.sampled(it.Connection) && !c.isElsewhere(conn.its)
+}
+
 // outcome returns how a transaction ended, or what it counts as.
 func (c *core) outcome(it *record.Transaction) record.Outcome {
 	if it.OnlyRead && c.opt.Rollbacks {
@@ -66,6 +74,12 @@ func (c *core) outcome(it *record.Transaction) record.Outcome {
 
 // isOutside reports whether a transaction had ended before the slot had begun.
 func (c *core) isOutside(it *record.Transaction) bool {
+	_, ended := span(it)
+	return ended.Before(c.sought)
+}
+
+// mayBeBefore reports whether a transaction may have ended before the slot had begun.
+func (c *core) mayBeBefore(it *record.Transaction) bool {
 	_, ended := span(it)
 	return ended.Before(c.opened)
 }
@@ -109,14 +123,17 @@ func (c *core) leave(it record.Transaction, reason string) {
 	c.leaveRest(&it, reason)
 	switch {
 	case it.Number == 0 && c.isOutside(&it):
-		c.counts.totals.wrote(&it, reason)
+		c.counts.totals.wrote(&it, c.spare.without(&it), reason)
 		return
 	case it.Number == 0, c.unclaim(it.Number, reason) != "":
 		return // what it may have written without a number is found by foldOther
 	}
-	w := c.writer(it)
-	if w.fate == undecided {
-		c.leaveWriter(w, reason, it.Did.Written)
+	rows := it.Did.Written
+	if c.isOutside(&it) {
+		rows = c.spare.without(&it)
+	}
+	if w := c.writer(it); w.fate == undecided {
+		c.leaveWriter(w, reason, rows)
 	}
 }
 
@@ -193,7 +210,7 @@ func (c *core) name(e *entry) {
 	s, it := e.session, e.its
 	follows := s.own && s.tenant == e.conn && it.Place > s.place
 	switch {
-	case c.room() <= 0:
+	case c.fellBehind():
 		c.leave(it, noRoom)
 		return
 	case !c.mayStand(s, &it, follows):
@@ -215,6 +232,9 @@ func (c *core) name(e *entry) {
 	}
 	e.name = named(s.index, s.next)
 	s.next++
+	e.size = sizeOf(&it)
+	c.remain++
+	c.bytes += e.size
 	if e.writer != nil {
 		e.writer.fate, e.writer.name = offered, e.name
 		_, ended := span(&it)
@@ -230,21 +250,9 @@ func (c *core) name(e *entry) {
 	s.own, s.place = s.tenant == e.conn, it.Place
 	c.stood(s, &it)
 	s.fenced = false
-	if c.since == 0 {
-		c.oldest = c.now
-	}
 	c.since++
+	c.unchecked++
 	s.waiting = append(s.waiting, e)
-}
-
-// remaining returns how many transactions count towards the limit: whatever is named is offered, and remains until a
-// cut.
-func (c *core) remaining() int {
-	n := 0
-	for _, s := range c.sessions {
-		n += s.remains()
-	}
-	return n
 }
 
 // decideHeld names what was held back: transactions whose connection didn't learn whether they were committed, once the

@@ -14,6 +14,12 @@ func (t *Total) Waiting() uint64 { return t.All - t.decided() }
 
 func (t *Total) decided() uint64 { return t.Checked + sumOf(t.InPart) + sumOf(t.NotChecked) }
 
+// ended is how many there were, rolled back or not.
+func (t *Total) ended() uint64 { return t.All + t.RolledBack }
+
+// Ended is how many transactions there were, rolled back or not.
+func (t *Totals) Ended() uint64 { return t.Transactions.ended() }
+
 func sumOf(its map[string]uint64) (sum uint64) {
 	for _, n := range its {
 		sum += n
@@ -56,8 +62,11 @@ type Totals struct {
 	// Of the rows read and checked: what the transaction itself had written, versions from before the audit, and versions
 	// that unchecked transactions wrote.
 	Own, Before, OfUnchecked uint64
-	// Outside are commits that no session reported, and their rows: of programs that bypass the proxy.
-	Outside, OutsideRows uint64
+	// Outside are commits that no session reported, and their rows: of programs that bypass the proxy. Untold are others
+	// that may be such commits, or those of transactions whose number isn't known, and Bypassed how many of them must be
+	// such: there are more than such transactions.
+	Outside, OutsideRows, Untold, Bypassed uint64
+	Levels                                 [4]uint64 // of Transactions.All, at which level they ran
 }
 
 func (t *Totals) each() []*Total {
@@ -73,6 +82,10 @@ func (t *Totals) add(more *Totals) {
 	t.OnlyRead += more.OnlyRead
 	t.Own, t.Before, t.OfUnchecked = t.Own+more.Own, t.Before+more.Before, t.OfUnchecked+more.OfUnchecked
 	t.Outside, t.OutsideRows = t.Outside+more.Outside, t.OutsideRows+more.OutsideRows
+	t.Untold, t.Bypassed = t.Untold+more.Untold, t.Bypassed+more.Bypassed
+	for level, n := range more.Levels {
+		t.Levels[level] += n
+	}
 }
 
 // Add adds those of another audit, or part of one.
@@ -101,6 +114,7 @@ func (t *Totals) told(it *record.Transaction) {
 		return
 	}
 	t.Transactions.All++
+	t.Levels[it.Level]++
 	t.Selects.All += selects
 	t.Writes.All += writes
 	t.RowsRead.All += rows
@@ -114,11 +128,18 @@ func (t *Totals) apart(it *record.Transaction, reason string) {
 	}
 }
 
-// wrote counts the rows of a transaction whose commit the slot doesn't report, as its statements told them.
-func (t *Totals) wrote(it *record.Transaction, reason string) {
+// lose counts transactions of which nothing else is known.
+func (t *Totals) lose(reason string, n uint64) {
+	t.Transactions.All += n
+	t.Levels[record.UnknownLevel] += n
+	t.Transactions.leave(reason, n)
+}
+
+// wrote counts so many rows of a transaction whose commit the slot doesn't report.
+func (t *Totals) wrote(it *record.Transaction, rows uint64, reason string) {
 	if it.Outcome != record.Aborted {
-		t.RowsWritten.All += it.Did.Written
-		t.RowsWritten.leave(reason, it.Did.Written)
+		t.RowsWritten.All += rows
+		t.RowsWritten.leave(reason, rows)
 	}
 }
 
@@ -218,6 +239,16 @@ func (t *Totals) takeSelects(e *entry, to *resolution) {
 			t.Selects.leave(reason, 1)
 		}
 	}
+}
+
+// settle is close after a fault, which may have come between two sums.
+func (t *Totals) settle(reason string) {
+	for _, one := range t.each() {
+		if n := one.decided(); n > one.All {
+			one.All = n
+		}
+	}
+	t.close(reason)
 }
 
 // close counts as not checked whatever isn't decided.

@@ -78,7 +78,7 @@ type worldTxn struct {
 
 func newWorld(t testing.TB, seed int64, wrong fault) *world {
 	w := &world{
-		bench: newBench(t, Options{Sessions: 6, Limit: 900, Late: time.Second, Stale: time.Hour, Idle: 40 * time.Millisecond}),
+		bench: newBench(t, Options{Sessions: 6, First: 6 - 4*int(seed%2), Limit: 900, Late: time.Second, Stale: time.Hour, Idle: 40 * time.Millisecond}),
 		r:     rand.New(rand.NewSource(seed)), next: base, fault: wrong,
 		versions: map[string][]worldVersion{}, locks: map[string]*worldTxn{}, after: map[int]map[int]bool{},
 		readers: map[string]map[int][]int{},

@@ -49,6 +49,8 @@ func Connect(ctx context.Context, config *pgconn.Config, settings map[string]str
 	}
 	config.RuntimeParams["application_name"] = "zanteyard"
 	config.RuntimeParams["search_path"] = Path
+	// Limits of the role or the database are meant for its applications: a busy server is waited for (package join).
+	config.RuntimeParams["statement_timeout"], config.RuntimeParams["lock_timeout"] = "0", "0"
 	conn, err := pgconn.ConnectConfig(ctx, config)
 	if pooled(err) {
 		return nil, fmt.Errorf("%w: %v", ErrPooler, err)

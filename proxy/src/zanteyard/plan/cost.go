@@ -82,7 +82,11 @@ const (
 )
 
 // Compared reports whether what a statement costs with the hidden columns is compared with what it costs without them.
-func (p *Plan) Compared() bool { return p.Widens || p.Looks || p.Counts }
+func (p *Plan) Compared() bool { return p.Widens || p.ComparedByForm() }
+
+// ComparedByForm reports whether a statement isn't changed before its plans, with the hidden columns and without them, were
+// seen to have the same form.
+func (p *Plan) ComparedByForm() bool { return p.Looks || p.Counts }
 
 // TooDear reports whether a statement's plan is so much dearer with the hidden columns that they aren't used: by more than
 // a third, and by more than what few rows cost that are looked up in a table or listed.
@@ -102,6 +106,9 @@ const Dear = "the hidden columns would make its plan more than a third dearer"
 
 // Reordered is why a statement is left as it is whose rows would be read in another order with the hidden columns.
 const Reordered = "the hidden columns would change the order in which it reads rows"
+
+// Uncompared is why a statement is left as it is of which it isn't known whether they would.
+const Uncompared = "its plans with the hidden columns and without them couldn't be compared"
 
 // WhyDear returns why a plan isn't used that is too dear.
 func (p *Plan) WhyDear() string {

@@ -42,8 +42,8 @@ func TestPlansOfTheServer(t *testing.T) {
 		}
 		rewritten, _, _ := p.Rewrite(text, tokens)
 		if p.Looks || p.Counts {
-			with, without := compared(t, connection, rewritten), compared(t, connection, text)
-			if p.TooDear(with.cost, without.cost) || p.Ordered && with.form != without.form {
+			with, without := compared(t, connection, p, rewritten), compared(t, connection, p, text)
+			if p.TooDear(with.cost, without.cost) || with.form != without.form {
 				left++
 			} else {
 				used++
@@ -68,11 +68,11 @@ type price struct {
 	form string
 }
 
-func compared(t *testing.T, connection *pgconn.PgConn, text string) price {
+func compared(t *testing.T, connection *pgconn.PgConn, p *Plan, text string) price {
 	t.Helper()
 	answer := run(t, connection, "EXPLAIN (FORMAT JSON) "+strings.TrimLeft(text, " ;"))[0].Rows[0][0]
 	cost, ok := Cost(answer)
-	its := price{cost, Form(answer)}
+	its := price{cost, p.Form(answer)}
 	if !ok || its.form == "" {
 		t.Errorf("the plan of %s can't be read: %s", text, answer)
 	}

@@ -44,7 +44,8 @@ func (m *maker) runsForeign(tree node) bool {
 		case "MergeStmt":
 			found = true
 		case "RangeVar":
-			found = found || m.plainTable(body) == nil && !m.isNobodys(body, with)
+			t := m.plainTable(body)
+			found = found || t != nil && t.Planned || t == nil && !m.isNobodys(body, with)
 		case "FuncCall":
 			name, schema := names(body.list("funcname")), ""
 			if len(name) > 1 {
@@ -55,10 +56,64 @@ func (m *maker) runsForeign(tree node) bool {
 		}
 		return !found
 	})
+	return found || m.callsAsColumn(tree)
+}
+
+// callsAsColumn reports whether something that is written as a column may be a call of what others have made: if the table t
+// has no column c, t.c means c(t), and so does (expression).c.
+func (m *maker) callsAsColumn(tree any) bool {
+	tables, found := map[string]*catalog.Table{}, false
+	visit(tree, func(kind string, body node) bool {
+		if kind == "RangeVar" {
+			name := body.node("alias").text("aliasname")
+			if name == "" {
+				name = body.text("relname")
+			}
+			t := m.plainTable(body)
+			if body.node("alias").has("colnames") {
+				t = nil
+			}
+			if one, again := tables[name]; again && one != t { // in a subquery it means another one
+				t = nil
+			}
+			tables[name] = t
+		}
+		return true
+	})
+	visit(tree, func(kind string, body node) bool {
+		switch kind {
+		case "ColumnRef":
+			fields := names(body.list("fields"))
+			if len(fields) < 2 || fields[len(fields)-1] == "*" {
+				break
+			}
+			name := fields[len(fields)-1]
+			if t := tables[fields[len(fields)-2]]; t != nil {
+				_, is := t.Column(name)
+				found = found || !is && !isSystemColumn(name)
+			} else {
+				found = found || m.catalog.MadeByOthers(name)
+			}
+		case "A_Indirection":
+			for _, name := range names(body.list("indirection")) {
+				found = found || m.catalog.MadeByOthers(name)
+			}
+		}
+		return !found
+	})
 	return found
 }
 
-// plainTable finds a table whose rows are read without calling anything that others have made.
+func isSystemColumn(name string) bool {
+	switch name {
+	case "ctid", "xmin", "xmax", "cmin", "cmax", "tableoid":
+		return true
+	}
+	return false
+}
+
+// plainTable finds a table whose rows are read without running anything that others have made, other than what planning
+// calls (catalog.Table.Planned).
 func (m *maker) plainTable(r node) *catalog.Table {
 	t, ok := m.catalog.Find(r.text("schemaname"), r.text("relname"))
 	if !ok || r.has("catalogname") || t.Kind != 'r' && t.Kind != 'p' && t.Kind != 'S' || t.RowSecurity {

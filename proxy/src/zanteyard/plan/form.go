@@ -2,6 +2,7 @@ package plan
 
 import (
 	"encoding/json"
+	"sort"
 	"strings"
 
 	"zanteyard/catalog"
@@ -26,18 +27,36 @@ type planned struct {
 	Plans     []planned `json:"Plans"`
 }
 
-// Form returns what the answer to Explained says of how rows are read: in the same form they are read in the same order.
-// A scan of an index alone has the form of one that looks into the table. "" if the answer can't be read.
-func Form(answer []byte) string {
+// Form returns what the answer to Explained says of how rows are read: in the same form they are read in the same order,
+// and the same tables are read whole. A scan of an index alone has the form of one that looks into the table. If the order
+// doesn't matter, the form is only which tables are read whole: at serializable these are locked. "" if the answer can't
+// be read.
+func (p *Plan) Form(answer []byte) string {
 	var all []struct {
 		Plan *planned
 	}
 	if json.Unmarshal(answer, &all) != nil || len(all) != 1 || all[0].Plan == nil {
 		return ""
 	}
+	if !p.Ordered {
+		whole := all[0].Plan.whole(nil)
+		sort.Strings(whole)
+		return "whole: " + strings.Join(whole, ", ")
+	}
 	var out strings.Builder
 	all[0].Plan.write(&out)
 	return out.String()
+}
+
+// whole appends the tables that are read whole.
+func (n *planned) whole(to []string) []string {
+	if n.Relation != "" && !strings.HasPrefix(n.Type, "Index") && !strings.HasPrefix(n.Type, "Bitmap") && n.Type != "Tid Scan" {
+		to = append(to, n.Relation+" "+n.Alias)
+	}
+	for i := range n.Plans {
+		to = n.Plans[i].whole(to)
+	}
+	return to
 }
 
 // sortsGroups reports whether ORDER BY has each column that a query groups by, and each value of these has one form: then
@@ -114,6 +133,39 @@ func (m *maker) ordered(body node, f *fromClause) bool {
 	return shows
 }
 
+// sortsRows reports whether ORDER BY has the whole key of a query's only table: then the order of its rows is certain. A
+// name without a table's may be that of a result's column, as in SELECT id::text .. ORDER BY id.
+func (m *maker) sortsRows(body node, f *fromClause) bool {
+	for _, field := range []string{"distinctClause", "windowClause", "groupClause"} {
+		if body.has(field) {
+			return false
+		}
+	}
+	if f.items != 1 || len(f.found) != 1 {
+		return false
+	}
+	renames := false
+	for _, item := range body.list("targetList") {
+		_, target := only(item)
+		renames = renames || target.has("name") || target.as("val", "ColumnRef") == nil
+	}
+	sorted := map[string]bool{}
+	for _, item := range body.list("sortClause") {
+		_, sort := only(item)
+		by := sort.as("node", "ColumnRef")
+		column, ok := m.columnOf(sort["node"], f)
+		if ok && by != nil && !sort.has("useOp") && (!renames || len(by.list("fields")) > 1) {
+			sorted[column.Name] = true
+		}
+	}
+	for _, column := range f.found[0].table.Key {
+		if !sorted[column.Name] {
+			return false
+		}
+	}
+	return true
+}
+
 // orderless reports whether a call is of an aggregate whose result is the same in any order.
 func (m *maker) orderless(call node, f *fromClause) bool {
 	name := names(call.list("funcname"))
@@ -130,8 +182,10 @@ func (m *maker) orderless(call node, f *fromClause) bool {
 	switch name[len(name)-1] {
 	case "sum", "avg":
 		switch m.isColumn(args[0], f) {
-		case keys.Int2, keys.Int4, keys.Int8, keys.Numeric:
+		case keys.Int2, keys.Int4, keys.Int8:
 			return true
+		case keys.Numeric:
+			return !call.flag("agg_distinct") // which of 1.0 and 1.00 is left depends on their order
 		}
 	case "min", "max":
 		switch m.isColumn(args[0], f) {

@@ -18,6 +18,8 @@ type fromClause struct {
 	locks bool
 	taken string // the name of the table that is written to
 	lists bool   // each row of the result is made of any number of rows
+	// ordered means that hidden lists and looks into tables may change what is answered, and unlisted that they aren't used.
+	ordered, unlisted bool
 	// unsorted means that ORDER BY doesn't decide in which order the groups are.
 	unsorted bool
 	group    []any // of GROUP BY
@@ -172,7 +174,7 @@ func (f *fromClause) groups() (seen []*item) {
 			f.plan.leaveOut("GROUP BY without an ORDER BY of its columns")
 		case f.removable(it):
 			f.plan.leaveOut("a join that the server may skip")
-		case looks && (f.taken != "" || !f.maker.catalog.Lists()):
+		case looks && (f.taken != "" || f.unlisted):
 			f.plan.leaveOut(ByIndex)
 		default:
 			f.plan.Looks = f.plan.Looks || looks

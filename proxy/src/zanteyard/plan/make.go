@@ -20,6 +20,7 @@ type maker struct {
 	many    bool  // VALUES has more rows than are to be returned
 	configs []int // the tokens of the names that set_config sets, nowhere for one that is no constant
 	renames bool  // something else may change what names mean
+	cursor  bool  // the statement declares one
 }
 
 func newMaker(c *catalog.Catalog, s *scanner) *maker {

@@ -134,7 +134,8 @@ type Plan struct {
 	Widens bool
 	// Looks means that an index may have all that the statement asks of a table, which the hidden columns have to look up.
 	Looks bool
-	// Ordered means that the answer may show in which order rows are read: plans are compared by their form, too.
+	// Ordered means that the answer may depend on how the server reads rows, if hidden columns list them or make it look
+	// into tables: then its plans with the hidden columns and without them must have the same form.
 	Ordered bool
 	// ByKey means that a SELECT asks for the rows of one table by its whole primary key, whatever else it asks.
 	ByKey bool

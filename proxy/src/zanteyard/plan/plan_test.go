@@ -19,7 +19,7 @@ import (
 func TestShapes(t *testing.T) {
 	connection := connect(t, "shapes", schema)
 	known := load(t, connection)
-	cache := NewCache(known)
+	cache, certain := NewCache(known), NewCache(load(t, connection, catalog.OnlyCertainLists))
 	for _, s := range shapes {
 		t.Run(s.sql, func(t *testing.T) {
 			p, tokens := cache.Plan(s.sql)
@@ -32,6 +32,12 @@ func TestShapes(t *testing.T) {
 			fails := strings.Contains(s.flags, "error")
 			if got, want := flags(p), strings.TrimSuffix(strings.TrimSuffix(s.flags, "error"), ", "); got != want {
 				t.Errorf("flags %q, not %q", got, want)
+			}
+			if other, _ := certain.Plan(s.sql); p.Counts || p.Looks {
+				groups := p.Counts && strings.Contains(s.sql, "GROUP BY")
+				if is := other.Counts || other.Looks; is == (p.Ordered || groups) || is && other.insertion != p.insertion {
+					t.Errorf("without lists where order shows it has %q, not %q", other.insertion.text, p.insertion.text)
+				}
 			}
 			if p.insertion.text == "" {
 				return

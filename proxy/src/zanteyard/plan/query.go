@@ -8,6 +8,9 @@ import (
 // alias is the name of every hidden column: it can't be taken for a column of the statement in ORDER BY.
 const alias = "zanteyard"
 
+// IsHidden reports whether a column's name is that of the hidden ones.
+func IsHidden(name []byte) bool { return string(name) == alias }
+
 // query plans a statement that reads or writes rows, whose tokens begin at start.
 func (m *maker) query(stmt statement, name string, body node, start int) *Plan {
 	p := &Plan{Shape: m.shape, Kind: Write}

@@ -183,8 +183,7 @@ func (f *fromClause) column(r reference, it *item) (number int16, all, hit bool)
 	if column, ok := it.table.Column(last); ok {
 		return column.Number, false, true
 	}
-	switch last {
-	case "*", "ctid", "xmin", "xmax", "cmin", "cmax", "tableoid":
+	if last == "*" || isSystemColumn(last) {
 		return 0, true, true
 	}
 	if len(r.fields) > 1 || last != it.name {

@@ -22,7 +22,14 @@ func (m *maker) selects(p *Plan, body node, start, end int) {
 	}
 	word := m.fromWord(start, end)
 	f := &fromClause{maker: m, plan: p, with: withNames(body), lists: lists}
+	unseen := p.Unseen
 	f.read(body, "fromClause")
+	f.ordered = !m.certain(p, body, f)
+	if f.unlisted = f.ordered && !m.catalog.ListsAll(); lists && f.unlisted {
+		p.Unseen = unseen
+		p.leaveOut(anAggregate)
+		return
+	}
 	f.unsorted = lists && body.has("groupClause") && !m.sortsGroups(body, f)
 	found := f.groups()
 	if len(found) == 0 {
@@ -53,10 +60,13 @@ func (m *maker) selects(p *Plan, body node, start, end int) {
 		groups = ", " + groups
 	}
 	p.insertion, p.Widens = insertion{text: groups + " ", token: word}, widens(body, f)
-	p.Ordered = (p.Counts || p.Looks) && m.ordered(body, f)
+	p.Ordered = (p.Counts || p.Looks) && f.ordered
 	m.orders(p, body, f.width(body.list("targetList")))
 	m.asks(p, body, found, f)
 }
+
+// anAggregate is why the rows aren't listed that an aggregate was made of, if the result may depend on how they are read.
+const anAggregate = "an aggregate"
 
 // merges reports whether each of a SELECT's rows is made of any number of rows that it read, which can be listed, or why
 // nothing can be told of them.
@@ -67,7 +77,7 @@ func (m *maker) merges(body node) (lists bool, reason string) {
 	case body.has("distinctClause") && !distinctOn(body):
 		return false, "DISTINCT"
 	case body.has("groupClause"): // a table whose whole key is grouped by has one row in each group
-		return m.catalog.Lists() && !body.has("distinctClause") && !kindFound(body["groupClause"], "GroupingSet"), ""
+		return m.catalog.ListsAll() && !body.has("distinctClause") && !kindFound(body["groupClause"], "GroupingSet"), ""
 	}
 	parts := []any{body["targetList"], body["sortClause"], body["windowClause"], body["distinctClause"]}
 	switch {
@@ -75,10 +85,6 @@ func (m *maker) merges(body node) (lists bool, reason string) {
 		return false, ""
 	case body.has("distinctClause"):
 		return false, "DISTINCT"
-	case !m.catalog.Lists() && body.has("havingClause"):
-		return false, "HAVING"
-	case !m.catalog.Lists():
-		return false, "an aggregate"
 	case !body.has("havingClause") && !m.surelyAggregates(parts):
 		return false, "a function that may be an aggregate"
 	case m.onlyEnds(body, parts):
@@ -93,6 +99,38 @@ func (m *maker) surelyAggregates(value any) bool {
 	return m.anyCall(value, func(body node) bool {
 		return m.writtenAsAggregate(body) || m.function(body).Always
 	})
+}
+
+// certain reports whether a statement's answer, and what else it does, are the same whatever plan the server chooses:
+// hidden columns may make it choose another one. A cursor has another plan than the one that is compared.
+func (m *maker) certain(p *Plan, body node, f *fromClause) bool {
+	if p.Kind != Select || p.Calls || m.cursor || m.catalog.Foreign || m.callsAsColumn(body) {
+		return false
+	}
+	if m.ordered(body, f) && (f.lists || !m.sortsRows(body, f)) {
+		return false
+	}
+	steady := true
+	visit(body, func(kind string, its node) bool {
+		if kind == "FuncCall" {
+			steady = steady && !its.has("over") && (m.orderless(its, f) || m.steady(its))
+		}
+		return steady
+	})
+	return steady
+}
+
+// steady reports whether a call is surely of a function of the server's own that only computes a value.
+func (m *maker) steady(call node) bool {
+	name, schema := names(call.list("funcname")), ""
+	switch len(name) {
+	case 1:
+	case 2:
+		schema = name[0]
+	default:
+		return false
+	}
+	return m.catalog.Steady(schema, name[len(name)-1])
 }
 
 // onlyEnds reports whether all aggregates of a query of one table are MIN or MAX of what an index may have in order: then

@@ -69,10 +69,10 @@ func run(t testing.TB, connection *pgconn.PgConn, sql string) []*pgconn.Result {
 	return results
 }
 
-func load(t testing.TB, connection *pgconn.PgConn) *catalog.Catalog {
+func load(t testing.TB, connection *pgconn.PgConn, options ...catalog.Option) *catalog.Catalog {
 	t.Helper()
 	ctx := context.Background()
-	c, err := catalog.Load(ctx, cluster.Query(ctx, connection))
+	c, err := catalog.Load(ctx, cluster.Query(ctx, connection), options...)
 	if err != nil {
 		t.Fatal(err)
 	}

@@ -135,7 +135,7 @@ var shapes = []shape{
 	{sql: "VALUES (1, 2), (3, 4)"},
 	{sql: "TABLE t", unseen: []string{"unknown form of statement"}},
 	// Statements that an index may answer without the table.
-	{sql: "SELECT id FROM t WHERE id > 3 ORDER BY id", seen: "t", flags: "looks, ordered"},
+	{sql: "SELECT id FROM t WHERE id > 3 ORDER BY id", seen: "t", flags: "looks"},
 	{sql: "SELECT id FROM t WHERE id > 3 AND v > 0 ORDER BY id", seen: "t"},
 	{sql: "SELECT id FROM t WHERE id > 3 ORDER BY id FOR SHARE", seen: "t"},
 	{sql: "SELECT * FROM link WHERE a = 3 AND b = 0", seen: "link", flags: "asked"},

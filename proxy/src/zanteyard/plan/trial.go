@@ -1,6 +1,7 @@
 package plan
 
 import (
+	"regexp"
 	"strconv"
 	"strings"
 )
@@ -11,24 +12,32 @@ const (
 	tableoidNumber = -6
 )
 
-// functions returns what hidden columns call that the server's owner may have taken from others.
-func (p *Plan) functions() []string {
-	if !p.Counts && (p.Inner == nil || !p.Inner.Counts) {
-		return nil
+// calledNames matches the functions that hidden columns call.
+var calledNames = regexp.MustCompile(`pg_catalog\.([a-z0-9_]+)\(`)
+
+// functions returns the names of what hidden columns call, by name or as an operator: the server's owner may have taken
+// any of these from others.
+func (p *Plan) functions() (all []string) {
+	all = append(all, "pg_current_xact_id_if_assigned") // of the proxy's own questions, too
+	for _, call := range calledNames.FindAllStringSubmatch(p.insertion.text, -1) {
+		if !contains(all, call[1]) {
+			all = append(all, call[1])
+		}
 	}
-	return []string{"count()", "string_agg(pg_catalog.bytea, pg_catalog.bytea)", "record_send(pg_catalog.record)",
-		"clock_timestamp()", "statement_timestamp()"}
+	if p.Counts || p.Inner != nil && p.Inner.Counts {
+		all = append(all, "timestamptz_lt", "timestamptz_pl_interval", "int84le", "int4le")
+	}
+	return all
 }
 
 // privileges returns a SELECT of one boolean: each name means the relation that it was taken for, its hidden columns may
 // be read, and the functions may be called. A column that isn't there any more yields NULL.
 func privileges(relations []relation, functions []string) string {
 	var out strings.Builder
-	out.WriteString("SELECT coalesce(pg_catalog.has_function_privilege(" +
-		"'pg_catalog.pg_current_xact_id_if_assigned()', 'EXECUTE')")
-	for _, function := range functions {
-		out.WriteString(" AND pg_catalog.has_function_privilege('pg_catalog." + function + "', 'EXECUTE')")
-	}
+	out.WriteString("SELECT coalesce(NOT EXISTS (SELECT FROM pg_catalog.pg_proc WHERE " +
+		"pronamespace OPERATOR(pg_catalog.=) 'pg_catalog'::pg_catalog.regnamespace::pg_catalog.oid AND " +
+		"proname OPERATOR(pg_catalog.=) ANY ('{" + strings.Join(functions, ",") + "}'::pg_catalog.name[]) AND " +
+		"NOT pg_catalog.has_function_privilege(oid, 'EXECUTE'))")
 	done := map[string]bool{}
 	for _, r := range relations {
 		condition := r.condition()

@@ -53,6 +53,9 @@ type Absence struct {
 	Relation Relation // the table that the statement names
 	Key      Key
 	Identity Identity
+	// Wrote means that the transaction may have written before it, and Undone that ROLLBACK TO may have undone that since:
+	// then the log doesn't show what the statement saw.
+	Wrote, Undone bool
 }
 
 // Condition is what a statement asked a table for, with its constants. Package condition makes it.
@@ -112,6 +115,8 @@ type Transaction struct {
 	// MayHaveWritten means that it may have written although Number is 0: its writes appear in the slot as somebody's, and
 	// are folded.
 	MayHaveWritten bool
+	// Unnumbered is why the number isn't known of one that may have written.
+	Unnumbered string
 	// Versions are the xmins of rows that the transaction wrote, as RETURNING reported them: its own number and those of
 	// its subtransactions. Those that a rollback to a savepoint undid needn't be left out.
 	Versions []uint32

@@ -43,6 +43,7 @@ type Hub struct {
 	mark     int64 // 0 while there is none
 	proxies  map[string]*attached
 	past     map[string]past // those that fell silent long ago
+	forgot   time.Time       // when some of these were forgotten last
 	epochs   uint64
 	numbers  uint64            // connections
 	of       map[uint64]remote // by our numbers for them
@@ -71,12 +72,18 @@ type attached struct {
 	holds       uint64            // the last meeting for which it has held its clients
 }
 
-// past is what is remembered of a proxy that has been silent for an hour, as long as the watch runs: its hello may be
-// played again, and it may come back with what was held back.
-type past struct{ try, received, dropped uint64 }
+// past is what is remembered of a proxy that has been silent for an hour, for a day: it may come back with what was held
+// back. After that its hellos are too old to be played again.
+type past struct {
+	try, received, dropped uint64
+	heard                  time.Time
+}
 
-// mostProxies limits the proxies that are remembered. Others can't feed the audit.
-const mostProxies = 100_000
+const (
+	mostProxies = 100_000        // that are remembered; others can't feed the audit
+	fresh       = time.Hour      // a hello that was made earlier isn't heard
+	remembered  = 24 * time.Hour // after this a proxy that is silent is forgotten; longer than a hello is fresh
+)
 
 type remote struct{ epoch, connection uint64 }
 
@@ -181,6 +188,9 @@ func (h *Hub) greet(m *toHub, now time.Time) {
 	if before.try != 0 && its.Try <= before.try {
 		return // a repeated one
 	}
+	if made := h.at(its.Tick, now); its.Protocol == protocol && (made.IsZero() || now.Sub(made) > fresh) {
+		return // it was held back, or is played again: whoever wants to be heard says hello once more
+	}
 	reply := answer{Proxy: m.Proxy, Try: its.Try, Mark: h.mark, Redacts: h.options.Redacts, Refused: h.refuses(its)}
 	if a == nil && before.try == 0 && len(h.proxies)+len(h.past) >= mostProxies {
 		reply.Refused = "too many proxies have fed this watch: it has to be started again"
@@ -198,6 +208,10 @@ func (h *Hub) greet(m *toHub, now time.Time) {
 		a = &attached{id: m.Proxy, received: before.received, dropped: before.dropped}
 	default:
 		a = &attached{id: m.Proxy, received: m.Sent, dropped: m.Dropped}
+		if its.Again {
+			h.options.Log("the proxy " + its.Name + " was silent for so long that it is forgotten: what was lost on its way then " +
+				"isn't counted")
+		}
 	}
 	delete(h.past, m.Proxy)
 	h.proxies[m.Proxy] = a
@@ -350,12 +364,22 @@ func (h *Hub) look(ctx context.Context) {
 	}
 }
 
-// retire keeps of proxies that have been silent for an hour only what has to be remembered. Called with lock held.
+// retire keeps of proxies that have been silent for an hour only what has to be remembered, and that for a day. Called with
+// lock held.
 func (h *Hub) retire(now time.Time) {
 	for id, a := range h.proxies {
 		if a.epoch == 0 && now.Sub(a.heard) > time.Hour {
-			h.past[id] = past{a.try, a.received, a.dropped}
+			h.past[id] = past{a.try, a.received, a.dropped, a.heard}
 			delete(h.proxies, id)
+		}
+	}
+	if now.Sub(h.forgot) < time.Minute {
+		return
+	}
+	h.forgot = now
+	for id, its := range h.past {
+		if now.Sub(its.heard) > remembered {
+			delete(h.past, id)
 		}
 	}
 }

@@ -58,7 +58,7 @@ func newTestHub(t testing.TB, to Sink) *Hub {
 
 func someHello(h *Hub, proxy string, try uint64) *toHub {
 	return &toHub{Run: h.run, Proxy: proxy, Hello: &hello{Protocol: protocol, Try: try, Name: proxy, Database: "shop",
-		System: "1"}}
+		System: "1", Tick: int64(time.Since(h.base))}}
 }
 
 // sealed returns a message as Redis has it.

@@ -26,6 +26,8 @@ type hello struct {
 	Protocol               int
 	Try                    uint64 // rises
 	Name, Database, System string
+	Tick                   int64 // the newest of the watch's that it has heard: a hello that was held back for long is old
+	Again                  bool  // the watch had let it attach itself before
 }
 
 // item is one thing that a proxy reports.

@@ -4,6 +4,7 @@ import (
 	"context"
 	"fmt"
 	"strconv"
+	"strings"
 	"testing"
 	"time"
 )
@@ -84,6 +85,68 @@ func TestSilentForHours(t *testing.T) {
 	}
 	if to.lost[lostOnTheWay] != 7 || to.lost[noRoomThere] != 4 {
 		t.Errorf("counted as lost: %v", to.lost)
+	}
+}
+
+// TestProxiesAreForgotten: of proxies that come and go for a month, only those of the last day are remembered; a hello of
+// one that is forgotten can't be played again, and one that comes back after so long says so.
+func TestProxiesAreForgotten(t *testing.T) {
+	h := newTestHub(t, newHeard())
+	var said []string
+	h.options.Log = func(text string) { said = append(said, text) }
+	now := time.Now()
+	answers := func(m *toHub) bool {
+		for len(h.out) > 0 {
+			<-h.out
+		}
+		h.greet(m, now)
+		return len(h.out) > 0
+	}
+	hello := func(name string, try uint64) *toHub {
+		its := someHello(h, name, try)
+		its.Hello.Tick = int64(now.Sub(h.base))
+		return its
+	}
+	first := hello("first", 1)
+	if !answers(first) || answers(first) {
+		t.Fatal("a hello isn't answered just once")
+	}
+	h.end(h.proxies["first"], "it fell silent")
+	for day := 0; day < 30; day++ {
+		for n := 0; n < 1000; n++ {
+			name := strconv.Itoa(day) + "-" + strconv.Itoa(n)
+			if now = now.Add(86 * time.Second); !answers(hello(name, 1)) {
+				t.Fatalf("%s isn't answered", name)
+			}
+			h.end(h.proxies[name], "it fell silent")
+			h.retire(now)
+			if answers(first) {
+				t.Fatalf("day %d: a hello that was played again is answered", day)
+			}
+		}
+		if len(h.past)+len(h.proxies) > 1100 {
+			t.Fatalf("day %d: %d and %d are remembered", day, len(h.past), len(h.proxies))
+		}
+	}
+	if h.past["first"].try != 0 {
+		t.Error("the first one is remembered")
+	}
+	said = nil
+	again := hello("first", 2)
+	if again.Hello.Again = true; !answers(again) {
+		t.Error("it can't come back")
+	}
+	if !strings.Contains(strings.Join(said, "\n"), "isn't counted") {
+		t.Errorf("said: %q", said)
+	}
+	if late := hello("late", 1); !answers(late) {
+		t.Error("a fresh hello isn't answered")
+	}
+	for _, tick := range []int64{0, int64(now.Sub(h.base) - fresh - time.Second), int64(now.Sub(h.base) + time.Second)} {
+		its := hello("older", 1)
+		if its.Hello.Tick = tick; answers(its) {
+			t.Errorf("a hello of tick %d is answered", tick)
+		}
 	}
 }
 

@@ -36,6 +36,8 @@ type Post struct {
 	live    map[uint64]record.Connection
 	ticks   ticks
 	run     string    // the watch that is heard
+	newest  int64     // tick of it
+	fed     string    // the watch that this proxy was attached to last
 	heard   time.Time // when its last message arrived
 	numbers numbers   // of the messages that were heard
 	try     uint64
@@ -240,9 +242,12 @@ func (p *Post) one(ctx context.Context, m *fromHub, isNew bool) {
 		return // a repeated one
 	case m.Run != p.run:
 		p.detach()
-		p.run = m.Run
+		p.run, p.newest = m.Run, 0
 	}
 	p.heard = now
+	if m.Tick > p.newest {
+		p.newest = m.Tick
+	}
 	p.takes.Store(p.epoch != 0 && !m.Idle)
 	p.ticks.add(now, m.Tick)
 	switch {
@@ -304,6 +309,7 @@ func (p *Post) attach(it *answer) {
 	p.takes.Store(true)
 	p.redacts, p.hides = p.options.Redacts || it.Redacts, it.Redacts
 	p.epoch, p.mark, p.looked, p.next, p.wanted = it.Epoch, it.Mark, time.Now(), 0, nil
+	p.fed = p.run
 	p.items, p.bytes, p.beyond = nil, 0, nil
 	for _, one := range p.live {
 		one := one
@@ -376,7 +382,7 @@ func (p *Post) greet(ctx context.Context, s *server, l *link, run string) error 
 	p.try++
 	p.tried = time.Now()
 	m := toHub{Run: run, Proxy: p.id, Sent: p.sent, Dropped: p.dropped, Hello: &hello{Protocol: protocol, Try: p.try,
-		Name: p.name, Database: who.database, System: who.system}}
+		Name: p.name, Database: who.database, System: who.system, Tick: p.newest, Again: p.fed == run}}
 	p.lock.Unlock()
 	text, err := encode(m)
 	if err != nil {

@@ -21,7 +21,7 @@ import (
 )
 
 const (
-	protocol  = 2
+	protocol  = 3
 	every     = 20 * time.Millisecond // between two ticks, while proxies are attached
 	seldom    = 250 * time.Millisecond
 	again     = time.Second          // between two hellos

@@ -1,9 +1,11 @@
 package server
 
 import (
+	"context"
 	"crypto/tls"
 	"encoding/binary"
 	"errors"
+	"fmt"
 	"io"
 	"net"
 
@@ -41,13 +43,27 @@ func refusal(message, hint string) []byte {
 		Message: "zanteyard-proxy: " + message, Hint: hint}).Encode(nil)
 }
 
+// lets passes a startup message on, and what the server says to it, up to its request for a credential.
+func (s *Server) lets(ctx context.Context, client, server net.Conn, first packet) error {
+	defer closeAfter(ctx, server)()
+	if _, err := server.Write(first); err != nil {
+		return unanswered(err)
+	}
+	return s.credential(client, server)
+}
+
+// unanswered is why a client wasn't let in though nobody refused it. That is logged, even if it is the server's EOF.
+func unanswered(err error) error {
+	return fmt.Errorf("the server ended the connection before it asked for a credential: %v", err)
+}
+
 // credential passes on what the server says first, up to its request for a credential. If there is none, the client is
 // refused, unless it is trusted.
 func (s *Server) credential(client, server net.Conn) error {
 	for {
 		m, err := readMessage(server)
 		if err != nil {
-			return err
+			return unanswered(err)
 		}
 		switch m[0] {
 		case 'R':

@@ -8,7 +8,6 @@ import (
 	"fmt"
 	"io"
 	"net"
-	"time"
 
 	"github.com/jackc/pgconn"
 )
@@ -67,15 +66,12 @@ func (t target) dial(ctx context.Context) (net.Conn, error) {
 	if t.tls == nil || t.network == "unix" {
 		return c, nil
 	}
-	if deadline, ok := ctx.Deadline(); ok {
-		c.SetDeadline(deadline)
-	}
+	defer closeAfter(ctx, c)()
 	secure, err := t.secure(c)
 	if err != nil {
 		c.Close()
 		return nil, fmt.Errorf("TLS with the server at %s: %w", t.address, err)
 	}
-	c.SetDeadline(time.Time{})
 	return secure, nil
 }
 

@@ -34,7 +34,8 @@ type Options struct {
 	Room         *meeting.Room
 	Loops        *loop.Loops // they serve connections without TLS; nil: none
 	Log          func(string)
-	// Patience is how long a client may take for its startup, and the proxy to reach the server.
+	// Patience is how long a client may take for its startup message, and for how long one that has left counts as there.
+	// From that message on only the server's own limits hold.
 	Patience time.Duration
 	// Draining is how long transactions may go on after Drain.
 	Draining time.Duration
@@ -170,10 +171,11 @@ func (s *Server) serve(ctx context.Context, raw net.Conn) {
 		s.complain(raw, err)
 		return
 	}
-	dialing, cancel := context.WithTimeout(ctx, s.options.Patience)
-	defer cancel()
+	raw.SetDeadline(time.Time{})
+	beginning, begun := s.whileThere(ctx, raw)
+	defer begun()
 	if first.code() == cancelCode {
-		s.cancel(dialing, first)
+		s.cancel(beginning, first)
 		return
 	}
 	if s.lacksTLS(raw, client) {
@@ -185,7 +187,7 @@ func (s *Server) serve(ctx context.Context, raw net.Conn) {
 		return
 	}
 	defer s.dismiss()
-	server, err := s.dial(dialing)
+	server, err := s.dial(beginning)
 	if err != nil {
 		s.options.Log("no connection to the server: " + err.Error())
 		client.Write((&pgproto3.ErrorResponse{Severity: "FATAL", SeverityUnlocalized: "FATAL", Code: "08001",
@@ -193,16 +195,11 @@ func (s *Server) serve(ctx context.Context, raw net.Conn) {
 		return
 	}
 	defer server.Close()
-	server.SetDeadline(time.Now().Add(s.options.Patience))
-	if _, err := server.Write(first); err != nil {
-		return
-	}
-	if err := s.credential(client, server); err != nil {
+	if err := s.lets(beginning, client, server, first); err != nil {
 		s.complain(raw, err)
 		return
 	}
-	server.SetDeadline(time.Time{})
-	raw.SetDeadline(time.Time{})
+	begun()
 	s.session(raw, client, server, first.startup())
 }
 
@@ -273,18 +270,40 @@ func address(c net.Conn) string {
 	}
 }
 
-// cancel passes a cancel request on. Clients have the server's own key, so it means the same there. The server closes
-// the connection when it has handled the request, and then so does the proxy: a client may wait for that.
+// sessionOf returns the session that a cancel request is for, or nil.
+func (s *Server) sessionOf(request packet) *session.Session {
+	s.lock.Lock()
+	all := make([]*session.Session, 0, len(s.sessions))
+	for one := range s.sessions {
+		all = append(all, one)
+	}
+	s.lock.Unlock()
+	for _, one := range all {
+		if one.IsFor(request[8:]) {
+			return one
+		}
+	}
+	return nil
+}
+
+// cancel passes a cancel request on, once the server runs what it is meant for. Clients have the server's own key, so it
+// means the same there. The server closes the connection when it has handled the request, and then so does the proxy: a
+// client may wait for that.
 func (s *Server) cancel(ctx context.Context, request packet) {
 	server, err := s.dial(ctx)
 	if err != nil {
 		return
 	}
 	defer server.Close()
-	if deadline, ok := ctx.Deadline(); ok {
-		server.SetDeadline(deadline)
+	defer closeAfter(ctx, server)()
+	pass := func() {
+		if _, err := server.Write(request); err == nil {
+			io.Copy(io.Discard, server)
+		}
 	}
-	if _, err := server.Write(request); err == nil {
-		io.Copy(io.Discard, server)
+	if one := s.sessionOf(request); one != nil {
+		one.Cancel(ctx, pass)
+		return
 	}
+	pass()
 }

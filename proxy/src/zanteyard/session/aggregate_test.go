@@ -6,13 +6,14 @@ import (
 	"testing"
 	"time"
 
+	"zanteyard/catalog"
 	"zanteyard/definitions"
 	"zanteyard/plan"
 )
 
 // listing has tables whose rows an index may have, or too many of them, or with long keys.
 const listing = `
-DROP TABLE IF EXISTS listed, spelled;
+DROP TABLE IF EXISTS listed, spelled CASCADE;
 CREATE TABLE listed (id int PRIMARY KEY, g int, h int, x int);
 INSERT INTO listed SELECT i, i / 10, i * 7919 % 2000, i FROM generate_series(1, 20000) i;
 CREATE INDEX ON listed (g); CREATE INDEX ON listed (h);
@@ -22,9 +23,9 @@ INSERT INTO spelled VALUES (repeat('y', 129), 100), (repeat('z', 128), 200);
 `
 
 // knowing makes sessions know the definitions as they are now.
-func knowing(t *testing.T) func(*Options) {
+func knowing(t *testing.T, options ...catalog.Option) func(*Options) {
 	t.Helper()
-	d, err := definitions.Open(context.Background(), config(), time.Hour, func(string) {})
+	d, err := definitions.Open(context.Background(), config(), time.Hour, func(string) {}, options...)
 	if err != nil {
 		t.Fatal(err)
 	}
@@ -38,13 +39,7 @@ func TestListed(t *testing.T) {
 	sql(t, fill)
 	sql(t, listing)
 	sql(t, "VACUUM ANALYZE listed")
-	known := knowing(t)
-	plain := direct(t, "postgres")
-	for _, x := range []struct {
-		text  string
-		reads int
-		why   string // "" if all is seen
-	}{
+	listedAs(t, knowing(t), []listedCase{
 		{"SELECT count(*), sum(x) FROM listed WHERE g = 5", 10, ""},
 		{"SELECT count(*) FROM listed WHERE g = 5", 10, ""},
 		{"SELECT sum(x), max(x) FROM listed WHERE g = 5 HAVING count(*) > 3", 10, ""},
@@ -75,7 +70,19 @@ func TestListed(t *testing.T) {
 		{"SELECT g, sum(x) FROM listed GROUP BY g ORDER BY g", 0, plan.Dear},
 		{"SELECT count(t.v), sum(u.v) FROM t LEFT JOIN u ON u.a = t.id AND u.b <> 'b1' WHERE t.id < 3", 7, ""},
 		{"SELECT count(*), sum(v) FROM t WHERE id = 5", 1, ""},
-	} {
+	})
+}
+
+// listedCase is a statement, and what is told of it.
+type listedCase struct {
+	text  string
+	reads int
+	why   string // "" if all is seen
+}
+
+func listedAs(t *testing.T, known func(*Options), cases []listedCase) {
+	plain := direct(t, "postgres")
+	for _, x := range cases {
 		t.Run(x.text, func(t *testing.T) {
 			want := show(plain.do(query(x.text)))
 			p := through(t, "postgres", known)
@@ -86,7 +93,7 @@ func TestListed(t *testing.T) {
 					t.Fatalf("got\n%s\nand not\n%s", got, want)
 				}
 				p.settle()
-				return !p.sink.left("not tried") && !p.sink.left("something may have changed")
+				return !p.sink.left("not tried") && !p.sink.left("what names refer to")
 			})
 			reads := 0
 			for _, it := range p.sink.take() {
@@ -97,6 +104,46 @@ func TestListed(t *testing.T) {
 			}
 		})
 	}
+}
+
+// TestListedForCertain: what isn't an option is seen of aggregates, and of what an index may answer alone, where the answer
+// is the same whatever plan the server chooses.
+func TestListedForCertain(t *testing.T) {
+	needServer(t)
+	sql(t, fill)
+	sql(t, listing)
+	sql(t, `DROP FUNCTION IF EXISTS noted(int);
+		DROP TABLE IF EXISTS exact; CREATE TABLE exact (id int PRIMARY KEY, n numeric);
+		INSERT INTO exact VALUES (1, 1.0), (2, 1.00), (3, 2);
+		CREATE OR REPLACE FUNCTION called(listed) RETURNS int IMMUTABLE LANGUAGE sql AS 'SELECT 1';
+		CREATE FUNCTION noted(int) RETURNS boolean IMMUTABLE LANGUAGE plpgsql AS 'BEGIN RAISE NOTICE ''%'', $1; RETURN true; END'`)
+	sql(t, "VACUUM ANALYZE listed")
+	listedAs(t, knowing(t, catalog.OnlyCertainLists), []listedCase{
+		{"SELECT count(*), sum(x) FROM listed WHERE g = 5", 10, ""},
+		{"SELECT count(*) FROM listed WHERE h = 5", 10, ""},
+		{"SELECT COALESCE(sum(x), 0) + 1, avg(x) FROM listed WHERE g = 5 HAVING count(DISTINCT h) > 3", 10, ""},
+		{"SELECT sum(x) FROM listed WHERE g = 5 AND abs(x) > 3", 10, ""},
+		{"SELECT sum(x) FROM listed WHERE g = 5 AND random() >= 0", 0, "an aggregate"},
+		{"SELECT sum(x) FROM listed WHERE g = 5 AND noted(x)", 0, "an aggregate"},
+		{"SELECT array_agg(x) FROM listed WHERE g = 5", 0, "an aggregate"},
+		{"SELECT sum(DISTINCT n) FROM exact", 0, "an aggregate"},
+		{"SELECT sum(n) FROM exact", 3, ""},
+		{"SELECT sum(listed.called) FROM listed WHERE g = 5", 0, "an aggregate"},
+		{"SELECT id, row_number() OVER () FROM listed WHERE id < 4 ORDER BY id", 0, plan.ByIndex},
+		{"SELECT sum(x::float8) FROM listed WHERE g = 5", 0, "an aggregate"},
+		{"SELECT round(avg(x), 2) FROM listed WHERE g = 5", 0, "an aggregate"},
+		{"SELECT count(*) FROM listed WHERE id < 300", 0, tooManyRows},
+		{"SELECT count(*), sum(x) FROM listed", 0, plan.Dear},
+		{"SELECT g, count(*) FROM listed WHERE id BETWEEN 5 AND 34 GROUP BY g ORDER BY g", 0, "GROUP BY"},
+		{"SELECT max(x) FROM listed WHERE g = 5", 10, ""},
+		{"SELECT 1 AS one FROM listed WHERE g = 5 LIMIT 1", 1, ""},
+		{"SELECT 1 AS one FROM listed WHERE h = 5", 10, ""},
+		{"SELECT h FROM listed WHERE h BETWEEN 5 AND 9", 0, plan.ByIndex},
+		{"SELECT id FROM listed ORDER BY id LIMIT 3", 3, ""},
+		{"SELECT id::text FROM listed ORDER BY listed.id LIMIT 3", 3, ""},
+		{"SELECT id::text FROM listed ORDER BY id LIMIT 3", 0, plan.ByIndex},
+		{"SELECT count(t.v), sum(u.v) FROM t LEFT JOIN u ON u.a = t.id AND u.b <> 'b1' WHERE t.id < 3", 7, ""},
+	})
 }
 
 // TestRests: an aggregate of many rows by a condition of which the server expected few is left as it is for a while, on

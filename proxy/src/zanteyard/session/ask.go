@@ -24,7 +24,7 @@ func (s *Session) ask(o *output, p *plan.Plan) {
 		return
 	}
 	if !s.trust.asks || s.trust.doubt {
-		s.trust.wanted = true
+		s.trust.wanted, t.unasked = true, numberUnasked
 		return
 	}
 	// It is prepared each time: what a trigger or a function may have put in its place isn't run.
@@ -41,7 +41,7 @@ func (s *Session) ask(o *output, p *plan.Plan) {
 // take for success. So the client gets the error instead.
 func (s *Session) askFailed(m []byte) {
 	s.failure = append(s.failure[:0], m...)
-	s.trust.doubtful()
+	s.trust.doubtful(failedToAsk)
 }
 
 // mentions reports whether a text contains a word, ignoring case.

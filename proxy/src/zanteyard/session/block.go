@@ -36,7 +36,7 @@ func (t *trust) undoes() {
 	t.block.ends++
 	if t.block.local || t.block.isPrivate {
 		t.block.local = false
-		t.changed()
+		t.changed(endedBlock)
 	}
 }
 
@@ -52,7 +52,7 @@ func (s *Session) free() bool {
 // locks tables, which the block may never use.
 func (s *Session) pauses() bool {
 	t := &s.trust
-	return s.status == 'T' && s.tx.queried && s.queue.empty() && s.asked < mostAsks && s.free() &&
+	return s.status == 'T' && s.cancels.Load() == 0 && s.tx.queried && s.queue.empty() && s.asked < mostAsks && s.free() &&
 		!t.broken && !t.taken && !t.elsewhere && (t.doubt || t.block.local || !s.tx.calls) &&
 		t.wanted && (t.doubt || !t.asks || !t.here)
 }
@@ -63,7 +63,7 @@ func (s *Session) pauses() bool {
 func (s *Session) needsTrial(batch []byte) bool {
 	t := &s.trust
 	s.ahead, s.next = nil, s.next[:0]
-	if !s.free() || s.options.Bound <= 0 || !s.slow.IsZero() && clock().Before(s.slow) {
+	if !s.free() || s.cancels.Load() > 0 || s.options.Bound <= 0 || !s.slow.IsZero() && clock().Before(s.slow) {
 		return false
 	}
 	s.catchUp()

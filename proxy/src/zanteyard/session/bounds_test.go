@@ -123,6 +123,20 @@ func TestBounds(t *testing.T) {
 				}
 			}
 		}},
+		{"portals that fetch from a cursor, with long names", 4 << 10, func(p *proxied) {
+			p.do(named("fetch", "FETCH 1 FROM c"))
+			p.query("BEGIN")
+			p.query("DECLARE c CURSOR FOR SELECT v FROM t WHERE id = 7")
+			p.together(20000, func(i int) []pgproto3.FrontendMessage {
+				return []pgproto3.FrontendMessage{&pgproto3.Bind{DestinationPortal: fmt.Sprintf("p%d%s", i, long[:3000]), PreparedStatement: "fetch"}}
+			})
+		}, func(p *proxied) {
+			name := "p19987" + long[:3000]
+			got := show(p.do(messages('Z', &pgproto3.Describe{ObjectType: 'P', Name: name}, &pgproto3.Execute{Portal: name}, &pgproto3.Sync{})))
+			if !strings.Contains(got, "D \"\\x00\\x01\\x00\\x00\\x00\\x0270\"") {
+				t.Error(got)
+			}
+		}},
 		{"cursors", 8 << 10, func(p *proxied) {
 			p.query("BEGIN")
 			for i := 0; i < 300; i++ {

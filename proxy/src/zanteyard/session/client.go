@@ -39,7 +39,7 @@ func (s *Session) fromClient(o *output, batch []byte) []byte {
 			s.open, s.skipping = false, false
 		case 'F':
 			o.pass(at, end)
-			s.trust.changed()
+			s.trust.changed(unparsed)
 			s.trust.runsForeign()
 			s.begin()
 			s.queue.push(expectation{message: 'F', on: called})
@@ -75,7 +75,7 @@ var (
 // look makes a statement from a text.
 func (s *Session) look(name string, text []byte) *statement {
 	if !s.plain || s.options.Plans == nil {
-		return &statement{name: name}
+		return &statement{name: name, fetchesNot: !mentions(string(text), "fetch")}
 	}
 	ahead := s.ahead
 	s.ahead = nil
@@ -141,6 +141,7 @@ func (s *Session) query(o *output, m []byte, start, end int) {
 	}
 	st := s.look("", text)
 	e := expectation{message: 'Q', on: st, use: st.use}
+	s.runsUnseen(st)
 	if st.plan != nil {
 		s.ask(o, st.plan)
 	}
@@ -158,6 +159,8 @@ func (s *Session) query(o *output, m []byte, start, end int) {
 		o.buf = wire.End(wire.AppendText(wire.Begin(to, 'Q'), rewritten), begin)
 		if st.plan.Kind != plan.Declare {
 			e.hides, e.hidden = st.plan, st.use.hidden
+		} else {
+			s.names.hides = true
 		}
 		if st.plan.Asked && s.wantsAbsent() {
 			st.asked.key, st.asked.known = st.plan.AskedKey(st.text, st.tokens, nil, nil, nil)
@@ -246,7 +249,7 @@ func (s *Session) bind(o *output, m []byte, start, end int) {
 	st := s.names.statements[string(b.Statement)]
 	p := &portal{on: st}
 	if len(b.Portal) > 0 {
-		p.name = string(b.Portal)
+		p.name = portalName(b.Portal)
 	}
 	beyond := s.names.isBeyond(p.name)
 	if st == nil {
@@ -282,7 +285,7 @@ func (s *Session) bind(o *output, m []byte, start, end int) {
 	case st.altered || may:
 		s.bindHidden(o, b, st, p)
 	case st.kind() == plan.Fetch && s.names.cursors[st.plan.Name] != nil:
-		p.binary, beyond = b.Binary(), false // its rows have hidden columns
+		p.binary = b.Binary() // its rows have hidden columns
 		o.buf = b.Append(o.own(), st.name, hiddenColumns(s.names.cursors[st.plan.Name].plan))
 	default:
 		o.pass(start, end)
@@ -297,6 +300,7 @@ func (s *Session) bind(o *output, m []byte, start, end int) {
 func (s *Session) bindTo(p *portal, beyond bool) {
 	s.open = true
 	if beyond {
+		s.names.forgot = s.names.forgot || p.on == nil || p.on.plan == nil || p.on.plan.Kind == plan.Fetch
 		s.queue.push(expectation{message: 'B', on: p.on})
 		return
 	}
@@ -314,6 +318,8 @@ func (s *Session) bindHidden(o *output, b *wire.Bind, st *statement, p *portal) 
 	p.binary, p.changed = b.Binary(), true
 	if st.plan.Kind != plan.Declare {
 		p.hides, p.hidden = st.plan, st.use.hidden
+	} else {
+		s.names.hides = true
 	}
 	if st.plan.AddsReturning {
 		b.Results, p.binary = nil, false // the client's formats are for no columns
@@ -403,7 +409,7 @@ func (s *Session) describe(o *output, m []byte, start, end int) {
 			if st != nil && st.altered && st.kind() != plan.Declare {
 				e.hides, e.hidden = st.plan, st.use.hidden
 			}
-		} else if p := s.names.portals[string(name)]; p != nil {
+		} else if p := s.names.portals[portalName(name)]; p != nil {
 			e.on, e.hides, e.hidden = p.on, p.hides, p.hidden
 		}
 	}
@@ -414,7 +420,7 @@ func (s *Session) execute(o *output, m []byte, start, end int) {
 	s.begin()
 	s.open = true
 	name, _, _ := wire.Text(m[wire.Header:])
-	p := s.names.portals[string(name)]
+	p := s.names.portals[portalName(name)]
 	e := expectation{message: 'E', on: opaque}
 	if p != nil {
 		e.at, e.on, e.hides, e.hidden, e.binary, e.changed = p, p.on, p.hides, p.hidden, p.binary, p.changed
@@ -426,8 +432,12 @@ func (s *Session) execute(o *output, m []byte, start, end int) {
 	}
 	if e.on == nil {
 		e.on = opaque
-		s.trust.changed()
+		s.trust.changed(unparsed)
 		s.trust.runsForeign()
+	}
+	if s.runsUnseen(e.on); s.mayFetch(e.on, e.on.plan) {
+		o.buf = appendDescribePortal(o.own(), name)
+		s.queue.push(expectation{kind: fetchColumns, message: 'D'})
 	}
 	if e.hides != nil && e.hides.AddsReturning && len(m) >= wire.Header+5 {
 		// The client's statement returned no rows, so its limit meant nothing; now that it returns rows, the limit would mean
@@ -457,7 +467,7 @@ func (s *Session) close(o *output, m []byte, start, end int) {
 			e.undo, e.name, e.previous = undoStatement, gone.name, gone
 			s.names.setStatement(gone.name, nil)
 		}
-	} else if p := s.names.portals[string(name)]; p != nil {
+	} else if p := s.names.portals[portalName(name)]; p != nil {
 		e.undo, e.name, e.before = undoPortal, p.name, p
 		s.names.setPortal(p.name, nil)
 	}

@@ -96,17 +96,24 @@ func (s *Session) askedBy(p *plan.Plan, e *expectation, noted *record.Statement)
 		return
 	}
 	a.done = true
-	wrote := t.Number != 0 || t.wrote || t.MayHaveWritten || len(t.Versions) > 0
 	t.Asks = append(t.Asks, record.Ask{Condition: a.By, Identity: a.Identity, Columns: a.Columns, Found: a.found, From: a.from,
-		Wrote: wrote})
+		Wrote: t.mayHaveWritten()})
 	a.place = int32(len(t.Asks))
 	if noted != nil {
 		noted.Ask = len(t.Asks)
 	}
 }
 
+// mayHaveWritten reports whether a transaction may have written anything by now.
+func (t *transaction) mayHaveWritten() bool {
+	return t.Number != 0 || t.wrote || t.MayHaveWritten || len(t.Versions) > 0
+}
+
 // undoAsks leaves out what was asked after a write that may be undone: then the log doesn't show what was seen.
 func (t *transaction) undoAsks() {
+	for i := range t.Absent {
+		t.Absent[i].Undone = t.Absent[i].Undone || t.Absent[i].Wrote
+	}
 	for i := range t.Asks {
 		if t.Asks[i].Wrote {
 			t.Asks[i] = record.Ask{Why: undoneWrite}

@@ -43,7 +43,7 @@ func TestDearPlans(t *testing.T) {
 						t.Fatalf("got\n%s\nand not\n%s", got, want)
 					}
 					p.settle()
-					return !p.sink.left("not tried") && !p.sink.left("something may have changed")
+					return !p.sink.left("not tried") && !p.sink.left("what names refer to")
 				})
 				reads := 0
 				for _, it := range p.sink.take() {

@@ -1,10 +1,15 @@
 package session
 
 import (
+	"context"
 	"strings"
+	"sync/atomic"
 	"testing"
 
+	"github.com/jackc/pgconn"
 	"github.com/jackc/pgproto3/v2"
+
+	"zanteyard/record"
 )
 
 // TestWhatIsntLookedAtIsCounted: a statement without a plan is counted by the reason why it has none.
@@ -43,5 +48,141 @@ func TestWhatIsntLookedAtIsCounted(t *testing.T) {
 				t.Errorf("left out: %q", p.sink.unseen)
 			}
 		})
+	}
+}
+
+// TestUnauditedExecute: while nothing is audited, what EXECUTE has run counts as a transaction, with arguments or without.
+func TestUnauditedExecute(t *testing.T) {
+	needServer(t)
+	sql(t, fill)
+	p := through(t, "postgres", func(o *Options) { o.Auditing = func() bool { return false } })
+	for _, text := range []string{"PREPARE q AS SELECT v FROM t WHERE id = 3", "PREPARE r (int) AS SELECT v FROM t WHERE id = $1"} {
+		p.query(text)
+	}
+	p.sink.take()
+	for _, text := range []string{"EXECUTE q", "execute q;", "EXECUTE r (3)"} {
+		p.query(text)
+		its := p.sink.take()
+		if len(its) != 1 {
+			t.Errorf("%s: %d transactions", text, len(its))
+			continue
+		}
+		if selects, _, rows := its[0].Did.Sum(0); selects != 1 || rows != 1 || !its[0].Unaudited {
+			t.Errorf("%s: %+v", text, its[0])
+		}
+	}
+	if p.query("SELECT 1"); len(p.sink.take()) > 0 {
+		t.Error("what is on no table counts")
+	}
+}
+
+// TestEachFetchedRowIsCounted: rows of a cursor that may be another one by now are in a place, though no read is reported
+// of them.
+func TestEachFetchedRowIsCounted(t *testing.T) {
+	needServer(t)
+	sql(t, fill)
+	const declare = "DECLARE c CURSOR FOR SELECT v FROM t WHERE id > 10"
+	p := through(t, "postgres", nil)
+	p.warm("BEGIN", declare, "FETCH 1 FROM c", "COMMIT")
+	p.sink.take()
+	for _, text := range []string{"BEGIN", declare, "FETCH 2 FROM c", "SELECT bump(1)", "FETCH 3 FROM c", "COMMIT"} {
+		p.query(text)
+	}
+	its := p.sink.take()
+	if len(its) != 1 {
+		t.Fatalf("%d transactions", len(its))
+	}
+	if _, _, rows := its[0].Did.Sum(len(its[0].Reads)); rows != 2+1+3 {
+		t.Errorf("%d rows are counted of 6: %+v", rows, its[0].Did)
+	}
+}
+
+// TestFetchedFromANameThatComesAgain: a cursor that is declared while nothing is audited isn't taken for an earlier one of
+// its name.
+func TestFetchedFromANameThatComesAgain(t *testing.T) {
+	needServer(t)
+	sql(t, fill)
+	const declare = "DECLARE c CURSOR FOR SELECT v FROM t WHERE id > 10"
+	var audits atomic.Bool
+	audits.Store(true)
+	p := through(t, "postgres", func(o *Options) { o.Auditing = audits.Load })
+	p.warm("BEGIN", declare, "FETCH 1 FROM c", "COMMIT")
+	p.sink.take()
+	audits.Store(false)
+	p.query("BEGIN")
+	p.query(declare)
+	audits.Store(true)
+	p.query("FETCH 3 FROM c")
+	p.query("COMMIT")
+	its := p.sink.take()
+	if len(its) != 1 {
+		t.Fatalf("%d transactions", len(its))
+	}
+	if selects, _, rows := its[0].Did.Sum(len(its[0].Reads)); selects != 1 || rows != 3 {
+		t.Errorf("%d SELECTs are counted of 1, and %d rows of 3: %+v", selects, rows, its[0].Did)
+	}
+}
+
+// TestFailsAsAnAuditBegins: a statement that is sent while nothing is audited, and fails once an audit runs, is one of a
+// transaction that was rolled back.
+func TestFailsAsAnAuditBegins(t *testing.T) {
+	needServer(t)
+	sql(t, fill)
+	const text = "SELECT 1 / (v - v) FROM t"
+	var audits atomic.Bool
+	p := through(t, "postgres", func(o *Options) { o.Auditing = audits.Load })
+	ctx := context.Background()
+	beside, err := pgconn.ConnectConfig(ctx, config())
+	if err != nil {
+		t.Fatal(err)
+	}
+	defer beside.Close(ctx)
+	for _, one := range []string{"BEGIN", "LOCK TABLE t"} {
+		if _, err := beside.Exec(ctx, one).ReadAll(); err != nil {
+			t.Fatal(err)
+		}
+	}
+	p.send(encoded(&pgproto3.Query{String: text}))
+	until(t, "the statement waits for the lock", func() bool {
+		return len(sql(t, "SELECT 1 FROM pg_stat_activity WHERE query = '"+text+"' AND wait_event_type = 'Lock'")) == 1
+	})
+	audits.Store(true)
+	if _, err := beside.Exec(ctx, "ROLLBACK").ReadAll(); err != nil {
+		t.Fatal(err)
+	}
+	p.until('Z')
+	if its := p.sink.take(); len(its) != 1 || its[0].Outcome != record.Aborted {
+		t.Errorf("reported are %+v", its)
+	}
+}
+
+// TestCauses: what names refer to isn't known for different reasons, and a statement that isn't seen for that says which.
+func TestCauses(t *testing.T) {
+	needServer(t)
+	sql(t, fill)
+	const text = "SELECT v FROM t WHERE id = 3"
+	for _, x := range []struct {
+		before []string
+		want   cause
+	}{
+		{nil, newConnection},
+		{[]string{"SET search_path TO public"}, setSomething},
+		{[]string{"ALTER TABLE changing ADD COLUMN IF NOT EXISTS more int"}, newDefinitions},
+		{[]string{"SELECT 1 -- " + strings.Repeat("x", 2<<20)}, unparsed},
+	} {
+		p := through(t, "postgres", func(o *Options) { o.Bound = 0 }) // nothing waits for a trial
+		if x.before != nil {
+			p.warm(text)
+		}
+		for _, one := range x.before {
+			p.query(one)
+		}
+		p.sink.forget()
+		p.session.state.Lock()
+		why := p.session.trust.cause
+		p.session.state.Unlock()
+		if p.query(text); why != x.want && !p.sink.left(string(x.want)) {
+			t.Errorf("after %.40q: %s, and left out is %.300q", x.before, why, p.sink.unseen)
+		}
 	}
 }

@@ -39,6 +39,13 @@ CREATE CONSTRAINT TRIGGER fires AFTER UPDATE ON defers DEFERRABLE INITIALLY DEFE
 CREATE TABLE defaults (id int PRIMARY KEY, v int DEFAULT one(1));
 CREATE TABLE checks (id int PRIMARY KEY, v int CHECK (always(v)));
 CREATE TABLE indexed (id int PRIMARY KEY, v int); CREATE INDEX ON indexed (always(v));
+CREATE TABLE planned (id int PRIMARY KEY, v int); CREATE INDEX ON planned ((v + CASE WHEN always(1) THEN 1 ELSE 0 END));
+CREATE TABLE roots (id int PRIMARY KEY, v int) PARTITION BY RANGE (id); CREATE TABLE roots1 PARTITION OF roots FOR VALUES FROM (0) TO (9);
+CREATE INDEX ON roots1 (v) WHERE always(2);
+CREATE TABLE estimated (id int PRIMARY KEY, v int); CREATE STATISTICS s ON (v + CASE WHEN always(3) THEN 1 ELSE 0 END), v FROM estimated;
+CREATE FUNCTION away(a float8, b float8) RETURNS float8 LANGUAGE plpgsql IMMUTABLE AS $$BEGIN PERFORM m.one(1); RETURN a - b; END$$;
+CREATE TYPE span AS RANGE (subtype = float8, subtype_diff = away);
+CREATE TABLE ranged (id int PRIMARY KEY, r span); INSERT INTO ranged SELECT i, span(i, i + 10) FROM generate_series(1, 200) i; ANALYZE ranged;
 CREATE TABLE parents (id int PRIMARY KEY); INSERT INTO parents SELECT generate_series(1, 9);
 CREATE TABLE children (id int PRIMARY KEY, parent int REFERENCES parents ON DELETE CASCADE);
 INSERT INTO children SELECT i, i FROM generate_series(1, 9) i;
@@ -60,8 +67,9 @@ func TestOthersForge(t *testing.T) {
 	needServer(t)
 	run := messages('Z', &pgproto3.Bind{PreparedStatement: "s"}, &pgproto3.Execute{}, &pgproto3.Sync{})
 	for name, x := range map[string]struct {
-		does  []string
-		after string
+		does    []string
+		after   string
+		settles bool
 	}{
 		"nothing":                    {does: []string{"SELECT 1"}},
 		"a trigger":                  {does: []string{"UPDATE triggers SET v = 2 WHERE id = 1"}},
@@ -72,11 +80,19 @@ func TestOthersForge(t *testing.T) {
 		"a default":                  {does: []string{"INSERT INTO defaults (id) VALUES (1)"}},
 		"a check":                    {does: []string{"INSERT INTO checks VALUES (1, 1)"}},
 		"an index":                   {does: []string{"INSERT INTO indexed VALUES (1, 1)"}},
+		"an index, at planning":      {does: []string{"SELECT v FROM planned WHERE id = 1"}},
+		"an index, when compared":    {does: []string{"SELECT v FROM planned ORDER BY v", "SELECT v FROM planned ORDER BY v"}, settles: true},
+		"a partition's, at planning": {does: []string{"SELECT v FROM roots WHERE id = 1"}},
+		"statistics, at planning":    {does: []string{"SELECT v FROM estimated WHERE id = 1"}},
+		"a range, at planning":       {does: []string{"SELECT id FROM ranged WHERE r && m.span(1, 50)"}},
 		"a cascade":                  {does: []string{"DELETE FROM parents WHERE id = 1"}},
 		"a partition":                {does: []string{"INSERT INTO parted VALUES (1, 1)"}},
 		"a view":                     {does: []string{"SELECT * FROM views"}},
 		"a policy":                   {does: []string{"SELECT v FROM policies WHERE id = 1"}},
 		"a function":                 {does: []string{"SELECT one(1)"}},
+		"a function like a column":   {does: []string{"SELECT triggers.one FROM triggers WHERE id = 1"}},
+		"of a subquery's rows":       {does: []string{"SELECT s.one FROM (SELECT 1 AS x) s"}},
+		"of a whole row":             {does: []string{"SELECT (s).one FROM (SELECT 1 AS x) s"}},
 		"an immutable one":           {does: []string{"SELECT v FROM t WHERE id = 3 AND always(v)"}},
 		"a COPY":                     {does: []string{"COPY (SELECT one(1)) TO STDOUT"}},
 		"EXPLAIN":                    {does: []string{"EXPLAIN ANALYZE SELECT one(1)"}},
@@ -113,6 +129,9 @@ func TestOthersForge(t *testing.T) {
 			is := want[0].Reads[0]
 			for _, text := range x.does {
 				p.query(text)
+			}
+			if x.settles {
+				p.settle()
 			}
 			p.do(run)
 			p.query("EXECUTE q")

@@ -103,7 +103,7 @@ func (s *Session) useIdle() []byte {
 	case !s.idle():
 	case s.draining.Load():
 		return s.leave()
-	case s.trust.work() && s.looking():
+	case s.trust.work() && s.looking() && s.cancels.Load() == 0:
 		return s.try(nil)
 	}
 	return nil

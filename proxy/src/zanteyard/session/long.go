@@ -17,6 +17,7 @@ func (s *Session) long(begin []byte) []byte {
 	case 'Q':
 		s.begin()
 		s.before(nil)
+		s.runsUnseen(tooLong)
 		s.queue.push(expectation{message: 'Q', on: tooLong, undo: undoStatement, previous: s.names.statements[""]})
 		s.names.setStatement("", nil)
 		s.open = false
@@ -30,15 +31,16 @@ func (s *Session) long(begin []byte) []byte {
 		s.open = true
 	case 'B':
 		s.begin()
-		portalName, name, _, _ := wire.Names(begin)
+		bound, name, _, _ := wire.Names(begin)
 		st := s.names.statements[string(name)]
 		if st != nil && st.altered {
 			s.original(o, st) // the formats of its columns come last, but the length, which includes them, first
 		}
-		s.bindTo(&portal{name: string(portalName), on: st}, s.names.isBeyond(string(portalName)))
+		its := &portal{name: portalName(bound), on: st}
+		s.bindTo(its, s.names.isBeyond(its.name))
 	case 'F':
 		s.begin()
-		s.trust.changed()
+		s.trust.changed(unparsed)
 		s.queue.push(expectation{message: 'F', on: called})
 	}
 	o.pass(0, len(begin))

@@ -32,8 +32,12 @@ const anywhere = -1
 // follow takes notice of another audit: for that one the connection has to show again where it leads.
 func (s *Session) follow() {
 	if t, mark := &s.trust, s.mark(); t.mark != mark {
+		why := newAudit
+		if t.fresh && t.signature == nil {
+			why = newConnection
+		}
 		t.mark, t.here, t.elsewhere = mark, mark == anywhere, false
-		t.doubtful()
+		t.doubtful(why)
 	}
 }
 

@@ -30,6 +30,8 @@ type statement struct {
 	twinIn uint64
 	looked uint64 // trust.plans when the plan was made
 	unseen string // why it wasn't looked at
+	// fetchesNot: it wasn't looked at, and is no FETCH.
+	fetchesNot bool
 }
 
 // kind returns what the statement does, as far as is known.
@@ -67,12 +69,17 @@ type names struct {
 	unread map[string]string
 	twins  int // made so far
 	bytes  int // of the texts of statements and prepared
+	// hides: a cursor was declared with a rewritten query. unsure: a statement that wasn't looked at was run in this
+	// transaction, so a cursor's name may stand for another one. forgot: a statement or portal that may be a FETCH isn't
+	// known by its name.
+	hides, unsure, forgot bool
 }
 
 // cursor is a cursor whose rows have hidden columns.
 type cursor struct {
 	plan *plan.Plan
 	era  uint64 // of trust, when it was declared
+	own  int    // columns of the client's own
 }
 
 // mostUnread is how many cursors that aren't rewritten are known by name.
@@ -86,8 +93,8 @@ func (n *names) unseen(cursor, reason string) {
 }
 
 func newNames() names {
-	return names{map[string]*statement{}, map[string]*portal{}, map[string]*cursor{},
-		map[string]*statement{}, map[string]string{}, 0, 0}
+	return names{statements: map[string]*statement{}, portals: map[string]*portal{}, cursors: map[string]*cursor{},
+		prepared: map[string]*statement{}, unread: map[string]string{}}
 }
 
 // setStatement records what a name stands for; beyond the bound it stands for nothing that is known.
@@ -100,6 +107,7 @@ func (n *names) set(in map[string]*statement, name string, s *statement) {
 	}
 	isOne := name == "" // there is one of this name
 	if s == nil || !isOne && (len(n.statements)+len(n.prepared) >= mostNamed || n.bytes+s.size() > mostNamedBytes) {
+		n.forgot = n.forgot || s != nil && (s.plan == nil || s.plan.Kind == plan.Fetch)
 		return
 	}
 	in[name] = s
@@ -146,7 +154,9 @@ func (n *names) ended() {
 	}
 	for k := range n.cursors {
 		delete(n.cursors, k)
+		delete(n.unread, k) // another one may have the name
 	}
+	n.unsure = false
 }
 
 // discarded forgets all named statements; the unnamed one stays.

@@ -11,7 +11,8 @@ import (
 // of the proxy's is prepared. So nothing is rewritten or asked there.
 func TestPoolerBehind(t *testing.T) {
 	needServer(t)
-	for _, mode := range []string{"session", "transaction"} {
+	block := []string{"BEGIN", "SELECT v FROM t WHERE id = 1", "UPDATE t SET v = 1 WHERE v > 20", "COMMIT"}
+	for mode, texts := range map[string][]string{"session": block, "transaction": block, "statement": block[1:3]} {
 		sql(t, fill)
 		port, stop, err := theCluster.Pgbouncer(theCluster.Port, mode)
 		if errors.Is(err, cluster.ErrNoPooler) {
@@ -26,7 +27,7 @@ func TestPoolerBehind(t *testing.T) {
 			clients := []*proxied{through(t, "postgres", nil), through(t, "postgres", nil)}
 			for i := 0; i < 6; i++ {
 				for _, p := range clients {
-					for _, text := range []string{"BEGIN", "SELECT v FROM t WHERE id = 1", "UPDATE t SET v = 1 WHERE v > 20", "COMMIT"} {
+					for _, text := range texts {
 						if got := p.query(text); got[0][0] == 'E' {
 							t.Fatalf("%s: %s: %s", mode, text, show(got))
 						}

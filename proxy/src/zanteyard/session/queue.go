@@ -19,10 +19,11 @@ const (
 	trialColumns
 	costRow
 	trialEnd
-	blockPart  // the Sync of a trial in a block, before its savepoint is rolled back
-	reparse    // the original text of an unnamed statement, whose failure goes to the client
-	twin       // a statement's rewritten twin, just before the client's Bind
-	prepareEnd // the Sync after the twin of a statement of SQL's PREPARE
+	blockPart    // the Sync of a trial in a block, before its savepoint is rolled back
+	reparse      // the original text of an unnamed statement, whose failure goes to the client
+	twin         // a statement's rewritten twin, just before the client's Bind
+	fetchColumns // the columns of a portal that may fetch from a rewritten cursor, just before the client's Execute
+	prepareEnd   // the Sync after the twin of a statement of SQL's PREPARE
 )
 
 // expectation is what the server owes for one message that was sent to it. Messages are answered in order.
@@ -41,6 +42,8 @@ type expectation struct {
 	rows     int        // rows of the statement that is being answered
 	loose    int        // of these, how many have no version
 	beyond   int        // and how many were made of more rows than are listed
+	missed   int        // and of how many the reads can't be reported
+	why      string     // why those can't
 	from     int        // number of reads before its first row
 	levels   uint64     // what trust.levels counted when it was sent
 	doubts   uint64     // and trust.doubts
@@ -51,6 +54,7 @@ type expectation struct {
 	at       *portal
 	use      *use
 	replaced bool    // the cursor may be another one than that which is known
+	guessed  bool    // it was recognized by its columns
 	asking   *asking // what it asks for by a condition, nil if that isn't followed
 	// What names stood for before this message, if it changes that: restored if the server doesn't get to it.
 	undo     undo
@@ -71,6 +75,7 @@ const (
 
 // queue is a list of expectations, oldest first, in memory that is reused.
 type queue struct {
+	ended  uint64 // counts the client's statements, and series of messages, that were answered
 	list   []expectation
 	head   int
 	pieces int       // of the statements in it
@@ -113,7 +118,37 @@ func (q *queue) first() *expectation {
 	return &q.list[q.head]
 }
 
+// second returns the one after the oldest, or nil if there is none.
+func (q *queue) second() *expectation {
+	if q.size() < 2 {
+		return nil
+	}
+	return &q.list[q.head+1]
+}
+
+// ends reports whether its answer is the last one of a statement, or of a series of messages, of the client's.
+func (e *expectation) ends() bool {
+	return e.kind == clients && (e.message == 'S' || e.message == 'Q' || e.message == 'F')
+}
+
+// running counts the statement, or series of messages, of the client's that isn't answered; 0 if there is none, or several.
+func (q *queue) running() uint64 {
+	n := 0
+	for i := q.head; i < len(q.list); i++ {
+		if q.list[i].ends() {
+			n++
+		}
+	}
+	if n != 1 {
+		return 0
+	}
+	return q.ended + 1
+}
+
 func (q *queue) pop() {
+	if q.list[q.head].ends() {
+		q.ended++
+	}
 	q.pieces -= len(q.list[q.head].pieces)
 	q.list[q.head] = expectation{} // lets go of what it points to
 	q.head++

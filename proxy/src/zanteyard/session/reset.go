@@ -102,7 +102,7 @@ func (s *Session) reset(parts plan.Parts) {
 		t.wanted = true
 	}
 	if parts&^plan.Level&^as != 0 {
-		t.changed()
+		t.changed(setSomething)
 		t.wanted = true
 	}
 }
@@ -144,9 +144,9 @@ func (t *trust) resetBy(it *transaction, outcome record.Outcome) {
 
 // changed is called before something that may have changed what names refer to, or what the user may do, in a way that
 // isn't known.
-func (t *trust) changed() {
+func (t *trust) changed(why cause) {
 	t.back, t.fresh = 0, false
-	t.doubtful()
+	t.doubtful(why)
 }
 
 // discarded is called before all prepared statements are dropped, the proxy's own, too. If they aren't, no harm is done.

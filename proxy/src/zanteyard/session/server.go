@@ -105,6 +105,7 @@ func (s *Session) unasked(o *output, m []byte, start, end int) {
 	case 'K':
 		if s.status == 0 && len(m) >= wire.Header+4 {
 			s.backend = wire.Int32(m[wire.Header:])
+			s.key = append(s.key[:0], m[wire.Header:]...)
 		}
 	case 'Z': // the first one: startup is over
 		if len(m) > wire.Header {
@@ -133,7 +134,7 @@ func (s *Session) parameter(m []byte) {
 		return
 	default:
 		if s.status != 0 {
-			s.trust.changed()
+			s.trust.changed(setSomething)
 		}
 	}
 	s.plain = s.encoding && s.standard
@@ -143,12 +144,22 @@ func (s *Session) parameter(m []byte) {
 func (s *Session) description(o *output, e *expectation, m []byte, start, end int, pass bool) {
 	alone := e.message == 'D'
 	s.fetched(e)
+	columns, ends, ok := []wire.Column(nil), []int(nil), false
+	if unseen := e.hidden == 0 && e.kind == clients && s.mayFetch(e.on, e.current()); unseen || e.hidden > 0 || e.kind == fetchColumns {
+		columns, ends, ok = wire.Columns(m, s.columns[:0], s.ends[:0])
+		s.columns, s.ends = columns, ends
+		if ok && unseen {
+			s.recognizes(e, columns)
+		}
+	}
 	switch {
 	case e.kind == trialColumns:
 		e.use.described(m, s)
+	case e.kind == fetchColumns:
+		if next := s.queue.second(); ok && next != nil && next.message == 'E' {
+			s.recognizes(next, columns)
+		}
 	case e.hidden > 0:
-		columns, ends, ok := wire.Columns(m, s.columns[:0], s.ends[:0])
-		s.columns, s.ends = columns, ends
 		keep := len(columns) - e.hidden
 		switch {
 		case !ok || keep < 0:
@@ -179,7 +190,7 @@ func (s *Session) description(o *output, e *expectation, m []byte, start, end in
 // for.
 func (s *Session) fetched(e *expectation) {
 	fetch := e.current()
-	if e.hides != nil || fetch == nil || fetch.Kind != plan.Fetch {
+	if e.hides != nil || fetch == nil || fetch.Kind != plan.Fetch || s.names.unsure {
 		return
 	}
 	if p := s.names.cursors[fetch.Name]; p != nil {
@@ -250,10 +261,13 @@ func (s *Session) hidden(e *expectation, values [][]byte) {
 	}
 	if reason != "" && len(reads) > 0 {
 		s.notSeen(p.Shape, reason, true)
+		e.missed, e.why = e.missed+int(isOne(counts)), reason
 	} else {
 		s.tx.read(reads, s.options.ReadLimit, counts && isWhole)
 		switch {
-		case !counts || reason != "":
+		case !counts:
+		case reason != "":
+			e.missed, e.why = e.missed+1, reason
 		case !isWhole:
 			e.beyond++
 		case len(reads) == 0:
@@ -308,8 +322,8 @@ func (s *Session) ownRow(e *expectation, m []byte) {
 	case costRow:
 		if cost, ok := plan.Cost(values[0]); ok {
 			e.use.costs = append(e.use.costs, cost)
-			if rows(e.use.plan).Ordered {
-				e.use.forms = append(e.use.forms, plan.Form(values[0]))
+			if rows(e.use.plan).ComparedByForm() {
+				e.use.forms = append(e.use.forms, rows(e.use.plan).Form(values[0]))
 			}
 		}
 	}
@@ -329,7 +343,10 @@ func (s *Session) complete(e *expectation, m []byte) {
 				s.tx.paused = e.at
 			}
 		}
-		e.rows, e.loose, e.beyond = 0, 0, 0
+		e.rows, e.loose, e.beyond, e.missed = 0, 0, 0, 0
+		if e.guessed { // what comes next may be another statement of the text
+			e.hides, e.hidden, e.guessed = nil, 0, false
+		}
 	}
 	if e.message == 'E' {
 		s.queue.pop()
@@ -346,12 +363,12 @@ func (s *Session) failed(o *output, e *expectation, m []byte, start, end int, pa
 	s.tx.failed = true
 	s.trust.begun, s.trust.declared = false, nil
 	switch e.kind {
-	case clients, reparse, twin:
+	case clients, reparse, twin, fetchColumns:
 		s.tx.erred = true
 		pass = len(s.failure) == 0 && !s.again(e, m)
 		if p := e.current(); pass && p != nil && p.Touches() {
 			s.tx.Touched = true
-		} else if pass && p == nil && e.on != nil && !s.options.Auditing() {
+		} else if pass && p == nil && e.on != nil { // sent while nothing was audited, or unseen
 			s.tx.Partly = s.tx.Partly || mayTouch.MatchString(e.on.text)
 		}
 		s.replay.skip = 0

@@ -48,7 +48,6 @@ type Options struct {
 	ReadLimit  int           // how many reads of a transaction are kept
 	Auditing   func() bool   // whether statements are looked at
 	Generation func() uint64 // the catalog's generation, which rises with each change
-	Unaudited  func()        // a transaction has ended that isn't reported, since nothing is audited; may be nil
 	Defined    func()        // a session is about to change a definition
 	Log        func(string)  // for the people who run the proxy
 	Bound      time.Duration // how long a meeting holds a client's messages
@@ -79,47 +78,54 @@ type Session struct {
 	missed atomic.Bool
 	// draining: the session ends at its next idle moment. left: it has told the server so; set with writes locked.
 	draining, left atomic.Bool
+	// keeps: what the client has sent waits for a trial or a meeting. cancels counts requests to cancel what it runs, which
+	// are being passed on.
+	keeps   atomic.Bool
+	cancels atomic.Int32
 	// greeting is set while the connection's signature is asked for, before its client may begin.
 	greeting atomic.Pointer[chan struct{}]
 
-	state    sync.Mutex // guards everything below
-	waiting  sync.Cond  // for whoever waits until a replay is sent
-	queue    queue
-	status   byte // of the last ReadyForQuery: I, T or E; 0 before the first
-	open     bool // messages of the extended protocol were sent since the last Sync
-	skipping bool // after an error, the server skips everything up to the next Sync, which hasn't been sent yet
-	partial  bool // the server has part of a message
-	stalled  bool // the client's direction waits until the server has answered
-	gone     bool // the server has ended
-	confused bool // an answer wasn't expected
-	backend  int  // the server's process, from the beginning of the connection
-	early    bool // the client sent something before the server was ready for it
-	copying  bool
-	replay   replay
-	failure  []byte     // the error that the client gets in place of the answer to its COMMIT
-	owed     []byte     // the error by which the proxy's own statements have ended a block, until the client gets it
-	ahead    *statement // the client's next one, if it was looked at
-	asked    int        // trials in the block since the client has sent something
-	runs     bool       // what the client sends next runs something
-	next     []*use     // the plans that it needs
-	charset  string     // the client's encoding, as the server reports it
-	encoding bool       // texts can be looked at: the client's encoding and settings allow it
-	standard bool
-	plain    bool
-	level    level // that transactions begin at
-	names    names
-	trust    trust
-	trial    *trial
-	tx       transaction
-	place    uint64
-	defines  bool // the transaction changes definitions
-	now      time.Time
-	slow     time.Time // until then no statement waits for a trial
-	toClient output
-	columns  []wire.Column
-	ends     []int
-	values   [][]byte
-	reads    []record.Read
+	state      sync.Mutex // guards everything below
+	waiting    sync.Cond  // for whoever waits until a replay is sent
+	queue      queue
+	status     byte   // of the last ReadyForQuery: I, T or E; 0 before the first
+	open       bool   // messages of the extended protocol were sent since the last Sync
+	skipping   bool   // after an error, the server skips everything up to the next Sync, which hasn't been sent yet
+	partial    bool   // the server has part of a message
+	stalled    bool   // the client's direction waits until the server has answered
+	gone       bool   // the server has ended
+	cancelling bool   // the server is told once more to cancel what the client ran when it asked for that
+	confused   bool   // an answer wasn't expected
+	backend    int    // the server's process, from the beginning of the connection
+	key        []byte // by which its client may cancel what it runs
+	early      bool   // the client sent something before the server was ready for it
+	impatient  []byte // what each trial begins with, so that it waits for no lock
+	copying    bool
+	replay     replay
+	failure    []byte     // the error that the client gets in place of the answer to its COMMIT
+	owed       []byte     // the error by which the proxy's own statements have ended a block, until the client gets it
+	ahead      *statement // the client's next one, if it was looked at
+	asked      int        // trials in the block since the client has sent something
+	runs       bool       // what the client sends next runs something
+	next       []*use     // the plans that it needs
+	charset    string     // the client's encoding, as the server reports it
+	encoding   bool       // texts can be looked at: the client's encoding and settings allow it
+	standard   bool
+	plain      bool
+	level      level // that transactions begin at
+	names      names
+	trust      trust
+	trial      *trial
+	tx         transaction
+	place      uint64
+	defines    bool // the transaction changes definitions
+	now        time.Time
+	slow       time.Time // until then no statement waits for a trial
+	toClient   output
+	columns    []wire.Column
+	ends       []int
+	values     [][]byte
+	reads      []record.Read
 }
 
 // Conn is a connection: a net.Conn, or one of a loop.
@@ -130,11 +136,11 @@ type Conn interface {
 // New makes a session from two connections, after the startup message was passed on. Its number must be unique.
 func New(number uint64, client, server Conn, options *Options) *Session {
 	s := &Session{number: number, options: options, client: client, server: server, names: newNames()}
-	s.waiting.L = &s.state
+	s.waiting.L, s.impatient = &s.state, impatient
 	s.encoding, s.standard, s.plain = true, true, true
 	s.queue.levels, s.queue.doubts = &s.trust.levels, &s.trust.doubts
 	s.trust.uses, s.trust.shared, s.trust.accounted = map[*plan.Plan]*use{}, options.Shared, clock()
-	s.trust.doubtful()
+	s.trust.doubtful(newConnection)
 	s.trust.generations = map[string]uint64{}
 	s.trust.renew()
 	s.trust.back, s.trust.fresh = plan.Settings|plan.Level, true
@@ -241,6 +247,7 @@ func (s *Session) forth() error {
 // send passes on messages, or the beginning of a long one and then its rest.
 func (s *Session) send(in *wire.Reader, batch []byte, more int) error {
 	if greeting := s.greeting.Load(); greeting != nil {
+		s.keeps.Store(true)
 		s.waitGreeting(*greeting)
 	}
 	s.writes.Lock()
@@ -285,19 +292,22 @@ func (s *Session) looked(batch []byte, more int) ([]byte, error) {
 		switch {
 		case s.left.Load() || s.gone:
 			return nil, io.EOF
-		case s.replay.running:
+		case s.replay.running, s.cancelling:
 			s.waiting.Wait()
 		case s.isFull():
 			s.stalled = true
 			s.waiting.Wait()
 		case h != nil:
+			s.keeps.Store(true)
 			s.wait(h)
 		case more == 0 && asks < mostAsks && s.needsTrial(batch):
 			if asks++; asks == 1 {
 				until = clock().Add(s.options.Bound)
 			}
+			s.keeps.Store(true)
 			s.tryFirst(until)
 		default:
+			s.keeps.Store(false)
 			return s.lookAt(batch, more), nil
 		}
 	}
@@ -310,7 +320,7 @@ func (s *Session) lookedNow(batch []byte) (out []byte, ok bool) {
 		return nil, false
 	}
 	defer s.state.Unlock()
-	if s.replay.running || s.gone || s.isFull() || s.holds() != nil || s.needsTrial(batch) {
+	if s.replay.running || s.cancelling || s.gone || s.isFull() || s.holds() != nil || s.needsTrial(batch) {
 		return nil, false
 	}
 	return s.lookAt(batch, 0), true

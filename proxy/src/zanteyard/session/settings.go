@@ -20,7 +20,7 @@ func (s *Session) changes(p *plan.Plan) {
 	t := &s.trust
 	if p == nil {
 		t.block.murky = true
-		t.changed()
+		t.changed(unparsed)
 		t.runsForeign()
 		return
 	}
@@ -67,8 +67,13 @@ func (s *Session) changes(p *plan.Plan) {
 	if p.MayLevel {
 		t.unsureLevel()
 	}
-	if p.ChangesNames || p.Unknown || p.Kind == plan.Set {
-		t.changed()
+	switch {
+	case p.Unknown:
+		t.changed(unparsed)
+	case p.ChangesNames && p.Kind == plan.Definition:
+		t.changed(newDefinitions)
+	case p.ChangesNames || p.Kind == plan.Set:
+		t.changed(setSomething)
 	}
 }
 
@@ -122,7 +127,7 @@ func (t *trust) syncs(status byte) {
 func (s *Session) uses(name string) {
 	if len(name) > len(reserved) && strings.HasPrefix(name, reserved) && (name[len(reserved)] == '.' || name[len(reserved)] == '_') {
 		s.trust.taken = true
-		s.trust.doubtful()
+		s.trust.doubtful(setSomething)
 	}
 }
 

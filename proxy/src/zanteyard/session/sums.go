@@ -60,6 +60,7 @@ func (s *Session) sumUnknown(verb string, n uint64, e *expectation, p *plan.Plan
 	case p == nil && isApart(verb, e):
 	case verb == "DECLARE CURSOR":
 		d.Leave(reason, false, 1, 0, 0)
+		s.names.unread = map[string]string{} // it may have any name
 	case verb == "SELECT" || verb == "FETCH":
 		d.Leave(reason, false, isOne(verb == "SELECT"), 0, uint64(e.rows))
 		d.Empty += isOne(verb == "SELECT" && e.rows == 0)
@@ -85,19 +86,22 @@ func isApart(verb string, e *expectation) bool {
 }
 
 // mayTouch matches what a statement on a table has, or one that calls a function.
-var mayTouch = regexp.MustCompile(`(?i)from|table|\(|update|insert|delete|merge|copy|call`)
+var mayTouch = regexp.MustCompile(`(?i)from|table|\(|update|insert|delete|merge|copy|call|execute`)
 
 // sumFetched counts rows of a cursor: its SELECT was counted with DECLARE.
 func (s *Session) sumFetched(p *plan.Plan, e *expectation, verb string) {
 	reason, known := s.names.unread[p.Name]
 	switch {
-	case e.rows == 0 || verb != "FETCH":
+	case verb != "FETCH" || e.rows == 0 && (e.hides != nil || !known):
 	case e.hides != nil && len(e.hides.Unseen) == 0:
 		if e.beyond > 0 {
 			s.tx.Did.Leave(tooManyRows, true, 0, 0, uint64(e.beyond))
 		}
 		if e.loose > 0 {
 			s.tx.Did.Leave(whyLoose(e.hides), true, 0, 0, uint64(e.loose))
+		}
+		if e.missed > 0 {
+			s.tx.Did.Leave(e.why, true, 0, 0, uint64(e.missed))
 		}
 	case e.hides != nil:
 		s.tx.Did.Leave(e.hides.Unseen[0].Reason, true, 0, 0, uint64(e.rows))

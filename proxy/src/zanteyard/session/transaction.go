@@ -50,6 +50,30 @@ type transaction struct {
 	// says whether it has only at the end. What follows is left out until then.
 	parted bool
 	erred  bool // one of its statements failed
+	// unlooked means that a statement of it wasn't looked at, and unasked why its number wasn't asked for before COMMIT.
+	unlooked bool
+	unasked  string
+}
+
+// Why the number of a transaction isn't known that may have written.
+const (
+	numberAlone    = "its writes couldn't be told apart"
+	numberTogether = "its writes couldn't be told apart: its COMMIT was sent together with other statements"
+	numberUnlooked = "its writes couldn't be told apart: it has a statement that wasn't looked at"
+	numberUnasked  = "its writes couldn't be told apart: what names refer to wasn't known at its COMMIT"
+)
+
+// unnumbered returns why the transaction's number isn't known.
+func (t *transaction) unnumbered() string {
+	switch {
+	case t.unlooked:
+		return numberUnlooked
+	case t.unasked != "":
+		return t.unasked
+	case t.block:
+		return numberTogether
+	}
+	return numberAlone
 }
 
 // unreported returns why a read can't be reported, or "".
@@ -207,9 +231,8 @@ func (s *Session) finish(outcome record.Outcome) {
 		if !t.started && t.Level == record.UnknownLevel {
 			t.Level = s.begins()
 		}
-		t.MayHaveWritten = t.Number == 0 && (t.MayHaveWritten || t.wrote)
-		if !s.options.Auditing() && s.options.Unaudited != nil {
-			s.options.Unaudited()
+		if t.MayHaveWritten = t.Number == 0 && (t.MayHaveWritten || t.wrote); t.MayHaveWritten {
+			t.Unnumbered = t.unnumbered()
 		}
 		s.report(&t.Transaction)
 	}
@@ -244,6 +267,7 @@ func (s *Session) report(it *record.Transaction) {
 		if offered {
 			told.Number, told.MayHaveWritten = it.Number, it.MayHaveWritten
 		}
+		told.Unnumbered = it.Unnumbered
 	}
 	s.options.Sink.Transaction(told)
 }
@@ -296,6 +320,7 @@ func (s *Session) ran(e *expectation, tag []byte) {
 	}
 	switch {
 	case p == nil:
+		s.tx.unlooked = true
 		verb, _ := counted(tag)
 		s.tx.MayHaveWritten = s.tx.MayHaveWritten || s.options.Auditing() || !isApart(verb, e)
 		s.notLooked(e, tag)
@@ -374,7 +399,7 @@ func (s *Session) did(p *plan.Plan, e *expectation, tag []byte) {
 		return
 	case plan.Declare:
 		if e.changed {
-			s.names.cursors[p.Name] = &cursor{p.Inner, e.era}
+			s.names.cursors[p.Name] = &cursor{p.Inner, e.era, ownColumns(e)}
 		} else {
 			delete(s.names.cursors, p.Name)
 		}
@@ -495,7 +520,7 @@ func (s *Session) absent(p *plan.Plan, e *expectation, noted *record.Statement) 
 	s.tx.keys += len(its.key)
 	key := record.Key(strings.Clone(string(its.key))) // it may be a part of the statement's text
 	s.tx.Absent = append(s.tx.Absent, record.Absence{Relation: p.Sources[0].Relation, Key: key,
-		Identity: p.Sources[0].Identity})
+		Identity: p.Sources[0].Identity, Wrote: s.tx.mayHaveWritten()})
 	s.tx.Did.Selects = append(s.tx.Did.Selects, record.Select{Absent: int32(len(s.tx.Absent))})
 	if noted != nil {
 		noted.Absent = len(s.tx.Absent)

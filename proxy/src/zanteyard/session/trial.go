@@ -50,7 +50,7 @@ func (s *Session) try(out []byte) []byte {
 	}
 	t.orphans = t.orphans[:0]
 	if len(t.queue) > 0 && (!w.inBlock || len(s.next) > 0) {
-		out = append(out, impatient...)
+		out = append(out, s.impatient...)
 		s.queue.once(expectation{kind: silent})
 	}
 	out = append(out, signatureOf(w.mark)...)
@@ -150,10 +150,14 @@ func (s *Session) prepareTrial(out []byte, u *use, text string, types []byte) []
 	return appendParse(append(out, closeTrial...), trialName, text, types)
 }
 
-// askCost asks what the prepared text costs. The server plans it for that, as it does whenever the client runs it.
+// askCost asks what the prepared text costs. The server plans it for that, as it does whenever the client runs it: that may
+// call what others have made.
 func (s *Session) askCost(out []byte, u *use, cost string) []byte {
 	if cost == "" {
 		return out
+	}
+	if u.plan.Foreign {
+		s.trust.runsForeign()
 	}
 	s.queue.once(expectation{kind: costRow, use: u})
 	return append(out, once(costName, own.Planned(cost))...)
@@ -240,7 +244,7 @@ func (s *Session) tryEnd() {
 	case !w.inBlock || w.ends == t.block.ends:
 		s.compares(w)
 	case w.local || w.doubted || !bytes.Equal(w.signature, t.signature): // the block has ended
-		t.doubtful()
+		t.doubtful(endedBlock)
 		isSame = false
 	}
 	if w.asked && !w.failed && isSame {
@@ -301,8 +305,11 @@ func (s *Session) tried(w *trial) {
 			t.queue = append(t.queue, u)
 		case u.allowed && u.columns:
 			u.unpriced = !u.compares && !u.compared && rows(u.plan).Compared()
+			uncompared := !u.unpriced && rows(u.plan).ComparedByForm() && (len(u.costs) != 2 || len(u.forms) != 2)
 			u.state, u.compares, u.compared, u.sample = tried, false, false, nil
 			switch {
+			case uncompared:
+				u.state, u.reason = failed, plan.Uncompared
 			case u.dear():
 				u.state, u.reason, u.own = failed, rows(u.plan).WhyDear(), tooDear
 			case len(u.forms) == 2 && (u.forms[0] != u.forms[1] || u.forms[0] == ""):

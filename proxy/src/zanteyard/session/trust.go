@@ -26,6 +26,7 @@ type trust struct {
 	// doubt means that something happened which may have changed names or rights. Nothing is used until the signature has
 	// been compared; doubts counts them, so that an answer to one isn't taken for an answer to a later one.
 	doubt     bool
+	cause     cause // of the doubt
 	doubts    uint64
 	levels    uint64 // counts what may have changed the level at which transactions begin
 	unsure    bool   // this level isn't known, though nothing else is in doubt
@@ -55,6 +56,19 @@ const (
 	mostStates   = 256 // signatures whose generations are known
 )
 
+// cause is why it isn't known what names refer to.
+type cause string
+
+const (
+	newConnection  cause = "what names refer to wasn't known yet on a new connection"
+	newAudit       cause = "what names refer to wasn't known yet, since the audit had just begun"
+	setSomething   cause = "what names refer to wasn't known, just after SET, set_config, DO or the like"
+	unparsed       cause = "what names refer to wasn't known, just after a text that isn't understood"
+	newDefinitions cause = "what names refer to wasn't known, just after definitions had changed"
+	failedToAsk    cause = "what names refer to wasn't known, since the proxy's question had failed"
+	endedBlock     cause = "what names refer to wasn't known, just after a transaction that may have changed it"
+)
+
 // forget makes everything be tried again.
 func (t *trust) forget() {
 	t.generations = map[string]uint64{}
@@ -63,7 +77,11 @@ func (t *trust) forget() {
 	t.leaveQueue()
 	t.broken = t.pooled
 	t.signature = nil
-	t.doubtful()
+	why := newDefinitions
+	if t.doubt && (t.cause == newConnection || t.cause == newAudit) {
+		why = t.cause // it is looked at for the first time, by newer definitions
+	}
+	t.doubtful(why)
 	if len(t.uses) > mostUses {
 		t.uses = map[*plan.Plan]*use{}
 	}
@@ -118,8 +136,8 @@ func (t *trust) planAnew() {
 	t.uses = map[*plan.Plan]*use{}
 }
 
-func (t *trust) doubtful() {
-	t.doubt = true
+func (t *trust) doubtful(why cause) {
+	t.doubt, t.cause = true, why
 	t.asks = false
 	t.doubts++
 	t.levels++

@@ -116,7 +116,7 @@ func (t *trust) why(u *use) string {
 	case u.state == tried && rows(u.plan).Rests():
 		return ManyRows
 	case u.state == tried:
-		return "something may have changed what names refer to"
+		return string(t.cause)
 	}
 	return "not tried on its connection yet"
 }

@@ -197,9 +197,11 @@ func (c *Control) mayReload() bool {
 }
 
 // versionOfOne is a text that changes whenever what decides a table's name or its replica identity is written, also if it
-// is the same afterwards, and with TRUNCATE and the like. The second part is who wrote the table's own row last.
-const versionOfOne = `pg_catalog.concat_ws(' ', c.oid, c.xmin, n.xmin, (SELECT pg_catalog.string_agg(x.xmin::pg_catalog.text, ','
-  ORDER BY x.indexrelid) FROM pg_catalog.pg_index x WHERE x.indrelid = c.oid))`
+// is the same afterwards, and with TRUNCATE and the like. It has the table's number, and then who wrote each part last: the
+// table's own row, its schema's, and those of its indexes.
+const versionOfOne = `pg_catalog.concat_ws(' ', c.oid, pg_catalog.concat_ws(':', 'table', c.xmin), pg_catalog.concat_ws(':', 'schema', n.xmin),
+  (SELECT pg_catalog.string_agg(pg_catalog.concat_ws(':', x.indexrelid, x.xmin), ' ' ORDER BY x.indexrelid)
+   FROM pg_catalog.pg_index x WHERE x.indrelid = c.oid))`
 
 // stampOfOne is a text that changes with a table's name or key.
 const stampOfOne = "pg_catalog.concat_ws(' ', c.oid, n.nspname, c.relname, c.relispartition, c.relreplident, i.indisreplident, " + catalog.IdentitySQL + ")"

@@ -91,6 +91,9 @@ func TestDecoders(t *testing.T) {
 			`{"action":"T","xid":725,"lsn":"0/1","schema":"public","table":"t"}`, `{"action":"T","xid":725,"schema":"public","table":"part"}`},
 			[]string{`table public.t: INSERT: id[integer]:1`, `table public.t, public.part: TRUNCATE: (no-flags)`},
 			" +-1(1) emptied 1 emptied 9"},
+		{"truncate of a partition", []string{`{"action":"I","xid":725,"schema":"public","table":"t","columns":[{"name":"id","value":1}],"pk":[{"name":"id"}]}`,
+			`{"action":"T","xid":725,"lsn":"0/1","schema":"public","table":"part1"}`},
+			[]string{`table public.t: INSERT: id[integer]:1`, `table public.part1: TRUNCATE: (no-flags)`}, " +1(1)"},
 		{"arrays and other types", []string{`{"action":"I","xid":725,"schema":"public","table":"t","columns":[{"name":"x","value":"{1,2}"},` +
 			`{"name":"id","value":-7},{"name":"b","value":"00ff"}],"pk":[{"name":"id"}]}`},
 			[]string{`table public.t: INSERT: x[integer[]]:'{1,2}' id[integer]:-7 b[bytea]:'\x00ff' c[timestamp with time zone]:'2026-01-01 00:00:00+00'`},

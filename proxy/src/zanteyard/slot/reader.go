@@ -27,7 +27,8 @@ type Reader struct {
 	plugin  Plugin
 	tables  *Tables
 	conn    *pgconn.PgConn
-	from    string // where the slot begins
+	from    string    // where the slot begins
+	asked   time.Time // when it was made, zero if it was there before
 	mark    int64
 	loud    bool // warnings of the connection are written to the server's log
 
@@ -79,6 +80,9 @@ func (r *Reader) begin(ctx context.Context) (err error) {
 	return r.create(ctx)
 }
 
+// Asked is when the slot was asked for: nothing that had ended by then is in it. It is zero if the slot was there before.
+func (r *Reader) Asked() time.Time { return r.asked }
+
 // Mark is the lock that the slot's connection holds: whoever sees it is connected to the server whose log is read.
 func (r *Reader) Mark() int64 { return r.mark }
 
@@ -115,6 +119,7 @@ func (r *Reader) create(ctx context.Context) error {
 	}
 	refused := ErrNoPlugin
 	for _, plugin := range plugins {
+		r.asked = time.Now()
 		rows, err := own.Ask(ctx, r.conn, own.Command("CREATE_REPLICATION_SLOT %s %sLOGICAL %s NOEXPORT_SNAPSHOT",
 			own.Name{r.options.Name}, own.Word(kind), own.Word(plugin)))
 		switch {
@@ -126,7 +131,7 @@ func (r *Reader) create(ctx context.Context) error {
 		case ctx.Err() != nil:
 			return fmt.Errorf("%w (%v)", ErrBlocked, err)
 		case r.options.Permanent && hasCode(err, "42710"): // it is there from an earlier run, so what it reports first is old
-			r.plugin, r.from = plugin, "0/0"
+			r.plugin, r.from, r.asked = plugin, "0/0", time.Time{}
 			return r.known(ctx)
 		case hasCode(err, "42501"): // or the role may not make slots at all: then the next one is refused too
 			refused = fmt.Errorf("make the replication slot: %w", err)

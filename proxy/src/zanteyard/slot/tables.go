@@ -113,7 +113,7 @@ func (t *Tables) set(all []*Table) (changed []record.Relation, rewritten []join.
 		if is == nil || is.stamp != was.stamp || is.Root != was.Root {
 			changed = append(changed, relation, was.Root)
 		} else if is.version != was.version {
-			rewritten = append(rewritten, is.rewritten())
+			rewritten = append(rewritten, is.rewritten(was.version))
 		}
 		if is != nil {
 			is.used = atomic.LoadUint32(&was.used)
@@ -131,14 +131,31 @@ func (t *Tables) set(all []*Table) (changed []record.Relation, rewritten []join.
 	return changed, rewritten
 }
 
-// rewritten says who wrote its definition last.
-func (t *Table) rewritten() join.Rewritten {
-	its := join.Rewritten{Relation: t.Relation, Root: t.Root}
-	if parts := strings.Fields(t.version); len(parts) > 1 {
-		number, _ := strconv.ParseUint(parts[1], 10, 32)
-		its.By = uint32(number)
+// rewritten says who has written its definition since it had another version.
+func (t *Table) rewritten(was string) join.Rewritten {
+	return join.Rewritten{Relation: t.Relation, Root: t.Root, By: writersOf(was, t.version)}
+}
+
+// writersOf returns who wrote the parts of a version (versionOfOne) that aren't the same in another one; none if a part is
+// gone, since nothing says who dropped it.
+func writersOf(was, is string) (by []uint32) {
+	old := map[string]string{}
+	for _, part := range strings.Fields(was) {
+		name, number, _ := strings.Cut(part, ":")
+		old[name] = number
 	}
-	return its
+	for _, part := range strings.Fields(is) {
+		name, text, _ := strings.Cut(part, ":")
+		if before, there := old[name]; !there || before != text {
+			number, _ := strconv.ParseUint(text, 10, 32)
+			by = append(by, uint32(number))
+		}
+		delete(old, name)
+	}
+	if len(old) > 0 {
+		return nil
+	}
+	return by
 }
 
 // versions takes over the versions of used tables, and returns those that have changed.
@@ -152,8 +169,9 @@ func (t *Tables) versions(text string) (rewritten []join.Rewritten) {
 		oid, _, _ := strings.Cut(version, " ")
 		number, _ := strconv.ParseUint(oid, 10, 32)
 		if one := t.by[record.Relation(number)]; one != nil && one.version != version {
+			was := one.version
 			one.version = version
-			rewritten = append(rewritten, one.rewritten())
+			rewritten = append(rewritten, one.rewritten(was))
 		}
 	}
 	t.stampOf()

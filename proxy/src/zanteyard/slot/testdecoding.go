@@ -89,7 +89,7 @@ func (d *testDecoding) change(text []byte) error {
 func (d *testDecoding) truncate(schema, table, rest []byte) error {
 	for {
 		if t := d.tables.named(schema, table); t != nil && !(t.unasked && d.tables.leaves(t)) {
-			d.open.empty(t.Root)
+			d.open.empty(t)
 			d.tables.without(t, truncated)
 		}
 		if !bytes.HasPrefix(rest, []byte(", ")) {

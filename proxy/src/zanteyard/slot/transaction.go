@@ -96,14 +96,17 @@ func (t *transaction) find(relation record.Relation, key record.Key) (int, bool)
 }
 
 // empty records that all rows of a table were removed without being named, including those that this transaction wrote
-// before.
-func (t *transaction) empty(relation record.Relation) {
+// before. Of a partition it isn't known which rows of the whole table these were.
+func (t *transaction) empty(table *Table) {
+	relation := table.Root
+	if t.gap(relation); table.Relation != relation {
+		return
+	}
 	for i := range t.writes {
 		if t.writes[i].Relation == relation {
 			t.writes[i].Deleted = true
 		}
 	}
-	t.gap(relation)
 	t.emptied = append(t.emptied, relation)
 }
 

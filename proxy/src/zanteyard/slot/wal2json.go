@@ -222,7 +222,7 @@ func (w *wal2json) change(m *message) {
 		w.lacks(m)
 		return
 	case m.action == 'T' && !t.unasked:
-		w.open.empty(t.Root)
+		w.open.empty(t)
 		w.tables.without(t, truncated)
 		return
 	case w.tables.leaves(t):

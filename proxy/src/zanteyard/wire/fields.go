@@ -103,11 +103,12 @@ func CutRow(m []byte, columns int, visible []byte) int {
 
 // Column is one column of a RowDescription.
 type Column struct {
+	Name   []byte // in the message
 	Type   uint32
 	Format int // 0 text, 1 binary
 }
 
-// Columns parses a RowDescription: each column's type and format, and where in the message it ends.
+// Columns parses a RowDescription: each column's name, type and format, and where in the message it ends.
 func Columns(m []byte, columns []Column, ends []int) ([]Column, []int, bool) {
 	at, n := Header+2, Int16(m[Header:])
 	if n < 0 {
@@ -118,8 +119,9 @@ func Columns(m []byte, columns []Column, ends []int) ([]Column, []int, bool) {
 		if name < 0 || at+name+19 > len(m) {
 			return columns, ends, false
 		}
+		begin := at
 		at += name + 19
-		columns = append(columns, Column{binary.BigEndian.Uint32(m[at-12:]), Int16(m[at-2:])})
+		columns = append(columns, Column{m[begin : begin+name], binary.BigEndian.Uint32(m[at-12:]), Int16(m[at-2:])})
 		ends = append(ends, at)
 	}
 	return columns, ends, true

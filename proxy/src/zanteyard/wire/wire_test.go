@@ -3,6 +3,7 @@ package wire
 import (
 	"bytes"
 	"errors"
+	"fmt"
 	"io"
 	"testing"
 	"testing/iotest"
@@ -138,7 +139,7 @@ func TestDescription(t *testing.T) {
 		{Name: []byte("long name"), DataTypeOID: 28, Format: 1}}}
 	m := d.Encode(nil)
 	columns, ends, ok := Columns(m, nil, nil)
-	if !ok || len(columns) != 2 || columns[0] != (Column{23, 0}) || columns[1] != (Column{28, 1}) || ends[1] != len(m) {
+	if !ok || fmt.Sprint(columns) != fmt.Sprint([]Column{{[]byte("a"), 23, 0}, {[]byte("long name"), 28, 1}}) || ends[1] != len(m) {
 		t.Errorf("%v %v %v", columns, ends, ok)
 	}
 	d.Fields = d.Fields[:1]

@@ -1,6 +1,6 @@
 use Rattle.std.proofs.Common.{subst, sym, ◌∙◌, inr}
 use Rattle.std.proofs.lemmas.Result.{IfOk-weaker}
-use Rattle.round_state.specs.declared.reports.Certificate.{Certificate}
+use Rattle.round_state.specs.declared.steps.Claim.{Claim}
 use Rattle.round_state.specs.declared.steps.Step.TheVariants as step
 use Rattle.report_checking.specs.Reading.{IsToldOf}
 use Rattle.report_checking.proofs.RightReports.{right_judged}
@@ -29,7 +29,7 @@ pub returns-in-Round-clause-owed : goal.returns-in-Round-clause-owed
 returns-in-Round-clause-owed c = rw c.in-Round.is c.owed_round.ensures.owed
 
 pub returns-in-Answer-clause-owed : goal.returns-in-Answer-clause-owed
-returns-in-Answer-clause-owed c = rw (c.in-Answer.is, ← c.certificate_of.ensures) c.owed_step-in-Answer.ensures.owed
+returns-in-Answer-clause-owed c = rw (c.in-Answer.is, ← c.claim_of.ensures) c.owed_step-in-Answer.ensures.owed
 
 pub returns-in-Truncate-clause-owed : goal.returns-in-Truncate-clause-owed
 returns-in-Truncate-clause-owed c = rw c.in-Truncate.is c.owed_step-in-Truncate.ensures.owed
@@ -104,7 +104,7 @@ returns-in-Round-clause-right c = rw c.in-Round.is (IfOk-weaker c.owed_round.res
 pub returns-in-Answer-clause-right : goal.returns-in-Answer-clause-right
 returns-in-Answer-clause-right c =
     rw c.in-Answer.is
-    (IfOk-weaker c.owed_step-in-Answer.result _ _ (λ given told. right_judged c.args.names c.args.engine.now c.in-Answer.shown c.args.stored.now given (subst (λ (it : Certificate). IsToldOf c.args.engine.now (step.Judge it) given) c.certificate_of.ensures told)) c.owed_step-in-Answer.ensures.told)
+    (IfOk-weaker c.owed_step-in-Answer.result _ _ (λ given told. right_judged c.args.names c.args.engine.now c.in-Answer.shown c.args.stored.now given (subst (λ (it : Claim). IsToldOf c.args.engine.now (step.Judge it) given) c.claim_of.ensures told)) c.owed_step-in-Answer.ensures.told)
 
 pub returns-in-Show-clause-right : goal.returns-in-Show-clause-right
 returns-in-Show-clause-right c = rw c.in-Show.is (λ report new earned shows. absurd earned)
@@ -163,7 +163,7 @@ returns-in-Round-clause-alone c = rw c.in-Round.is c.owed_round.ensures.refused
 pub returns-in-Answer-clause-alone : goal.returns-in-Answer-clause-alone
 returns-in-Answer-clause-alone c =
     rw c.in-Answer.is
-    (IfOk-weaker c.owed_step-in-Answer.result _ _ (λ given told. judged_alone c.args.version c.args.engine.now c.in-Answer.shown given (subst (λ (it : Certificate). IsToldOf c.args.engine.now (step.Judge it) given) c.certificate_of.ensures told)) c.owed_step-in-Answer.ensures.told)
+    (IfOk-weaker c.owed_step-in-Answer.result _ _ (λ given told. judged_alone c.args.version c.args.engine.now c.in-Answer.shown given (subst (λ (it : Claim). IsToldOf c.args.engine.now (step.Judge it) given) c.claim_of.ensures told)) c.owed_step-in-Answer.ensures.told)
 
 pub returns-in-Truncate-clause-alone : goal.returns-in-Truncate-clause-alone
 returns-in-Truncate-clause-alone c = rw c.in-Truncate.is (IfOk-weaker c.owed_step-in-Truncate.result _ _ (λ given is. told_alone c.args.engine.now step.Truncate tt given is) c.owed_step-in-Truncate.ensures.told)
@@ -224,7 +224,7 @@ pub returns-in-Begin-clause-unshown : goal.returns-in-Begin-clause-unshown
 returns-in-Begin-clause-unshown c = IfOk-weaker c.owed_step-in-Begin.result _ _ (λ given. unshows_told (EndsWrong c.args.names c.args.engine.now c.args.command c.args.stored.now) c.args.engine.now step.Begin given) c.owed_step-in-Begin.ensures.told
 
 pub returns-in-Answer-clause-unshown : goal.returns-in-Answer-clause-unshown
-returns-in-Answer-clause-unshown c = IfOk-weaker c.owed_step-in-Answer.result _ _ (λ given. unshows_told (EndsWrong c.args.names c.args.engine.now c.args.command c.args.stored.now) c.args.engine.now (step.Judge c.certificate_of.result) given) c.owed_step-in-Answer.ensures.told
+returns-in-Answer-clause-unshown c = IfOk-weaker c.owed_step-in-Answer.result _ _ (λ given. unshows_told (EndsWrong c.args.names c.args.engine.now c.args.command c.args.stored.now) c.args.engine.now (step.Judge c.claim_of.result) given) c.owed_step-in-Answer.ensures.told
 
 pub returns-in-Truncate-clause-unshown : goal.returns-in-Truncate-clause-unshown
 returns-in-Truncate-clause-unshown c = IfOk-weaker c.owed_step-in-Truncate.result _ _ (λ given. unshows_told (EndsWrong c.args.names c.args.engine.now c.args.command c.args.stored.now) c.args.engine.now step.Truncate given) c.owed_step-in-Truncate.ensures.told

@@ -12,6 +12,7 @@ import (
 
 	"zanteyard/audit"
 	"zanteyard/guard"
+	"zanteyard/join"
 	"zanteyard/record"
 	"zanteyard/remote"
 )
@@ -25,8 +26,13 @@ type audits struct {
 	mark    atomic.Int64 // of the audit that runs
 	log     func(string)
 
-	unaudited atomic.Uint64 // transactions that have ended while no audit ran, since the last one
-	last      *audit.Audit  // of this parent
+	last    *audit.Audit
+	isNew   bool        // the last one was another parent's
+	counted uint64      // transactions in this parent's audits, of which it hasn't told anybody
+	since   join.Totals // what ended since its last audit; it was told as it left
+	// What ended since a parent last told its outcome: transactions in audits of parents that are gone, and others.
+	untold    uint64
+	unaudited join.Totals
 
 	lock    sync.Mutex
 	current *current // nil if no audit runs
@@ -108,12 +114,12 @@ func (a *audits) run(ctx context.Context, in io.Reader) {
 			case line, ok := <-lines:
 				if !ok {
 					<-ctx.Done()
-					a.last.Late()
+					a.since = a.last.Late()
 					return
 				}
 				again = a.command(line)
 			case <-ctx.Done():
-				a.last.Late()
+				a.since = a.last.Late()
 				return
 			}
 		}
@@ -126,9 +132,10 @@ func (a *audits) attend(ctx context.Context, from *control) {
 		select {
 		case one := <-from.parents:
 			its, cancel := context.WithCancel(ctx)
-			a.config.Out, a.last = one, nil
+			a.config.Out, a.isNew, a.counted = one, true, 0
 			a.run(its, &ending{one, cancel})
 			cancel()
+			a.untold += a.counted
 			from.detach(one)
 		case <-ctx.Done():
 			return
@@ -150,11 +157,39 @@ func (e *ending) Read(to []byte) (int, error) {
 	return n, err
 }
 
+// follow makes an audit count what has ended since the last one, or tells its parent how many transactions these were, if
+// it had no part in that.
+func (a *audits) follow(it *audit.Audit) {
+	if before := a.last; a.isNew {
+		late := it.Succeeds(before)
+		late.Add(&a.since)
+		a.unaudited.Add(&late)
+		a.since = join.Totals{}
+		n := late.Ended()
+		if n > 0 {
+			a.log(fmt.Sprintf("%d transactions ended while nothing was audited", n))
+		}
+		if a.untold > 0 {
+			a.log(fmt.Sprintf("%d transactions ended in audits whose program is gone, and told nobody", a.untold))
+		}
+		if a.unaudited.Ended() > 0 || a.untold > 0 {
+			it.Earlier(a.unaudited.Copied(), a.untold)
+		}
+	} else {
+		it.After(before)
+	}
+	a.last, a.isNew = it, false
+}
+
+// toldAll records that the parent was told of everything up to now.
+func (a *audits) toldAll() { a.counted, a.untold, a.unaudited = 0, 0, join.Totals{} }
+
 // command handles a command while there is no audit. It reports whether another audit should begin.
 func (a *audits) command(line []byte) (again bool) {
 	name := nameOf(line)
 	if name == "stop" {
 		a.last.Late()
+		a.toldAll()
 		at := time.Now()
 		fmt.Fprintf(a.config.Out, "{\"event\":\"stopped\",\"at\":%d.%06d}\n", at.Unix(), at.Nanosecond()/1000)
 	}
@@ -208,18 +243,12 @@ func (a *audits) one(ctx context.Context, lines <-chan []byte) (left []byte, aga
 	config := a.config
 	config.In = commands
 	it := audit.New(config)
-	if a.last != nil {
-		it.After(a.last)
-	}
-	a.last = it
-	a.its.Store(it)
+	a.its.Store(it)       // a fault in what follows ends it
 	a.sink.use(it.Sink()) // which counts what ends before the audit begins
+	a.follow(it)
 	awaitCatalog(ctx, a.ready)
 	a.running.Store(true)
 	defer a.running.Store(false)
-	if n := a.unaudited.Swap(0); n > 0 {
-		a.log(fmt.Sprintf("%d transactions ended while nothing was audited", n))
-	}
 	now := &current{drained: it.Drained, over: make(chan struct{})}
 	a.set(now)
 	defer now.end()
@@ -232,7 +261,14 @@ func (a *audits) one(ctx context.Context, lines <-chan []byte) (left []byte, aga
 		commands.Close() // writers of commands don't wait any more
 		ended <- err
 	}()
-	defer func() { again = it.WantsRestart() }()
+	defer func() {
+		again = it.WantsRestart()
+		n, wasStopped := it.Untold()
+		if wasStopped {
+			a.toldAll()
+		}
+		a.counted += n
+	}()
 	for {
 		select {
 		case line, ok := <-lines:

@@ -112,7 +112,7 @@ func TestWriteSkewOverACondition(t *testing.T) {
 	} {
 		t.Run(fmt.Sprint(x.level, " ", x.followed), func(t *testing.T) {
 			sql(t, direct, "DELETE FROM doctor; INSERT INTO doctor VALUES (1, true), (2, true)")
-			var more []string
+			more := []string{"--between", "10h"} // a meeting would fold what runs across it
 			if x.followed {
 				more = append(more, "--conditions")
 			}

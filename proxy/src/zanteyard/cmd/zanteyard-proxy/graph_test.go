@@ -28,7 +28,11 @@ func (g *graph) take(line string) (its [][2]int) {
 	}
 	var session, first int
 	var fragment [][2][]json.RawMessage
-	if err := json.Unmarshal([]byte(line), &[]any{new(string), &session, &first, &fragment}); err != nil {
+	parts := []any{new(string), &session, &first, &fragment}
+	if strings.HasPrefix(line, `["join"`) {
+		parts = []any{new(string), &session, &fragment}
+	}
+	if err := json.Unmarshal([]byte(line), &parts); err != nil {
 		panic(err)
 	}
 	for i, one := range fragment {

@@ -96,15 +96,17 @@ func warm(t *testing.T, conn *pgconn.PgConn, texts ...string) {
 	}
 }
 
-// TestNamesThatChangeAndBack: a table's owner makes its name stand for something else for a while: for another table,
-// within a transaction that writes to it; or for a view, whose columns are called like a table's own. Nothing of that is
-// taken for the table's.
+// TestNamesThatChangeAndBack: a table's owner makes its name stand for something else for a while: for another table, by
+// its own name or its schema's, within a transaction that writes to it; or for a view, whose columns are called like a
+// table's own. Nothing of that is taken for the table's.
 func TestNamesThatChangeAndBack(t *testing.T) {
 	c := start(t)
 	beside := directly(t, c)
 	sql(t, beside, `CREATE TABLE o (id int PRIMARY KEY, v int); INSERT INTO o VALUES (1, 0);
 		CREATE TABLE swapped (id int PRIMARY KEY, v int); INSERT INTO swapped VALUES (5, 0);
 		CREATE TABLE other (id int PRIMARY KEY, v int); INSERT INTO other VALUES (5, 0);
+		CREATE SCHEMA far; CREATE TABLE far.away (id int PRIMARY KEY, v int); INSERT INTO far.away VALUES (5, 0);
+		CREATE SCHEMA near; CREATE TABLE near.away (id int PRIMARY KEY, v int); INSERT INTO near.away VALUES (5, 0);
 		CREATE TABLE viewed (id int PRIMARY KEY, v int); INSERT INTO viewed VALUES (5, 0)`)
 	p := begin(t, c, "--look", "1h")
 	p.until(`["open"`)
@@ -112,30 +114,40 @@ func TestNamesThatChangeAndBack(t *testing.T) {
 	reader, writer := p.connect(), p.connect()
 	const o = "UPDATE o SET v = v + 1 WHERE id = 1"
 	texts := []string{"SELECT v FROM swapped WHERE id = 5", "SELECT v FROM viewed WHERE id = 5", "SELECT v FROM o WHERE id = 1",
-		"UPDATE viewed SET v = v + 1 WHERE id = 5", "UPDATE swapped SET v = v + 1 WHERE id = 5", "UPDATE account SET balance = balance WHERE id = 2", o}
+		"UPDATE viewed SET v = v + 1 WHERE id = 5", "UPDATE swapped SET v = v + 1 WHERE id = 5", "UPDATE far.away SET v = v + 1 WHERE id = 5", "UPDATE account SET balance = balance WHERE id = 2", o}
+	const swap = "ALTER SCHEMA far RENAME TO x; ALTER SCHEMA near RENAME TO far; ALTER SCHEMA x RENAME TO near"
 	const view = "ALTER TABLE viewed RENAME TO kept; CREATE VIEW viewed AS SELECT id, v, '2'::xid AS xmin, 'kept'::regclass::oid AS tableoid FROM kept"
 	const back = "DROP VIEW viewed; ALTER TABLE kept RENAME TO viewed"
-	for _, name := range []string{"another table", "a view", "a view, and back"} {
+	for _, name := range []string{"another table", "another schema", "a view", "a view, and back"} {
 		warm(t, reader, texts...)
 		warm(t, writer, texts...)
 		offered := false
 		for try := 1; try <= mostTries && !offered; try++ {
 			one, two := fmt.Sprint("reads, ", name, try), fmt.Sprint("writes, ", name, try)
+			isView := strings.HasPrefix(name, "a view")
+			if name == "another schema" {
+				sql(t, beside, "ALTER TABLE far.away SET (fillfactor = 90)") // the table's own row is written by somebody else
+			}
 			sql(t, writer, "BEGIN /*tag='"+two+"'*/")
 			sql(t, writer, o)
-			if name == "another table" {
+			switch name {
+			case "another schema":
+				sql(t, writer, swap)
+				sql(t, writer, "UPDATE far.away SET v = v + 1 WHERE id = 5")
+				sql(t, writer, swap)
+			case "another table":
 				sql(t, writer, "ALTER TABLE swapped RENAME TO x; ALTER TABLE other RENAME TO swapped; ALTER TABLE x RENAME TO other")
 				sql(t, writer, "UPDATE swapped SET v = v + 1 WHERE id = 5")
 				sql(t, writer, "ALTER TABLE swapped RENAME TO x; ALTER TABLE other RENAME TO swapped; ALTER TABLE x RENAME TO other")
-			} else {
+			default:
 				sql(t, writer, "UPDATE viewed SET v = v + 1 WHERE id = 5")
 			}
 			sql(t, writer, "COMMIT")
-			if name != "another table" {
+			if isView {
 				sql(t, beside, "BEGIN; "+view+"; COMMIT")
 			}
 			sql(t, reader, "BEGIN /*tag='"+one+"'*/")
-			if name != "another table" {
+			if isView {
 				sql(t, reader, "SELECT v FROM viewed WHERE id = 5")
 			}
 			sql(t, reader, "SELECT v FROM o WHERE id = 1")
@@ -147,7 +159,8 @@ func TestNamesThatChangeAndBack(t *testing.T) {
 			reads, there := its[one]
 			written, also := its[two]
 			offered = there && also && strings.Contains(reads.reads(its), "o 1 from "+two)
-			if offered && (reads.reads(its) != "o 1 from "+two || strings.Contains(written.reads(its), "swapped")) {
+			if offered && (reads.reads(its) != "o 1 from "+two || strings.Contains(written.reads(its), "swapped") ||
+				strings.Contains(written.reads(its), "away")) {
 				t.Errorf("%s: they are offered with reads of %s, and %s", name, reads.reads(its), written.reads(its))
 			}
 			if name == "a view" {

@@ -88,10 +88,10 @@ func parse(args []string, errors io.Writer) (flags, error) {
 	set.BoolVar(&f.permanent, "permanent-slot", false, "keep the slot after the proxy ends: it must be dropped by hand")
 	set.Int64Var(&f.kept, "kept", 4<<30, "`bytes` of WAL that the server may keep for the slot before the audit ends")
 	set.Int64Var(&f.held, "held", 64<<20, "`bytes` of records that may wait for the audit")
-	set.IntVar(&f.join.Sessions, "sessions", 64, "`number` of the auditor's sessions")
-	set.IntVar(&f.join.Limit, "limit", 4096, "`number` of transactions that may remain at a time")
-	set.Func("promise", "serializable, or snapshot: audit for snapshot isolation, with half as many "+
-		"transactions", func(text string) error {
+	set.IntVar(&f.join.Sessions, "sessions", 256, "the largest `number` of the auditor's sessions")
+	set.IntVar(&f.join.First, "first-sessions", 8, "how many `sessions` an audit begins with")
+	set.IntVar(&f.join.Limit, "limit", 131072, "`number` of transactions that may remain at a time")
+	set.Func("promise", "serializable, or snapshot: audit for snapshot isolation", func(text string) error {
 		f.join.Snapshot = text == "snapshot"
 		if text != "snapshot" && text != "serializable" {
 			return fmt.Errorf("give serializable or snapshot")
@@ -100,11 +100,11 @@ func parse(args []string, errors io.Writer) (flags, error) {
 	})
 	set.BoolVar(&f.join.Rollbacks, "rollbacks", false, "below serializable, audit transactions that only read and were rolled back "+
 		"without a failed statement as if they had been committed")
-	set.BoolVar(&f.aggregates, "aggregates", false, "see the rows that aggregates were made of, and what an index may answer alone, too: "+
-		"some answers may have their rows in another order")
+	set.BoolVar(&f.aggregates, "aggregates", false, "see all aggregates, groups, and what an index may answer alone, also where an "+
+		"answer may then have its rows in another order")
 	set.BoolVar(&f.conditions, "conditions", false, "audit what SELECTs by a condition passed over, too")
 	set.Float64Var(&f.join.Sample, "sample", 1, "the `part` of the connections that is audited")
-	set.DurationVar(&f.join.Between, "between", 2*time.Second, "the shortest `time` between two meetings")
+	set.DurationVar(&f.join.Between, "between", time.Second, "the `time` between two meetings")
 	set.Func("tables", "audit only these tables, given as `patterns` such as public.*, shop.orders", func(text string) (err error) {
 		f.tables, err = catalog.ParseFilter(text)
 		return err
@@ -367,7 +367,7 @@ func look(ctx context.Context, f flags, config *pgconn.Config, options *session.
 		d.WithConditions()
 	}
 	if !f.aggregates {
-		d.WithoutLists()
+		d.OnlyCertainLists()
 	}
 	options.Plans, options.Generation, options.Defined = d, d.Generation, d.Changed
 	failed := func(err error) { options.Log(err.Error() + "; traffic goes on: " + guard.Stack(err)) }
@@ -398,13 +398,13 @@ func look(ctx context.Context, f flags, config *pgconn.Config, options *session.
 		d.Follow(options.Mark)
 		return finish, end, err
 	}
-	sink := newSwitched(options.Sink)
-	all := &audits{sink: sink, log: options.Log, ready: ready, config: audit.Config{Slot: slotOptions(f), Join: f.join, Meeter: room,
+	none := audit.None()
+	sink := newSwitched(none.Sink())
+	all := &audits{last: none, isNew: true, sink: sink, log: options.Log, ready: ready, config: audit.Config{Slot: slotOptions(f), Join: f.join, Meeter: room,
 		Held: int(f.held), Kept: uint64(f.kept), Out: outer.out}}
 	options.Sink = sink
 	sink.fail, failed = all.fail, all.fail
 	options.Auditing = func() bool { return loaded.Load() && all.running.Load() }
-	options.Unaudited = func() { all.unaudited.Add(1) }
 	options.Mark = all.mark.Load
 	d.Follow(options.Mark)
 	all.config.Slot.Marked = all.mark.Store

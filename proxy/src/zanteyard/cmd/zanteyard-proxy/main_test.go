@@ -114,7 +114,9 @@ func begin(t *testing.T, c *cluster.Cluster, more ...string) *program {
 	go func() {
 		defer close(p.lines)
 		s := bufio.NewScanner(outFrom)
+		sessions := 0
 		for s.Buffer(nil, 64<<20); s.Scan(); {
+			sessions = answer(s.Text(), sessions, inTo)
 			p.lines <- s.Text()
 		}
 		if err := s.Err(); err != nil {
@@ -131,6 +133,20 @@ func begin(t *testing.T, c *cluster.Cluster, more ...string) *program {
 		outTo.Close()
 	})
 	return p
+}
+
+// answer answers each truncate as an auditor does that finds no cut, and returns how many sessions it has.
+func answer(line string, sessions int, to io.Writer) int {
+	switch {
+	case strings.HasPrefix(line, `["open",`):
+		fmt.Sscanf(line, `["open",%d`, &sessions)
+	case strings.HasPrefix(line, `["join",`):
+		sessions++
+	case strings.HasPrefix(line, `["truncate"`):
+		marks := strings.TrimSuffix(strings.Repeat("0,", sessions), ",")
+		go fmt.Fprintf(to, "{\"command\":\"cut\",\"marks\":[%s]}\n", marks) // the proxy may be about to end
+	}
+	return sessions
 }
 
 // until returns the line that begins with a text, or the event of that name.

@@ -578,7 +578,8 @@ func TestPhantoms(t *testing.T) {
 				if n > phantomRoom {
 					n = phantomRoom
 				}
-				b := &phantomRun{t: t, direct: direct, level: level.name, sums: all, p: begin(t, c, "--conditions", "--between", "10h")}
+				b := &phantomRun{t: t, direct: direct, level: level.name, sums: all, p: begin(t, c, "--conditions", "--between", "10h",
+					"--first-sessions", "64")}
 				b.all(*historySeed+int64(done), n)
 				b.p.cancel()
 				t.Logf("%+v", *all)

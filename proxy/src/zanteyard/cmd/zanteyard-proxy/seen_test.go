@@ -168,10 +168,14 @@ func (w *watched) next(end <-chan time.Time) (line string, it event) {
 		if err := json.Unmarshal([]byte(line), &it); err != nil {
 			w.t.Fatalf("%s: %v", line, err)
 		}
-	case strings.HasPrefix(line, `["offer"`):
+	case strings.HasPrefix(line, `["offer"`), strings.HasPrefix(line, `["join"`):
 		var session, first int
 		var fragment []any
-		if err := json.Unmarshal([]byte(line), &[]any{new(string), &session, &first, &fragment}); err != nil {
+		parts := []any{new(string), &session, &first, &fragment}
+		if strings.HasPrefix(line, `["join"`) {
+			parts = []any{new(string), &session, &fragment}
+		}
+		if err := json.Unmarshal([]byte(line), &parts); err != nil {
 			w.t.Fatalf("%s: %v", line, err)
 		}
 		for i := range fragment {

@@ -5,11 +5,11 @@ use Rattle.round_state.proofs.OpenSnapshots.{explained_in}
 use Rattle.round_state.proofs.snapshots.Snapshot.is_explained_by.Goals as goal
 
 pub explains_front-requires-clause-counts : goal.explains_front-requires-clause-counts
-explains_front-requires-clause-counts c = subst (AreFrontCounts c.self.inside.parts.now) (sym c.as_slice.ensures) c.self.invariant.counts
+explains_front-requires-clause-counts c = subst (AreFrontCounts c.self.inside.parts.now) (sym c.as_slice.ensures) c.self.invariant.0.counts
 
 pub returns : goal.returns
 returns c =
     let s = c.self.inside in
     IfOk-weaker c.explains_front.result _ _
-    (λ found is. explained_in s.parts.now s.begun.now s.known.now.parts c.args.self.now c.as_slice.result.now c.args.order.now found c.self.invariant c.self.view_is c.as_slice.ensures is)
+    (λ found is. explained_in s.parts.now s.begun.now s.known.now.parts c.args.self.now c.as_slice.result.now c.args.order.now found c.self.invariant.0 c.self.view_is c.as_slice.ensures is)
     c.explains_front.ensures

@@ -14,10 +14,13 @@ use Rattle.round_state.proofs.KeptFronts.{kept_asked, kept_finished}
 use Rattle.round_state.proofs.OpenSnapshots.{err_has, finish_refused, no_snapshot, snapshot_is, snapshot_of}
 use Rattle.round_state.proofs.state.Engine.finish.Goals as goal
 
-pub new-snapshot-requires : goal.new-snapshot-requires
-new-snapshot-requires c =
+pub new-snapshot-requires-clause-snapshot : goal.new-snapshot-requires-clause-snapshot
+new-snapshot-requires-clause-snapshot c =
     let e = c.self.inside in
     snapshot_of c.kept_fronts_are_counted.ensures e.parts (begun_in e.phase) (known_in e.phase) c.in-Open.begun c.known.result.now c.self.invariant.0.good c.self.invariant.1 (ap begun_in c.in-Open.is) (ap known_in c.in-Open.is ∙ ap (λ (s : SaturatedState). Some s) (sym c.known.ensures))
+
+pub new-snapshot-requires-clause-index : goal.new-snapshot-requires-clause-index
+new-snapshot-requires-clause-index c = c.self.invariant.0.waits_fit
 
 pub invariant_of-self-2 : goal.invariant_of-self-2
 invariant_of-self-2 c =

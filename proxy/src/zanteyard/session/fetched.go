@@ -1,0 +1,89 @@
+package session
+
+import (
+	"strings"
+
+	"zanteyard/plan"
+	"zanteyard/wire"
+)
+
+// The rows of a cursor whose query was rewritten have hidden columns, however they are fetched. Mostly the FETCH is looked
+// at, and names the cursor. One that isn't (its text is too long, in an encoding that isn't read, or of a statement or
+// portal that isn't known any more) is recognized by the columns that it returns. An Execute of such a one is preceded by
+// a Describe of the proxy's own, since its rows may come without a description.
+
+// mayFetch reports whether what is run may be a FETCH of which it isn't known from which cursor: p is its plan, nil if it
+// wasn't looked at.
+func (s *Session) mayFetch(st *statement, p *plan.Plan) bool {
+	switch {
+	case !s.names.hides:
+		return false
+	case p != nil:
+		return p.Kind == plan.Fetch && s.names.unsure
+	case st == nil || st == opaque:
+		return s.names.forgot
+	}
+	return !st.fetchesNot
+}
+
+// runsUnseen is called for a statement that wasn't looked at: it may close a cursor, and declare another one of that name.
+func (s *Session) runsUnseen(st *statement) {
+	if s.names.hides && (st == nil || st.plan == nil) {
+		s.names.unsure = true
+	}
+}
+
+// appendDescribePortal appends a Describe of a portal, which goes before its Execute.
+func appendDescribePortal(to []byte, name []byte) []byte {
+	start := len(to)
+	to = append(wire.Begin(to, 'D'), 'P')
+	return wire.End(append(append(to, name...), 0), start)
+}
+
+// recognizes looks for the cursor whose rows have these columns, and makes the answer be cut like them.
+func (s *Session) recognizes(e *expectation, columns []wire.Column) {
+	var found *cursor
+	for _, c := range s.names.cursors {
+		if c.has(columns) && (found == nil || hiddenColumns(c.plan) > hiddenColumns(found.plan)) {
+			found = c
+		}
+	}
+	if found == nil {
+		return
+	}
+	e.hides, e.hidden = found.plan, hiddenColumns(found.plan)
+	e.binary = columns[len(columns)-1].Format == 1
+	e.guessed, e.replaced = true, true
+}
+
+// ownColumns returns how many columns of the client's own a cursor's rows have.
+func ownColumns(declare *expectation) int {
+	if declare.use == nil {
+		return 0
+	}
+	return declare.use.own
+}
+
+// has reports whether a description is that of the cursor's rows.
+func (c *cursor) has(columns []wire.Column) bool {
+	if len(columns) != c.own+hiddenColumns(c.plan) {
+		return false
+	}
+	for i, kind := range c.plan.HiddenTypes() { // a client's own columns may have these types, too
+		if its := columns[c.own+i]; its.Type != kind || !plan.IsHidden(its.Name) {
+			return false
+		}
+	}
+	return true
+}
+
+// mostPortalName is what the server takes of a portal's name (NAMEDATALEN).
+const mostPortalName = 63
+
+// portalName is the name by which the server knows a portal.
+func portalName(name []byte) string {
+	if len(name) > mostPortalName {
+		name = name[:mostPortalName]
+	}
+	return strings.Clone(string(name))
+}
