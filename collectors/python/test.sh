@@ -45,15 +45,8 @@ if command -v mypy > /dev/null; then # in parallel with the tests; its output co
 else
     echo "skipped: mypy, which isn't installed (no type was checked)"
 fi
-styled="zanteyard import_graph.py make_deb.py make_wheel.py run_tests.py ../../examples/postgres_live.py ../../examples/store_faults.py ../../examples/bank.py ../../examples/shop.py ../../examples/try_postgres.py ../../examples/rules.py"
-if command -v ruff > /dev/null; then
-    ruff check --no-cache --line-length 100 --select E,W --ignore E203,E402,E701,E731 $styled
-elif "$python" -m pycodestyle --version > /dev/null 2>&1; then
-    "$python" -m pycodestyle --max-line-length=100 --ignore=E121,E126,E203,E402,E701,E704,E731,W503 $styled
-else
-    echo "skipped: ruff or pycodestyle, neither of which is installed (no line was measured)"
-fi
 failed=0
+./style.sh "$python" || failed=1
 # Up to two modules that failed next to others run once more by themselves: both results are printed.
 limited $((seconds + 60)) run_tests.py --seconds "$seconds" --slowest 10 --again 2 || failed=1
 if [ -n "$types" ]; then
