@@ -22,8 +22,6 @@ type Column struct {
 	Name   string
 	Number int16
 	Type   uint32
-	// PerValue is how many rows have the same value of the column, as the server estimates; 0 if it doesn't.
-	PerValue float64
 	Meaning
 }
 

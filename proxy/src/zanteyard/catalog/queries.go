@@ -22,15 +22,8 @@ FROM pg_catalog.pg_class c JOIN pg_catalog.pg_namespace n ON n.oid = c.relnamesp
 WHERE c.relkind IN ('r', 'p', 'v', 'm', 'f', 'S') AND c.relpersistence <> 't'
   AND n.nspname NOT IN ('pg_catalog', 'information_schema', 'pg_toast')`)
 
-// How many rows have the same value is known after ANALYZE, and 0 before. A partitioned table's figure is that of all
-// its partitions.
-var columnsSQL = own.SQL(`SELECT a.attrelid::pg_catalog.text, a.attnum::pg_catalog.text, a.attname::pg_catalog.text, a.atttypid::pg_catalog.text,
-  CASE WHEN s.n_distinct > 0 AND c.reltuples > 0 THEN c.reltuples / s.n_distinct
-    WHEN s.n_distinct < 0 THEN -1 / s.n_distinct ELSE 0 END::pg_catalog.text
+var columnsSQL = own.SQL(`SELECT a.attrelid::pg_catalog.text, a.attnum::pg_catalog.text, a.attname::pg_catalog.text, a.atttypid::pg_catalog.text
 FROM pg_catalog.pg_attribute a JOIN pg_catalog.pg_class c ON c.oid = a.attrelid
-  JOIN pg_catalog.pg_namespace n ON n.oid = c.relnamespace
-  LEFT JOIN pg_catalog.pg_stats s ON s.schemaname = n.nspname AND s.tablename = c.relname AND s.attname = a.attname
-    AND s.inherited = (c.relkind = 'p')
 WHERE a.attnum > 0 AND NOT a.attisdropped AND c.relkind IN ('r', 'p') AND c.relpersistence <> 't'
 ORDER BY a.attrelid, a.attnum`)
 

@@ -137,14 +137,10 @@ func (c *Catalog) loadColumns(query Query) error {
 }
 
 func (c *Catalog) takeColumn(known types, row []string) error {
-	if err := width(row, 5); err != nil {
+	if err := width(row, 4); err != nil {
 		return err
 	}
 	oid, err := number(row, 0)
-	if err != nil {
-		return err
-	}
-	perValue, err := strconv.ParseFloat(row[4], 64)
 	if err != nil {
 		return err
 	}
@@ -157,9 +153,7 @@ func (c *Catalog) takeColumn(known types, row []string) error {
 		return err
 	}
 	if t, ok := c.tables[oid]; ok {
-		t.Columns = append(t.Columns, Column{
-			Name: row[2], Number: int16(at), Type: known.resolve(typeOID), PerValue: perValue,
-		})
+		t.Columns = append(t.Columns, Column{Name: row[2], Number: int16(at), Type: known.resolve(typeOID)})
 	}
 	return nil
 }

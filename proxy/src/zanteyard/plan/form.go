@@ -38,7 +38,7 @@ func (p *Plan) Form(answer []byte) string {
 	if json.Unmarshal(answer, &all) != nil || len(all) != 1 || all[0].Plan == nil {
 		return ""
 	}
-	if !p.Ordered {
+	if p.ComparedByForm() && !p.Ordered {
 		whole := all[0].Plan.whole(nil)
 		sort.Strings(whole)
 		return "whole: " + strings.Join(whole, ", ")

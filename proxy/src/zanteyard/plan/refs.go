@@ -97,12 +97,8 @@ func (f *fromClause) removable(it *item) bool {
 	return true
 }
 
-// fewRows is how many rows of a table may be read for a hidden xmin though an index has everything that is asked for.
-const fewRows = 10
-
 // indexOnly reports whether everything that is read of a table is in one index: the server may answer without the
-// table, which a hidden xmin would prevent. If conditions leave only a few rows, these are read nevertheless: that
-// costs as many pages.
+// table, which a hidden xmin would prevent, and then it may read several rows in another order.
 func (f *fromClause) indexOnly(it *item) bool {
 	if f.locks {
 		return false
@@ -124,7 +120,8 @@ func (f *fromClause) indexOnly(it *item) bool {
 			columns[number] = true
 		}
 	}
-	return it.table.Covered(columns) && !f.few(it)
+	key, _ := wholeKey(f.where, it, f.items == 1)
+	return key == nil && it.table.Covered(columns)
 }
 
 // common adds those columns of a table whose names another one has too: NATURAL compares these.
@@ -134,22 +131,6 @@ func common(columns map[int16]bool, of, with *catalog.Table) {
 			columns[column.Number] = true
 		}
 	}
-}
-
-// few reports whether conditions compare each of a table's key columns with a constant or parameter, or a column that
-// has few rows for each value.
-func (f *fromClause) few(it *item) bool {
-	sole := f.items == 1
-	if key, _ := wholeKey(f.where, it, sole); key != nil {
-		return true
-	}
-	for _, part := range conjuncts(f.where) {
-		name, _ := equality(part, it, sole)
-		if column, ok := it.table.Column(name); ok && column.PerValue > 0 && column.PerValue <= fewRows {
-			return true
-		}
-	}
-	return false
 }
 
 // width returns the least number of columns in a target list: a star counts as the columns of one table.

@@ -107,7 +107,7 @@ func (m *maker) certain(p *Plan, body node, f *fromClause) bool {
 	if p.Kind != Select || p.Calls || m.cursor || m.catalog.Foreign || m.callsAsColumn(body) {
 		return false
 	}
-	if m.ordered(body, f) && (f.lists || !m.sortsRows(body, f)) {
+	if m.ordered(body, f) && (f.lists || !m.sortsRows(body, f)) || !m.harmless(body, f) {
 		return false
 	}
 	steady := true

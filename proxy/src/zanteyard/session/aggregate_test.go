@@ -53,8 +53,8 @@ func TestListed(t *testing.T) {
 		{"SELECT array_agg(x) FROM listed WHERE g = 5", 10, ""},
 		{"SELECT 1 AS one FROM listed WHERE g = 5 LIMIT 1", 1, ""},
 		{"SELECT g FROM listed WHERE g = 5", 10, ""},
-		{"SELECT h FROM listed WHERE h = 5", 10, ""},
-		{"SELECT h FROM listed WHERE h BETWEEN 5 AND 50", 0, plan.Reordered}, // by a bitmap, which has the pages' order
+		{"SELECT h FROM listed WHERE h = 5", 0, plan.Reordered}, // by a bitmap, which has the pages' order
+		{"SELECT h FROM listed WHERE h BETWEEN 5 AND 50", 0, plan.Reordered},
 		{"SELECT 1 AS one FROM listed WHERE h = 5", 10, ""},
 		{"SELECT id FROM listed ORDER BY id LIMIT 3", 3, ""},
 		{"SELECT h FROM listed WHERE h > 3 ORDER BY h", 0, plan.ByIndex},
@@ -122,7 +122,13 @@ func TestListedForCertain(t *testing.T) {
 		{"SELECT count(*), sum(x) FROM listed WHERE g = 5", 10, ""},
 		{"SELECT count(*) FROM listed WHERE h = 5", 10, ""},
 		{"SELECT COALESCE(sum(x), 0) + 1, avg(x) FROM listed WHERE g = 5 HAVING count(DISTINCT h) > 3", 10, ""},
-		{"SELECT sum(x) FROM listed WHERE g = 5 AND abs(x) > 3", 10, ""},
+		{"SELECT sum(x) FROM listed WHERE g = 5 AND (x IN (51, 52) OR x BETWEEN 53 AND 70) AND h IS NOT NULL", 9, ""},
+		{"SELECT count(*) FROM listed WHERE g = 5 AND EXISTS (SELECT FROM t WHERE t.id = listed.h) IS NOT TRUE", 10, "a subquery"},
+		{"SELECT sum(x) FROM listed WHERE g = 5 AND abs(x) > 3", 0, "an aggregate"},
+		{"SELECT sum(x) FROM listed WHERE g = 5 AND 100 / x > 1", 0, "an aggregate"},
+		{"SELECT sum(x) FROM listed WHERE g = 5 AND h::text::int > 1", 0, "an aggregate"},
+		{"SELECT sum(x) FROM listed WHERE g = 5 AND h > (SELECT max(u.v) FROM u WHERE u.a = h)", 0, "an aggregate"},
+		{"SELECT count(l.id) FROM listed l JOIN t ON t.id = 100 / l.h WHERE l.g = 5", 0, "an aggregate"},
 		{"SELECT sum(x) FROM listed WHERE g = 5 AND random() >= 0", 0, "an aggregate"},
 		{"SELECT sum(x) FROM listed WHERE g = 5 AND noted(x)", 0, "an aggregate"},
 		{"SELECT array_agg(x) FROM listed WHERE g = 5", 0, "an aggregate"},
@@ -140,10 +146,55 @@ func TestListedForCertain(t *testing.T) {
 		{"SELECT 1 AS one FROM listed WHERE h = 5", 10, ""},
 		{"SELECT h FROM listed WHERE h BETWEEN 5 AND 9", 0, plan.ByIndex},
 		{"SELECT id FROM listed ORDER BY id LIMIT 3", 3, ""},
-		{"SELECT id::text FROM listed ORDER BY listed.id LIMIT 3", 3, ""},
-		{"SELECT id::text FROM listed ORDER BY id LIMIT 3", 0, plan.ByIndex},
+		{"SELECT id AS n FROM listed ORDER BY listed.id LIMIT 3", 3, ""},
+		{"SELECT id AS n, h AS id FROM listed ORDER BY id LIMIT 3", 3, ""},
+		{"SELECT 5 AS id FROM listed ORDER BY listed.id LIMIT 3", 3, ""},
+		{"SELECT id::text FROM listed ORDER BY listed.id LIMIT 3", 0, plan.ByIndex},
+		{"SELECT h FROM listed WHERE h = 5", 0, plan.ByIndex},
 		{"SELECT count(t.v), sum(u.v) FROM t LEFT JOIN u ON u.a = t.id AND u.b <> 'b1' WHERE t.id < 3", 7, ""},
 	})
+}
+
+// TestAsByTheirOwnPlan: with other constants than those of the trial the server may read a table in place of an index, by a
+// scan that meets other rows, or by a bitmap, in another order; of two tables it may hash the other one, since rows are wider.
+// What a statement answers is the same nevertheless.
+func TestAsByTheirOwnPlan(t *testing.T) {
+	needServer(t)
+	sql(t, `DROP TABLE IF EXISTS lines, facts, named, numbered;
+		CREATE TABLE named (k text PRIMARY KEY, g int, x int); CREATE TABLE numbered (k int PRIMARY KEY, g int, y int);
+		INSERT INTO named SELECT repeat('k', 58) || i, i::bigint * 7919 % 100000, i FROM generate_series(100001, 180000) i;
+		INSERT INTO numbered SELECT i, i::bigint * 104729 % 100000, i FROM generate_series(1, 95000) i;
+		CREATE TABLE lines (id int PRIMARY KEY, customer int, note text);
+		INSERT INTO lines SELECT i, i % 20000, 'n' FROM generate_series(1, 100000) i ORDER BY i * 7919 % 100003;
+		CREATE INDEX ON lines (customer, id);
+		CREATE TABLE facts (id int PRIMARY KEY, kind int NOT NULL, val text NOT NULL, pad text NOT NULL);
+		INSERT INTO facts SELECT i, k, CASE WHEN k <> 100 THEN (i % 37)::text ELSE 'none' END, repeat('p', 150) FROM (
+			SELECT i, CASE WHEN i % 10 < 8 THEN 1 + i % 8 WHEN i % 10000 = 8 THEN 11 + i / 10000 ELSE 100 END AS k
+			FROM generate_series(1, 50000) i) s;
+		CREATE INDEX ON facts (kind, val)`)
+	sql(t, "VACUUM ANALYZE lines, facts, named, numbered")
+	plain, p := direct(t, "postgres"), through(t, "postgres", knowing(t, catalog.OnlyCertainLists))
+	for _, statements := range [][2]string{
+		{"SELECT id FROM lines WHERE customer = 78", "SELECT id FROM lines WHERE customer = 5123"},
+		{"SELECT id FROM lines WHERE customer = 78 LIMIT 2", "SELECT id FROM lines WHERE customer = 5123 LIMIT 2"},
+		{"SELECT count(*) FROM facts WHERE kind IN (11) AND val::int > 5",
+			"SELECT count(*) FROM facts WHERE kind IN (1, 2, 3, 4, 5, 6, 7, 8) AND val::int > 5"},
+		{"SELECT named.x, numbered.y FROM named JOIN numbered ON named.g = numbered.g",
+			"SELECT named.x, numbered.y FROM named JOIN numbered ON named.g = numbered.g"}, // the other one is hashed
+		{"SELECT 1 FROM facts WHERE kind IN (11) AND val::int > 5",
+			"SELECT 1 FROM facts WHERE kind IN (1, 2, 3, 4, 5, 6, 7, 8) AND val::int > 5 OFFSET 20000"},
+	} {
+		p.warm(statements[0], statements[0])
+		for i := 0; i < 3; i++ {
+			p.query(statements[0])
+			p.settle()
+		}
+		for _, text := range statements {
+			if got, want := show(p.do(query(text))), show(plain.do(query(text))); got != want {
+				t.Errorf("%s: got\n%.300s\nand not\n%.300s", text, got, want)
+			}
+		}
+	}
 }
 
 // TestRests: an aggregate of many rows by a condition of which the server expected few is left as it is for a while, on

@@ -322,9 +322,7 @@ func (s *Session) ownRow(e *expectation, m []byte) {
 	case costRow:
 		if cost, ok := plan.Cost(values[0]); ok {
 			e.use.costs = append(e.use.costs, cost)
-			if rows(e.use.plan).ComparedByForm() {
-				e.use.forms = append(e.use.forms, rows(e.use.plan).Form(values[0]))
-			}
+			e.use.forms = append(e.use.forms, rows(e.use.plan).Form(values[0]))
 		}
 	}
 }
