@@ -175,3 +175,33 @@ func TestFoundNoRowByACondition(t *testing.T) {
 		})
 	}
 }
+
+// TestSelectsOfReadsThatAreLost: a SELECT is checked if all that it rests on is, whether it made these reads or they had been
+// made before; one of which no read was kept isn't.
+func TestSelectsOfReadsThatAreLost(t *testing.T) {
+	b := newBench(t, Options{Sessions: 2})
+	b.connect(1)
+	one := record.Transaction{Reads: []record.Read{
+		{Relation: 1, Key: "a", Version: 3}, {Relation: 1, Key: "b", Version: 4, Identity: 1},
+		{Relation: 1, Key: "b", Version: 5, Identity: 1}}, Beyond: 2}
+	one.Did.Selects = []record.Select{
+		{To: 1},                        // a
+		{From: 1, To: 3},               // b, whose key may be another one by now
+		{From: 3, To: 3, EarlierTo: 1}, // a again
+		{From: 3, To: 3, EarlierFrom: 1, EarlierTo: 2}, // b again
+		{From: 3, To: 3, EarlierTo: 2},                 // both
+		{From: 3, To: 3, Unkept: 1},                    // what isn't kept
+		{From: 3, To: 3, EarlierTo: 1, Unkept: 1},      // a, and what isn't kept
+	}
+	one.Did.Beyond, one.Touched = 2, true
+	b.tell(1, 0, one)
+	b.settle()
+	its := &b.core.counts.fresh.Selects
+	left := uint64(0)
+	for _, n := range its.NotChecked {
+		left += n
+	}
+	if its.Checked != 2 || its.InPart[someRows] != 2 || its.NotChecked[notKept] != 1 || left != 3 {
+		t.Errorf("%+v", its)
+	}
+}

@@ -14,7 +14,7 @@ const (
 	elsewhere    = "its connection uses another database"
 	sampledOut   = "its connection isn't in the sample"
 	itAborted    = "it aborted"
-	notKept      = "more reads of one transaction than are kept"
+	notKept      = record.NotKept
 )
 
 // tell handles a transaction that has ended.

@@ -221,19 +221,24 @@ func (t *Totals) takeSelects(e *entry, to *resolution) {
 		why[one.at] = one.reason
 	}
 	for _, one := range d.Selects {
-		lost, reason := 0, why[-one.Absent]
+		lost, reason := int(one.Unkept), why[-one.Absent]
 		if one.Ask > 0 {
 			reason = e.whyNotAsked(one.Ask, to)
 		}
-		for at := one.From + 1; at <= one.To; at++ {
-			if its, is := why[at]; is {
-				lost, reason = lost+1, its
+		if one.Unkept > 0 {
+			reason = notKept
+		}
+		for _, reads := range [][2]int32{{one.EarlierFrom, one.EarlierTo}, {one.From, one.To}} {
+			for at := reads[0] + 1; at <= reads[1]; at++ {
+				if its, is := why[at]; is {
+					lost, reason = lost+1, its
+				}
 			}
 		}
 		switch {
 		case reason == "":
 			t.Selects.Checked++
-		case lost < int(one.To-one.From):
+		case lost < one.Reads():
 			t.Selects.part(someRows, 1)
 		default:
 			t.Selects.leave(reason, 1)

@@ -3,8 +3,8 @@ package record
 // Did says what the client's statements on tables did in a transaction: each statement that ended well, and each row
 // that a SELECT returned, is in one place. Selects, Again and Left have the SELECTs, Writes and Left what changes rows.
 type Did struct {
-	Selects []Select // SELECTs of which all was seen, and that made reads
-	Again   uint64   // SELECTs of which all was seen, and whose rows had all been read before
+	Selects []Select // SELECTs of which all was seen, with what they read
+	Again   uint64   // SELECTs of which all was seen, and that made no read of their own: cursors
 	Writes  uint64   // statements of whose reads all was seen, and whose changes are in the server's log
 	Left    []Left   // all others
 	// Rows has how many rows were returned with each of the transaction's Reads, the first one of a row that has several;
@@ -25,12 +25,33 @@ type Did struct {
 // that changed none.
 const FoundNoRow = "it found no row"
 
+// NotKept is why a read isn't checked that a transaction made beyond as many as are kept.
+const NotKept = "more reads of one transaction than are kept"
+
 // Select is one SELECT: the reads that it made, from From to before To, or, if it returned no row, the absent one or the
 // condition that it asked for, counted from 1.
 type Select struct {
 	From, To int32
-	Absent   int32
-	Ask      int32
+	// Those of its reads that had been made before are from EarlierFrom to before EarlierTo, perhaps with others between.
+	EarlierFrom, EarlierTo int32
+	// Unkept are its reads beyond the limit.
+	Unkept int32
+	Absent int32
+	Ask    int32
+}
+
+// Reads is how many reads it rests on.
+func (s Select) Reads() int { return int(s.To - s.From + s.EarlierTo - s.EarlierFrom + s.Unkept) }
+
+// Earlier adds a read that had been made before.
+func (s *Select) Earlier(at int) {
+	if place := int32(at); s.EarlierTo == 0 {
+		s.EarlierFrom, s.EarlierTo = place, place+1
+	} else if place < s.EarlierFrom {
+		s.EarlierFrom = place
+	} else if place >= s.EarlierTo {
+		s.EarlierTo = place + 1
+	}
 }
 
 // Left counts statements of which something wasn't seen, for one reason. InPart means that the rest was seen.

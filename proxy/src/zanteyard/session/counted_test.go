@@ -2,6 +2,7 @@ package session
 
 import (
 	"context"
+	"fmt"
 	"strings"
 	"sync/atomic"
 	"testing"
@@ -184,5 +185,30 @@ func TestCauses(t *testing.T) {
 		if p.query(text); why != x.want && !p.sink.left(string(x.want)) {
 			t.Errorf("after %.40q: %s, and left out is %.300q", x.before, why, p.sink.unseen)
 		}
+	}
+}
+
+// TestWhatSelectsRestOn: a SELECT rests on the reads that it made, on those that the transaction had made before, and on
+// those that aren't kept.
+func TestWhatSelectsRestOn(t *testing.T) {
+	needServer(t)
+	sql(t, fill)
+	p := through(t, "postgres", func(o *Options) { o.ReadLimit = 5 })
+	texts := []string{"BEGIN", "SELECT v FROM t WHERE id IN (1, 2, 3) ORDER BY id", "SELECT v FROM t WHERE id IN (2, 3, 4) ORDER BY id",
+		"SELECT v FROM t WHERE id = 3", "SELECT v FROM t WHERE id IN (5, 6) ORDER BY id", "SELECT v FROM t WHERE id = 7", "COMMIT"}
+	p.warm(texts...)
+	p.sink.take()
+	for _, text := range texts {
+		p.query(text)
+	}
+	its := p.sink.take()
+	if len(its) != 1 {
+		t.Fatalf("%d transactions", len(its))
+	}
+	want := []record.Select{{To: 3}, {From: 3, To: 4, EarlierFrom: 1, EarlierTo: 3}, {From: 4, To: 4, EarlierFrom: 2, EarlierTo: 3},
+		{From: 4, To: 5, Unkept: 1}, {From: 5, To: 5, Unkept: 1}}
+	got := its[0].Did
+	if fmt.Sprint(got.Selects) != fmt.Sprint(want) || got.Again != 0 || got.Beyond != 2 {
+		t.Errorf("%+v", got)
 	}
 }

@@ -5,6 +5,7 @@ import (
 	"strconv"
 
 	"zanteyard/plan"
+	"zanteyard/record"
 	"zanteyard/wire"
 )
 
@@ -207,6 +208,7 @@ func (s *Session) row(o *output, e *expectation, m []byte, start, end int, pass 
 	e.rows++
 	if e.rows == 1 {
 		e.from = len(s.tx.Reads)
+		s.tx.reading = record.Select{From: int32(e.from)}
 		s.fetched(e)
 	}
 	if e.hidden == 0 {

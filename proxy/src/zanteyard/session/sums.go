@@ -170,10 +170,14 @@ func (s *Session) sumSelect(p *plan.Plan, e *expectation, reason string, n uint6
 	case e.loose > 0:
 		d.Leave(whyLoose(p), !p.Lists() || e.rows > e.loose, one, 0, uint64(e.loose))
 	case !isFirst:
-	case len(s.tx.Reads) > e.from && !isCursor:
-		d.Selects = append(d.Selects, record.Select{From: int32(e.from), To: int32(len(s.tx.Reads))})
-	default:
+	case isCursor:
 		d.Again++
+	case len(d.Selects) >= mostSelects:
+		d.Leave(record.NotKept, false, 1, 0, 0)
+	default:
+		its := s.tx.reading
+		its.To = int32(len(s.tx.Reads))
+		d.Selects = append(d.Selects, its)
 	}
 }
 

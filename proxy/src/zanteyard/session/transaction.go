@@ -13,6 +13,7 @@ import (
 const (
 	fewReads       = 16 // up to this many are compared one by one
 	mostStatements = 256
+	mostSelects    = 10000   // that are looked at one by one, whether what they read was checked
 	mostKept       = 1 << 20 // bytes of a transaction's statements and their parameters
 	mostVersions   = 4096    // the transaction's own number and those of its subtransactions
 )
@@ -38,9 +39,10 @@ type transaction struct {
 	// answered before this one began. None of its reads are reported: they would be held to its session's order, which
 	// isn't kept.
 	borrows bool
-	paused  *portal // of the last statement in Statements, if some of its rows are still to come
-	started bool    // a statement of it has run
-	sets    level   // what later transactions begin at, if it is committed
+	reading record.Select // what the statement has read whose rows came last
+	paused  *portal       // of the last statement in Statements, if some of its rows are still to come
+	started bool          // a statement of it has run
+	sets    level         // what later transactions begin at, if it is committed
 	resets  plan.Parts
 	doubts  uint64 // what trust counted when the last of these resets was sent
 	queried bool   // it has a snapshot
@@ -110,9 +112,13 @@ func (t *transaction) read(reads []record.Read, limit int, counts bool) {
 		switch at := t.find(r); {
 		case at >= 0:
 			t.Did.Repeated(at, len(t.Reads), n)
+			if at < int(t.reading.From) {
+				t.reading.Earlier(at)
+			}
 		case len(t.Reads) >= limit || t.keys+len(r.Key) > mostKeys:
 			t.Beyond++
 			t.Did.Beyond += uint64(n)
+			t.reading.Unkept++
 		default:
 			t.Reads = append(t.Reads, r)
 			t.keys += len(r.Key)
