@@ -16,7 +16,7 @@ from zanteyard.promises._kinds import SERIALIZABLE
 from zanteyard.watch._conflicts import cycles_of
 from zanteyard.watch._described import Described, Statement
 from zanteyard.watch._groups import (
-    MOST, Groups, KnownFileError, Ran, Shape, known_in, lines_of_groups, shape_of,
+    MOST, Groups, KnownFileError, Ran, Shape, happened, known_in, lines_of_groups, shape_of,
 )
 from zanteyard.watch._hooks import Hooks
 from zanteyard.watch._violations import Answered, Held, Row
@@ -86,6 +86,37 @@ class Shapes(unittest.TestCase):
         self.assertEqual(self.of(self.SKEW, ran), self.of(self.SKEW, swapped))
         self.assertEqual(len(self.of(self.SKEW, ran).statements), 2)
 
+    def test_what_proves_the_cycle(self):
+        """Also the table in which a transaction has seen what another one wrote."""
+        fractured = {
+            AuditId((0, 0)): [[[5, "init"], [6, "init"]], [5, 6]],
+            AuditId((1, 0)): [[[5, "init"], [6, 0, 0]], []],
+        }
+        found = self.of(
+            fractured, lambda one: (Statement(f"SELECT n FROM staff, {one}"),), ("public.stock", "public.staff")
+        )
+        self.assertEqual(found.tables, ("staff", "stock"))
+
+    def test_other_levels(self):
+        """They are explained, too, under one name."""
+        groups = Groups()
+        for at, levels in enumerate((("read committed",), ("serializable",), ("read committed",)), 1):
+            its = Shape(True, ("stock",), (), levels)
+            self.assertEqual(groups.enter(its, AT), at < 3)
+            groups.explained(its, at, "lost update")
+        self.assertEqual([(one.count, one.number) for one in groups.listed()], [(3, 2)])
+        kept = after.kept_of(self.LOST)
+        held = Held(kept, REPORT, cycles_of(kept, SERIALIZABLE).cycles[0], {})
+        its = {one: Described(one, level="serializable") for one in self.LOST}
+        self.assertEqual(shape_of(held, Answered(its, {})).levels, ("serializable",))
+
+    def test_when_it_happened(self):
+        kept = after.kept_of({**self.LOST, AuditId((2, 0)): [[[5, 1, 0]], []]})
+        held = Held(kept, REPORT, cycles_of(kept, SERIALIZABLE).cycles[0], {})
+        its = {AuditId((at, 0)): Described(AuditId((at, 0)), ended=AT + at) for at in range(3)}
+        self.assertEqual(happened(held, Answered(its, {}), AT + 99), AT + 1)
+        self.assertEqual(happened(held, Answered({}, {}), AT + 99), AT + 99)
+
     def test_nothing_is_known(self):
         kept = after.kept_of(self.LOST)
         held = Held(kept, REPORT, cycles_of(kept, SERIALIZABLE).cycles[0], {})
@@ -97,11 +128,12 @@ class Grouped(unittest.TestCase):
         groups = Groups()
         self.assertTrue(groups.enter(shape(), AT))
         self.assertFalse(groups.enter(shape(), AT + 9))
+        self.assertFalse(groups.enter(shape(), AT - 2))  # found later
         self.assertTrue(groups.enter(shape("staff", lost=False), AT + 1))
         groups.explained(shape(), 1, "lost update")
         groups.explained(shape("staff", lost=False), 3, "write skew")
         one, other = groups.listed()
-        self.assertEqual((one.about, one.count, one.first, one.last), ("lost update of stock", 2, AT, AT + 9))
+        self.assertEqual((one.about, one.count, one.first, one.last), ("lost update of stock", 3, AT - 2, AT + 9))
         self.assertEqual((other.about, other.count, other.number), ("write skew of staff", 1, 3))
 
     def test_names(self):

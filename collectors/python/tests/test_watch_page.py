@@ -122,7 +122,7 @@ class Live(unittest.TestCase):
                     "78.9 %: 15 of 19 rows read; 5 more rolled back",
                     "<p>4 of the checked rows were in a version from before the audit.</p>",
                     "<p>2 of the checked rows were in a version that an unchecked transaction ",
-                    "<p>8 SELECTs asked by a condition, ",
+                    "<p>8 SELECTs didn't ask by one whole key: ",
                     "<h2>Checked in part</h2>",
                     "<h2>Not checked</h2>",
                     "--aggregates, or select the rows",

@@ -9,6 +9,7 @@ import subprocess
 import sys
 import tempfile
 import threading
+import time
 import unittest
 import urllib.request
 
@@ -98,8 +99,8 @@ class Runs(InAFolder):
                 "  writes                     9           6           0            3            0",
                 "  rows read                 19          15           0            4            5",
                 "  rows written               9           6           0            3            0",
-                "  8 SELECTs asked by a condition, not by a whole key: rows that it passed over "
-                "(phantoms) weren't checked",
+                "  8 SELECTs didn't ask by one whole key: rows passed over, or not there yet (phantoms), "
+                "weren't checked",
                 "  3 SELECTs found no row",
                 "  4 of the checked rows were in a version from before the audit",
                 "  2 of the checked rows were in a version that an unchecked transaction wrote",
@@ -153,7 +154,12 @@ class Runs(InAFolder):
         self.assertIn("  1 violation found: lost update", told)
         self.assertIn("  read committed allows that", told)
         checked = "6 of 11 transactions, 9 of 20 SELECTs and 6 of 9 written rows were checked"
-        self.assertIn(f"violated: {checked}, in 3 rounds", told)
+        self.assertIn(f"violated, which read committed allows: {checked}, in 3 rounds", told)
+        self.assertTrue(told[0].endswith("; read committed allows that"), told[0])
+        self.assertIn("what the application ran, and when the proxy received it:", told)
+        (shape,) = [line for line in told if "lost update of stock" in line]
+        ended = time.strftime("%H:%M:%S", time.localtime(feed.AT + 2.05))  # not when it was found
+        self.assertEqual(shape.split()[1:3], [ended, ended])
         self.assertEqual(
             sorted(os.listdir(folder)), ["violation-1.html", "violation-1.jsonl", "violation-1.txt"]
         )

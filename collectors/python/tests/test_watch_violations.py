@@ -9,6 +9,8 @@ from dataclasses import replace
 
 from tests import watch_feed as feed
 from zanteyard.program._binaries import PROGRAM
+from zanteyard.promises._kinds import SERIALIZABLE
+from zanteyard.watch._conflicts import cycles_of
 from zanteyard.watch._described import Described, Statement, by_time, clock, lines_of
 from zanteyard.watch._feed import answered_of
 from zanteyard.watch._intake import Intake
@@ -225,6 +227,23 @@ class Explained(unittest.TestCase):
         self.assertEqual(found.title, "lost update")
         self.assertEqual([one.id for one in found.told], [(0, 0), (0, 1), (1, 0)])
         self.assertTrue(found.sentence.endswith(": T2's update is lost unless T3's built on it"))
+
+    def test_it_is_shown_by_reads(self):
+        """Not by session order, if it is there without that, too."""
+        its = kept(
+            ["resume", 2, 16, 2],
+            ["marks", [0, 0], [False, False]],
+            feed.offer(0, 0, [[[5, "init"]], [5]], [[[5, 0, 0], [6, "init"]], [6]]),
+            feed.offer(1, 0, [[[5, "init"], [6, 0, 1]], []]),
+            ["resumed"],
+        )
+        (cycle,) = cycles_of(its, SERIALIZABLE).cycles
+        report = ["report", 1, "violated", [2, 1], []]
+        found = explained(1, report, Held(its, report, cycle, {}), NOTHING, PROGRAM, feed.AT)
+        breaks = [*found.story.standing.lines()][0]
+        self.assertTrue(breaks.endswith(", also without session order"), breaks)
+        self.assertNotIn("session", " ".join(found.story.because))
+        self.assertEqual(len(found.story.script.splitlines()), 4)  # it has the sessions
 
     def test_whether_its_levels_allow_it(self):
         """That is known if all levels are, and if the anomaly is one that PostgreSQL can have."""

@@ -76,7 +76,7 @@ def find_anomaly(
     """The first pattern in the history that the promise excludes, or None. The history should be
     small."""
     table = _busy(history)
-    behind = _behind(table, promise.is_timed)
+    behind = _behind(table, promise)
     patterns = [
         *(_dirty_reads, _unrepeatable_reads, _information_flows, _lost_updates, _dirty_writes),
         *(_fractured_reads, _stale_reads, _long_forks),
@@ -120,11 +120,11 @@ def _told(key: str) -> str:
     return "the fences' row" if key in (FENCE, PLAIN_FENCE) else key
 
 
-def _plain_arcs(table: Transactions) -> Iterator[Edge]:
-    """The order given by sessions, and by who read from whom."""
+def _plain_arcs(table: Transactions, keeps_sessions: bool) -> Iterator[Edge]:
+    """The order given by who read from whom, and by sessions."""
     before: ShownId | None = None
     for id, logged in table.items():
-        if before is not None and before[0] == id[0]:
+        if keeps_sessions and before is not None and before[0] == id[0]:
             yield before, id
         before = id
         for _, source in logged.reads:
@@ -140,11 +140,11 @@ def _in_time(table: Transactions) -> Iterator[Edge]:
                 yield first, second
 
 
-def _behind(table: Transactions, is_timed: bool) -> dict[ShownId, set[ShownId]]:
+def _behind(table: Transactions, promise: Promise) -> dict[ShownId, set[ShownId]]:
     """For each transaction, those that come after it by these arcs."""
     after: dict[ShownId, list[ShownId]] = {id: [] for id in table}
-    in_time = _in_time(table) if is_timed and len(table) <= MANY else ()
-    for start, end in [*_plain_arcs(table), *in_time]:
+    in_time = _in_time(table) if promise.is_timed and len(table) <= MANY else ()
+    for start, end in [*_plain_arcs(table, promise.keeps_sessions), *in_time]:
         after[start].append(end)
     behind: dict[ShownId, set[ShownId]] = {}
     for id in table:

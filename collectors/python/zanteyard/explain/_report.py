@@ -155,12 +155,13 @@ def story_of(
     script: str = "",
     counts: Sequence[int] = (),
     promise: Promise = SERIALIZABLE,
+    by: Promise | None = None,
 ) -> Story:
     """The story of a violated history that is small already. A history that couldn't be reduced in
     time is named only by its cycle, since looking for an anomaly among many transactions takes
-    minutes."""
+    minutes. `by` is the promise that the explanation is about, if that is another one."""
     count = sum(any(logged.did) for txns in history for logged in txns)
-    anomaly = find_anomaly(history, names, promise) if count <= NAMED else None
+    anomaly = find_anomaly(history, names, by or promise) if count <= NAMED else None
     arcs = explanation.all_arcs()
     ends = {transaction_of(end) for arc in arcs for end in arc.ends}
     return Story(

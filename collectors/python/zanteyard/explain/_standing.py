@@ -81,6 +81,13 @@ def standing(
     return Standing(broken, [each for each in asked if decided.get(each)], late)
 
 
+def by_reads(promise: Promise, its: Standing) -> Promise:
+    """Which promise to explain the violation by: the same without session order if that is broken,
+    too. Then reads alone show the violation."""
+    other = WITHOUT_SESSIONS.get(promise, promise)
+    return other if other in its.broken else promise
+
+
 def _following(promise: Promise, is_kept: bool) -> Sequence[Promise]:
     return weaker(promise) if is_kept else stronger(promise)
 

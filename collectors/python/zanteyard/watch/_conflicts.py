@@ -227,6 +227,8 @@ class _Conflicts:
                 for other in writers:
                     if other != one:
                         self._add(Edge(one, other, READ_BEFORE, version))
+        for its_next in self._next.values():  # a cycle without session order shows more
+            its_next.sort(key=lambda it: it[1].kind == SESSION)
 
     def _add(self, edge: Edge) -> None:
         if edge.kind == READ_BEFORE:

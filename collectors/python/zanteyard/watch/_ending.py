@@ -65,7 +65,13 @@ def lines_of(status: Status) -> Iterator[str]:
     about = "" if status.promise == SERIALIZABLE else f" for {status.promise.title}"
     totals = seen.totals.closed()
     word = word_of(kind, status.promise)
-    yield f"{word}: {shares(totals)} were checked{about}, in {rounds}{audits}"
+    why = too_little(totals) if kind in ("serial", "pending") else ""
+    how = ", but too little was looked at" if why else ""
+    if kind == "violated":
+        how = _by_level(status)
+    yield f"{word}{how}: {shares(totals)} were checked{about}, in {rounds}{audits}"
+    if why:
+        yield f"  {why}"
     yield from (f"  {line}" for line in totals.level_lines())
     if status.new_count:
         its = counted(status.new_count, "violation")
@@ -97,6 +103,32 @@ def _before(status: Status) -> Iterator[str]:
     ):
         if count:
             yield f"before this run's first audit {counted(count, 'transaction')} ended {why}"
+
+
+def too_little(totals: Totals) -> str:
+    """Why it says little that there is no violation: a write that was checked is in each. Empty if
+    one was."""
+    its = totals.rows_written
+    if its.checked or its.partly or its.waiting:
+        return ""
+    if not its.all:
+        return "no row was written through the proxy, and without a write there is no violation"
+    rows = counted(its.all, "written row")
+    return f"of {rows} none was checked, and without a write there is no violation"
+
+
+def _by_level(status: Status) -> str:
+    """Whether PostgreSQL allows these violations at the levels of their transactions, as a part of
+    the first line; empty if that isn't known of all. The first one of each shape at each level was
+    explained."""
+    its = [one.ruling for one in status.violations]
+    refused = sorted({one[0] for one in its if one is not None and not one[1]})
+    if refused:
+        return f", which {refused[-1]} doesn't allow"
+    levels = sorted({one[0] for one in its if one is not None})
+    if not levels or None in its or status.ungrouped:
+        return ""
+    return f", which {' and '.join(levels)} allow{'s' if len(levels) == 1 else ''}"
 
 
 def _allowed(violations: Sequence[Violation]) -> Iterator[str]:

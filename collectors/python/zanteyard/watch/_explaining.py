@@ -12,7 +12,7 @@ from typing import Any
 from ..core._records import AuditId
 from ..promises._kinds import SERIALIZABLE, Promise
 from ._describing import Describing
-from ._groups import Group, Groups, Shape, shape_of
+from ._groups import Group, Groups, Shape, happened, shape_of
 from ._stopping import STOPS
 from ._violations import EXPLAINING, Answered, Held, Violation, explained
 
@@ -103,7 +103,7 @@ class Explaining:
             new = []
             for at, one in enumerate(held, first):
                 shape = shape_of(one, answered)
-                if self.groups.enter(shape, now):
+                if self.groups.enter(shape, happened(one, answered, now)):
                     new.append((at, one, shape))
             for at, one, shape in new:
                 self._explain_one(at, report, one, answered, now, shape)

@@ -10,7 +10,6 @@ from dataclasses import dataclass, replace
 from ..core._redacting import without_constants
 from ..core._visible import visible
 from ..core.errors import ZanteyardError
-from ._conflicts import READ_BEFORE
 from ._described import Described, Statement, clock
 from ._text import counted
 from ._violations import PUBLIC, Answered, Held
@@ -45,21 +44,24 @@ class Ran:
 
 @dataclass(frozen=True)
 class Shape:
-    """`statements` has, for each way in which a transaction took part, what it ran for it."""
+    """`statements` has, for each way in which a transaction took part, what it ran for it. The
+    first violation at other `levels` is explained, too, but the name is the same."""
 
     is_lost_update: bool
     tables: tuple[str, ...]
     statements: tuple[tuple[Ran, ...], ...]
+    levels: tuple[str, ...] = ()  # at which these transactions ran, as far as they are known
 
 
 @dataclass(frozen=True)
 class Group:
     """All violations of one shape so far. `name` stays the same from run to run, also if lines are
-    moved within a file. `number` is that of the violation that was explained, 0 if none was."""
+    moved within a file. `number` is that of the violation that was explained, 0 if none was.
+    `first` and `last` say when violations happened (`happened`), in seconds since 1970."""
 
     shape: Shape
     count: int
-    first: float  # seconds since 1970
+    first: float
     last: float
     title: str = ""  # the anomaly's name, once one was explained
     number: int = 0
@@ -94,13 +96,14 @@ class Groups:
         self._more = 0  # violations of shapes beyond MOST, or whose shape isn't known
 
     def enter(self, shape: Shape, at: float) -> bool:
-        """Counts a violation. Returns whether it is the first of its shape, and so wants an
-        explanation."""
+        """Counts a violation that happened then. Returns whether it is the first of its shape that
+        is counted, and so wants an explanation."""
         with self._turn:
             known = self._groups.get(shape)
             if known is not None:
-                last = max(at, known.last)
-                self._groups[shape] = replace(known, count=known.count + 1, last=last)
+                first, last = min(at, known.first), max(at, known.last)
+                its = replace(known, count=known.count + 1, first=first, last=last)
+                self._groups[shape] = its
             elif len(self._groups) < MOST:
                 self._groups[shape] = Group(shape, 1, at, at)
                 return True
@@ -143,15 +146,29 @@ class Groups:
 
 
 def shape_of(held: Held, answered: Answered) -> Shape:
-    """The shape of a violation: the tables in which a version was read that somebody replaced, and
-    the statements of those who read and replaced it, as far as they are about these tables."""
-    edges = [edge for edge in held.edges if edge.kind == READ_BEFORE]
+    """The shape of a violation: the tables of the versions by which its transactions come one
+    before another, and the statements of those who read, wrote or replaced these, as far as they
+    are about these tables."""
+    edges = [edge for edge in held.edges if edge.version]
     keys = {edge.version[0] for edge in edges} or held.keys
     tables = sorted({answered.keys[key].table for key in keys if key in answered.keys})
     ids = dict.fromkeys(id for edge in edges for id in (edge.one, edge.other)) or held.involved()
     found = {_ran(answered.transactions.get(id), keys, tables) for id in ids}
     names = tuple(table.removeprefix(PUBLIC) for table in tables)
-    return Shape(held.lost is not None, names, tuple(sorted(found - {()}, key=repr)))
+    its = [answered.transactions[id] for id in ids if id in answered.transactions]
+    levels = tuple(sorted({one.level for one in its if not one.is_fence}))
+    statements = tuple(sorted(found - {()}, key=repr))
+    return Shape(held.lost is not None, names, statements, levels)
+
+
+def happened(held: Held, answered: Answered, found: float) -> float:
+    """When the last of a violation's transactions ended, by the clock of its proxy; when it was
+    found, if that isn't known. In seconds since 1970."""
+    ids = {id for edge in held.edges for id in (edge.one, edge.other)}
+    if held.lost is not None:
+        ids |= {held.lost.one, held.lost.other}
+    its = (answered.transactions.get(id) for id in ids)
+    return max((one.ended for one in its if one is not None), default=0.0) or found
 
 
 def _ran(

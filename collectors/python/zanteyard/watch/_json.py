@@ -20,6 +20,7 @@ def violation_json(one: Violation) -> dict[str, Any]:
         "round": one.round,
         "at": one.at,
         "title": one.title,
+        "allowed": one.allowed,
         "group": one.group,
         **story_json(one.story),
         "ran": [_ran(each) for each in one.told],

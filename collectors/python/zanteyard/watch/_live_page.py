@@ -7,7 +7,7 @@ from ..explain._charts import draw_rounds
 from ..core._version import VERSION
 from ..core._visible import escaped, html_text
 from ._described import clock
-from ._ending import NAMES
+from ._ending import NAMES, too_little
 from ._groups_page import groups_section
 from ._remedies import remedy_for
 from ._state import MOST_SHAPES, Shape, Status
@@ -95,6 +95,9 @@ def _sentences(status: Status) -> Iterator[str]:
         if not status.promise.is_split:
             order = "A serial order explains"
         yield f"{order} everything that was checked, and keeps each connection’s order."
+        why = too_little(status.whole_seen.totals)
+        if why:
+            yield f"Too little was looked at: {html_text(why)}."
     elif not status.seen.connections:
         yield "No application has connected yet."
     if status.ended and status.is_over and not status.ended[-1].is_lost:
@@ -180,7 +183,9 @@ def _violations(status: Status) -> Iterator[str]:
 
 
 def _standing(one: Violation) -> str:
-    return "".join(f"<br>It {escaped(line)}." for line in one.story.standing.lines())
+    its = [f"It {line}" for line in one.story.standing.lines()]
+    its += [_capital(one.allowed)] if one.allowed else []
+    return "".join(f"<br>{escaped(line)}." for line in its)
 
 
 def _capital(text: str) -> str:

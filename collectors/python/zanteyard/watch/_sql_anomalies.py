@@ -11,11 +11,13 @@ from dataclasses import dataclass, replace
 from typing import Any
 
 from ..core._records import ABORTED, AuditId, History, Logged, Naming, ShownId, Source
+from ..core._visible import visible
 from ..explain._anomalies import ONE_IS_LOST, UNREPEATABLE, Anomaly
 from ..explain._report import Story
 from ..explain._shrinking import Part, is_violated
 from ..explain._words import version
 from ..promises._kinds import SERIALIZABLE, Promise
+from ._updates import APART, LOST, Fate
 
 FRACTURED = "fractured read"
 
@@ -119,18 +121,34 @@ def over_conditions(story: Story, small: History, conditions: Container[str]) ->
 
 
 def whose_is_lost(
-    story: Story, name: Naming, replaced: tuple[ShownId, ShownId] | None
+    story: Story,
+    name: Naming,
+    replaced: tuple[ShownId, ShownId] | None,
+    fate: Fate | None = None,
 ) -> Story:
     """The story of a lost update, if the first one's write replaced the second one's: then that one
-    is lost. Only the application knows whether a statement computed its value from what it
-    replaced, as UPDATE .. SET n = n + 1 does."""
+    is lost. Whether a statement computed its value from what it replaced, as UPDATE .. SET n = n +
+    1 does, its text may say (`fate`); else only the application knows."""
     anomaly = story.anomaly
     if anomaly is None or anomaly.name != "lost update" or replaced is None:
         return story
     later, earlier = map(name, replaced)
-    told = f"{earlier}'s update is lost unless {later}'s built on it"
-    sentence = anomaly.sentence.replace(ONE_IS_LOST, told)
+    sentence = anomaly.sentence.replace(ONE_IS_LOST, _told_fate(earlier, later, fate))
     return replace(story, anomaly=replace(anomaly, sentence=sentence))
+
+
+def _told_fate(earlier: str, later: str, fate: Fate | None) -> str:
+    if fate is None:
+        return f"{earlier}'s update is lost unless {later}'s built on it"
+    columns = visible(" and ".join(fate.columns), 100)
+    if fate.kind == LOST:
+        return f"{earlier}'s update of {columns} is lost"
+    if fate.kind == APART:
+        return f"{earlier}'s update of {columns} stands, since {later}'s was of other columns"
+    return (
+        f"{earlier}'s update isn't lost, since {later}'s built on it, but what {later} had read "
+        "before was out of date"
+    )
 
 
 def named(story: Story, small: History, name: Naming) -> Story:

@@ -99,8 +99,8 @@ class Seen:
         if its.by_condition and not self.conditions.seen:
             asked = counted(its.by_condition, "SELECT")
             yield (
-                f"{asked} asked by a condition, not by a whole key: rows that it passed over "
-                "(phantoms) weren't checked"
+                f"{asked} didn't ask by one whole key: rows passed over, or not there yet "
+                "(phantoms), weren't checked"
             )
         if its.found_no_row:
             yield f"{counted(its.found_no_row, 'SELECT')} found no row"

@@ -10,7 +10,7 @@ from ..core._visible import escaped, escaped_lines, html_lines, html_text, visib
 from ._described import ROLLED_BACK, Described, Statement, clock
 from ._style import STYLE
 from ._text import counted
-from ._violations import Told, Violation
+from ._violations import WHOSE_TIMES, Told, Violation
 from ._web import policy_for
 
 POLICY = policy_for(STYLE)
@@ -68,6 +68,8 @@ def _head(one: Violation) -> Iterator[str]:
         yield f"<p>{escaped(neither(reasons), 600)}</p>"
     else:
         yield f"<p>{escaped(_capital(one.sentence), 600)}.</p>"
+    if one.allowed:
+        yield f"<p>{escaped(_capital(one.allowed))}.</p>"
     yield from (f"<p>It {escaped(line)}.</p>" for line in one.story.standing.lines())
     yield (
         f'<p class="soft">Found at {clock(one.at)}, in round {one.round}, among '
@@ -76,7 +78,7 @@ def _head(one: Violation) -> Iterator[str]:
 
 
 def _ran(told: Sequence[Told]) -> Iterator[str]:
-    yield "<h2>What the application ran</h2>"
+    yield f"<h2>What the application ran, {WHOSE_TIMES}</h2>"
     for one in told:
         yield f'<details class="transaction" id="{html_text(one.label)}" open>'
         yield f"<summary>{html_text(one.label)}: {_whose(one)}</summary>"

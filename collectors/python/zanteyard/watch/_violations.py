@@ -12,7 +12,7 @@ from ..explain._audited import audited_apart, from_start, named, refuted
 from ..explain._reasons import explanation_of
 from ..explain._report import Story, story_lines, story_of
 from ..explain._shrinking import Part, is_violated, smaller
-from ..explain._standing import standing
+from ..explain._standing import by_reads, standing
 from ..explain._words import version
 from ..promises._asking import ids_of
 from ..promises._kinds import SERIALIZABLE, SNAPSHOT, Promise
@@ -24,6 +24,7 @@ from ._sql_anomalies import (
 )
 from ._sql_anomalies import named as named_story
 from ._statement_reads import as_shown, by_statement
+from ._updates import Fate, fate_of
 
 READ_COMMITTED, REPEATABLE_READ = "read committed", "repeatable read"
 SERIALIZABLE_LEVEL = "serializable"
@@ -32,6 +33,7 @@ ALLOWED = (
     "lost update", "non-repeatable read", "fractured read", "long fork", "write skew",
     "write skew over a condition", "phantom", "G-single", "G-nonadjacent", "G2",
 )
+WHOSE_TIMES = "and when the proxy received it"
 EXPLAINING = 15.0  # seconds for reducing a violated history, and the same for its promises
 
 
@@ -116,29 +118,38 @@ class Violation:
         return self.story.reasons.end or self.story.sentence
 
     @property
-    def allowed(self) -> str:
-        """Whether PostgreSQL allows it at the levels of its transactions; empty if that isn't
-        known. Only the levels of all of them together promise anything."""
+    def ruling(self) -> tuple[str, bool] | None:
+        """The level that decides whether PostgreSQL allows it, of those of its transactions, and
+        whether that one does. None if that isn't known. Only the levels of all of them together
+        promise anything."""
         if self.story.anomaly is not None and self.title not in ALLOWED:
-            return ""
+            return None
         its = [one.its for one in self.told if one.its is not None]
         levels = {one.level for one in its if not one.is_fence}
         if READ_COMMITTED in levels:
-            return f"{READ_COMMITTED} allows that"
+            return READ_COMMITTED, True
         if not levels or not levels <= {REPEATABLE_READ, SERIALIZABLE_LEVEL}:
-            return ""
+            return None
         if REPEATABLE_READ not in levels:
-            return f"{SERIALIZABLE_LEVEL} doesn't allow that: please report it"
+            return SERIALIZABLE_LEVEL, False
         if SNAPSHOT in self.story.standing.broken:
-            return f"{REPEATABLE_READ} doesn't allow that: please report it"
-        return f"{REPEATABLE_READ} allows that" if SNAPSHOT in self.story.standing.kept else ""
+            return REPEATABLE_READ, False
+        return (REPEATABLE_READ, True) if SNAPSHOT in self.story.standing.kept else None
+
+    @property
+    def allowed(self) -> str:
+        """The same in words; empty if it isn't known."""
+        if self.ruling is None:
+            return ""
+        level, allows = self.ruling
+        return f"{level} allows that" if allows else f"{level} doesn't allow that: please report it"
 
     def lines(self) -> Iterator[str]:
         """All of it as text."""
         told = [*story_lines(replace(self.story, because=()))]
-        yield visible(told[0])
+        yield visible(told[0]) + (f"; {self.allowed}" if self.allowed else "")
         yield from (visible_line(line) for line in told[1:])
-        yield "what the application ran:"
+        yield f"what the application ran, {WHOSE_TIMES}:"
         for one in self.told:
             label = f"{one.label} ({one.id[0]}.{one.id[1]})"
             yield from (f"    {line}" for line in lines_of(label, one.its, one.reads))
@@ -334,15 +345,19 @@ def explained(
     older: Mapping[str, str] = getattr(names, "older", {})
     its = {shown.get(key, key): told for key, told in older.items()}
     called.older = its  # type: ignore[attr-defined]  # what `version` looks for
-    audited = audited_apart(small, program, promise)
+    script = audited_apart(small, program, promise).script
+    stands = standing(small, program, promise, seconds)
+    by = by_reads(promise, stands)
+    audited = audited_apart(small, program, by)
     renamed = _with_keys(small, shown)
     audited = audited._replace(keys=[shown.get(key, key) for key in audited.keys])
     explanation = explanation_of(audited, renamed, called)
-    story = story_of(renamed, called, explanation, audited.script, counts, promise)
+    story = story_of(renamed, called, explanation, script, counts, promise, by)
     conditions = {shown[key_text(key)] for key, row in answered.keys.items() if row.condition}
     story = over_conditions(named_story(story, renamed, called), renamed, conditions)
-    story = whose_is_lost(story, called, _replaces(story, held, ids))
-    story = story.with_standing(standing(small, program, promise, seconds))
+    replaced = _replaces(story, held, ids)
+    story = whose_is_lost(story, called, replaced, _fate(held, ids, replaced, answered))
+    story = story.with_standing(stands)
     gone = next((one for one, there in places.items() if there == (0, 0) and one not in ids), None)
     writers = as_shown({there: one for one, there in ids.items()}, gone, held.base)
 
@@ -382,6 +397,19 @@ def _replaces(
             if (key_text(held.lost.key), tuple(ids[earlier])) in held.reads(ids[later]):
                 return later, earlier
     return None
+
+
+def _fate(
+    held: Held,
+    ids: Mapping[ShownId, AuditId],
+    replaced: tuple[ShownId, ShownId] | None,
+    answered: Answered,
+) -> Fate | None:
+    """What became of the update that was replaced, as far as the statements say it."""
+    if replaced is None or held.lost is None or held.lost.key not in answered.keys:
+        return None
+    later, earlier = (answered.transactions.get(ids[one]) for one in replaced)
+    return fate_of(earlier, later, answered.keys[held.lost.key].table, held.lost.key)
 
 
 def compact(
