@@ -29,6 +29,7 @@ type core struct {
 	database    string   // the slot's; empty if any will do
 	held        []*entry // whose outcome isn't known yet
 	moments     moments
+	fencedAt    moments   // those of them that have fences in all sessions
 	ended       time.Time // when the last one of the named transactions had ended
 	last        name      // the last fence
 	met         time.Time // its moment
@@ -68,6 +69,9 @@ type core struct {
 	// foldedBefore is how many were folded since they ran across a moment, up to the last meeting.
 	foldedBefore uint64
 	counts       counts
+	beyond       []beyond
+	beyondReads  int                                      // that these keep in memory
+	judged       func(of name, read source, matters bool) // of a test: what was decided of a read beyond the limit
 	questions    *conditions
 	besides      []besides // oldest first
 	beside       time.Time // what was reported by then waits for nobody any more
@@ -307,6 +311,7 @@ func (c *core) missing(one expected, was bool) {
 // end counts as not checked what isn't decided at the audit's end, and what nobody has taken out of the inbox. What the
 // slot hasn't reported by then counts with the rows that its statements wrote by their own words.
 func (c *core) end(rest []message) {
+	c.endBeyond()
 	for _, one := range rest {
 		it := one.dropped
 		if one.transaction != nil {

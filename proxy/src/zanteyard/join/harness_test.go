@@ -150,6 +150,15 @@ func (b *bench) settle() {
 	b.core.flush()
 }
 
+// overFences lets a meeting pass.
+func (b *bench) overFences() {
+	b.later(time.Millisecond)
+	b.core.meet(b.now)
+	b.settle()
+	b.core.decideBeyond()
+	b.core.round()
+}
+
 func read(key string, version uint32) record.Read {
 	return record.Read{Relation: 1, Key: record.Key(key), Version: version}
 }

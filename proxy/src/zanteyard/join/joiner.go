@@ -354,6 +354,7 @@ func (j *Joiner) tick(ctx context.Context) error {
 		j.again = false
 		j.restarts.Store(false)
 		j.core.flush()
+		j.core.endBeyond()
 		j.core.counts.totals.close(auditEnded)
 		last := j.coverageEvent(true)
 		j.earlier += last.Totals.Transactions.ended()

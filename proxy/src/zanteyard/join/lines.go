@@ -29,7 +29,9 @@ func (c *core) write(s *session) bool {
 func (c *core) put(s *session, e *entry, to *resolution) {
 	c.used++
 	c.settle(e, to)
-	c.counts.put(e, to)
+	if !c.countLater(e, to) {
+		c.counts.put(e, to)
+	}
 	if s.count == 0 {
 		s.first = e.name.number()
 	} else {

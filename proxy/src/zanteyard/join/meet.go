@@ -76,8 +76,11 @@ func (j *Joiner) checkAlone(now time.Time) {
 // endMeeting makes the auditor check and forget.
 func (j *Joiner) endMeeting() {
 	guard.At("a round")
-	if j.meeting.alone {
+	switch {
+	case j.meeting.alone:
 		j.output.Event(Checking{At: j.meeting.noted})
+	case j.core.isWritten(j.meeting.upTo):
+		j.core.decideBeyond()
 	}
 	j.core.round()
 	if j.unanswered++; j.unanswered == 1 {

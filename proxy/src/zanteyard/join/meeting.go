@@ -100,6 +100,7 @@ func (c *core) meet(at time.Time) int {
 			c.fence(s, c.moments.last())
 		}
 	}
+	c.fencedAt.set(c.moments.last())
 	return n
 }
 

@@ -31,6 +31,7 @@ type Options struct {
 	Rows     int           // number of rows whose last versions are kept
 	Texts    int           // bytes of statements that are kept
 	Budget   int           // nodes of the search in a round
+	Reads    int           // of a transaction, at most 256: how many the auditor is given
 	Snapshot bool          // the audit checks for snapshot isolation (docs/FOLDING.md)
 	Shapes   bool          // conditions are told without their constants
 	// Conditions is how many bytes of conditions, and as many of rows' values, are kept.
@@ -72,6 +73,7 @@ func (o Options) withDefaults() Options {
 	number(&o.Rows, 1, 250_000, 1<<30)
 	number(&o.Texts, 1, 32<<20, 1<<40)
 	number(&o.Budget, 1, 65536, 1<<32)
+	number(&o.Reads, 1, mostOfEach, mostOfEach)
 	number(&o.Conditions, 1, 32<<20, 1<<40)
 	duration(&o.Between, time.Second)
 	duration(&o.Within, 5*time.Second)

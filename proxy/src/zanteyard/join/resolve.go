@@ -9,8 +9,7 @@ import (
 	"zanteyard/record"
 )
 
-// mostOfEach is the largest number of reads, and of writes, that the auditor takes from one transaction. The others are
-// left out.
+// mostOfEach is the largest number of reads, and of writes, that the auditor takes from one transaction.
 const mostOfEach = 256
 
 // Why a read of an offered transaction is left out.
@@ -45,6 +44,7 @@ type resolution struct {
 	owned  []int32 // those of what the transaction itself had written
 	// How many rows were returned with those of before and of folded.
 	beforeRows, foldedRows uint64
+	beyond                 []source // for which there is no place, until it is known whether they need one
 	// Conditions that are followed, rows that they passed over, and how many of the writes are versions of registers.
 	asks, passed uint64
 	marked       int
@@ -403,48 +403,14 @@ func (e *entry) rowsOf(at int32) uint64 {
 	return e.its.Did.Weight(int(at) - 1)
 }
 
-// class says which reads are kept if there are too many: first those of rows that the transaction itself writes, since
-// they say where the writes stand, and then those of rows that somebody has written since the audit began. What was
-// passed over comes last.
-func (s source) class() int {
-	switch {
-	case s.at == 0:
-		return 0
-	case s.at >= askAt:
-		return 3
-	case s.at < 0, s.row.last != nil, s.row.earlier != nil:
-		return 1
-	}
-	return 2
-}
-
-// settle sorts the reads, numbers their rows, and leaves out what is too much (class).
+// settle sorts the reads, numbers their rows, and leaves out what is too much (choose).
 func (c *core) settle(e *entry, to *resolution) {
-	if len(to.reads) > mostOfEach {
-		sort.SliceStable(to.reads, func(i, j int) bool { return to.reads[i].class() < to.reads[j].class() })
-		last := to.reads[mostOfEach-1].at
-		for _, one := range to.reads[mostOfEach:] {
-			switch {
-			case one.at >= askAt:
-				to.passed--
-				to.leavePassed(tooMany)
-			case one.at != last || one.at == 0: // an absent row has two, one after the other
-				to.leave(int(one.at), tooMany)
-			}
-			last = one.at
-		}
-		to.reads = to.reads[:mostOfEach]
+	if len(to.reads) > c.opt.Reads {
+		c.choose(e, to)
 	}
 	for _, one := range to.reads {
 		c.rows.number(one.row, c.used)
-		switch one.is {
-		case fromBefore:
-			to.before++
-			to.beforeRows += e.rowsOf(one.at)
-		case notOffered:
-			to.folded++
-			to.foldedRows += e.rowsOf(one.at)
-		}
+		to.found(e, one)
 	}
 	for _, one := range to.writes {
 		c.rows.number(one, c.used)

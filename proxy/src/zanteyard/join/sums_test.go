@@ -182,7 +182,13 @@ func TestEachTransactionIsInOnePlace(t *testing.T) {
 				many = append(many, read(fmt.Sprint("k", i), 5))
 			}
 			b.tell(1, 0, record.Transaction{Reads: many})
-		}, counted{partly: one(someRows, 1), reads: 256, before: 256, leftReads: one(tooMany, 44)}},
+			b.commit(1001, "k290")
+			b.settle()
+			b.commit(1002, "k299")
+			b.tell(1, 1, record.Transaction{Number: 1002})
+			b.settle()
+			b.overFences()
+		}, counted{checked: 1, partly: one(someRows, 1), others: 1, rows: 1, reads: 299, before: 299, leftReads: one(tooMany, 1), writes: 1}},
 	} {
 		t.Run(x.name, func(t *testing.T) {
 			b := newBench(t, Options{Sessions: 2, Late: time.Second})
@@ -349,8 +355,9 @@ func TestReadsThatMatterAreKept(t *testing.T) {
 	if !kept["k290"] || !kept["k295"] {
 		t.Errorf("%d reads are kept: of k290 %v, of k295 %v", len(kept), kept["k290"], kept["k295"])
 	}
-	if n := b.totals().RowsRead.NotChecked[tooMany]; n != 45 { // one has the room of the write's own
-		t.Errorf("%d rows are left out: %+v", n, b.totals().RowsRead)
+	b.overFences()
+	if n := b.totals().RowsRead; n.Checked != 300 || n.NotChecked[tooMany] != 0 { // nobody has written the others
+		t.Errorf("%+v", n)
 	}
 }
 

@@ -27,13 +27,21 @@ func (w *world) meet() {
 	}
 	w.tick()
 	w.moment()
+	upTo := w.core.numbers()
+	if w.fault == rashly {
+		w.core.decideBeyond()
+	}
 	w.some(2)
 	for _, c := range w.live {
 		c.held = false
 	}
 	w.some(8)
 	w.tellAll()
+	w.deliver()
 	w.bench.settle()
+	if w.core.isWritten(upTo) {
+		w.core.decideBeyond()
+	}
 	w.core.round()
 	marks, found := w.model.settled()
 	if found {
@@ -50,6 +58,14 @@ func (w *world) moment() {
 		w.core.meet(w.now.Add(-20 * time.Millisecond))
 	case wrongOrder:
 		w.inWrongOrder()
+	case unfenced:
+		w.quiet()
+		for _, s := range w.core.sessions {
+			if w.r.Intn(2) == 0 {
+				w.core.fence(s, w.core.moments.last())
+			}
+		}
+		w.core.fencedAt.set(w.core.moments.last())
 	default:
 		w.core.meet(w.now)
 	}

@@ -32,6 +32,8 @@ type world struct {
 	fault    fault
 	delayed  map[*session][]func() // if the fault is wrongOrder: their fences of the last moment come after those of the next
 	snapshot bool                  // the store keeps snapshot isolation, and no more
+	loose    bool                  // it keeps nothing: it commits everything, and returns older versions at times
+	slot     []func()              // then: commits that the slot has yet to report
 	aborted  int
 	// elsewhere: connections with an even number are those of another machine's proxy (elsewhere_test.go).
 	elsewhere bool
@@ -128,6 +130,7 @@ func (w *world) step() {
 		w.seeAll()
 	}
 	if w.r.Intn(5) == 0 {
+		w.deliver()
 		w.pass()
 	}
 }
@@ -165,6 +168,9 @@ func (w *world) statement(t *worldTxn) {
 		i := len(its) - 1
 		for its[i].at > t.snapshot {
 			i--
+		}
+		if w.loose && w.r.Intn(6) == 0 {
+			i = w.r.Intn(i + 1)
 		}
 		if t.reads[key] == nil {
 			t.reads[key] = map[int]bool{}
@@ -254,7 +260,7 @@ func (w *world) end(c *worldConn) {
 	before, behind := w.around(t)
 	seen := map[int]bool{}
 	for next := range behind {
-		if w.reaches(next, before, seen) {
+		if !w.loose && w.reaches(next, before, seen) {
 			w.unlock(t)
 			w.aborted++
 			return
@@ -366,7 +372,19 @@ func (w *world) committed(t *worldTxn, it *record.Transaction, before, behind ma
 	for key := range t.writes {
 		keys = append(keys, key)
 	}
-	w.bench.commit(uint32(it.Number), keys...)
+	number := uint32(it.Number)
+	w.slot = append(w.slot, func() { w.bench.commit(number, keys...) })
+	if !w.loose {
+		w.deliver()
+	}
+}
+
+// deliver makes the slot report what is in the log.
+func (w *world) deliver() {
+	for _, f := range w.slot {
+		f()
+	}
+	w.slot = nil
 }
 
 func (w *world) told(c *worldConn, it record.Transaction) {
