@@ -19,7 +19,7 @@ use Rattle.live_audit.proofs.Joining.{moves_join}
 use Rattle.live_audit.proofs.Rounds.{reports_more}
 use Rattle.live_audit.proofs.Sound.{sound, outcomes_more}
 
-along_both : (search : Search) (first at : State) (taken taken_now : List Parcel) (sent sent_now : List Entry) → taken_now ≡ taken → sent_now ≡ sent → Moves search first taken sent at → Moves search first taken_now sent_now at
+pub along_both : (search : Search) (first at : State) (taken taken_now : List Parcel) (sent sent_now : List Entry) → taken_now ≡ taken → sent_now ≡ sent → Moves search first taken sent at → Moves search first taken_now sent_now at
 along_both search first at taken taken_now sent sent_now taken_is sent_is moves =
     subst (λ (t : List Parcel). Moves search first t sent_now at) (sym taken_is) (subst (λ (s : List Entry). Moves search first taken s at) (sym sent_is) moves)
 

@@ -1,4 +1,5 @@
 pub mod Answering
+pub mod Counting
 pub mod Ends
 pub mod Finishing
 pub mod Fronts

@@ -1,36 +1,11 @@
 -- When rounds are made.
-use Rattle.std.proofs.Common.{◌≡◌, ℕ, ◌+◌, Bool, true, false, List, [], ◌∷◌, ◌++◌, Option, Some, None, refl, sym, ap, ◌∙◌, subst, arith, append-nil, append_assoc}
-use Rattle.std.specs.Option.{option_to_list}
+use Rattle.std.proofs.Common.{◌≡◌, ℕ, Bool, true, false, List, [], ◌∷◌, ◌++◌, refl, sym, ap, ◌∙◌, subst, append-nil, append_assoc}
 use Rattle.fragment_intake.specs.declared.rules.Parcel.{Parcel}
 use Rattle.report_queue.specs.declared.entries.Entry.{Entry}
-use Rattle.report_queue.specs.declared.entries.Entry.TheVariants.{Accepted, Refused, Report, Cut, Skipped, End}
-use Rattle.round_state.specs.EngineState.{EngineState}
-use Rattle.live_audit.specs.CoreState.{CoreState}
-use Rattle.live_audit.specs.Moments.{rounds_in, unasked_after, unasked_since, HasTaken, IsLook, Turns, IsTimed}
-use Rattle.live_audit.specs.Running.{IsRoundTold}
-use Rattle.live_audit.specs.Told.{AreTold, IsSkipped, IsOutcome, IsFollowUp}
-
-pub rounds_more : (sent more : List Entry) → rounds_in (sent ++ more) ≡ rounds_in sent + rounds_in more
-rounds_more [] more = omega arith
-rounds_more (Report report ∷ sent) more = omega (arith, rounds_more sent more)
-rounds_more (Skipped refusal ∷ sent) more = omega (arith, rounds_more sent more)
-rounds_more (Accepted collector place ∷ sent) more = rounds_more sent more
-rounds_more (Refused collector place refusal ∷ sent) more = rounds_more sent more
-rounds_more (Cut gone ∷ sent) more = rounds_more sent more
-rounds_more (End ∷ sent) more = rounds_more sent more
-
--- what an open round came to is one, and the cut behind it is none
-pub outcome_counts : (old new : EngineState) (outcome : Entry) (more : Option Entry) → IsOutcome old outcome new → IsFollowUp outcome more → rounds_in (outcome ∷ option_to_list more) ≡ 1
-outcome_counts old new (Report report) None told follows = refl
-outcome_counts old new (Report report) (Some (Cut gone)) told follows = refl
-outcome_counts old new (Report report) (Some entry) told follows = absurd follows
-outcome_counts old new (Skipped refusal) None told follows = refl
-outcome_counts old new (Skipped refusal) (Some entry) told follows = absurd follows
-outcome_counts old new outcome more told follows = absurd told
-
-pub skipped_counts : (old : EngineState) (entry : Entry) → IsSkipped old entry → rounds_in (entry ∷ []) ≡ 1
-skipped_counts old (Skipped refusal) told = refl
-skipped_counts old entry told = absurd told
+use Rattle.report_queue.specs.declared.entries.Entry.TheVariants.{End}
+use Rattle.live_audit.specs.Moments.{accepted_counts, unasked_after, unasked_since, HasTaken, IsLook, IsOutcomeOf, Turns, IsTimed}
+use Rattle.live_audit.specs.Running.{HasOutcome}
+use Rattle.live_audit.specs.Told.{AreTold}
 
 -- Parcels that were taken, one after another.
 
@@ -85,34 +60,19 @@ look_taken false unasked taken sent unasked_now taken_now sent_now look = record
   counted = look.0;
 }
 
--- a round was told, behind what was sent before
-pub round_counts : (sent sent_then sent_now entries : List Entry) → rounds_in sent_then ≡ rounds_in sent → sent_now ≡ sent_then ++ entries → rounds_in entries ≡ 1 → rounds_in sent_now ≡ rounds_in sent + 1
-round_counts sent sent_then sent_now entries quiet is counts = omega (arith, quiet, ap rounds_in is, rounds_more sent_then entries, counts)
-
--- the last round, at the end
-pub last_counts : (old new : CoreState) (outcome : Entry) (more : Option Entry) → IsRoundTold old outcome more new → IsFollowUp outcome more → rounds_in (outcome ∷ option_to_list more) ≡ 1
-last_counts old new (Report report) None told follows = refl
-last_counts old new (Report report) (Some (Cut gone)) told follows = refl
-last_counts old new (Report report) (Some entry) told follows = absurd follows
-last_counts old new (Skipped refusal) None told follows = refl
-last_counts old new (Skipped refusal) (Some entry) told follows = absurd follows
-last_counts old new outcome more told follows = absurd told
-
 -- from nothing on
-pub turns_from : (unasked unasked_now : ℕ) (taken taken_now : List Parcel) (sent sent_now : List Entry) → unasked ≡ 0 → taken ≡ [] → sent ≡ [] → Turns unasked taken sent unasked_now taken_now sent_now → Turns 0 [] [] unasked_now taken_now sent_now
-turns_from unasked unasked_now taken taken_now sent sent_now no_unasked none_taken none_sent turns =
-    subst (λ (s : List Entry). Turns 0 [] s unasked_now taken_now sent_now) none_sent
-    (subst (λ (t : List Parcel). Turns 0 t sent unasked_now taken_now sent_now) none_taken
-    (subst (λ (n : ℕ). Turns n taken sent unasked_now taken_now sent_now) no_unasked turns))
+pub turns_from : (sessions unasked unasked_now : ℕ) (taken taken_now : List Parcel) (sent sent_now : List Entry) → unasked ≡ 0 → taken ≡ [] → sent ≡ [] → Turns sessions unasked taken sent unasked_now taken_now sent_now → Turns sessions 0 [] [] unasked_now taken_now sent_now
+turns_from sessions unasked unasked_now taken taken_now sent sent_now no_unasked none_taken none_sent turns =
+    subst (λ (s : List Entry). Turns sessions 0 [] s unasked_now taken_now sent_now) none_sent
+    (subst (λ (t : List Parcel). Turns sessions 0 t sent unasked_now taken_now sent_now) none_taken
+    (subst (λ (n : ℕ). Turns sessions n taken sent unasked_now taken_now sent_now) no_unasked turns))
 
-pub timed : (unasked : ℕ) (taken taken_now : List Parcel) (front sent sent_now entries : List Entry) → Turns 0 [] [] unasked taken front → taken_now ≡ taken → sent ≡ front ++ entries → rounds_in sent ≡ rounds_in front + 1 → sent_now ≡ sent ++ End ∷ [] → IsTimed taken_now sent_now
-timed unasked taken taken_now front sent sent_now entries turns same is counts end =
-    let alone : rounds_in entries ≡ 1 = omega (arith, counts, ap rounds_in is, rounds_more front entries) in
-    record {
-      unasked = unasked;
-      front = front;
-      back = entries ++ End ∷ [];
-      turns = subst (λ (t : List Parcel). Turns 0 [] [] unasked t front) (sym same) turns;
-      sent_is = end ∙ ap (λ (l : List Entry). l ++ End ∷ []) is ∙ append_assoc front entries (End ∷ []);
-      last = omega (arith, rounds_more entries (End ∷ []), alone);
-    }
+pub timed : (sessions unasked : ℕ) (taken taken_now : List Parcel) (front sent sent_now : List Entry) → Turns sessions 0 [] [] unasked taken front → taken_now ≡ taken → HasOutcome (accepted_counts sessions taken front) front sent → sent_now ≡ sent ++ End ∷ [] → IsTimed sessions taken_now sent_now
+timed sessions unasked taken taken_now front sent sent_now turns same made end = record {
+  unasked = unasked;
+  front = front;
+  outcome = made.0;
+  turns = subst (λ (t : List Parcel). Turns sessions 0 [] [] unasked t front) (sym same) turns;
+  last = subst (λ (t : List Parcel). IsOutcomeOf (accepted_counts sessions t front) made.0) (sym same) made.2;
+  sent_is = end ∙ ap (λ (l : List Entry). l ++ End ∷ []) made.1;
+}

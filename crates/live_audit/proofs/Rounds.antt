@@ -66,7 +66,7 @@ lawful_by problem problem_now budget budget_now depth depth_now answer problem_i
 
 -- A round that didn't begin.
 
-why_skipped : (old : EngineState) (refusal : Refusal) → old.asked ≡ None → IsBeginRefusal old refusal → (refusal ≡ refusals.NoMemory) ⊎ (refusal ≡ refusals.TooLong)
+pub why_skipped : (old : EngineState) (refusal : Refusal) → old.asked ≡ None → IsBeginRefusal old refusal → (refusal ≡ refusals.NoMemory) ⊎ (refusal ≡ refusals.TooLong)
 why_skipped old refusals.NoMemory closed why = inl refl
 why_skipped old refusals.TooLong closed why = inr refl
 why_skipped old refusals.RoundOpen closed why = absurd (none_or_some old.asked why closed)

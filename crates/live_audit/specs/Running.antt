@@ -11,10 +11,12 @@ use Rattle.report_queue.specs.declared.entries.Entry.{Entry}
 use Rattle.report_queue.specs.declared.entries.Entry.TheVariants.{Report, Skipped, End}
 use Rattle.report_queue.specs.Reports.{IsBefore}
 use Rattle.round_state.specs.Legal.{State}
+use Rattle.round_state.specs.Opening.{fresh_state}
 use Rattle.round_state.specs.Runs.{Holds}
 use Rattle.round_state.specs.declared.reports.Report as reports
 use Rattle.live_audit.specs.CoreState.{CoreState}
 use Rattle.live_audit.specs.Live.{Moves, MovesOn}
+use Rattle.live_audit.specs.Moments.{IsOutcomeOf}
 
 -- the round and the kind of each report, in order
 abbrev pub reports_in : List Entry → List (ℕ × Kind)
@@ -42,6 +44,14 @@ pub record IsLastSkipped (refusal : Refusal) (sent : List Entry) : Type 0 where
   pub why : (refusal ≡ refusals.NoMemory) ⊎ (refusal ≡ refusals.TooLong)
 
 -- For private clauses.
+
+-- The engine holds what legal moves from a fresh one on have come to, by which these parcels were taken and these entries sent.
+abbrev pub HasComeTo : ℕ → ℕ → ℕ → CoreState → List Parcel → List Entry → Type 0
+HasComeTo most sessions limit core taken sent = (state : State) × Moves core.search (fresh_state most sessions limit) taken sent state × Holds core.engine state
+
+-- The outcome of a round that counts so many was sent.
+abbrev pub HasOutcome : List ℕ → List Entry → List Entry → Type 0
+HasOutcome counts sent sent_now = (outcome : List Entry) × (sent_now ≡ sent ++ outcome) × IsOutcomeOf counts outcome
 
 -- the collectors that are noted as ended have ended
 abbrev pub AreEnded : List Bool → List Parcel → Type 0

@@ -6,8 +6,8 @@ ghost use Rattle.report_queue.specs.Reports.{IsBefore};
 ghost use Rattle.round_state.specs.Opening.{fresh_state};
 ghost use Rattle.round_state.specs.Runs.{Holds};
 ghost use Rattle.live_audit.specs.Live.{Live};
-ghost use Rattle.live_audit.specs.Moments.{rounds_in, HasTaken, IsLook, IsRoundMade, IsTimed, IsTurn, Turns};
-ghost use Rattle.live_audit.specs.Running.{AreEnded, HasEnded, HasMoved, HasPublished, IsBetweenRounds, IsLastCount, IsLastSkipped, IsRound, CanBeTold, IsSaid, told_in, reports_in};
+ghost use Rattle.live_audit.specs.Moments.{accepted_counts, HasTaken, IsLook, IsRoundMade, IsTimed, IsTurn, Turns};
+ghost use Rattle.live_audit.specs.Running.{AreEnded, HasComeTo, HasEnded, HasMoved, HasOutcome, HasPublished, IsBetweenRounds, IsLastCount, IsLastSkipped, IsRound, CanBeTold, IsSaid, told_in, reports_in};
 ghost use Rattle.live_audit.specs.Truth.{IsTrueEntry, accepted_history};
 
 use crate::live_core::Core;
@@ -204,7 +204,7 @@ fn make_round_meanwhile<'s, E, R: Threads + Wait, S: Solver + Sync>(
     ensures moved { HasMoved running.old.core side.old.pass.1 side.old.sender.sent running.new.core side.new.pass.1 side.new.sender.sent }
     ensures between { IsBetweenRounds running.new.core side.new.sender.sent side.new.seat.published }
     ensures ended { AreEnded running.new.ended side.new.pass.1 }
-    ensures made { IsRoundMade side.old.pass.1 side.old.sender.sent running.new.unasked side.new.pass.1 side.new.sender.sent }
+    ensures made { (most sessions limit : ℕ) → HasComeTo most sessions limit running.old.core side.old.pass.1 side.old.sender.sent → IsRoundMade sessions side.old.pass.1 side.old.sender.sent running.new.unasked side.new.pass.1 side.new.sender.sent }
     ensures same { (side.new.pass.0 ≡ side.old.pass.0) × (side.new.sender.ring ≡ side.old.sender.ring) × (side.new.seat.word ≡ side.old.seat.word) }
 {
     running.unasked = 0;
@@ -233,7 +233,7 @@ fn make_round<E, R: Wait, S: Solver>(
     ensures round { IsRound running.old.core side.old.sender.sent result running.new.core side.new.sender.sent }
     ensures moved { HasMoved running.old.core side.old.pass.1 side.old.sender.sent running.new.core side.new.pass.1 side.new.sender.sent }
     ensures between { IsBetweenRounds running.new.core side.new.sender.sent side.new.seat.published }
-    ensures counts { rounds_in side.new.sender.sent ≡ rounds_in side.old.sender.sent + 1 }
+    ensures counts { (most sessions limit : ℕ) → HasComeTo most sessions limit running.old.core side.old.pass.1 side.old.sender.sent → HasOutcome (accepted_counts sessions side.old.pass.1 side.old.sender.sent) side.old.sender.sent side.new.sender.sent }
     ensures same { (side.new.pass ≡ side.old.pass) × (side.new.sender.ring ≡ side.old.sender.ring) × (side.new.seat.word ≡ side.old.seat.word) × (running.new.ended ≡ running.old.ended) }
 {
     let (outcome, more) = running.make_round(means.alloc, means.solver, means.effort.workers);
@@ -255,7 +255,7 @@ fn turn<'s, E, R: Threads + Wait, S: Solver + Sync>(
     ensures moved { HasMoved running.old.core side.old.pass.1 side.old.sender.sent running.new.core side.new.pass.1 side.new.sender.sent }
     ensures between { IsBetweenRounds running.new.core side.new.sender.sent side.new.seat.published }
     ensures ended { AreEnded running.new.ended side.new.pass.1 }
-    ensures turn { IsTurn running.old.unasked side.old.pass.1 side.old.sender.sent running.new.unasked side.new.pass.1 side.new.sender.sent }
+    ensures turn { (most sessions limit : ℕ) → HasComeTo most sessions limit running.old.core side.old.pass.1 side.old.sender.sent → IsTurn sessions running.old.unasked side.old.pass.1 side.old.sender.sent running.new.unasked side.new.pass.1 side.new.sender.sent }
     ensures same { (side.new.pass.0 ≡ side.old.pass.0) × (side.new.sender.ring ≡ side.old.sender.ring) × (side.new.seat.word ≡ side.old.seat.word) }
 {
     let found = take_one(means.rt, means.desk, side, running);
@@ -281,7 +281,7 @@ fn take_all<'s, E, R: Threads + Wait, S: Solver + Sync>(
     ensures moved { HasMoved running.old.core side.old.pass.1 side.old.sender.sent running.new.core side.new.pass.1 side.new.sender.sent }
     ensures between { IsBetweenRounds running.new.core side.new.sender.sent side.new.seat.published }
     ensures ended { (collector : ℕ) → collector < 4 → HasEnded collector side.new.pass.1 }
-    ensures turns { Turns running.old.unasked side.old.pass.1 side.old.sender.sent running.new.unasked side.new.pass.1 side.new.sender.sent }
+    ensures turns { (most sessions limit : ℕ) → HasComeTo most sessions limit running.old.core side.old.pass.1 side.old.sender.sent → Turns sessions running.old.unasked side.old.pass.1 side.old.sender.sent running.new.unasked side.new.pass.1 side.new.sender.sent }
     ensures same { (side.new.pass.0 ≡ side.old.pass.0) × (side.new.sender.ring ≡ side.old.sender.ring) × (side.new.seat.word ≡ side.old.seat.word) }
 {
     let mut patience = Patience::new();
@@ -298,7 +298,7 @@ fn take_all<'s, E, R: Threads + Wait, S: Solver + Sync>(
 /// Audits what four collectors hand in at the desk, until all of them have ended. Of each parcel it is sent whether it was accepted, of each round
 /// what it came to, and each cut; the latest report's round and kind stand in the word. A round is made where nothing waits at the desk and
 /// something was accepted since the last one, where much was accepted since, and at the end, on all that was accepted; where that last round
-/// is refused, what it was refused for is answered. A round that is given up is told as one for which memory was wanting.
+/// is refused, what it was refused for is answered.
 ///
 /// A round is searched in a thread of the scope, and parcels are taken meanwhile; the last one in this thread. Where the ring is full, it waits for
 /// its reader.
@@ -319,8 +319,8 @@ pub fn audit_live<'s, E, R: Threads + Wait, S: Solver + Sync>(
     ensures ended { (collector : ℕ) → collector < 4 → HasEnded collector side.new.pass.1 }
     // The last report counts all that was accepted.
     ensures last { (most sessions limit : ℕ) → Holds engine (fresh_state most sessions limit) → MatchResult result (λ _. IsLastCount (map length (accepted_history sessions side.new.pass.1 side.new.sender.sent)) side.new.sender.sent) (λ refusal. IsLastSkipped refusal side.new.sender.sent) }
-    // Rounds are made when they are to be, and the last one at the end.
-    ensures timed { IsTimed side.new.pass.1 side.new.sender.sent }
+    // Rounds are made when they are to be, each on all that was accepted by then, and the last one at the end.
+    ensures timed { (most sessions limit : ℕ) → Holds engine (fresh_state most sessions limit) → IsTimed sessions side.new.pass.1 side.new.sender.sent }
     ensures published { side.new.seat.published ≡ reports_in side.new.sender.sent }
     ensures same { (side.new.pass.0 ≡ side.old.pass.0) × (side.new.sender.ring ≡ side.old.sender.ring) × (side.new.seat.word ≡ side.old.seat.word) }
 {

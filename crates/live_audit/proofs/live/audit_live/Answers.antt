@@ -6,6 +6,7 @@ use Rattle.round_state.specs.Runs.{Holds}
 use Rattle.live_audit.specs.CoreState.{CoreState}
 use Rattle.live_audit.specs.Running.{HasEnded, IsLastCount, IsLastSkipped}
 use Rattle.live_audit.specs.Truth.{accepted_history}
+use Rattle.live_audit.proofs.Counting.{come_fresh, come_on}
 use Rattle.live_audit.proofs.Finishing.{fresh_moved, live_of, true_of, last_of, published_end}
 use Rattle.live_audit.proofs.Moments.{timed, turns_from}
 use Rattle.live_audit.proofs.Rounds.{moved_on}
@@ -41,8 +42,12 @@ returns-clause-last g c most sessions limit holds =
     (subst (λ (core : CoreState). Holds core.engine (fresh_state most sessions limit)) (sym is) holds) moved last.ensures.round c.send.ensures.sent)
 
 pub returns-clause-timed : goal.returns-clause-timed
-returns-clause-timed g c =
-    let first = c.args.side.now in let middle = c.take_all in let last = c.make_round-last in
-    timed middle.new.running.unasked middle.new.side.pass.1 last.new.side.pass.1 middle.new.side.sender.sent last.new.side.sender.sent c.send.new.sender.sent last.ensures.moved.entries
-    (turns_from c.new-running.result.unasked middle.new.running.unasked first.pass.1 middle.new.side.pass.1 first.sender.sent middle.new.side.sender.sent c.new-running.ensures.unasked c.requires.fresh.0 c.requires.fresh.1 middle.ensures.turns)
-    (ap (λ pass. pass.1) last.ensures.same.0) last.ensures.moved.sent_is last.ensures.counts c.send.ensures.sent
+returns-clause-timed g c most sessions limit holds =
+    let first = c.args.side.now in let middle = c.take_all in let then = middle.new.side in let last = c.make_round-last in
+    let is = c.new-running.ensures.core ∙ c.new-core.ensures in
+    let held = subst (λ (core : CoreState). Holds core.engine (fresh_state most sessions limit)) (sym is) holds in
+    let come = come_fresh most sessions limit c.new-running.result.core first.pass.1 first.sender.sent c.requires.fresh.0 c.requires.fresh.1 held in
+    let came = come_on most sessions limit c.new-running.result.core middle.new.running.core first.pass.1 then.pass.1 first.sender.sent then.sender.sent middle.ensures.moved come in
+    timed sessions middle.new.running.unasked then.pass.1 last.new.side.pass.1 then.sender.sent last.new.side.sender.sent c.send.new.sender.sent
+    (turns_from sessions c.new-running.result.unasked middle.new.running.unasked first.pass.1 then.pass.1 first.sender.sent then.sender.sent c.new-running.ensures.unasked c.requires.fresh.0 c.requires.fresh.1 (middle.ensures.turns most sessions limit come))
+    (ap (λ pass. pass.1) last.ensures.same.0) (last.ensures.counts most sessions limit came) c.send.ensures.sent

@@ -1,6 +1,6 @@
-use Rattle.std.proofs.Common.{◌∷◌, refl, ap}
+use Rattle.std.proofs.Common.{◌∷◌, ap}
 use Rattle.std.specs.Option.{option_to_list}
-use Rattle.live_audit.proofs.Moments.{last_counts, round_counts}
+use Rattle.live_audit.proofs.Counting.{round_counts}
 use Rattle.live_audit.proofs.Rounds.{between_after, told_numbered, round_moved}
 use Rattle.live_audit.proofs.live.make_round.Goals as goal
 
@@ -17,7 +17,9 @@ returns-clause-between g c =
     (told_numbered c.args.running.now.core made.new.self.core made.result.0 made.result.1 made.ensures.told) made.ensures.more made.ensures.closed c.tell.ensures.sent c.tell.ensures.published c.requires.between.told
 
 pub returns-clause-counts : goal.returns-clause-counts
-returns-clause-counts g c =
-    let made = c.make_round-outcome in
-    round_counts c.args.side.now.sender.sent c.args.side.now.sender.sent c.tell.new.side.sender.sent (made.result.0 ∷ option_to_list made.result.1) refl c.tell.ensures.sent
-    (last_counts c.args.running.now.core made.new.self.core made.result.0 made.result.1 made.ensures.told made.ensures.more)
+returns-clause-counts g c most sessions limit come =
+    let made = c.make_round-outcome in let first = c.args.side.now in (
+      made.result.0 ∷ option_to_list made.result.1,
+      c.tell.ensures.sent,
+      round_counts most sessions limit c.args.running.now.core made.new.self.core first.pass.1 first.sender.sent made.result.0 made.result.1 made.ensures.told made.ensures.more come,
+    )

@@ -1,8 +1,9 @@
 use Rattle.std.proofs.Common.{List, [], ◌∷◌, None, refl, sym, ◌∙◌, ap, subst, append-nil}
 use Rattle.std.specs.Option.{option_to_list}
 use Rattle.fragment_intake.specs.declared.rules.Parcel.{Parcel}
-use Rattle.live_audit.specs.Moments.{HasTaken}
-use Rattle.live_audit.proofs.Moments.{nothing_taken, outcome_counts, skipped_counts}
+use Rattle.live_audit.specs.Moments.{accepted_counts, HasTaken}
+use Rattle.live_audit.proofs.Counting.{outcome_counts, skipped_counts}
+use Rattle.live_audit.proofs.Moments.{nothing_taken}
 use Rattle.live_audit.proofs.Rounds.{asked_lawful, between_after, moved_on, outcome_numbered, round_moved, skipped_alone, skipped_told, told_numbered}
 use Rattle.live_audit.proofs.live.make_round_meanwhile.Goals as goal
 
@@ -44,7 +45,7 @@ returns-in-Err-clause-between g c =
     (skipped_alone old.engine skipped c.in-Err.ensures.told) c.in-Err.ensures.closed c.tell-in-Err.ensures.sent c.tell-in-Err.ensures.published c.requires.between.told
 
 pub returns-in-Ok-clause-made : goal.returns-in-Ok-clause-made
-returns-in-Ok-clause-made g c =
+returns-in-Ok-clause-made g c most sessions limit come =
     let found = c.answer-answer in let told = c.answered-outcome in
     let first = c.args.side.now in let then = found.new.side in
     record {
@@ -52,16 +53,17 @@ returns-in-Ok-clause-made g c =
       meanwhile = subst (λ (taken : List Parcel). HasTaken 0 first.pass.1 first.sender.sent found.new.running.unasked taken then.sender.sent) (sym (ap (λ pass. pass.1) c.tell.ensures.same.0)) found.ensures.counted;
       outcome = told.result.0 ∷ option_to_list told.result.1;
       sent_is = c.tell.ensures.sent;
-      told = outcome_counts found.new.running.core.engine told.new.self.engine told.result.0 told.result.1 told.ensures.told told.ensures.more;
+      told = outcome_counts most sessions limit c.args.running.now.core c.begin.new.self found.new.running.core told.new.self first.pass.1 then.pass.1 first.sender.sent then.sender.sent told.result.0 told.result.1
+          c.in-Ok.ensures.legal found.ensures.moved found.ensures.round told.ensures.told told.ensures.more come;
     }
 
 pub returns-in-Err-clause-made : goal.returns-in-Err-clause-made
-returns-in-Err-clause-made g c =
+returns-in-Err-clause-made g c most sessions limit come =
     let first = c.args.side.now in
     record {
       sent_then = first.sender.sent;
       meanwhile = subst (λ (taken : List Parcel). HasTaken 0 first.pass.1 first.sender.sent 0 taken first.sender.sent) (sym (ap (λ pass. pass.1) c.tell-in-Err.ensures.same.0)) (nothing_taken 0 first.pass.1 first.sender.sent);
       outcome = c.in-Err.skipped ∷ [];
       sent_is = c.tell-in-Err.ensures.sent;
-      told = skipped_counts c.args.running.now.core.engine c.in-Err.skipped c.in-Err.ensures.told;
+      told = skipped_counts (accepted_counts sessions first.pass.1 first.sender.sent) c.args.running.now.core.engine c.in-Err.skipped c.requires.between.closed c.in-Err.ensures.told;
     }

@@ -2,6 +2,7 @@ use Rattle.std.proofs.Common.{refl, sym, ◌∙◌, subst}
 use Rattle.order_check.specs.Effort.{IsEffort}
 use Rattle.live_audit.specs.CoreState.{Search}
 use Rattle.live_audit.specs.Moments.{none, one}
+use Rattle.live_audit.proofs.Counting.{come_on}
 use Rattle.live_audit.proofs.Rounds.{moved_on, not_moved}
 use Rattle.live_audit.proofs.live.take_all.Goals as goal
 
@@ -11,7 +12,7 @@ loop-init g c = record {
   between = c.requires.between;
   ended = c.requires.ended;
   effort = c.requires.effort;
-  turns = none;
+  turns = λ most sessions limit come. none;
   desk = refl;
   ring = refl;
   word = refl;
@@ -28,7 +29,8 @@ loop-preserved g c =
       between = t.ensures.between;
       ended = t.ensures.ended;
       effort = subst (λ (search : Search). IsEffort search.budget search.depth c.args.means.now.effort.workers) (sym t.ensures.moved.search) i.effort;
-      turns = one c.loop.running.unasked before.pass.1 before.sender.sent t.new.running.unasked after.pass.1 after.sender.sent i.turns t.ensures.turn;
+      turns = λ most sessions limit come. one c.loop.running.unasked before.pass.1 before.sender.sent t.new.running.unasked after.pass.1 after.sender.sent (i.turns most sessions limit come)
+          (t.ensures.turn most sessions limit (come_on most sessions limit c.args.running.now.core c.loop.running.core first.pass.1 before.pass.1 first.sender.sent before.sender.sent i.moved come));
       desk = t.ensures.same.0 ∙ i.desk;
       ring = t.ensures.same.1 ∙ i.ring;
       word = t.ensures.same.2 ∙ i.word;
