@@ -27,6 +27,7 @@ type Meaning struct {
 	Base      uint32 // the same, or a domain's base type
 	Collation Collation
 	Generated bool
+	Length    int      // of a character(n), in characters; 0 for other types
 	Composite bool     // but a domain over a composite type isn't known to be one
 	Labels    []string // of an enumeration, in its order
 }
@@ -48,7 +49,8 @@ var meaningsSQL = own.SQL(`SELECT m.attrelid::pg_catalog.text, m.attnum::pg_cata
   CASE WHEN co.oid IS NULL THEN '' WHEN NOT co.collisdeterministic THEN 'n'
     WHEN co.oid = 100 AND d.datcollate IN ('C', 'POSIX') AND coalesce(pg_catalog.to_jsonb(d) ->> 'datlocprovider', 'c') = 'c' THEN 'c'
     WHEN co.collprovider = 'c' AND co.collcollate IN ('C', 'POSIX') THEN 'c' ELSE 'd' END,
-  (m.attgenerated <> '')::pg_catalog.text, (t.typtype = 'c')::pg_catalog.text
+  (m.attgenerated <> '')::pg_catalog.text, (t.typtype = 'c')::pg_catalog.text,
+  CASE WHEN t.oid = 'pg_catalog.bpchar'::pg_catalog.regtype::pg_catalog.oid AND m.atttypmod > 4 THEN m.atttypmod - 4 ELSE 0 END::pg_catalog.text
 FROM pg_catalog.pg_attribute m JOIN pg_catalog.pg_class c ON c.oid = m.attrelid JOIN pg_catalog.pg_type t ON t.oid = m.atttypid
   JOIN pg_catalog.pg_database d ON d.datname = pg_catalog.current_database()
   LEFT JOIN pg_catalog.pg_collation co ON co.oid = m.attcollation
@@ -94,10 +96,14 @@ func (m *meanings) takeLabel(row []string) error {
 }
 
 func (m *meanings) takeColumn(row []string) error {
-	if err := width(row, 6); err != nil {
+	if err := width(row, 7); err != nil {
 		return err
 	}
 	oid, err := number(row, 0)
+	if err != nil {
+		return err
+	}
+	length, err := number(row, 6)
 	if err != nil {
 		return err
 	}
@@ -105,7 +111,7 @@ func (m *meanings) takeColumn(row []string) error {
 	if err != nil {
 		return err
 	}
-	its := Meaning{Generated: row[4] == "true", Composite: row[5] == "true"}
+	its := Meaning{Generated: row[4] == "true", Composite: row[5] == "true", Length: int(length)}
 	if its.Declared, err = number(row, 2); err != nil {
 		return err
 	}

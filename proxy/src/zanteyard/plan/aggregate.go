@@ -38,7 +38,7 @@ func (h *hiding) lists(it *item) {
 		names = append(names, quote(column.Name))
 	}
 	if !h.sole {
-		h.proves(it.written, names)
+		h.proves(it.written, append(h.shares(it), names...))
 	}
 	row, long := []string{h.of(it, "xmin"), h.of(it, "tableoid")}, []string(nil)
 	for i, column := range it.table.Key {
@@ -54,9 +54,9 @@ func (h *hiding) lists(it *item) {
 		condition += " AND pg_catalog.octet_length(pg_catalog.concat(" + strings.Join(long, ", ") +
 			")) OPERATOR(pg_catalog.<=) " + strconv.Itoa(longestListed)
 	}
-	h.value("CASE WHEN " + countOfRows + " OPERATOR(pg_catalog.<=) " + strconv.Itoa(MostListed) +
+	h.value("CASE WHEN " + countOfRows + h.all + " OPERATOR(pg_catalog.<=) " + strconv.Itoa(MostListed) +
 		" THEN pg_catalog.string_agg(pg_catalog.record_send(ROW(" + strings.Join(row, ", ") + ")), '') FILTER (WHERE " +
-		condition + ") END")
+		condition + ")" + h.over + " END")
 }
 
 // Lists reports whether hidden columns list the rows that a row of the result was made of.

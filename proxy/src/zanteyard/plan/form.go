@@ -67,7 +67,8 @@ func (m *maker) sortsGroups(body node, f *fromClause) bool {
 		found := false
 		for _, item := range body.list("sortClause") {
 			_, sort := only(item)
-			found = found || alike(group, sort["node"])
+			by, known := sortsWhat(sort["node"], body.list("targetList"))
+			found = found || known && alike(group, by)
 		}
 		if column, ok := m.columnOf(group, f); !found || !ok || !hasOneForm(column) {
 			return false
@@ -83,6 +84,8 @@ func hasOneForm(column catalog.Column) bool {
 		return true
 	case keys.Text, keys.Varchar, keys.Name:
 		return column.Collation == catalog.Bytewise || column.Collation == catalog.Deterministic
+	case keys.Bpchar: // of which the server fills up all values to one length
+		return column.Length > 0 && (column.Collation == catalog.Bytewise || column.Collation == catalog.Deterministic)
 	}
 	return column.Type == keys.Enum
 }
@@ -202,20 +205,27 @@ func (m *maker) isColumn(expression any, f *fromClause) uint32 {
 	return column.Type
 }
 
-func (m *maker) columnOf(expression any, f *fromClause) (found catalog.Column, is bool) {
+func (m *maker) columnOf(expression any, f *fromClause) (catalog.Column, bool) {
+	_, column, is := m.itemOf(expression, f)
+	return column, is
+}
+
+// itemOf returns the column that an expression is, of a table in FROM, and that table.
+func (m *maker) itemOf(expression any, f *fromClause) (of *item, found catalog.Column, is bool) {
 	kind, body := only(expression)
 	if kind != "ColumnRef" || f.items > len(f.found) {
-		return found, false
+		return nil, found, false
 	}
 	fields := names(body.list("fields"))
 	for _, it := range f.found {
 		_, all, hit := f.column(reference{fields: fields}, it)
 		if (hit || all) && (is || all) {
-			return catalog.Column{}, false
+			return nil, catalog.Column{}, false
 		}
 		if hit {
+			of = it
 			found, is = it.table.Column(fields[len(fields)-1])
 		}
 	}
-	return found, is
+	return of, found, is
 }

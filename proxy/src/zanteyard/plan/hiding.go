@@ -23,6 +23,9 @@ type hiding struct {
 	proofs []string // queries that are refused if a column isn't there
 	names  []string // of the columns that are looked up, except for the system's
 	proved int      // the value that the proofs are put in front of
+	// If rows that share columns are listed by a window: these, that window, and that of all rows.
+	by        []shared
+	over, all string
 }
 
 // value adds a hidden column that depends on no table.

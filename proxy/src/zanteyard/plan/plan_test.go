@@ -34,8 +34,7 @@ func TestShapes(t *testing.T) {
 				t.Errorf("flags %q, not %q", got, want)
 			}
 			if other, _ := certain.Plan(s.sql); p.Counts || p.Looks {
-				groups := p.Counts && strings.Contains(s.sql, "GROUP BY")
-				if is := other.Counts || other.Looks; is == (p.Ordered || groups) || is && other.insertion != p.insertion {
+				if is := other.Counts || other.Looks; is == (p.Ordered || s.optional) || is && other.insertion != p.insertion {
 					t.Errorf("without lists where order shows it has %q, not %q", other.insertion.text, p.insertion.text)
 				}
 			}

@@ -24,7 +24,18 @@ func (m *maker) selects(p *Plan, body node, start, end int) {
 	f := &fromClause{maker: m, plan: p, with: withNames(body), lists: lists}
 	unseen := p.Unseen
 	f.read(body, "fromClause")
-	f.ordered = !m.certain(p, body, f)
+	by, distinct := []shared(nil), lists && body.has("distinctClause")
+	if distinct {
+		if by, distinct = m.distincts(p, body, f); !distinct {
+			p.Unseen = unseen
+			p.leaveOut("DISTINCT")
+			return
+		}
+	} else if lists && body.has("groupClause") && !m.catalog.ListsAll() {
+		lists = m.groupsForCertain(p, body, f)
+		f.lists = lists
+	}
+	f.ordered = !distinct && !m.certain(p, body, f)
 	if f.unlisted = f.ordered && !m.catalog.ListsAll(); lists && f.unlisted {
 		p.Unseen = unseen
 		p.leaveOut(anAggregate)
@@ -43,8 +54,9 @@ func (m *maker) selects(p *Plan, body node, start, end int) {
 		p.Counts = p.Counts || source.listed
 	}
 	h := &hiding{sole: f.items == 1}
+	h.window(by)
 	if p.Counts {
-		h.value(countOfRows)
+		h.value(countOfRows + h.over)
 	}
 	for _, source := range found {
 		if source.listed {
@@ -75,9 +87,9 @@ func (m *maker) merges(body node) (lists bool, reason string) {
 	case body.text("op") != "" && body.text("op") != "SETOP_NONE":
 		return false, "UNION, INTERSECT or EXCEPT"
 	case body.has("distinctClause") && !distinctOn(body):
-		return false, "DISTINCT"
+		return true, ""
 	case body.has("groupClause"): // a table whose whole key is grouped by has one row in each group
-		return m.catalog.ListsAll() && !body.has("distinctClause") && !kindFound(body["groupClause"], "GroupingSet"), ""
+		return !body.has("distinctClause") && !kindFound(body["groupClause"], "GroupingSet"), ""
 	}
 	parts := []any{body["targetList"], body["sortClause"], body["windowClause"], body["distinctClause"]}
 	switch {

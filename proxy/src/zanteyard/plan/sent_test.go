@@ -308,6 +308,8 @@ func TestAddedTexts(t *testing.T) {
 				"UPDATE " + table + " x SET v = 1 FROM " + table + " y RETURNING x.v",
 				"DELETE FROM " + table + " x USING " + table + " y RETURNING x.v",
 				"SELECT count(*) FROM " + table, "SELECT v, count(*) FROM " + table + " GROUP BY v ORDER BY v",
+				"SELECT DISTINCT v FROM " + table + " ORDER BY v",
+				"SELECT DISTINCT x.v, y.v AS w FROM " + table + " x JOIN " + table + " y ON x.v = y.v ORDER BY x.v, w",
 				"SELECT v FROM " + table + " FOR UPDATE", "DECLARE c CURSOR FOR SELECT v FROM " + table,
 			} {
 				for _, path := range []string{"", Converting} {
@@ -412,6 +414,8 @@ func kindOf(t *testing.T, table, column string, kind uint32) *catalog.Catalog {
 			return [][]string{{"20000", "true", "false", "1", "1", "btree", "20001 1", "true"}}, nil
 		case strings.Contains(its, "a.attnum"):
 			return [][]string{{"20000", "1", column, fmt.Sprint(kind), "0"}, {"20000", "2", "v", "23", "0"}}, nil
+		case strings.Contains(its, "m.attrelid"):
+			return [][]string{{"20000", "1", fmt.Sprint(kind), "d", "false", "false", "0"}, {"20000", "2", "23", "", "false", "false", "0"}}, nil
 		case strings.Contains(its, "typbasetype") && kind == keys.Enum:
 			return [][]string{{fmt.Sprint(kind), "e", "0", "mood"}}, nil
 		}

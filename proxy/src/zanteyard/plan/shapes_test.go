@@ -29,6 +29,8 @@ CREATE TYPE mood AS ENUM ('sad', 'it''s ok');
 CREATE DOMAIN amount AS numeric CHECK (VALUE > -100);
 CREATE TABLE kinds (m mood, n amount, at timestamptz, d date, y bytea, f float8, c char(5), x int,
   PRIMARY KEY (m, n, at, d, y, f, c));
+CREATE TABLE fixed (id int PRIMARY KEY, c char(8), d char(8) COLLATE "C");
+INSERT INTO fixed SELECT i, 'c' || i % 3, 'd' FROM generate_series(1, 9) i;
 CREATE SCHEMA other;
 CREATE TABLE other.t (id int PRIMARY KEY, o int);
 CREATE TABLE other.z (id uuid PRIMARY KEY, o int);
@@ -63,6 +65,8 @@ type shape struct {
 	seen   string   // tables, separated by commas
 	unseen []string // reasons
 	flags  string   // returning, number, version, unseen writes, names, asked, counts, looks, ordered
+	// optional means that its rows are listed with --aggregates alone, though the order in which they are read doesn't show.
+	optional bool
 }
 
 var shapes = []shape{
@@ -215,11 +219,17 @@ var shapes = []shape{
 	{sql: "SELECT t, count(*) FROM u GROUP BY u.t ORDER BY u.t", seen: "u", flags: "counts, ordered"},
 	{sql: "SELECT u.t, count(*), sum(id) FROM u GROUP BY u.t HAVING count(*) > 1 ORDER BY u.t DESC", seen: "u", flags: "counts"},
 	{sql: "SELECT n, count(*) FROM kinds GROUP BY n ORDER BY n", unseen: []string{"GROUP BY without an ORDER BY of its columns"}},
-	{sql: "SELECT v, count(*) FROM t GROUP BY v ORDER BY v + 1, v", seen: "t", flags: "counts"},
+	{sql: "SELECT v, count(*) FROM t GROUP BY v ORDER BY v + 1, v", seen: "t", flags: "counts", optional: true},
 	{sql: "SELECT w, t, count(*) FROM u GROUP BY w, t ORDER BY t", unseen: []string{"GROUP BY without an ORDER BY of its columns"}},
+	{sql: "SELECT u.t, count(*) AS n FROM u WHERE id > 1 GROUP BY u.t ORDER BY n DESC, u.t", seen: "u", flags: "counts"},
+	{sql: "SELECT u.t, count(*) FROM u WHERE u.w LIKE 'w%' GROUP BY u.t ORDER BY u.t", seen: "u", flags: "counts", optional: true},
+	{sql: "SELECT u.t, max(id) - 1 FROM u GROUP BY u.t ORDER BY u.t", seen: "u", flags: "counts", optional: true},
+	{sql: "SELECT t AS w, count(*) FROM u GROUP BY t, w ORDER BY t, w", unseen: []string{"GROUP BY without an ORDER BY of its columns"}},
+	{sql: "SELECT count(*) AS w FROM u GROUP BY w ORDER BY w", unseen: []string{"GROUP BY without an ORDER BY of its columns"}},
+	{sql: "SELECT w::name, count(*) FROM u GROUP BY w ORDER BY w", unseen: []string{"GROUP BY without an ORDER BY of its columns"}},
 	{sql: "SELECT w, count(*) FROM u GROUP BY w, u.t ORDER BY u.t, w", seen: "u", flags: "counts"},
 	{sql: "SELECT u.t, count(*) FROM t JOIN u ON u.t = t.id WHERE t.v < 30 GROUP BY u.t ORDER BY u.t", seen: "t,u", flags: "counts"},
-	{sql: "SELECT v FROM t GROUP BY v ORDER BY v LIMIT 2", seen: "t", flags: "counts"},
+	{sql: "SELECT v FROM t GROUP BY v ORDER BY v LIMIT 2", seen: "t", flags: "counts", optional: true},
 	{sql: "SELECT sum(count(*)) OVER (ORDER BY v), v FROM t GROUP BY v ORDER BY v", seen: "t", flags: "counts, ordered"},
 	{sql: "SELECT DISTINCT ON (v % 2) v FROM t GROUP BY v", unseen: []string{"GROUP BY"}},
 	{sql: "SELECT v, count(*) FROM t GROUP BY GROUPING SETS ((v), ())", unseen: []string{"GROUP BY"}},
@@ -240,7 +250,39 @@ var shapes = []shape{
 	{sql: "SELECT DISTINCT ON (t.v % 2) t.v, u.w FROM t JOIN u ON u.t = t.id ORDER BY t.v % 2, t.v DESC, u.id", seen: "t,u"},
 	{sql: "SELECT 1 FROM t HAVING count(*) > 1", seen: "t", flags: "counts, looks"},
 	{sql: "SELECT 1 FROM t HAVING count(*) > 100", seen: "t", flags: "counts, looks"},
-	{sql: "SELECT DISTINCT v FROM t ORDER BY v", unseen: []string{"DISTINCT"}},
+	// DISTINCT.
+	{sql: "SELECT DISTINCT v FROM t ORDER BY v", seen: "t", flags: "counts"},
+	{sql: "SELECT DISTINCT v FROM t WHERE id BETWEEN 3 AND 7 ORDER BY 1", seen: "t", flags: "counts"},
+	{sql: "SELECT DISTINCT s AS x, v s FROM t WHERE id IN (1, 2) OR v IS NULL ORDER BY s DESC, x NULLS FIRST", seen: "t", flags: "counts"},
+	{sql: "SELECT DISTINCT c FROM fixed WHERE id BETWEEN 2 AND 7 ORDER BY c", seen: "fixed", flags: "counts"},
+	{sql: "SELECT DISTINCT a FROM link WHERE b = 2 ORDER BY a", seen: "link", flags: "counts, looks"},
+	{sql: "SELECT DISTINCT t.v, u.w FROM t JOIN u ON u.t = t.id WHERE u.id > 1 ORDER BY u.w, t.v", seen: "t,u", flags: "counts"},
+	{sql: "SELECT DISTINCT u.w FROM t LEFT JOIN u ON u.t = t.id AND u.w <> 'w2' ORDER BY u.w", seen: "t,u?", flags: "counts, looks"},
+	{sql: "SELECT DISTINCT v, v AS again FROM t ORDER BY t.v", seen: "t", flags: "counts"},
+	{sql: "SELECT DISTINCT s AS v, t.v AS s FROM t ORDER BY v, s", seen: "t", flags: "counts"},
+	{sql: "SELECT DISTINCT t AS w, w AS x FROM u ORDER BY w, u.w", seen: "u", flags: "counts"},
+	{sql: "SELECT DISTINCT t AS w, w AS x FROM u ORDER BY w, u.t", unseen: []string{"DISTINCT"}},
+	{sql: "SELECT DISTINCT v FROM t", unseen: []string{"DISTINCT"}},
+	{sql: "SELECT DISTINCT v, s FROM t ORDER BY v", unseen: []string{"DISTINCT"}},
+	{sql: "SELECT DISTINCT v, s FROM t ORDER BY 1, 2", unseen: []string{"DISTINCT"}},
+	{sql: "SELECT DISTINCT v FROM t ORDER BY v LIMIT 2", unseen: []string{"DISTINCT"}},
+	{sql: "SELECT DISTINCT v FROM t ORDER BY v OFFSET 1", unseen: []string{"DISTINCT"}},
+	{sql: "SELECT DISTINCT v FROM t ORDER BY v USING >", unseen: []string{"DISTINCT"}},
+	{sql: "SELECT DISTINCT n FROM kinds ORDER BY n", unseen: []string{"DISTINCT"}},
+	{sql: "SELECT DISTINCT c FROM kinds WHERE f > 1 ORDER BY c", unseen: []string{"DISTINCT"}},
+	{sql: "SELECT DISTINCT v % 2 AS v FROM t ORDER BY v", unseen: []string{"DISTINCT"}},
+	{sql: "SELECT DISTINCT t.v FROM t JOIN u USING (id) ORDER BY v", unseen: []string{"DISTINCT"}},
+	{sql: "SELECT DISTINCT v FROM t WHERE 10 / id > 1 ORDER BY v", unseen: []string{"DISTINCT"}},
+	{sql: "SELECT DISTINCT v FROM t WHERE s LIKE 's%' ORDER BY v", unseen: []string{"DISTINCT"}},
+	{sql: "SELECT DISTINCT v FROM t WHERE pure(v) > 1 ORDER BY v", unseen: []string{"DISTINCT"}},
+	{sql: "SELECT DISTINCT v FROM t WHERE EXISTS (SELECT FROM u) ORDER BY v", unseen: []string{"a subquery", "DISTINCT"}},
+	{sql: "SELECT DISTINCT v FROM t GROUP BY v ORDER BY v", unseen: []string{"DISTINCT"}},
+	{sql: "SELECT DISTINCT v, count(*) OVER () FROM t ORDER BY v", unseen: []string{"DISTINCT"}},
+	{sql: "SELECT DISTINCT max(v) FROM t", unseen: []string{"DISTINCT"}},
+	{sql: "SELECT DISTINCT v FROM t TABLESAMPLE SYSTEM (100) ORDER BY v", unseen: []string{"DISTINCT"}},
+	{sql: "SELECT DISTINCT v FROM secured ORDER BY v", unseen: []string{"DISTINCT"}},
+	{sql: "SELECT DISTINCT v FROM t, generate_series(1, 2) ORDER BY v", unseen: []string{"DISTINCT"}},
+	{sql: "SELECT DISTINCT v FROM t ORDER BY v FOR UPDATE", unseen: []string{"DISTINCT"}, flags: "error"},
 	{sql: "SELECT v FROM t UNION SELECT t FROM u ORDER BY 1", unseen: []string{"UNION, INTERSECT or EXCEPT"}},
 	{sql: "SELECT rank() OVER w FROM t WINDOW w AS (ORDER BY sum(v))", seen: "t", flags: "counts, ordered"},
 	{sql: "SELECT rank() OVER (ORDER BY sum(v)) FROM t", seen: "t", flags: "counts, ordered"},

@@ -140,7 +140,20 @@ func TestListedForCertain(t *testing.T) {
 		{"SELECT round(avg(x), 2) FROM listed WHERE g = 5", 0, "an aggregate"},
 		{"SELECT count(*) FROM listed WHERE id < 300", 0, tooManyRows},
 		{"SELECT count(*), sum(x) FROM listed", 0, plan.Dear},
-		{"SELECT g, count(*) FROM listed WHERE id BETWEEN 5 AND 34 GROUP BY g ORDER BY g", 0, "GROUP BY"},
+		{"SELECT g, count(*) FROM listed WHERE id BETWEEN 5 AND 34 GROUP BY g ORDER BY g", 30, ""},
+		{"SELECT g, sum(x) FROM listed WHERE h = 5 GROUP BY g HAVING count(*) > 0 ORDER BY g DESC", 10, ""},
+		{"SELECT g, count(*) FROM listed WHERE id BETWEEN 5 AND 34 GROUP BY g", 0, "GROUP BY"},
+		{"SELECT g, count(*) FROM listed WHERE id BETWEEN 5 AND 34 GROUP BY g ORDER BY g LIMIT 2", 0, "GROUP BY"},
+		{"SELECT g, count(*) FROM listed WHERE h = 5 AND x / id = 1 GROUP BY g ORDER BY g", 0, "GROUP BY"},
+		{"SELECT g, sum(x) / count(*) FROM listed WHERE h = 5 GROUP BY g ORDER BY g", 0, "GROUP BY"},
+		{"SELECT g, array_agg(x) FROM listed WHERE h = 5 GROUP BY g ORDER BY g", 0, "GROUP BY"},
+		{"SELECT DISTINCT h FROM listed WHERE g = 5 ORDER BY h", 10, ""},
+		{"SELECT DISTINCT g FROM listed WHERE id BETWEEN 5 AND 34 ORDER BY g", 30, ""},
+		{"SELECT DISTINCT g FROM listed WHERE id BETWEEN 5 AND 34", 0, "DISTINCT"},
+		{"SELECT DISTINCT g FROM listed WHERE id BETWEEN 5 AND 34 ORDER BY g LIMIT 2", 0, "DISTINCT"},
+		{"SELECT DISTINCT h FROM listed WHERE id < 300 ORDER BY h", 0, tooManyRows},
+		{"SELECT DISTINCT g FROM listed ORDER BY g", 0, plan.ByIndex},
+		{"SELECT DISTINCT x FROM listed ORDER BY x", 0, plan.Dear},
 		{"SELECT max(x) FROM listed WHERE g = 5", 10, ""},
 		{"SELECT 1 AS one FROM listed WHERE g = 5 LIMIT 1", 1, ""},
 		{"SELECT 1 AS one FROM listed WHERE h = 5", 10, ""},
@@ -220,6 +233,15 @@ func TestRests(t *testing.T) {
 	p.settle()
 	if its := p.sink.take(); len(its) != 1 || len(its[0].Reads) != 0 || !p.sink.left(tooManyRows) {
 		t.Fatalf("told is %+v, left out %q", its, p.sink.unseen)
+	}
+	sql(t, "UPDATE listed SET h = id / 10 WHERE id < 2000") // groups of ten rows
+	groups := "SELECT h, count(*) FROM listed WHERE g = 777 AND x > 0 GROUP BY h ORDER BY h"
+	for i := 0; i < 20 && !p.sink.left(ManyRows); i++ {
+		p.query(groups)
+		p.settle()
+	}
+	if !p.sink.left(ManyRows) {
+		t.Errorf("many groups of few rows aren't left as they are: %q", p.sink.unseen)
 	}
 	other := through(t, "postgres", known)
 	for _, its := range []*proxied{p, other} {

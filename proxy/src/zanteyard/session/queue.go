@@ -42,6 +42,7 @@ type expectation struct {
 	rows     int        // rows of the statement that is being answered
 	loose    int        // of these, how many have no version
 	beyond   int        // and how many were made of more rows than are listed
+	made     uint64     // of how many rows all were made, if the plan counts them
 	missed   int        // and of how many the reads can't be reported
 	why      string     // why those can't
 	from     int        // number of reads before its first row

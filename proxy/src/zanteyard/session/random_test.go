@@ -207,6 +207,11 @@ func shapes() []shape {
 			return []seen{{"one", row[1], row[0]}}
 		}},
 		{"SELECT DISTINCT tag FROM one WHERE id < $1", key, none},
+		{"SELECT DISTINCT tag, id FROM one WHERE id < $1 ORDER BY id, tag", key, func(row []string) []seen {
+			return []seen{{"one", row[1], row[0]}}
+		}},
+		{"SELECT DISTINCT one.id, one.tag, two.a, two.b, two.tag FROM one LEFT JOIN two ON two.a = one.id AND two.b > 'b2' " +
+			"WHERE one.n >= $1 ORDER BY one.id, one.tag, two.a, two.b, two.tag", key, both},
 		{"UPDATE one SET tag = $1 WHERE id = $2", tagKey, none},
 		{"UPDATE one SET tag = $1, n = n + 1 WHERE id = $2 RETURNING n", tagKey, none},
 		{"UPDATE two SET tag = $1 WHERE a = $2", tagKey, none},

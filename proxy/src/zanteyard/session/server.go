@@ -284,8 +284,10 @@ func (s *Session) hidden(e *expectation, values [][]byte) {
 // lists reports whether a row's lists, if it has any, have all rows that it was made of.
 func (s *Session) lists(e *expectation, values [][]byte) bool {
 	p := e.hides
-	if n, ok := p.Aggregated(values, e.binary); ok && n > plan.MostAggregated {
-		p.Rest(s.now)
+	if n, ok := p.Aggregated(values, e.binary); ok {
+		if e.made += n; e.made > plan.MostAggregated {
+			p.Rest(s.now)
+		}
 	}
 	if p.Complete(values, e.binary) {
 		return true
@@ -343,7 +345,7 @@ func (s *Session) complete(e *expectation, m []byte) {
 				s.tx.paused = e.at
 			}
 		}
-		e.rows, e.loose, e.beyond, e.missed = 0, 0, 0, 0
+		e.rows, e.loose, e.beyond, e.missed, e.made = 0, 0, 0, 0, 0
 		if e.guessed { // what comes next may be another statement of the text
 			e.hides, e.hidden, e.guessed = nil, 0, false
 		}

@@ -70,7 +70,7 @@ func (s *Session) several(o *output, st *statement, e *expectation, start, end i
 // piece goes on with one of the statements.
 func (e *expectation) piece(i int) {
 	e.part = i
-	e.hides, e.hidden, e.changed, e.use, e.rows, e.loose, e.asking = nil, 0, false, nil, 0, 0, nil
+	e.hides, e.hidden, e.changed, e.use, e.rows, e.loose, e.made, e.asking = nil, 0, false, nil, 0, 0, 0, nil
 	if i >= len(e.pieces) {
 		return
 	}
