@@ -32,6 +32,11 @@ TABLES = '''
 CREATE TABLE right_one (id int PRIMARY KEY);
 CREATE TABLE two (a uuid, b text, PRIMARY KEY (a, b));
 CREATE TABLE no_key (a int);
+CREATE TABLE indexed (a int NOT NULL, b text NOT NULL, c int, UNIQUE (a, c));
+CREATE UNIQUE INDEX "by ""a""" ON indexed (b, a); CREATE UNIQUE INDEX ON indexed (a) WHERE c > 0;
+CREATE TABLE bound (a int NOT NULL, "B" int NOT NULL, UNIQUE (a, "B"));
+CREATE TABLE backwards (a int NOT NULL); CREATE UNIQUE INDEX ON backwards (a DESC);
+CREATE TABLE by_null (a int UNIQUE);
 CREATE UNLOGGED TABLE unlogged (a int PRIMARY KEY);
 CREATE TABLE deferred (a int PRIMARY KEY DEFERRABLE);
 CREATE TABLE by_json (a int, b jsonb, PRIMARY KEY (a, b));
@@ -337,6 +342,21 @@ class OverAServer(unittest.TestCase):
             (found["public.parts_1"].kind, found["public.seen"].kind), ("partition", "view")
         )
         self.assertNotIn("public.temporary", found)
+        for name, wanted in (
+            ("no_key", "(..)"),
+            ("by_null", "(..)"),
+            ("indexed", 'USING INDEX "by ""a"""'),
+            ("bound", '(a, "B")'),
+            ("backwards", "(a)"),
+        ):
+            with self.subTest(table=name), Database(self.url) as database:
+                remedy = found[f"public.{name}"].remedy
+                self.assertEqual(remedy, f"ALTER TABLE public.{name} ADD PRIMARY KEY {wanted}")
+                if wanted != "(..)":  # the statement makes it seen
+                    database.run(remedy)
+                    now = {table.name: table for table in tables_of(database)}
+                    self.assertTrue(now[f"public.{name}"].is_seen)
+                    database.run(f"DROP TABLE public.{name}")
 
     def test_3_b_those_that_are_asked_for(self):
         """A partition matches by its topmost table's name as well as by its own."""

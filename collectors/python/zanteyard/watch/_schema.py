@@ -42,6 +42,32 @@ SELECT i.indrelid, a.attname, pg_catalog.format_type(a.atttypid, a.atttypmod), t
  WHERE i.indisprimary
  ORDER BY i.indrelid, k.place
 """
+# Of each table without a primary key, a unique index of columns that are never NULL: its name, its
+# columns, and whether it can become the key as it is. One that belongs to a constraint can't.
+UNIQUE = """
+SELECT DISTINCT ON (i.indrelid) i.indrelid, x.relname,
+       (SELECT pg_catalog.string_agg(pg_catalog.quote_ident(a.attname), ', ' ORDER BY k.place)
+          FROM pg_catalog.unnest(i.indkey) WITH ORDINALITY k(number, place)
+          JOIN pg_catalog.pg_attribute a ON a.attrelid = i.indrelid AND a.attnum = k.number
+         WHERE k.place <= i.indnkeyatts),
+       EXISTS (SELECT FROM pg_catalog.pg_constraint o WHERE o.conindid = i.indexrelid
+               AND o.contype IN ('u', 'x'))
+       OR 0 <> ANY (i.indoption::pg_catalog.int2[]) OR x.relkind <> 'i'
+       OR EXISTS (SELECT FROM pg_catalog.pg_opclass o
+                  WHERE o.oid = ANY (i.indclass::pg_catalog.oid[]) AND NOT o.opcdefault) AS is_bound
+  FROM pg_catalog.pg_index i
+  JOIN pg_catalog.pg_class x ON x.oid = i.indexrelid
+  JOIN pg_catalog.pg_class c ON c.oid = i.indrelid
+ WHERE i.indisunique AND i.indisvalid AND i.indimmediate AND i.indpred IS NULL
+   AND i.indexprs IS NULL AND NOT c.relispartition
+   AND NOT EXISTS (SELECT FROM pg_catalog.pg_index p
+                   WHERE p.indrelid = i.indrelid AND p.indisprimary)
+   AND NOT EXISTS (SELECT FROM pg_catalog.unnest(i.indkey) WITH ORDINALITY k(number, place)
+                   LEFT JOIN pg_catalog.pg_attribute a
+                     ON a.attrelid = i.indrelid AND a.attnum = k.number
+                   WHERE k.place <= i.indnkeyatts AND a.attnotnull IS DISTINCT FROM true)
+ ORDER BY i.indrelid, is_bound, i.indnkeyatts, i.indexrelid
+"""
 ENUM = "e"
 
 
@@ -66,8 +92,12 @@ def tables_of(database: Database) -> list[Table]:
     columns: dict[Any, list[Sequence[Any]]] = {}
     for oid, *its in database.run(COLUMNS):
         columns.setdefault(oid, []).append(its)
+    unique = {oid: _key_by(*its) for oid, *its in database.run(UNIQUE)}
     found = (
-        replace(_table(row, columns.get(row[0], [])), names=(row[1:3], row[7:9]))
+        replace(
+            _table(row, columns.get(row[0], []), unique.get(row[0], "(..)")),
+            names=(row[1:3], row[7:9]),
+        )
         for row in database.run(TABLES)
     )
     return list(found)
@@ -79,7 +109,12 @@ def asked_of(tables: Sequence[Table], asked: TablePatterns) -> tuple[list[Table]
     return found, asked.idle([name for table in tables for name in table.names])
 
 
-def _table(row: Sequence[Any], key: Sequence[Sequence[Any]]) -> Table:
+def _key_by(index: str, columns: str, is_bound: bool) -> str:
+    """How a unique index's columns become the primary key."""
+    return f"({columns})" if is_bound else f"USING INDEX {quoted(index)}"
+
+
+def _table(row: Sequence[Any], key: Sequence[Sequence[Any]], candidate: str) -> Table:
     _, schema, name, kind, persistence, identity, is_partition, _, _, *index = row
     full = f"{quoted(schema)}.{quoted(name)}"
     if kind in ("v", "m"):
@@ -93,7 +128,7 @@ def _table(row: Sequence[Any], key: Sequence[Sequence[Any]]) -> Table:
     has_key, is_immediate, is_identity = index
     if not has_key:
         told = "no primary key: its rows can't be identified"
-        return Table(full, what, told, f"ALTER TABLE {full} ADD PRIMARY KEY (..)")
+        return Table(full, what, told, f"ALTER TABLE {full} ADD PRIMARY KEY {candidate}")
     if not is_immediate:
         told = "its primary key is deferrable: the server's log lacks the keys of deleted rows"
         return Table(full, what, told)
