@@ -413,7 +413,7 @@ func kindOf(t *testing.T, table, column string, kind uint32) *catalog.Catalog {
 		case strings.Contains(its, "i.indnkeyatts"):
 			return [][]string{{"20000", "true", "false", "1", "1", "btree", "20001 1", "true"}}, nil
 		case strings.Contains(its, "a.attnum"):
-			return [][]string{{"20000", "1", column, fmt.Sprint(kind), "0"}, {"20000", "2", "v", "23", "0"}}, nil
+			return [][]string{{"20000", "1", column, fmt.Sprint(kind)}, {"20000", "2", "v", "23"}}, nil
 		case strings.Contains(its, "m.attrelid"):
 			return [][]string{{"20000", "1", fmt.Sprint(kind), "d", "false", "false", "0"}, {"20000", "2", "23", "", "false", "false", "0"}}, nil
 		case strings.Contains(its, "typbasetype") && kind == keys.Enum:
