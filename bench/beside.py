@@ -1,15 +1,14 @@
 #!/usr/bin/env python3
 """How soon lines are answered while a search runs.
 
-    python3 bench/beside.py [--seconds N] [--rate N] [--apart] [PROGRAM]
+    python3 bench/beside.py [--seconds N] [--rate N] [PROGRAM]
 
 Run it at the top of the repository, after `rt run < /dev/null` has built the auditor in its crate,
 or with COBRA_AUDIT naming the program. A search that would take hours, in a history without an
 order, runs for N seconds (10), in one thread and in four, and is then skipped. Meanwhile, N times a
 second (50), a transaction is offered and the program is asked whether the search has ended. The
 same is done before, without a search. A row has the median, the 99th percentile and the maximum, in
-milliseconds, and how long `skip` took. With --apart offers go through an AuditorApart instead of a
-pipe, while another thread waits for its round.
+milliseconds, and how long `skip` took.
 
 The figures include the effects of other programs on the machine; the first line has its load.
 """
@@ -17,14 +16,10 @@ import argparse
 import json
 import os
 import subprocess
-import sys
-import threading
 import time
 
 import hard
 
-TOP = os.path.join(os.path.dirname(os.path.abspath(__file__)), "..")
-sys.path.insert(0, os.path.join(TOP, "collectors/python"))
 EFFORTS = {"without a search": None, "1 thread": [1 << 32, 0, 1], "4 threads": [1 << 32, 6, 4]}
 WAYS = 40  # of the history: enough for hours
 
@@ -80,37 +75,6 @@ def by_pipe(asked, effort):
     return offered, collected, skipped
 
 
-def apart(asked, effort):
-    """The same with an AuditorApart, which does its own collects."""
-    from zanteyard import AuditorApart, Logged
-
-    offers, session = history(effort or [1, 0, 1])
-    with AuditorApart(offers[0][1], program=asked.program, round_seconds=asked.seconds) as auditor:
-        for _, which, first, txns in offers[1:]:
-            auditor.offer_all([(which, first, [logged(txn) for txn in txns])])
-        waiting = threading.Thread(target=auditor.last_round, args=([effort],) if effort else ())
-        if effort:
-            waiting.start()
-        offered, until, number = [], time.monotonic() + asked.seconds, 1
-        while time.monotonic() < until:
-            began = time.perf_counter()
-            auditor.offer(session, number, Logged([], ["k7"]))
-            offered.append(1000 * (time.perf_counter() - began))
-            number += 1
-            time.sleep(1 / asked.rate)
-        if effort:
-            waiting.join()
-    return offered, [], 0.0
-
-
-def logged(txn):
-    from zanteyard import Logged
-
-    reads, writes = txn
-    source = lambda it: "init" if it[0] == "init" else tuple(it)
-    return Logged([(f"k{key}", source(it)) for key, *it in reads], [f"k{key}" for key in writes])
-
-
 def told(times):
     times = sorted(times)
     if not times:
@@ -122,14 +86,13 @@ def main():
     words = argparse.ArgumentParser(description=__doc__.splitlines()[0])
     words.add_argument("--seconds", type=float, default=10.0, help="how long the search runs (10)")
     words.add_argument("--rate", type=float, default=50.0, help="transactions offered a second (50)")
-    words.add_argument("--apart", action="store_true", help="offer through an AuditorApart, not a pipe")
     default = os.environ.get("COBRA_AUDIT", "crates/cobra_audit/out/cobra_audit")
     words.add_argument("program", nargs="?", default=default)
     asked = words.parse_args()
     print(f"load {os.getloadavg()[0]:.1f}, {os.cpu_count()} processors; milliseconds")
     print(f"{'':18}{'offer':>8} {'99 %':>8} {'most':>8}{'collect':>9} {'99 %':>8} {'most':>8}{'skip':>8}")
     for name, effort in EFFORTS.items():
-        offered, collected, skipped = (apart if asked.apart else by_pipe)(asked, effort)
+        offered, collected, skipped = by_pipe(asked, effort)
         print(f"{name:18}{told(offered)}{told(collected):>27}{skipped:8.2f}", flush=True)
 
 

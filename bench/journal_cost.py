@@ -12,12 +12,11 @@ in which this program makes the lines and cobra_audit answers them, and this pro
 time in it. A last row has the time that a new program took to reach a killed one's state. The
 program has to know ["save",..].
 
-With --live eight clients run with a LiveAuditor over an AuditorApart instead: threads over a store
-in memory, or processes over PostgreSQL. The figures are the collector's processor time per
-transaction, as medians of all runs: of the clients, of the process that they hand over to, and of
-the one next to cobra_audit, without cobra_audit and the server. With --kills cobra_audit is killed
-in the middle of each run that has a journal; then the longest time that a client waited for a
-transaction is printed, with and without a kill.
+With --live eight clients run with a LiveAuditor instead: threads over a store in memory, or
+processes over PostgreSQL. The figures are the collector's processor time per transaction, as
+medians of all runs: of the clients and of the process that they hand over to, without cobra_audit
+and the server. With --kills cobra_audit is killed in the middle of each run that has a journal;
+then the longest time that a client waited for a transaction is printed, with and without a kill.
 """
 import argparse
 import contextlib
@@ -31,7 +30,7 @@ import time
 
 sys.path.insert(0, os.path.join(os.path.dirname(os.path.abspath(__file__)), "../collectors/python"))
 from histories import Store  # noqa: E402
-from zanteyard import FENCE, RATHER_WAIT, Auditor, AuditorApart, AuditServer, LiveAuditor, Logged  # noqa: E402
+from zanteyard import FENCE, RATHER_WAIT, Auditor, AuditServer, LiveAuditor, Logged  # noqa: E402
 from zanteyard.stores.memory import MemoryStore  # noqa: E402
 from zanteyard.program._binaries import PROGRAM  # noqa: E402
 from zanteyard.trial.workloads import EVERY_WORKLOAD, ClientProcesses, Clients  # noqa: E402
@@ -94,21 +93,12 @@ def run(program, logs, ends, size, path):
     return took, again
 
 
-def busy(pid):
-    """Seconds of a process's own processor time."""
-    with open(f"/proc/{pid}/stat") as file:
-        fields = file.read().rsplit(")", 1)[1].split()
-    return (int(fields[11]) + int(fields[12])) / os.sysconf("SC_CLK_TCK")
-
-
 def kill_later(auditor, seconds, kills):
     """Kills it once, after this many seconds."""
     time.sleep(seconds)
-    with open(f"/proc/{auditor.process.pid}/task/{auditor.process.pid}/children") as file:
-        for pid in file.read().split()[:1]:
-            with contextlib.suppress(ProcessLookupError):
-                os.kill(int(pid), signal.SIGKILL)
-                kills.append(pid)
+    with contextlib.suppress(ProcessLookupError):
+        os.kill(auditor.program.process.pid, signal.SIGKILL)
+        kills.append(auditor.program.process.pid)
 
 
 def live_run(asked, folder, make_store, is_kept):
@@ -116,7 +106,7 @@ def live_run(asked, folder, make_store, is_kept):
     outcome."""
     journal = f"{folder}/journal" if is_kept else None
     own, kills = time.process_time(), []
-    with AuditorApart(SESSIONS, program=asked.program, journal=journal) as auditor:
+    with Auditor(SESSIONS, program=asked.program, journal=journal) as auditor:
         live = LiveAuditor(auditor, policy=RATHER_WAIT)
         killing = threading.Thread(target=kill_later, args=(auditor, asked.seconds / 2, kills))
         if is_kept and asked.kills:
@@ -132,7 +122,7 @@ def live_run(asked, folder, make_store, is_kept):
             theirs = 0.0
         clients.rate()
         outcome = live.stop()
-        used = theirs + time.process_time() - own + busy(auditor.process.pid)
+        used = theirs + time.process_time() - own
     if journal:
         os.unlink(journal)
     count = clients.committed + clients.aborted

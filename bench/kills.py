@@ -19,7 +19,6 @@ import unittest
 PLACE = os.path.join(os.path.dirname(os.path.dirname(os.path.abspath(__file__))), "collectors", "python")
 TESTS = (
     "tests.test_restarting.Killed.test_a_hundred_kills",
-    "tests.test_restarting_processes.Apart.test_each_call",
     "tests.test_journal_kills",
     "tests.test_killed.Killed",
     "tests.test_killed.KilledOverPostgres",
@@ -29,7 +28,6 @@ TESTS = (
 )
 KINDS = (  # a word of its command line, and what it is
     ("cobra_audit", "the auditor"),
-    ("zanteyard.program._subprocess_server", "the process between a collector and its auditor"),
     ("journal_feeder", "a process with the journal"),
     ("journal_live", "a process with the journal, and its clients"),
     ("killed_client", "a client"),

@@ -26,7 +26,7 @@ import psycopg2
 TOP = os.path.join(os.path.dirname(os.path.abspath(__file__)), "..")
 sys.path[:0] = [os.path.join(TOP, "examples"), os.path.join(TOP, "collectors/python")]
 from postgres_live import WORKLOADS, ClientProcesses, Clients, Nothing
-from zanteyard import AuditorApart, AuditServer, LiveAuditor, Session
+from zanteyard import Auditor, AuditServer, LiveAuditor, Session
 from zanteyard.trial.postgres_server import PostgresServer, ended_by_signals
 from zanteyard.stores.postgres import PostgresStore, prepare
 
@@ -106,7 +106,7 @@ class Run:
                 return ClientProcesses(server.path, self.make_store, *more)
 
     def audited(self):
-        with AuditorApart(self.asked.clients) as auditor:
+        with Auditor(self.asked.clients) as auditor:
             with LiveAuditor(auditor, every=self.asked.every, tell=lambda line: None) as live:
                 clients = self.clients(live)
                 outcome = live.stop()

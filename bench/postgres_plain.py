@@ -22,7 +22,7 @@ from psycopg2 import errors
 TOP = os.path.join(os.path.dirname(os.path.abspath(__file__)), "..")
 sys.path[:0] = [os.path.join(TOP, "examples"), os.path.join(TOP, "collectors/python")]
 from postgres_live import WORKLOADS, Clients, Nothing
-from zanteyard import AbortedError, AuditorApart, LiveAuditor, Session
+from zanteyard import AbortedError, Auditor, LiveAuditor, Session
 from zanteyard.trial.postgres_server import PostgresServer
 from zanteyard.stores.postgres import PostgresStore, prepare
 
@@ -71,7 +71,7 @@ def run(way, cluster, asked, workload):
         sessions = [Session(Nothing(), number, stores[number], "named") for number in count]
         clients = Clients(sessions, body, asked.seconds, lambda: False)
     else:
-        with AuditorApart(asked.clients) as auditor:
+        with Auditor(asked.clients) as auditor:
             live = LiveAuditor(auditor, tell=lambda line: None)
             sessions = [live.session(store) for store in stores]
             clients = Clients(sessions, body, asked.seconds, lambda: live.is_over)

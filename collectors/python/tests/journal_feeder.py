@@ -1,6 +1,6 @@
 """Gives an auditor with a journal what a file contains, from the journal's state on, until it is
 killed, and prints a dot before each transaction. At the end it prints the auditor's outcome. For
-test_restarting_processes.
+test_journal_kills.
 
     python3 journal_feeder.py PROGRAM JOURNAL LOG [TOLD]
 

@@ -7,7 +7,7 @@ import unittest
 from contextlib import redirect_stderr, redirect_stdout
 from unittest import mock
 
-from zanteyard import AbortedError, Auditor, AuditorApart, LiveAuditor, Logged
+from zanteyard import AbortedError, Auditor, LiveAuditor, Logged
 from zanteyard import OutcomeUnknownError, Session
 from zanteyard import audited, from_start, reasons, smaller, words
 from zanteyard.explain._anomalies import find_anomaly
@@ -211,14 +211,13 @@ class Found(WithFolder):
         c.run(read("x"))
 
     def test_in_words_that_name_the_abort(self):
-        for kind in (Auditor, AuditorApart):
-            with self.subTest(kind=kind.__name__), kind(3, 64, script=self.path) as auditor:
-                self.dirty_read(self.sessions(auditor, "dirty-read"))
-                self.assertEqual(auditor.round().kind, "violated")
-                self.assertEqual(
-                    reasons(smaller(auditor.history, seconds=SOON)), ["of x, 2.0 read what 1.0 wrote, which had aborted"]
-                )
-            self.assertIn(["offer", 1, 0, [[[[1, 0, 0]], [1, 2], "aborted"]]], self.lines())
+        with Auditor(3, 64, script=self.path) as auditor:
+            self.dirty_read(self.sessions(auditor, "dirty-read"))
+            self.assertEqual(auditor.round().kind, "violated")
+            self.assertEqual(
+                reasons(smaller(auditor.history, seconds=SOON)), ["of x, 2.0 read what 1.0 wrote, which had aborted"]
+            )
+        self.assertIn(["offer", 1, 0, [[[[1, 0, 0]], [1, 2], "aborted"]]], self.lines())
 
     def test_by_a_live_audit(self):
         store = MemoryStore("dirty-read")

@@ -7,8 +7,7 @@ import unittest
 
 from zanteyard.core._outcome import RATHER_WAIT
 from zanteyard.live._live_auditor import LiveAuditor
-from zanteyard.program._auditor import PROGRAM
-from zanteyard.program._subprocess import AuditorApart
+from zanteyard.program._auditor import PROGRAM, Auditor
 from zanteyard.stores.memory import MemoryStore
 
 SOON = 300.0  # seconds
@@ -21,7 +20,7 @@ class Churn(unittest.TestCase):
         """Everything is taken in and forgotten, then again; the growth in between is what clients
         leave behind. One client stays, so that there are meetings."""
         store = MemoryStore()
-        with AuditorApart(8) as auditor:
+        with Auditor(8) as auditor:
             live = LiveAuditor(auditor, policy=RATHER_WAIT, every=200, seconds=0.2)
             self.stays = live.session(store.connect())
             self.come_and_go(live, store)

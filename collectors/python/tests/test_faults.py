@@ -12,7 +12,7 @@ import time
 import unittest
 from contextlib import suppress
 
-from zanteyard import FENCE, AbortedError, AuditClient, AuditorApart, AuditServer, LiveAuditor, OutcomeUnknownError
+from zanteyard import FENCE, AbortedError, AuditClient, Auditor, AuditServer, LiveAuditor, OutcomeUnknownError
 from zanteyard import StoreUnfitError
 from zanteyard.program._auditor import PROGRAM
 from zanteyard.trial.postgres_server import PostgresServer, program
@@ -131,7 +131,7 @@ class Faults(unittest.TestCase):
         self.told, self.counted_in = [], [self.cluster.dsn]
 
     def audit(self, sessions=CLIENTS, **more):
-        self.auditor = AuditorApart(sessions, **more)
+        self.auditor = Auditor(sessions, **more)
         self.addCleanup(self.auditor.end)
         self.addCleanup(lambda: self.live.stop(1.0))
         self.live = LiveAuditor(self.auditor, seconds=0.3, tell=self.told.append)
@@ -493,8 +493,8 @@ class Faults(unittest.TestCase):
         program = """
 import sys, time
 sys.path.insert(0, sys.argv[1])
-from zanteyard import AuditorApart, AuditServer, LiveAuditor
-with AuditorApart(4) as auditor, LiveAuditor(auditor, tell=lambda line: None) as live:
+from zanteyard import Auditor, AuditServer, LiveAuditor
+with Auditor(4) as auditor, LiveAuditor(auditor, tell=lambda line: None) as live:
     with AuditServer(live, sys.argv[2]):
         print("begun", flush=True)
         time.sleep(100)

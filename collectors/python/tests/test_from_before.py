@@ -6,7 +6,7 @@ import os
 import tempfile
 import unittest
 
-from zanteyard import AbortedError, AuditClient, Auditor, AuditorApart, AuditServer, LiveAuditor, Outcome, Policy, Session
+from zanteyard import AbortedError, AuditClient, Auditor, AuditServer, LiveAuditor, Outcome, Policy, Session
 from zanteyard.cli._metrics import families, text_of
 from zanteyard.cli.audit import LiveRun
 from zanteyard.core.errors import AuditLostError
@@ -38,33 +38,31 @@ class FromBefore(unittest.TestCase):
         earlier.run(write("x", "y"))
         earlier.fence()
 
-    def auditor(self, kind=Auditor, **more):
-        auditor = kind(2, program=PLAIN, policy=PATIENT, **more)
+    def auditor(self, **more):
+        auditor = Auditor(2, program=PLAIN, policy=PATIENT, **more)
         self.addCleanup(auditor.end)
         return auditor
 
     def session(self, auditor, number=0):
         return Session(auditor, number, self.store.connect())
 
-    def live(self, kind=Auditor, **more):
+    def live(self, **more):
         more = {"policy": PATIENT, "every": 1000, "seconds": 600.0, "patience": SOON, **more}
-        live = LiveAuditor(self.auditor(kind), **more)
+        live = LiveAuditor(self.auditor(), **more)
         self.addCleanup(live.stop, 0.0)
         return live
 
     def test_reads_of_an_earlier_runs_versions(self):
-        for kind in (Auditor, AuditorApart):
-            with self.subTest(kind=kind.__name__):
-                auditor = self.auditor(kind)
-                session = self.session(auditor)
-                session.run(read("x", "y", "z"))  # nobody has ever written z
-                session.run(read("x"))
-                session.fence()  # reads an earlier run's fence
-                session.run(write(f"{kind} x"))
-                session.run(read(f"{kind} x"))
-                outcome = auditor.outcome()
-                self.assertEqual((outcome.kind, outcome.from_before), ("serial", 3))
-                self.assertIn("; 3 reads were of versions from before the audit", str(outcome))
+        auditor = self.auditor()
+        session = self.session(auditor)
+        session.run(read("x", "y", "z"))  # nobody has ever written z
+        session.run(read("x"))
+        session.fence()  # reads an earlier run's fence
+        session.run(write("x"))
+        session.run(read("x"))
+        outcome = auditor.outcome()
+        self.assertEqual((outcome.kind, outcome.from_before), ("serial", 3))
+        self.assertIn("; 3 reads were of versions from before the audit", str(outcome))
 
     def test_none_of_them_is_no_word(self):
         auditor = self.auditor()
@@ -93,23 +91,21 @@ class FromBefore(unittest.TestCase):
         self.assertEqual(auditor.outcome().from_before, 0)
 
     def test_a_later_audit_of_a_run_counts_from_its_own_beginning(self):
-        for kind in (Auditor, AuditorApart):
-            with self.subTest(kind=kind.__name__):
-                live = self.live(kind, policy=Policy(SOON, pause=0.01))
-                a, b = (live.session(self.store.connect()) for _ in range(2))
-                a.run(read("x"))
-                a.run(write("x"))
-                b.run(read("x"))
-                name = live.name
-                self.assertTrue(wait_until(lambda: live.taken_in == 3))
-                live.lose(AuditLostError("for a test"))
-                self.assertTrue(wait_until(lambda: live.name != name))
-                a.run(read("x", "z"))  # versions that the previous audit saw written
-                b.run(write("x"))
-                a.run(read("x"))
-                outcome = live.stop()
-                self.assertEqual([audit.from_before for audit in live.earlier], [1])
-                self.assertEqual(outcome.from_before, 2)
+        live = self.live(policy=Policy(SOON, pause=0.01))
+        a, b = (live.session(self.store.connect()) for _ in range(2))
+        a.run(read("x"))
+        a.run(write("x"))
+        b.run(read("x"))
+        name = live.name
+        self.assertTrue(wait_until(lambda: live.taken_in == 3))
+        live.lose(AuditLostError("for a test"))
+        self.assertTrue(wait_until(lambda: live.name != name))
+        a.run(read("x", "z"))  # versions that the previous audit saw written
+        b.run(write("x"))
+        a.run(read("x"))
+        outcome = live.stop()
+        self.assertEqual([audit.from_before for audit in live.earlier], [1])
+        self.assertEqual(outcome.from_before, 2)
 
     def test_over_a_socket_and_in_figures(self):
         live = self.live()
@@ -121,21 +117,19 @@ class FromBefore(unittest.TestCase):
         self.assertIn("\nzanteyard_reads_from_before_total 2\n", text_of(families(live)))
 
     def test_a_journal_keeps_it(self):
-        for kind in (Auditor, AuditorApart):
-            with self.subTest(kind=kind.__name__):
-                path = f"{self.folder}/{kind.__name__}"
-                auditor = self.auditor(kind, journal=path)
-                session = self.session(auditor)
-                session.run(read("x", "y"))
-                session.fence()
-                session.run(read("x"))
-                auditor.close(1)
-                auditor.round()
-                auditor.truncate()  # this also writes a checkpoint
-                auditor.end()
-                resumed = Auditor.resumed(path, PLAIN)
-                self.addCleanup(resumed.end)
-                self.assertEqual(resumed.from_before, 3)
+        path = f"{self.folder}/journal"
+        auditor = self.auditor(journal=path)
+        session = self.session(auditor)
+        session.run(read("x", "y"))
+        session.fence()
+        session.run(read("x"))
+        auditor.close(1)
+        auditor.round()
+        auditor.truncate()  # this also writes a checkpoint
+        auditor.end()
+        resumed = Auditor.resumed(path, PLAIN)
+        self.addCleanup(resumed.end)
+        self.assertEqual(resumed.from_before, 3)
 
     def test_the_page_says_so(self):
         asked = argparse.Namespace(workload="mixed", level="serializable", kind=POSTGRES)

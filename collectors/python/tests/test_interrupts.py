@@ -7,9 +7,9 @@ import sys
 import unittest
 from unittest import mock
 
-from zanteyard import AuditLostError, Auditor, AuditorApart, LiveAuditor, Policy, Report, Session
+from zanteyard import AuditLostError, Auditor, LiveAuditor, Policy, Report, Session
 from zanteyard.program._auditor import PROGRAM
-from zanteyard.core.errors import ProgramEndedError, ProgramUnreachableError
+from zanteyard.core.errors import ProgramEndedError
 from zanteyard.stores.memory import MemoryStore
 from zanteyard.remote._session_requests import SessionRequests
 
@@ -53,7 +53,7 @@ class Interrupted:
             call()
         except BaseException as error:
             sys.settrace(None)
-            if type(error) not in (self.kind, ProgramEndedError, ProgramUnreachableError, AuditLostError):
+            if type(error) not in (self.kind, ProgramEndedError, AuditLostError):
                 raise
         finally:
             sys.settrace(None)
@@ -66,10 +66,10 @@ class Interrupts(unittest.TestCase):
         logging.getLogger("zanteyard").setLevel(logging.CRITICAL)
         self.addCleanup(logging.getLogger("zanteyard").setLevel, logging.NOTSET)
 
-    def each(self, of, deed, step, first=1):
+    def each(self, deed, step, first=1):
         """Interrupts the deed at one place after another."""
         for at in range(first, 4000, step):
-            with of(3) as auditor, self.subTest(at=at):
+            with Auditor(3) as auditor, self.subTest(at=at):
                 killed = self.have_kills_come_late(auditor)
                 store = MemoryStore()
                 a, b = (Session(auditor, number, store.connect()) for number in range(2))
@@ -90,7 +90,7 @@ class Interrupts(unittest.TestCase):
 
     def have_kills_come_late(self, auditor):
         """As on a busy machine, a killed program still answers for a while."""
-        process = auditor.process if isinstance(auditor, AuditorApart) else auditor.program.process
+        process = auditor.program.process
         late, process.kill = [], lambda: late.append(True)
 
         class Killed:
@@ -119,12 +119,10 @@ class Interrupts(unittest.TestCase):
 
     def test_a_transaction_from_its_begin_to_its_end(self):
         deed = lambda auditor, session: session.run(add_one("x"), attempts=1)
-        self.assertGreater(self.each(Auditor, deed, 1 + SHARE // 3), 100)
-        self.assertGreater(self.each(AuditorApart, deed, 3 * SHARE), 100)
+        self.assertGreater(self.each(deed, 1 + SHARE // 3), 100)
 
     def test_a_round(self):
-        self.each(Auditor, lambda auditor, _: auditor.round(), 1 + SHARE // 3)
-        self.each(AuditorApart, lambda auditor, _: auditor.round(), SHARE)
+        self.each(lambda auditor, _: auditor.round(), 1 + SHARE // 3)
 
     def test_an_offer_of_ones_own(self):
         from zanteyard import Logged
@@ -132,12 +130,8 @@ class Interrupts(unittest.TestCase):
         def offer(auditor, _):
             auditor.offer(2, 0, Logged((), ("y",)), Logged((("y", (2, 0)),), ()))
 
-        self.each_offer(Auditor, offer, 1 + SHARE // 3)
-        self.each_offer(AuditorApart, offer, SHARE)
-
-    def each_offer(self, of, offer, step):
-        for at in range(1, 1000, step):
-            with of(3) as auditor, self.subTest(at=at):
+        for at in range(1, 1000, 1 + SHARE // 3):
+            with Auditor(3) as auditor, self.subTest(at=at):
                 killed = self.have_kills_come_late(auditor)
                 is_interrupted = Interrupted(at).run(lambda: offer(auditor, None))
                 with killed:

@@ -11,7 +11,7 @@ import unittest
 from contextlib import ExitStack, contextmanager
 from unittest import mock
 
-from zanteyard import FENCE, AbortedError, Auditor, AuditorApart, Logged
+from zanteyard import FENCE, AbortedError, Auditor, Logged
 from zanteyard import AuditClient, AuditServer, Policy, RefusedError, from_start
 from zanteyard.live._audit import Audit
 from zanteyard.live._figures import Figures
@@ -52,7 +52,7 @@ class Calls(WithProgram):
     """What an auditor is asked."""
 
     def auditor(self, sessions=2, **more):
-        auditor = self.AUDITOR(sessions, 16, **more)
+        auditor = Auditor(sessions, 16, **more)
         self.addCleanup(auditor.end)
         return auditor
 
@@ -102,10 +102,6 @@ class Calls(WithProgram):
         fragments = [(2, 0, [fence((0, 0))]), (0, 1, [wrote("x")]), (3, 0, [fence((2, 0))])]
         self.assertEqual(auditor.offer_all(fragments, (2, 3)), [])
         self.assertEqual(list(auditor.received), [2, 0, 1, 1])
-
-
-class CallsApart(Calls):
-    AUDITOR = AuditorApart
 
 
 class Journals(Calls):

@@ -16,7 +16,7 @@ import time
 import unittest
 from contextlib import suppress
 
-from zanteyard import RATHER_WAIT, AbortedError, AuditorApart, AuditServer, LiveAuditor, Logged
+from zanteyard import RATHER_WAIT, AbortedError, Auditor, AuditServer, LiveAuditor, Logged
 from zanteyard.program._auditor import PROGRAM as BUILT
 from zanteyard.trial.postgres_server import PostgresServer, program
 from zanteyard.stores.memory import FAULTS, MemoryStore
@@ -27,7 +27,6 @@ from .killing import PLAIN, Log
 from .owed import Heard, are_right, log_in, log_of, verdicts
 from .plain_sql import run_sql
 from .test_restarting import PROGRAM, WithJournal, log_with
-from .test_restarting_processes import FEEDER, child_of
 from .waiting import wait_until
 
 try:
@@ -43,7 +42,8 @@ KILLS = 3  # at least: of auditors of honest stores, and before a provoked viola
 MANY = 2000  # transactions within which a fault shows
 ENOUGH = 300.0  # seconds to wait, on the slowest machine
 ONE_OF = [Logged([("never written", "init")], [f"of {session}"]) for session in range(3)]
-LIVE = os.path.join(os.path.dirname(os.path.abspath(__file__)), "journal_live.py")
+HERE = os.path.dirname(os.path.abspath(__file__))
+LIVE, FEEDER = (os.path.join(HERE, name) for name in ("journal_live.py", "journal_feeder.py"))
 LACKING = [
     name
     for name, there in (("psycopg2", psycopg2), ("initdb of PostgreSQL", program("initdb")), (BUILT, os.path.isfile(BUILT)))
@@ -328,13 +328,13 @@ class Postgres(Fed):
                 self.setUp()
                 dice, script = random.Random(f"{SEED} {level}"), os.path.join(self.folder, f"script {level}")
                 self.path, told = os.path.join(self.folder, level), []
-                auditor = AuditorApart(10, 4096, PROGRAM, script=script)
+                auditor = Auditor(10, 4096, PROGRAM, script=script)
                 self.addCleanup(auditor.end)
                 live = LiveAuditor(auditor, every=300, seconds=0.5, policy=RATHER_WAIT, tell=told.append, journal=self.path)
                 last, rounds = auditor.last_round, []
                 auditor.last_round = lambda *asked: rounds.append(last(*asked)) or rounds[-1]
                 with AuditServer(live, os.path.join(self.folder, f"audit {wanted}")) as server:
-                    with Killing(lambda: child_of(auditor.process.pid, 0.5), lambda: live.taken_in + live.rounds, lambda: live.rounds, dice, (0.2, 1.0)) as killing:
+                    with Killing(lambda: auditor.program.process.pid, lambda: live.taken_in + live.rounds, lambda: live.rounds, dice, (0.2, 1.0)) as killing:
                         pair = Lockstep(live, lambda level=level: PostgresStore(self.dsn, level), killing, self.have_begun)
                         # a violation ends the run
                         seconds = 4.0 * TIMES if wanted == "serial" else 3 * ENOUGH

@@ -6,7 +6,7 @@ import stat
 import time
 import unittest
 
-from zanteyard import Auditor, AuditorApart, AuditLostError, ProgramEndedError, LiveAuditor, Logged, Policy
+from zanteyard import Auditor, AuditLostError, ProgramEndedError, LiveAuditor, Logged, Policy
 from zanteyard.core._window import Coverage
 from zanteyard.core.errors import JournalError, JournalInUseError, JournalVersionError
 from zanteyard.core._own_keys import FENCE
@@ -185,60 +185,50 @@ class Sessions(WithJournal):
     def test_of_a_live_audit(self):
         """Its process is gone: its clients' last transactions are unknown, so the outcome can't be
         serial."""
-        for of in (Auditor, AuditorApart):
-            self.path = os.path.join(self.folder, of.__name__)
-            store = MemoryStore()
-            with of(3, 512, PROGRAM) as auditor, LiveAuditor(auditor, journal=self.path) as live:
-                session = live.session(store.connect())
-                for _ in range(5):
-                    session.run(add_one("x"))
-                self.assertEqual(live.stop().kind, "serial")
-            with self.resumed() as auditor:
-                self.assertEqual(sum(auditor.received), 5)
-                self.assertEqual(auditor.last_round().kind, "serial")
-                outcome = auditor.outcome()
-                self.assertEqual(outcome.kind, "incomplete")
-                self.assertIn("are unknown", str(outcome))
-                with self.assertRaises(AuditLostError):
-                    auditor.round()
+        store = MemoryStore()
+        with Auditor(3, 512, PROGRAM) as auditor, LiveAuditor(auditor, journal=self.path) as live:
+            session = live.session(store.connect())
+            for _ in range(5):
+                session.run(add_one("x"))
+            self.assertEqual(live.stop().kind, "serial")
+        with self.resumed() as auditor:
+            self.assertEqual(sum(auditor.received), 5)
+            self.assertEqual(auditor.last_round().kind, "serial")
+            outcome = auditor.outcome()
+            self.assertEqual(outcome.kind, "incomplete")
+            self.assertIn("are unknown", str(outcome))
+            with self.assertRaises(AuditLostError):
+                auditor.round()
 
     def test_begun_later(self):
-        for of in (Auditor, AuditorApart):
-            self.path = os.path.join(self.folder, of.__name__)
-            with of(3, 512, PROGRAM) as auditor:
-                with self.assertRaises(JournalError):
-                    auditor.keep_journal(os.path.join(self.path, "nowhere"))
-                with self.assertRaises(ProgramEndedError):
-                    auditor.keep_journal(self.path)
-            with of(3, 512, PROGRAM) as auditor:
+        with Auditor(3, 512, PROGRAM) as auditor:
+            with self.assertRaises(JournalError):
+                auditor.keep_journal(os.path.join(self.path, "nowhere"))
+            with self.assertRaises(ProgramEndedError):
                 auditor.keep_journal(self.path)
-                auditor.offer(0, 0, ONE)
-                with self.assertRaises(ValueError):
-                    auditor.keep_journal(self.path)
-            with of(3, 512, PROGRAM) as auditor:
-                auditor.offer(0, 0, ONE)
-                with self.assertRaises(ValueError):
-                    auditor.keep_journal(f"{self.path}.other")
-            with self.resumed() as auditor:
-                self.assertEqual(auditor.received, [1, 0, 0])
+        with Auditor(3, 512, PROGRAM) as auditor:
+            auditor.keep_journal(self.path)
+            auditor.offer(0, 0, ONE)
+            with self.assertRaises(ValueError):
+                auditor.keep_journal(self.path)
+        with Auditor(3, 512, PROGRAM) as auditor:
+            auditor.offer(0, 0, ONE)
+            with self.assertRaises(ValueError):
+                auditor.keep_journal(f"{self.path}.other")
+        with self.resumed() as auditor:
+            self.assertEqual(auditor.received, [1, 0, 0])
 
     def test_left_out_reads(self):
         """Reads that a killed process left out are counted, too."""
         read = Logged([("x", (0, 0))], ["x"])  # it is unknown whether 0.0 was there when the audit began
-        for of in (Auditor, AuditorApart):
-            self.path = os.path.join(self.folder, of.__name__)
-            with of(3, 512, PROGRAM, "run", journal=self.path) as auditor:
-                auditor.start_anew(Coverage([0, 0, 0], [1, 0, 0]))
-                auditor.offer(1, 0, read)
-                auditor.offer(2, 0, ONE)
-                self.assertEqual(auditor.left_out, 1)
-                if of is AuditorApart:
-                    auditor.process.kill()
-                    auditor.offer(2, 1, read)
-                    self.assertEqual(auditor.left_out, 2)
-            with self.resumed() as auditor:
-                self.assertEqual(auditor.left_out, 1 if of is Auditor else 2)
-                self.assertEqual(auditor.coverage.first, [1, 0, 0])
+        with Auditor(3, 512, PROGRAM, "run", journal=self.path) as auditor:
+            auditor.start_anew(Coverage([0, 0, 0], [1, 0, 0]))
+            auditor.offer(1, 0, read)
+            auditor.offer(2, 0, ONE)
+            self.assertEqual(auditor.left_out, 1)
+        with self.resumed() as auditor:
+            self.assertEqual(auditor.left_out, 1)
+            self.assertEqual(auditor.coverage.first, [1, 0, 0])
 
     def test_full_disk(self):
         """Clients go on; the audit ends with its reason, and another one begins when there is

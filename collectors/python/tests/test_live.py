@@ -8,7 +8,7 @@ import threading
 import time
 import unittest
 
-from zanteyard import FENCE, AbortedError, Auditor, AuditorApart, ProgramEndedError, FullError, LiveAuditor, Logged, NoCutError
+from zanteyard import FENCE, AbortedError, Auditor, ProgramEndedError, FullError, LiveAuditor, Logged, NoCutError
 from zanteyard import NoMemoryError, Policy, RefusedError, audited
 from zanteyard import from_start, reasons, smaller, words
 from zanteyard.core._own_keys import FLAG, MARK
@@ -35,15 +35,13 @@ def no_cut():
 
 
 class WithProgram(unittest.TestCase):
-    AUDITOR = Auditor
-
     def setUp(self):
         if not os.path.isfile(PROGRAM):
             self.skipTest(f"{PROGRAM} is not built: see README.md")
         self.told = []
 
     def live(self, sessions, limit=4096, **more):
-        self.auditor = self.AUDITOR(sessions, limit)
+        self.auditor = Auditor(sessions, limit)
         self.addCleanup(self.auditor.end)
         wait = {"policy": Policy(60.0, begins_anew=False), "patience": 60.0}  # a busy machine
         more = {"every": 20, "seconds": 600.0, "tell": self.told.append, **wait, **more}
@@ -345,64 +343,14 @@ class Meetings(WithProgram):
         self.assertEqual(audited(small)[0].kind, "violated")
         self.assertIn(" can come first", reasons(small, called)[-1])
 
-    def failure_by_a_key(self):
-        """The audit's failure about a key that can't be packed; the client goes on."""
-
-        class Key(str):
-            pass
-
-        live, store = self.live(1), MemoryStore()
-        a = live.session(store.connect())
-        a.run(add_one(Key("x")))
-        self.assertEqual(a.run(lambda transaction: transaction.get("x")), 1)
-        self.wait_for(lambda: live.is_over)
-        return live.failure
-
     def test_a_program_that_is_killed(self):
         live, store = self.live(1, every=1), MemoryStore()
         a = live.session(store.connect())
-        self.kill()
+        self.auditor.program.kill()
         a.run(add_one("x"))  # the client goes on
         self.wait_for(lambda: live.failure)
         self.assertIn("cobra_audit", str(live.failure))
         a.run(add_one("x"))
-
-    def kill(self):
-        self.auditor.program.kill()
-
-
-class MeetingsApart(Meetings):
-    """The same with an auditor in a process of its own."""
-
-    AUDITOR = AuditorApart
-
-    def kill(self):
-        self.auditor.process.kill()
-
-    def test_what_is_asked_of_it(self):
-        lost = Logged([("x", "init")], ["x"], "committed", ((("x", "init"), "SELECT x"),))
-        with AuditorApart(2, 3) as auditor:
-            self.assertEqual(auditor.offer_all([(0, 0, [lost]), (1, 0, [lost])]), [])
-            self.assertEqual(auditor.offer_all([(0, 1, [lost, lost]), (1, 1, [Logged((), ())])]), [(0, 1, [lost, lost])])  # there is room for one
-            with self.assertRaises(FullError):
-                auditor.offer(0, 1, lost)
-            with self.assertRaises(RefusedError):
-                auditor.close(7)
-            with self.assertRaises(NoCutError):
-                auditor.truncate()
-            self.assertEqual((auditor.round().kind, auditor.remaining, auditor.marks, auditor.base), ("violated", 3, [0, 0], {}))
-            self.assertEqual(auditor.history, [[lost], [lost, Logged((), ())]])
-        self.assertEqual((auditor.end(), auditor.process.returncode), (None, 0))
-        with self.assertRaises(ProgramEndedError):
-            auditor.round()
-
-    def test_a_key_that_can_not_be_handed_over_ends_the_audit_and_no_client(self):
-        self.assertIsInstance(self.failure_by_a_key(), ValueError)
-
-    def test_a_program_that_is_not_there(self):
-        with self.assertRaisesRegex(ProgramEndedError, "can't start /nowhere"):
-            AuditorApart(1, program="/nowhere")
-
 
 SCRIPTED = """#!{python}
 import json, sys

@@ -18,7 +18,6 @@ from typing import Any
 from unittest import mock
 
 from zanteyard import Auditor, LiveAuditor, Session
-from zanteyard.program._subprocess import AuditorApart
 from zanteyard.program._auditor import PROGRAM
 from zanteyard.core.errors import AuditLostError
 from zanteyard.core._log_guard import guard
@@ -126,7 +125,7 @@ class Guarded(unittest.TestCase):
 @unittest.skipUnless(os.path.isfile(PROGRAM), f"{PROGRAM} is not built")
 class Audits(unittest.TestCase):
     def test_one_that_ends_is_followed_by_another(self) -> None:
-        with without_folder() as told, LiveAuditor(AuditorApart(2)) as live:
+        with without_folder() as told, LiveAuditor(Auditor(2)) as live:
             session = live.session(MemoryStore().connect())
             live.lose(ValueError("for a test"))
             self.assertTrue(wait_until(lambda: len(live.earlier) == 1))

@@ -12,7 +12,7 @@ import time
 import unittest
 
 import zanteyard
-from zanteyard import AbortedError, AuditClient, Auditor, AuditorApart, AuditServer, LiveAuditor, Session
+from zanteyard import AbortedError, AuditClient, Auditor, AuditServer, LiveAuditor, Session
 from zanteyard.core._own_keys import FENCE, FLAG, MARK
 from zanteyard.program._auditor import PROGRAM
 from zanteyard.live._backlog import Backlog
@@ -35,8 +35,8 @@ class NoHarm(unittest.TestCase):
         self.addCleanup(logging.getLogger("zanteyard").setLevel, logging.NOTSET)
         self.told = []
 
-    def auditor(self, sessions=3, limit=4096, of=Auditor, **more):
-        made = of(sessions, limit, **more)
+    def auditor(self, sessions=3, limit=4096, **more):
+        made = Auditor(sessions, limit, **more)
         self.addCleanup(made.end)
         return made
 
@@ -138,21 +138,18 @@ class AfterTheCommit(NoHarm):
         def kill(auditor):
             auditor.program.kill()
 
-        def kill_apart(auditor):
-            auditor.process.kill()
-
         def refuse(auditor):
             auditor.ask(["close", 0])
 
         def fill(auditor):
             auditor.offer(1, 0, *[zanteyard.Logged((), ())] * (auditor.limit - 1))
 
-        return ((Auditor, kill), (AuditorApart, kill_apart), (Auditor, refuse), (Auditor, fill))
+        return kill, refuse, fill
 
     def test_a_client_debits_once_whatever_becomes_of_the_auditor(self):
-        for of, break_it in self.breaking():
-            with self.subTest(of=of.__name__, break_it=break_it.__name__):
-                auditor = self.auditor(3, 200, of)
+        for break_it in self.breaking():
+            with self.subTest(break_it=break_it.__name__):
+                auditor = self.auditor(3, 200)
                 session, balance = self.debit(auditor, lambda: break_it(auditor))
                 self.assertEqual(balance, 90)
                 outcome = auditor.outcome()
@@ -192,10 +189,10 @@ class AfterTheCommit(NoHarm):
 
     def test_more_than_one_that_stands_still_has_room_for(self):
         """The transaction's statement alone is larger than the pipe."""
-        auditor = self.auditor(of=AuditorApart)
+        auditor = self.auditor()
         session = Session(auditor, 0, MemoryStore().connect())
-        os.kill(auditor.process.pid, signal.SIGSTOP)
-        self.addCleanup(auditor.process.kill)
+        os.kill(auditor.program.process.pid, signal.SIGSTOP)
+        self.addCleanup(auditor.program.process.kill)
         with Lateness() as lateness:
             session.run(lambda t: t.put("x", 1, "x" * 10_000_000))
         self.assertLess(session.longest, lateness.allowed)
@@ -204,16 +201,14 @@ class AfterTheCommit(NoHarm):
     def test_one_that_stands_still_for_long_is_given_up(self):
         self.addCleanup(setattr, zanteyard.program._intake, "LATEST", zanteyard.program._intake.LATEST)
         zanteyard.program._intake.LATEST = 0.5
-        for of in (Auditor, AuditorApart):
-            with self.subTest(of=of.__name__):
-                auditor = self.auditor(of=of)
-                session = Session(auditor, 0, MemoryStore().connect())
-                stands = auditor.process if of is AuditorApart else auditor.program.process
-                os.kill(stands.pid, signal.SIGSTOP)
-                self.bounded(session, 1.0)
-                self.wait_for(lambda: session.run(add_one("x")) or auditor.failure)
-                os.kill(stands.pid, signal.SIGCONT)
-                self.assertEqual(auditor.outcome().kind, "incomplete")
+        auditor = self.auditor()
+        session = Session(auditor, 0, MemoryStore().connect())
+        stands = auditor.program.process
+        os.kill(stands.pid, signal.SIGSTOP)
+        self.bounded(session, 1.0)
+        self.wait_for(lambda: session.run(add_one("x")) or auditor.failure)
+        os.kill(stands.pid, signal.SIGCONT)
+        self.assertEqual(auditor.outcome().kind, "incomplete")
 
     def test_a_client_waits_no_longer_than_the_bound_for_a_round(self):
         auditor = self.auditor()
@@ -245,7 +240,7 @@ class Interrupts(NoHarm):
         os.path.join(FOLDER, f"{name}.py")
         for name in (
             *("session/_session", "session/_transaction", "session/_attempts", "session/_store_calls"),
-            *("program/_auditor", "program/_lines", "program/_intake", "program/_subprocess", "program/_pipes"),
+            *("program/_auditor", "program/_lines", "program/_intake", "program/_offers", "program/_pipes"),
             *("live/_live_auditor", "live/_live_figures", "live/_for_processes", "live/_backlog"),
             *("remote/_client", "remote/_outbox"),
         )
@@ -303,20 +298,17 @@ class Interrupts(NoHarm):
         self.fail("it has no end")
 
     def test_over_an_auditor(self):
-        for of, step in ((Auditor, 1), (AuditorApart, 5)):  # the latter takes longer to begin
+        def begin(store):
+            auditor = Auditor(3)
+            a, b = (Session(auditor, number, store.connect()) for number in range(2))
 
-            def begin(store):
-                auditor = of(3)
-                a, b = (Session(auditor, number, store.connect()) for number in range(2))
+            def end():
+                with auditor:
+                    return auditor.outcome()
 
-                def end():
-                    with auditor:
-                        return auditor.outcome()
+            return a, b, end
 
-                return a, b, end
-
-            with self.subTest(of=of.__name__):
-                self.each_place(begin, step)
+        self.each_place(begin)
 
     def test_while_it_is_audited(self):
         def begin(store):
@@ -390,22 +382,20 @@ class Names(NoHarm):
 
 class Outcomes(NoHarm):
     def test_not_serial_where_the_auditor_was_killed(self):
-        for of in (Auditor, AuditorApart):
-            with self.subTest(of=of.__name__):
-                auditor = self.auditor(of=of)
-                live = self.live(auditor)
-                session = live.session(MemoryStore().connect())
-                for _ in range(10):
-                    session.run(add_one("x"))
-                self.wait_for(lambda: live.rounds > 0)
-                getattr(auditor, "program", auditor.process if of is AuditorApart else None).kill()
-                for _ in range(10):
-                    session.run(add_one("x"))
-                outcome = live.stop()
-                self.assertNotEqual(outcome.kind, "serial")
-                whole = (outcome, *outcome.earlier)
-                self.assertTrue(any(one.failure for one in whole))
-                self.assertLess(outcome.audited, outcome.handed_in)
+        auditor = self.auditor()
+        live = self.live(auditor)
+        session = live.session(MemoryStore().connect())
+        for _ in range(10):
+            session.run(add_one("x"))
+        self.wait_for(lambda: live.rounds > 0)
+        auditor.program.kill()
+        for _ in range(10):
+            session.run(add_one("x"))
+        outcome = live.stop()
+        self.assertNotEqual(outcome.kind, "serial")
+        whole = (outcome, *outcome.earlier)
+        self.assertTrue(any(one.failure for one in whole))
+        self.assertLess(outcome.audited, outcome.handed_in)
 
     def test_what_is_still_pending_and_for_whom(self):
         auditor = self.auditor()
@@ -729,22 +719,21 @@ class Scripts(NoHarm):
         return [json.loads(line) for line in ended.stdout.splitlines()]
 
     def test_each_line_is_kept(self):
-        for of in (Auditor, AuditorApart):
-            with self.subTest(of=of.__name__), tempfile.TemporaryDirectory() as folder:
-                path = os.path.join(folder, "script.jsonl")
-                auditor = self.auditor(of=of, script=path)
-                policy = zanteyard.RATHER_WAIT
-                live, store = self.live(auditor, every=10, policy=policy), MemoryStore()
-                session = live.session(store.connect())
-                for _ in range(40):
-                    session.run(add_one("x"))
-                self.wait_for(lambda: live.cuts or session.run(add_one("x")))
-                outcome = live.stop()
-                replies = self.given_again(path)
-                # the last round may come after the last meeting
-                self.assertEqual([it for it in replies if it[0] == "no" and it[2] != "NoCut"], [])
-                last = [it for it in replies if it[0] == "report"][-1]
-                self.assertEqual(last, ["report", *outcome.report])
+        with tempfile.TemporaryDirectory() as folder:
+            path = os.path.join(folder, "script.jsonl")
+            auditor = self.auditor(script=path)
+            policy = zanteyard.RATHER_WAIT
+            live, store = self.live(auditor, every=10, policy=policy), MemoryStore()
+            session = live.session(store.connect())
+            for _ in range(40):
+                session.run(add_one("x"))
+            self.wait_for(lambda: live.cuts or session.run(add_one("x")))
+            outcome = live.stop()
+            replies = self.given_again(path)
+            # the last round may come after the last meeting
+            self.assertEqual([it for it in replies if it[0] == "no" and it[2] != "NoCut"], [])
+            last = [it for it in replies if it[0] == "report"][-1]
+            self.assertEqual(last, ["report", *outcome.report])
 
     def test_a_disk_that_is_full_harms_nobody(self):
         auditor = self.auditor(script="/dev/full")

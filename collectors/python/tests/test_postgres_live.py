@@ -10,7 +10,7 @@ import sys
 import tempfile
 import unittest
 
-from zanteyard import AuditorApart, AuditServer, LiveAuditor, Policy
+from zanteyard import Auditor, AuditServer, LiveAuditor, Policy
 from zanteyard.program._auditor import PROGRAM
 from zanteyard.trial.postgres_server import PostgresServer, program
 from zanteyard.trial.workloads import EVERY_WORKLOAD, ClientProcesses, Clients
@@ -113,7 +113,7 @@ class PostgresLive(unittest.TestCase):
         told = []
         note = lambda it: told.append((tuple(it.report.counts), it.report.kind))
         its = {"every": 64, "seconds": 0.0, "patience": 60.0, "policy": Policy(60.0, begins_anew=False)}
-        with AuditorApart(4, script=f"{folder}/script") as auditor:
+        with Auditor(4, script=f"{folder}/script") as auditor:
             has_round, looks = auditor.has_round, itertools.count()
             auditor.has_round = lambda seconds: next(looks) % 2 and has_round(seconds)  # never at the first look
             live = LiveAuditor(auditor, on_round=note, **its)

@@ -5,7 +5,7 @@ import os
 import random
 import unittest
 
-from zanteyard import Auditor, AuditorApart, Logged, NoCutError
+from zanteyard import Auditor, Logged, NoCutError
 from zanteyard.core._own_keys import FENCE
 from zanteyard.core.errors import JournalError
 from zanteyard.journal import _entries
@@ -84,21 +84,6 @@ class Killed(OfSnapshots):
         self.assertIn(("lost-update", "violated", "violated", True), told)
         self.assertIn((SKEW, "serial", "violated", True), told)
         self.assertNotIn((SKEW, "violated"), [each[:2] for each in told])
-
-    def test_in_a_process_apart(self):
-        """It is killed, and another one goes on with the same promise."""
-        entries = log_of(SKEW, 4, 2)
-        with AuditorApart(3, 512, PROGRAM, "run", journal=self.path, promise="snapshot") as auditor:
-            for at, entry in enumerate(entries):
-                if at % 10 == 5:
-                    auditor.process.kill()
-                    auditor.process.wait()
-                auditor.offer(*entry)
-                if at % 12 == 11:
-                    self.assertEqual(auditor.round().kind, "serial")
-                    with contextlib.suppress(NoCutError):
-                        auditor.truncate()
-            self.assertEqual(auditor.outcome().kind, "serial")
 
     def test_what_has_begun(self):
         """A cut that forgets a begin and not the commit: the transaction remains, without its

@@ -6,7 +6,7 @@ import tempfile
 import threading
 import unittest
 
-from zanteyard import RATHER_WAIT, Auditor, AuditorApart, LiveAuditor, Session
+from zanteyard import RATHER_WAIT, Auditor, LiveAuditor, Session
 from zanteyard.explain._audited import from_start
 from zanteyard.explain._shrinking import smaller
 from zanteyard.explain._standing import standing
@@ -121,7 +121,7 @@ class OfRepeatableRead(unittest.TestCase):
     def live(self, kinds, cuts, every=100):
         """The outcome of clients of these stores with a live audit for snapshot isolation, which
         ends after so many cuts."""
-        with AuditorApart(len(kinds), program=PROGRAM, promise="snapshot") as auditor:
+        with Auditor(len(kinds), program=PROGRAM, promise="snapshot") as auditor:
             live = LiveAuditor(auditor, every=every, policy=RATHER_WAIT, patience=SOON)
             stores = [kind(self.server.dsn, "repeatable read") for kind in kinds]
             sessions = [live.session(store) for store in stores]

@@ -10,7 +10,7 @@ import tempfile
 import threading
 import unittest
 
-from zanteyard import RATHER_WAIT, AbortedError, Auditor, AuditorApart, LiveAuditor, Logged
+from zanteyard import RATHER_WAIT, AbortedError, Auditor, LiveAuditor, Logged
 from zanteyard.cli._main import main
 from zanteyard.explain._explanation import Explanation
 from zanteyard.explain._reasons import explain_history
@@ -233,11 +233,11 @@ class Told(unittest.TestCase):
 
 @unittest.skipUnless(os.path.isfile(PROGRAM), f"{PROGRAM} is not built")
 class Live(unittest.TestCase):
-    def audited(self, fault, promise, kind=Auditor, count=120):
+    def audited(self, fault, promise, count=120):
         """Clients that each read two keys and write one of them, over a store in memory, until
         something is forgotten; before that, each reads three keys before any of them writes one."""
         store, have_read = MemoryStore(fault, takes=0.001), threading.Barrier(3, timeout=SOON)
-        with kind(3, promise=promise) as auditor:
+        with Auditor(3, promise=promise) as auditor:
             live = LiveAuditor(auditor, every=40, seconds=0.5, policy=RATHER_WAIT, patience=SOON)
             sessions = [live.session(store.connect()) for _ in range(3)]
 
@@ -271,12 +271,10 @@ class Live(unittest.TestCase):
 
     def test_a_store_of_snapshots(self):
         """It keeps snapshot isolation, forgets meanwhile, and isn't serializable."""
-        for kind in (Auditor, AuditorApart):
-            outcome, live = self.audited("write-skew", "snapshot", kind)
-            with self.subTest(kind=kind.__name__):
-                self.assertEqual(outcome.whole.kind, "serial")
-                self.assertGreater(live.cuts, 0)
-                self.assertEqual(sum(outcome.counts), outcome.handed_in)
+        outcome, live = self.audited("write-skew", "snapshot")
+        self.assertEqual(outcome.whole.kind, "serial")
+        self.assertGreater(live.cuts, 0)
+        self.assertEqual(sum(outcome.counts), outcome.handed_in)
         outcome, _ = self.audited("write-skew", "serializable")
         self.assertTrue(outcome.is_violated)
 

@@ -14,14 +14,14 @@ import threading
 import time
 import unittest
 
-from zanteyard import FENCE, Auditor, AuditorApart, LiveAuditor, Logged, NoCutError, NoMemoryError
+from zanteyard import FENCE, Auditor, LiveAuditor, Logged, NoCutError, NoMemoryError
 from zanteyard import Policy, ProgramEndedError
 from zanteyard.core.errors import NotAnchoredError
 from zanteyard.journal import _writer as journal_writer
 from zanteyard.program._auditor import PROGRAM
 from zanteyard.program._check_report import by_turns
-from zanteyard.program._intake import EFFORTS
 from zanteyard.program._rounds import Rounds
+from zanteyard.program._searched_round import EFFORTS
 from zanteyard.stores.memory import MemoryStore
 
 from .built import path_of
@@ -247,9 +247,9 @@ class WithMadeUp(unittest.TestCase):
         self.script = os.path.join(self.folder, "script")
         self.ended = os.path.join(self.folder, "ended")  # a file: searches end once it exists
 
-    def auditor(self, sessions=2, limit=64, kind=Auditor, more=(), **settings):
+    def auditor(self, sessions=2, limit=64, more=(), **settings):
         program = made_up(self.folder, **settings)
-        found = kind(sessions, limit, program, script=self.script, **dict(more))
+        found = Auditor(sessions, limit, program, script=self.script, **dict(more))
         self.addCleanup(found.end)
         return found
 
@@ -282,22 +282,19 @@ class WithMadeUp(unittest.TestCase):
 
 class WhileARoundIsSearched(WithMadeUp):
     def test_what_comes_meanwhile_is_in_the_next(self):
-        for kind in (Auditor, AuditorApart):
-            with self.subTest(kind=kind):
-                self.ended = os.path.join(self.folder, f"ended {kind.__name__}")
-                auditor = self.auditor(kind=kind, waits=self.ended)
-                auditor.offer(0, 0, WRITES)
-                auditor.begin_round()
-                self.assertFalse(auditor.has_round(0.0))
-                auditor.offer(0, 1, WRITES)
-                auditor.offer(1, 0, READS)
-                auditor.close(1)
-                self.assertFalse(auditor.has_round(0.05))
-                self.end_searches()
-                self.assertEqual(auditor.last_round()[:3], (1, "serial", [1, 0]))
-                self.assertEqual((auditor.received, auditor.remaining), ([2, 1], 3))
-                self.assertEqual(auditor.last_round()[:3], (2, "serial", [2, 1]))
-                auditor.end()
+        auditor = self.auditor(waits=self.ended)
+        auditor.offer(0, 0, WRITES)
+        auditor.begin_round()
+        self.assertFalse(auditor.has_round(0.0))
+        auditor.offer(0, 1, WRITES)
+        auditor.offer(1, 0, READS)
+        auditor.close(1)
+        self.assertFalse(auditor.has_round(0.05))
+        self.end_searches()
+        self.assertEqual(auditor.last_round()[:3], (1, "serial", [1, 0]))
+        self.assertEqual((auditor.received, auditor.remaining), ([2, 1], 3))
+        self.assertEqual(auditor.last_round()[:3], (2, "serial", [2, 1]))
+        auditor.end()
         self.assertEqual([line[0] for line in self.lines()], [
             "open", "offer", "begin", "search", "offer", "offer", "close", "collect",
             "begin", "search", "collect"])
@@ -306,20 +303,17 @@ class WhileARoundIsSearched(WithMadeUp):
 
     def test_sessions_hand_in_meanwhile(self):
         """From another thread, while a third one waits for the round."""
-        for kind in (Auditor, AuditorApart):
-            with self.subTest(kind=kind):
-                self.ended = os.path.join(self.folder, f"ended {kind.__name__}")
-                auditor = self.auditor(kind=kind, waits=self.ended, more={"policy": Policy(SECONDS)})
-                auditor.take(0, 0, WRITES)
-                report = self.beside(auditor.round)
-                self.wait_for(lambda: ["search", *EFFORTS[0], "guided"] in self.lines())
-                for number in range(1, 20):
-                    auditor.take(0, number, WRITES)
-                    auditor.take(1, number - 1, READS)
-                self.assertEqual((auditor.taken_in, auditor.failure), (39, None))
-                self.end_searches()
-                self.assertEqual(report().counts, [1, 0])
-                auditor.end()
+        auditor = self.auditor(waits=self.ended, more={"policy": Policy(SECONDS)})
+        auditor.take(0, 0, WRITES)
+        report = self.beside(auditor.round)
+        self.wait_for(lambda: ["search", *EFFORTS[0], "guided"] in self.lines())
+        for number in range(1, 20):
+            auditor.take(0, number, WRITES)
+            auditor.take(1, number - 1, READS)
+        self.assertEqual((auditor.taken_in, auditor.failure), (39, None))
+        self.end_searches()
+        self.assertEqual(report().counts, [1, 0])
+        auditor.end()
 
     def test_each_caller_has_a_round_of_its_own(self):
         auditor = self.auditor(waits=self.ended)
@@ -401,24 +395,23 @@ class WhileARoundIsSearched(WithMadeUp):
 class SearchesThatDoNotEnd(WithMadeUp):
     def test_one_that_takes_too_long_is_skipped(self):
         """The program goes on, the round is undecided, and the next one runs as usual."""
-        for kind in (Auditor, AuditorApart):
-            for journal in (None, os.path.join(self.folder, f"journal {kind.__name__}")):
-                with self.subTest(kind=kind, journal=journal):
-                    self.ended = os.path.join(self.folder, f"ended {kind.__name__} {bool(journal)}")
-                    more = {"round_seconds": 0.2, "journal": journal}
-                    auditor = self.auditor(kind=kind, more=more, waits=self.ended)
-                    process = getattr(auditor, "program", auditor).process
-                    auditor.take(0, 0, WRITES)
-                    self.assertEqual(auditor.round()[:3], (1, "spent", [1, 0]))
-                    outcome = auditor.outcome()
-                    self.assertEqual((outcome.kind, outcome.failure), ("undecided", None))
-                    self.assertIsNone(process.poll())
-                    if journal and kind == Auditor:
-                        auditor.program.process.kill()  # another program goes on, without that round
-                    auditor.take(1, 0, READS)
-                    self.end_searches()
-                    self.assertEqual(auditor.round()[:3], (3, "serial", [1, 1]))
-                    auditor.end()
+        for journal in (None, os.path.join(self.folder, "journal")):
+            with self.subTest(journal=journal):
+                self.ended = os.path.join(self.folder, f"ended {bool(journal)}")
+                more = {"round_seconds": 0.2, "journal": journal}
+                auditor = self.auditor(more=more, waits=self.ended)
+                process = auditor.program.process
+                auditor.take(0, 0, WRITES)
+                self.assertEqual(auditor.round()[:3], (1, "spent", [1, 0]))
+                outcome = auditor.outcome()
+                self.assertEqual((outcome.kind, outcome.failure), ("undecided", None))
+                self.assertIsNone(process.poll())
+                if journal:
+                    auditor.program.process.kill()  # another program goes on, without that round
+                auditor.take(1, 0, READS)
+                self.end_searches()
+                self.assertEqual(auditor.round()[:3], (3, "serial", [1, 1]))
+                auditor.end()
         if journal:
             with Auditor.resumed(journal, made_up(self.folder)) as resumed:
                 self.assertEqual(resumed.round()[:3], (4, "serial", [1, 1]))
@@ -488,8 +481,8 @@ class SearchesThatDoNotEnd(WithMadeUp):
 
 
 class BelowALiveAudit(WithMadeUp):
-    def live(self, kind=AuditorApart, limit=4096, sessions=2, **settings):
-        auditor = self.auditor(sessions, limit, kind, **settings)
+    def live(self, limit=4096, sessions=2, **settings):
+        auditor = self.auditor(sessions, limit, **settings)
         policy = Policy(60.0, begins_anew=False)
         its = {"every": 10000, "seconds": 0.0, "patience": 60.0}
         return LiveAuditor(auditor, policy=policy, **its), auditor
@@ -512,38 +505,35 @@ class BelowALiveAudit(WithMadeUp):
     def test_who_joins_waits_and_holds_up_nobody(self):
         """A session that a client has joined is taken in after the report, with everything it
         did."""
-        for kind in (Auditor, AuditorApart):
-            with self.subTest(kind=kind):
-                self.ended = os.path.join(self.folder, f"ended {kind.__name__}")
-                self.end_searches()
-                live, auditor = self.live(kind, waits=self.ended)
-                live._pace.seconds = 600.0
-                store = MemoryStore()
-                stays = live.session(store.connect())
-                stays.run(add_one)
-                live._pace.every = 1
-                self.wait_for(lambda: live.cuts)  # from here on sessions may join
-                live._pace.every, live._pace.seconds = 10000, 0.0
-                os.remove(self.ended)
-                stays.run(add_one)
-                self.wait_for(lambda: self.lines()[-1][0] in ("search", "offer"))
-                rounds, others = live.rounds, [live.session(store.connect()) for _ in range(2)]
-                for _ in range(5):
-                    for session in (stays, *others):
-                        session.run(add_one)
-                numbers = [session.number for session in others]
-                self.wait_for(lambda: auditor.received[0] == live.next_number(0))
-                time.sleep(0.2)
-                self.assertEqual(live.rounds, rounds)
-                joined = max(numbers)
-                self.assertEqual([line for line in self.lines() if line[:2] == ["join", joined]], [])
-                self.end_searches()
-                self.wait_for(lambda: len(auditor.received) > joined and auditor.received[joined] > 5)
-                self.assertNotIn("RoundOpen", str(live.failure))
-                outcome = live.stop()
-                self.assertEqual((outcome.kind, outcome.audited, outcome.failure),
-                                 ("serial", outcome.handed_in, None))
-                auditor.end()
+        self.end_searches()
+        live, auditor = self.live(waits=self.ended)
+        live._pace.seconds = 600.0
+        store = MemoryStore()
+        stays = live.session(store.connect())
+        stays.run(add_one)
+        live._pace.every = 1
+        self.wait_for(lambda: live.cuts)  # from here on sessions may join
+        live._pace.every, live._pace.seconds = 10000, 0.0
+        os.remove(self.ended)
+        stays.run(add_one)
+        self.wait_for(lambda: self.lines()[-1][0] in ("search", "offer"))
+        rounds, others = live.rounds, [live.session(store.connect()) for _ in range(2)]
+        for _ in range(5):
+            for session in (stays, *others):
+                session.run(add_one)
+        numbers = [session.number for session in others]
+        self.wait_for(lambda: auditor.received[0] == live.next_number(0))
+        time.sleep(0.2)
+        self.assertEqual(live.rounds, rounds)
+        joined = max(numbers)
+        self.assertEqual([line for line in self.lines() if line[:2] == ["join", joined]], [])
+        self.end_searches()
+        self.wait_for(lambda: len(auditor.received) > joined and auditor.received[joined] > 5)
+        self.assertNotIn("RoundOpen", str(live.failure))
+        outcome = live.stop()
+        self.assertEqual((outcome.kind, outcome.audited, outcome.failure),
+                         ("serial", outcome.handed_in, None))
+        auditor.end()
 
     def test_no_more_is_taken_in_than_there_is_room_for(self):
         live, _ = self.live(limit=24, waits=self.ended)
@@ -609,7 +599,7 @@ class LiveByTheProgram(unittest.TestCase):
     def audited(self, fault):
         """The outcome, and what its auditor has forgotten; its script is kept."""
         policy = Policy(60.0, begins_anew=False)
-        with AuditorApart(2, script=self.script) as auditor:
+        with Auditor(2, script=self.script) as auditor:
             its = {"every": 16, "seconds": 0.02, "policy": policy, "patience": 60.0}
             live, store = LiveAuditor(auditor, **its), MemoryStore(fault)
             stays = live.session(store.connect())

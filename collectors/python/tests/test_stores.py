@@ -16,7 +16,7 @@ import threading
 import time
 import unittest
 
-from zanteyard import AbortedError, AuditorApart, Auditor, LiveAuditor, NameTakenError, OutcomeUnknownError, Session
+from zanteyard import AbortedError, Auditor, LiveAuditor, NameTakenError, OutcomeUnknownError, Session
 from zanteyard.trial.under_load import CLIENTS, run_at_once
 from zanteyard.core._own_keys import FENCE
 from zanteyard.program._auditor import PROGRAM
@@ -180,7 +180,7 @@ class Each:
         for level in (self.levels[0], self.levels[-1]):
             with self.subTest(level=level):
                 told = []
-                with AuditorApart(4) as auditor:
+                with Auditor(4) as auditor:
                     more = {"tell": told.append, "policy": RATHER_WAIT, "patience": 10.0}
                     live = LiveAuditor(auditor, every=12, seconds=0.5, **more)
                     sessions = [live.session(self.made(level, **self.waiting)) for _ in range(3)]

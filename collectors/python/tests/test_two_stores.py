@@ -10,7 +10,7 @@ import threading
 import unittest
 from unittest import mock
 
-from zanteyard import AbortedError, AuditClient, Auditor, AuditorApart, AuditServer, LiveAuditor, Policy, Session
+from zanteyard import AbortedError, AuditClient, Auditor, AuditServer, LiveAuditor, Policy, Session
 from zanteyard import StoreUnfitError
 from zanteyard.core._store_identity import LONGEST, UNSURE, UNTOLD, AuditedStore, StoreIdentity
 from zanteyard.core._store_identity import checked, identity_of
@@ -55,8 +55,8 @@ class Quiet(unittest.TestCase):
         self.addCleanup(folder.cleanup)
         self.folder = folder.name
 
-    def auditor(self, sessions=2, kind=Auditor, **more):
-        auditor = kind(sessions, program=PLAIN, policy=PATIENT, **more)
+    def auditor(self, sessions=2, **more):
+        auditor = Auditor(sessions, program=PLAIN, policy=PATIENT, **more)
         self.addCleanup(auditor.end)
         return auditor
 
@@ -490,14 +490,12 @@ class InMemory(Quiet):
         return MemoryStore().connect(), MemoryStore().connect()
 
     def test_two_in_one_process(self):
-        for kind in (Auditor, AuditorApart):
-            with self.subTest(kind=kind.__name__):
-                first, second = self.stores()
-                auditor = self.auditor(kind=kind)
-                Session(auditor, 0, first).run(count)
-                with self.assertRaisesRegex(StoreUnfitError, "the in-memory store .*, but this client uses the in-memory store"):
-                    Session(auditor, 1, second).run(count)
-                self.assertEqual(auditor.outcome().kind, "serial")
+        first, second = self.stores()
+        auditor = self.auditor()
+        Session(auditor, 0, first).run(count)
+        with self.assertRaisesRegex(StoreUnfitError, "the in-memory store .*, but this client uses the in-memory store"):
+            Session(auditor, 1, second).run(count)
+        self.assertEqual(auditor.outcome().kind, "serial")
 
     def test_two_behind_a_live_auditor(self):
         first, second = self.stores()
@@ -622,16 +620,15 @@ class InMemory(Quiet):
 
     def test_a_new_audit_of_a_run_is_about_the_same(self):
         first, second = self.stores()
-        for kind in (Auditor, AuditorApart):
-            live = self.live(self.auditor(kind=kind), policy=Policy(SOON, pause=0.01))
-            a, b = live.session(first.shared.connect()), live.session(second)
-            a.run(count)
-            name = live.name
-            live.lose(AuditLostError("for a test"))
-            self.assertTrue(wait_until(lambda: live.name != name))
-            with self.assertRaises(StoreUnfitError):
-                b.run(count)
-            live.stop()
+        live = self.live(self.auditor(), policy=Policy(SOON, pause=0.01))
+        a, b = live.session(first.shared.connect()), live.session(second)
+        a.run(count)
+        name = live.name
+        live.lose(AuditLostError("for a test"))
+        self.assertTrue(wait_until(lambda: live.name != name))
+        with self.assertRaises(StoreUnfitError):
+            b.run(count)
+        live.stop()
 
     def test_one_that_can_not_tell_it_now_is_asked_again(self):
         """For example a Redis whose memory is full. Nothing is audited until then, and the
@@ -715,24 +712,22 @@ class InMemory(Quiet):
 
 
 class OverJournals(Quiet):
-    def with_one(self, kind):
+    def with_one(self):
         """An auditor that has taken in one transaction of a store, its journal, and the store."""
-        path, store = f"{self.folder}/{kind.__name__}", MemoryStore()
-        auditor = self.auditor(kind=kind, journal=path)
+        path, store = f"{self.folder}/journal", MemoryStore()
+        auditor = self.auditor(journal=path)
         Session(auditor, 0, store.connect()).run(count)
         self.assertTrue(wait_until(lambda: auditor.received[0] == 1))
         return auditor, path, store
 
     def test_a_journal_knows_which_store_it_is(self):
-        for kind in (Auditor, AuditorApart):
-            with self.subTest(kind=kind.__name__):
-                auditor, path, store = self.with_one(kind)
-                auditor.end()
-                resumed = Auditor.resumed(path, PLAIN)
-                self.addCleanup(resumed.end)
-                self.assertEqual(resumed.audited_store.identity, store.identity)
-                with self.assertRaises(StoreUnfitError):
-                    resumed.meet_store(MemoryStore().identity)
+        auditor, path, store = self.with_one()
+        auditor.end()
+        resumed = Auditor.resumed(path, PLAIN)
+        self.addCleanup(resumed.end)
+        self.assertEqual(resumed.audited_store.identity, store.identity)
+        with self.assertRaises(StoreUnfitError):
+            resumed.meet_store(MemoryStore().identity)
 
     def test_one_that_was_written_anew_knows_it(self):
         path = f"{self.folder}/journal"
@@ -750,14 +745,12 @@ class OverJournals(Quiet):
         self.assertEqual(resumed.audited_store.identity, store.identity)
 
     def test_that_of_a_runs_next_audit_knows_it(self):
-        for kind in (Auditor, AuditorApart):
-            with self.subTest(kind=kind.__name__):
-                auditor, path, store = self.with_one(kind)
-                auditor.start_anew()
-                auditor.end()
-                resumed = Auditor.resumed(path, PLAIN)
-                self.addCleanup(resumed.end)
-                self.assertEqual((resumed.audits, resumed.audited_store.identity), (2, store.identity))
+        auditor, path, store = self.with_one()
+        auditor.start_anew()
+        auditor.end()
+        resumed = Auditor.resumed(path, PLAIN)
+        self.addCleanup(resumed.end)
+        self.assertEqual((resumed.audits, resumed.audited_store.identity), (2, store.identity))
 
     def test_one_of_before_any_client_came_knows_none(self):
         path = f"{self.folder}/journal"

@@ -9,8 +9,8 @@
         alice.run(lambda t: t.put("rent", str(int(t.get("rent") or 0) + 10)))
         print(auditor.outcome())
 
-- To run: an Auditor, or an AuditorApart, which holds clients up less; a Session for each client,
-  over a Store. Each transaction of a session is a Transaction.
+- To run: an Auditor; a Session for each client, over a Store. Each transaction of a session is a
+  Transaction.
 - For clients that run without end: a LiveAuditor, which gives out sessions. For clients in other
   processes: an AuditServer here, and an AuditClient there. A Policy says what gives way.
 - An auditor with a journal survives the end of its program. Auditor.resumed continues an audit
@@ -64,7 +64,6 @@ if TYPE_CHECKING:
         ProgramEndedError,
         ProgramLateError,
         ProgramMissingError,
-        ProgramUnreachableError,
         RefusedError,
         ScriptMistakeError,
         StoreLateError,
@@ -80,7 +79,6 @@ if TYPE_CHECKING:
     from .live._live_auditor import LiveAuditor
     from .live._told import ClientTold, RoundTold
     from .program._auditor import Auditor
-    from .program._subprocess import AuditorApart
     from .remote._client import AuditClient
     from .remote._server import AuditServer
     from .session._session import Session
@@ -102,8 +100,7 @@ _PLACES = {
         "JournalInUseError JournalVersionError KeyFileError NameTakenError NoCutError "
         "NoMemoryError NoRoundError NotAnchoredError OtherVersionError "
         "OutcomeUnknownError ProgramEndedError ProgramLateError ProgramMissingError "
-        "ProgramUnreachableError RefusedError ScriptMistakeError StoreLateError "
-        "StoreUnfitError ZanteyardError"
+        "RefusedError ScriptMistakeError StoreLateError StoreUnfitError ZanteyardError"
     ),
     "explain._anomalies": "find_anomaly",
     "explain._audited": "audited from_start",
@@ -114,7 +111,6 @@ _PLACES = {
     "live._live_auditor": "LiveAuditor",
     "live._told": "ClientTold RoundTold",
     "program._auditor": "Auditor",
-    "program._subprocess": "AuditorApart",
     "remote._client": "AuditClient",
     "remote._server": "AuditServer",
     "session._session": "Session",
@@ -137,7 +133,7 @@ def __dir__() -> list[str]:
 
 __all__ = [
     # running
-    *("Auditor", "AuditorApart", "Session", "Store", "Transaction", "Logged", "FENCE", "Cut"),
+    *("Auditor", "Session", "Store", "Transaction", "Logged", "FENCE", "Cut"),
     *("LiveAuditor", "AuditServer", "AuditClient"),
     *("Policy", "RATHER_LOSE_THE_AUDIT", "RATHER_WAIT"),
     # outcomes
@@ -154,7 +150,7 @@ __all__ = [
     *("KeyFileError", "NameTakenError", "NoCutError"),
     *("NoMemoryError", "NoRoundError", "NotAnchoredError"),
     *("OtherVersionError", "OutcomeUnknownError", "ProgramEndedError"),
-    *("ProgramLateError", "ProgramMissingError", "ProgramUnreachableError"),
+    *("ProgramLateError", "ProgramMissingError"),
     *("RefusedError", "ScriptMistakeError", "StoreLateError"),
     *("StoreUnfitError", "ZanteyardError"),
     "__version__",

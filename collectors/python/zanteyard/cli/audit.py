@@ -23,7 +23,7 @@ from ..explain._report import Story
 from ..explain._violation_text import tell_story
 from ..live._live_auditor import LiveAuditor
 from ..live._told import RoundTold
-from ..program._subprocess import AuditorApart
+from ..program._auditor import Auditor
 from ..promises._kinds import LIVE as PROMISES
 from ..remote._server import AuditServer
 from ..session._session import Session
@@ -171,7 +171,7 @@ def audited_run(
     policy = RATHER_WAIT if asked.rather_wait else RATHER_LOSE_THE_AUDIT
     rounds, story = _Rounds(), None
     promise = asked.promise
-    with AuditorApart(asked.clients, journal=asked.audit_journal, promise=promise) as auditor:
+    with Auditor(asked.clients, journal=asked.audit_journal, promise=promise) as auditor:
         more: Any = {"on_client": _say} if asked.churn else {}  # prints clients' first transactions
         its = {"every": asked.every, "policy": policy, "tell": _say, "on_round": rounds.see}
         live = LiveAuditor(auditor, **its, **more)

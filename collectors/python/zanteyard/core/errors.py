@@ -24,10 +24,6 @@ class ProgramLateError(ProgramEndedError):
     """The program didn't answer in time."""
 
 
-class ProgramUnreachableError(ProgramEndedError):
-    """The process between this one and the program is gone. The program may still be running."""
-
-
 class OtherVersionError(ZanteyardError):
     """The versions of the clients and of the auditor's process don't fit. Nothing has begun."""
 

@@ -11,8 +11,8 @@ from ..core._records import ShownId, Source
 from ..core.errors import CantBeAskedError
 from ..program._auditor import Auditor
 from ..program._binaries import PROGRAM
-from ..program._intake import GUIDED
 from ..program._lines import written
+from ..program._searched_round import GUIDED
 from ..promises._asking import LIMIT, MOST_SESSIONS, SESSIONS, Asking, form_of, ids_of, longest
 from ..promises._asking import most_remaining
 from ..promises._kinds import EVENTS, SERIALIZABLE, SNAPSHOT, Promise

@@ -4,18 +4,16 @@ import logging
 import time
 from collections import Counter
 from collections.abc import Iterable, Sequence
-from typing import Any
 
 from ..core._outcome import COLLECTOR, PENDING, RUNNING, SERIAL, VIOLATED, Outcome, kind_of
 from ..core._own_keys import FENCE, LONGEST
-from ..core._records import AuditId, Cut, Pending, Report, StoreId, unpacked
+from ..core._records import AuditId, Cut, Logged, Pending, Report, StoreId
 from ..core._tenancy import Tenancy
 from ..core._window import SESSIONS, Coverage
 from ..core.errors import AuditLostError, FullError, NoCutError, NotAnchoredError
 from ..explain._shrinking import is_collectors_own
 from ..program._auditor import Auditor
-from ..program._intake import Fragment, never_came
-from ..program._subprocess import AuditorApart
+from ..program._offers import Fragment, never_came
 from ._backlog import Backlog, HandedIn
 from ._figures import Figures
 from ._fragments import fragments
@@ -23,7 +21,6 @@ from ._told import ClientTold, RoundTold, Teller
 
 logger = logging.getLogger("zanteyard")
 MEANWHILE = 0.04  # seconds during which more transactions arrive while a round is searched
-AnyAuditor = Auditor | AuditorApart
 
 
 class Audit:
@@ -33,7 +30,7 @@ class Audit:
 
     def __init__(
         self,
-        auditor: AnyAuditor,
+        auditor: Auditor,
         backlog: Backlog,
         figures: Figures,
         teller: Teller,
@@ -134,7 +131,7 @@ class Audit:
         offers = [
             (session, self._covered(session, number), logged)
             for _, session, number, logged in taken
-            if number is not None
+            if number is not None and logged is not None
         ]
         self._offer_all(fragments(offers, self._auditor.longest), joining)
         for came, session, number, _ in taken:
@@ -202,7 +199,7 @@ class Audit:
         """The fence that the first transaction of a joining session has read; None if it read
         none."""
         logged = self._held[session][0][3]
-        logged = unpacked(logged) if type(logged) is bytes else logged
+        assert logged is not None
         sources = [source for key, source in logged.reads if key == FENCE and source != "init"]
         return StoreId((sources[0][0], sources[0][1])) if sources else None
 
@@ -276,7 +273,7 @@ class Audit:
             for number, logged in enumerate(txns, first):
                 self._offer(session, number, logged, session in joining and number == first)
 
-    def _offer(self, session: int, number: int, logged: Any, joins: bool) -> None:
+    def _offer(self, session: int, number: int, logged: Logged, joins: bool) -> None:
         try:
             (self._auditor.join if joins else self._auditor.offer)(session, number, logged)
         except FullError as error:

@@ -3,15 +3,13 @@
 import queue
 import threading
 from collections.abc import Iterable, Sequence
-from typing import Any
 
 from ..core._own_keys import FLAG, is_own
 from ..core._records import Logged
 
 # When it arrived by the monotonic clock, the session, the transaction's number (None for the end of
-# the session), and what was logged. A plain tuple of plain values is no work for the clients'
-# garbage collector.
-HandedIn = tuple[float, int, int | None, Any]
+# the session), and what was logged.
+HandedIn = tuple[float, int, int | None, Logged | None]
 DROPPED = -1  # in place of a session: counts what other processes couldn't hand over
 
 

@@ -3,10 +3,9 @@
 import contextlib
 import logging
 from collections.abc import Callable, Iterable
-from typing import Any
 
 from ..core._forks import is_forked
-from ..core._records import unpacked
+from ..core._records import Logged, unpacked
 from ..core._redacting import redacted_bytes
 from ..core._store_identity import AuditedStore, StoreIdentity
 from ..core.errors import AuditLostError
@@ -23,7 +22,6 @@ class ForProcesses(LiveFigures):
 
     token: str
     redacts: bool
-    _packed: Any  # packs what was logged, if the auditor takes it packed
     _crash_searches: CrashSearches
     _at_end: list[Callable[[], object]]
 
@@ -79,10 +77,10 @@ class ForProcesses(LiveFigures):
     ) -> None:
         """Hands in what a transaction did. `came` is when it arrived, by the monotonic clock."""
         kept = redacted_bytes(packed) if self.redacts else packed
-        self._hand_in(came, session, number, unseen, kept if self._packed else unpacked(kept))
+        self._hand_in(came, session, number, unseen, unpacked(kept))
 
     def _hand_in(
-        self, came: float, session: int, number: int, unseen: Iterable[str], what: Any
+        self, came: float, session: int, number: int, unseen: Iterable[str], what: Logged
     ) -> None:
         self._backlog.count(session, number, unseen)
         if not self._drops():

@@ -22,12 +22,12 @@ from ..core._records import AuditId, Logged
 from ..core._stores import Store
 from ..core._window import SESSIONS, Coverage
 from ..core.errors import AuditLostError
+from ..program._auditor import Auditor
 from ..program._binaries import slowness_of
-from ..program._subprocess import AuditorApart
 from ..session._local_sessions import PATIENCE
 from ..session._place import Place
 from ..session._session import Session
-from ._audit import AnyAuditor, Audit
+from ._audit import Audit
 from ._audit_start import coverage_from_now
 from ._backlog import Backlog, keys_written_unseen
 from ._crash_searches import CrashSearches
@@ -53,8 +53,7 @@ class LiveAuditor(ForProcesses):
     """Audits clients while they run: any number of them, 64 at a time. Safe for use by several
     threads.
 
-    `auditor` is an Auditor, or an AuditorApart, which holds clients up less. `run_name` is the name
-    of the run, by default the auditor's.
+    `run_name` is the name of the run, by default the auditor's.
 
     A meeting takes place after `every` transactions (after a quarter of that if the last one
     failed), and waits up to `patience` seconds for clients' transactions. `seconds` after the last
@@ -81,7 +80,7 @@ class LiveAuditor(ForProcesses):
 
     def __init__(
         self,
-        auditor: AnyAuditor,
+        auditor: Auditor,
         run_name: str | None = None,
         every: int = EVERY,
         seconds: float = 2.0,
@@ -107,8 +106,6 @@ class LiveAuditor(ForProcesses):
         self.auditor = auditor
         self.is_named = run_name is not None or auditor.is_named
         self.token, self.redacts = auditor.token, redacts
-        # Packs what was logged while it waits.
-        self._packed = auditor.packed if isinstance(auditor, AuditorApart) else None
         self._teller = Teller(tell, on_round, on_client)
         if auditor.promise.is_split:  # half the room
             every = min(every, self.EVERY // 2)
@@ -168,9 +165,7 @@ class LiveAuditor(ForProcesses):
 
     def take(self, session: int, number: int, logged: Logged) -> None:
         """Hands in what a transaction did. Waits for room as long as the policy says."""
-        what = self._packed(logged) if self._packed else logged
-        unseen = keys_written_unseen(logged)
-        self._hand_in(time.monotonic(), session, number, unseen, what)
+        self._hand_in(time.monotonic(), session, number, keys_written_unseen(logged), logged)
         if self._backlog.is_over_full and threading.current_thread() is not self._thread:
             self._wait_for_room()
 
@@ -197,7 +192,7 @@ class LiveAuditor(ForProcesses):
         if room < self._backlog.most:  # it may be fast enough, and be full
             why = self._audit.why_no_cut or "the next cut hasn't been made"
             return f"the auditor has room for {room} more transactions, but {waits}: {why}"
-        slow = slowness_of(getattr(self.auditor, "path", ""))
+        slow = slowness_of(self.auditor.path)
         return f"the auditor can't keep up: {waits}{slow}"
 
     def _renew(self, session: Session) -> Place | None:

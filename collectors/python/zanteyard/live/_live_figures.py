@@ -4,7 +4,8 @@
 from ..core._outcome import Outcome
 from ..core._records import Report
 from ..session._local_sessions import LocalSessions
-from ._audit import AnyAuditor, Audit
+from ..program._auditor import Auditor
+from ._audit import Audit
 from ._backlog import Backlog
 from ._figures import Figures
 from ._quiesce_coordinator import QuiesceCoordinator
@@ -14,7 +15,7 @@ from ._session_pool import SessionPool
 class LiveFigures(LocalSessions):
     """May be read by any thread."""
 
-    auditor: AnyAuditor
+    auditor: Auditor
     _audit: Audit  # the current one, or the last
     _backlog: Backlog
     _pool: SessionPool

@@ -2,9 +2,10 @@
 
 import json
 import logging
+import threading
 import time
-from collections.abc import Mapping, Sequence
-from typing import Any
+from collections.abc import Callable, Mapping, Sequence
+from typing import Any, NamedTuple
 
 from ..core._private_files import private
 from ..core.errors import (
@@ -19,10 +20,10 @@ from ..core.errors import (
     ProgramLateError,
     RefusedError,
 )
-from ._intake import SECONDS, Intake
 from ._pipes import Pipes
 from ._supervised import SupervisedProgram
 
+SECONDS = 60.0  # for the answer to a line that no client waits for
 SHOWN = 160  # characters of a refused line
 WAITS = (0.1, 0.5)  # seconds until a line that was answered NoMemory is sent again
 ENDED = "cobra_audit was closed"
@@ -49,13 +50,48 @@ def refusal_of(text: str, reply: Sequence[Any]) -> RefusedError | None:
     return KINDS.get(reply[2], RefusedError)(f"{short} was refused: {reply[2]}")
 
 
-class Lines(Intake):
+class LateLine(NamedTuple):
+    """A session's line that isn't answered yet. `note` is called with the refusal in its answer, if
+    any, and returns what is to be raised. `sent` is when it was sent, by the monotonic clock."""
+
+    text: str
+    note: Callable[[RefusedError | None], RefusedError | None]
+    sent: float
+
+
+class Lines:
     """Safe for use by several threads: each call is one line and its reply."""
 
     script_path: str | None
     script_failure: OSError | None  # why the script lacks lines
     script: Any = None  # an unbuffered file, whose `write` returns how much it took
     program: Pipes | SupervisedProgram | None = None
+    round_seconds: float  # that a round's search may take
+    audits: int
+    lock: threading.RLock  # the state follows the replies in their order
+    _late: LateLine | None = None
+
+    # Lines and answers are in step except between `_leave_step` and `_be_in_step`. If an interrupt
+    # came there, the next caller could take an answer that isn't its own.
+
+    _is_in_step = True
+    _why_out = ""  # the reason, if it was no interrupt
+
+    def _leave_step(self) -> None:
+        """Marks the start of a request. The caller holds the lock."""
+        self._still_in_step()
+        self._is_in_step = False
+
+    def _still_in_step(self) -> None:
+        """Raises ProgramEndedError if an earlier request was never completed."""
+        if not self._is_in_step:
+            self._give_up()
+            raise ProgramEndedError(self._why_out or "questions and answers are out of step")
+
+    def _be_in_step(self) -> None:
+        """Marks that an answer was read completely and its contents kept."""
+        self._why_out = ""
+        self._is_in_step = True
 
     def _open_script(self) -> None:
         """Opens the script. That of a later audit is next to the first one's, with the audit's
@@ -81,6 +117,23 @@ class Lines(Intake):
         if self._late is not None:
             self._end_late(SECONDS)
         self._leave_step()
+
+    def _end_late(self, seconds: float) -> None:
+        """Reads the answer to a session's line. Raises ProgramLateError, and may then be called
+        again, as after an interrupt."""
+        late = self._late
+        assert late is not None
+        self._still_in_step()
+        if self.program is None:
+            raise ProgramEndedError(ENDED)
+        self.program.wait(1, seconds)
+        self._leave_step()
+        (answer,) = self.program.answers(1, seconds)
+        refusal = late.note(self._settled(late.text, json.loads(answer), seconds)[1])
+        self._late = None
+        self._be_in_step()
+        if refusal is not None:
+            raise refusal
 
     def _settled(
         self, text: str, reply: list[Any], seconds: float = SECONDS

@@ -1,5 +1,6 @@
 """Rounds of an auditor, which takes in more while each is searched."""
 
+import threading
 import time
 from collections import deque
 from collections.abc import Iterator, Sequence
@@ -8,9 +9,9 @@ from typing import Any
 
 from ..core._records import Report
 from ..core.errors import NoRoundError
-from ._intake import EFFORTS, GUIDED, SECONDS, Effort
-from ._lines import Lines, refusal_of, written
-from ._searched_round import COLLECT, REPORT, SKIP, SearchedRound
+from ._lines import SECONDS, Lines, refusal_of, written
+from ._searched_round import COLLECT, EFFORTS, GUIDED, REPORT, SKIP, Effort, SearchedRound
+from ._searched_round import pause_after
 from ._supervised import SupervisedProgram
 
 COLLECTED = b'["collect","wait"]'  # has the same reply whenever a script is replayed
@@ -20,6 +21,38 @@ SPENT = "spent"  # nothing was decided
 class Rounds(Lines):
     """Safe for use by several threads, except that one thread at a time begins a round and takes
     its report."""
+
+    received: Any  # how many transactions of each session were taken in, including forgotten ones
+    _rounds: threading.RLock  # one round at a time, for one caller
+    _is_round_begun = False  # and waits for its `last_round`
+
+    def begin_round(self, efforts: Sequence[Effort] = EFFORTS) -> None:
+        """Begins the round that the next `last_round` reports. What is offered in between isn't
+        part of it."""
+        with self._rounds:
+            self._begin_search(efforts)
+            self._is_round_begun = True
+
+    def has_round(self, seconds: float) -> bool:
+        """Whether the report of the round that was begun is ready; waits at most this many
+        seconds."""
+        try:
+            return self._await_report(seconds)
+        except BaseException:
+            self._is_round_begun = False  # nobody waits for it any more
+            raise
+
+    def last_round(self, efforts: Sequence[Effort] = EFFORTS) -> Report:
+        """As `round`, for what has been taken in so far, even if something was lost; or for the
+        round that was begun. During the search sessions can hand in, but none can join."""
+        with self._rounds:
+            if not self._is_round_begun:
+                self._begin_search(efforts)
+            self._is_round_begun = False  # after an interrupt another one is begun
+            began = time.monotonic()
+            while not self.has_round(0.0):
+                time.sleep(pause_after(time.monotonic() - began))  # others can take the lock
+            return self._take_report()
 
     def _have_no_round(self, told: int = 0) -> None:
         """Initial state with a new program; `told` rounds were reported before."""
@@ -32,6 +65,7 @@ class Rounds(Lines):
         self._uncounted = 0  # reported rounds that the program doesn't count
 
     def _begin_search(self, efforts: Sequence[Effort]) -> None:
+        """Starts the search of a round. An open round that nobody waits for is skipped."""
         with self.lock:
             self._report = None
             if self._may_be_open:
@@ -53,6 +87,7 @@ class Rounds(Lines):
         self._search = SearchedRound(self._ask_of_round, asked, self.round_seconds)
 
     def _await_report(self, seconds: float) -> bool:
+        """Whether the report is ready; waits at most this many seconds."""
         until = time.monotonic() + seconds
         while not self._has_report():
             search, left = self._search, until - time.monotonic()

@@ -1,16 +1,29 @@
 """One round of cobra_audit, which goes on searching while more lines arrive (docs/FORMATS.md)."""
 
+import os
 import time
 from collections.abc import Callable, Sequence
 from typing import Any
 
 from ..core.errors import NoMemoryError
-from ._intake import pause_after
 
+# The efforts of a round: how many nodes its search may look at, the depth at which the search is
+# split, and how many workers share it. If one effort doesn't decide, the next one follows.
+Effort = tuple[int, int, int]
+EFFORTS: tuple[Effort, ...] = ((4096, 0, 1), (65536, 4, max(1, min(16, os.cpu_count() or 1))))
+GUIDED = "guided"  # the search that each round uses; it finds more than the plain one
+ROUND_SECONDS = 60.0  # the default limit of a round's search
+# A search is polled again after an eighth of the time that it has taken, within these bounds.
+SHARE, LEAST_PAUSE, LONGEST_PAUSE = 8, 0.0005, 0.02
 Ask = Callable[[Sequence[Any]], list[Any]]  # returns the reply to a line; raises RefusedError
 BEGIN, COLLECT, SKIP = ["begin"], ["collect"], ["skip"]
 REPORT = "report"
 WAITS = (0.1, 0.5)  # seconds until a search that ran out of memory is tried again
+
+
+def pause_after(seconds: float) -> float:
+    """Seconds until a search that has taken `seconds` so far is polled again."""
+    return min(LONGEST_PAUSE, max(LEAST_PAUSE, seconds / SHARE))
 
 
 class SearchedRound:

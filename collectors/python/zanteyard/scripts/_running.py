@@ -18,7 +18,8 @@ from ..core.errors import (
     ProgramEndedError,
     ScriptMistakeError,
 )
-from ..program._intake import EFFORTS, GUIDED, never_came
+from ..program._offers import never_came
+from ..program._searched_round import EFFORTS, GUIDED
 from ..promises._asking import KEYS, LIMIT, MOST, MOST_SESSIONS, SESSIONS, Asking, asked_in
 from ..promises._asking import begun_in, most_remaining
 from ..promises._kinds import SERIALIZABLE, SNAPSHOT, Promise
