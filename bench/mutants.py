@@ -36,7 +36,7 @@ FILES = {
         *("session/_*.py", "live/_backlog.py", "live/_session_pool.py", "live/_quiesce_coordinator.py"),
         *("live/_audit.py", "live/_live_auditor.py", "live/_for_processes.py", "live/_pace.py"),
         *("program/_rounds.py", "program/_searched_round.py", "live/_told.py"),
-        *("core/_crash_notes.py", "core/_tenancy.py", "core/_window.py", "remote/_crash_recovery.py"),
+        *("session/_crash_notes.py", "program/_tenancy.py", "program/_window.py", "remote/_crash_recovery.py"),
     ),
     "go": ("src/zanteyard/join/*.go",),
 }

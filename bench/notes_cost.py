@@ -15,7 +15,7 @@ import time
 sys.path.insert(0, os.path.join(os.path.dirname(os.path.abspath(__file__)), "../collectors/python"))
 
 from zanteyard import Session  # noqa: E402
-from zanteyard.core._crash_notes import CrashNotes  # noqa: E402
+from zanteyard.session._crash_notes import CrashNotes  # noqa: E402
 from zanteyard.core._records import as_bytes  # noqa: E402
 
 

@@ -3,7 +3,7 @@
 
     ./import_graph.py [--dot | --modules] [FOLDER]
 
-It prints a line for each package, lower ones first. `--dot` prints Graphviz text instead, with the
+It prints a line for each package, lower ones first; `watch.pages` is a package in `watch`. `--dot` prints Graphviz text instead, with the
 number of imports on each arc, and `--modules` the first sentence of each module's docstring. All
 import statements count, including those in functions. The status is 1 if packages form a cycle;
 then its imports are printed.
@@ -74,7 +74,7 @@ def graph_of(folder: str) -> Graph:
 
 def package_of(parts: Sequence[str]) -> str:
     """The package of a module, from its path within the whole package."""
-    return parts[0] if len(parts) > 1 else TOP
+    return ".".join(parts[:-1]) or TOP
 
 
 def imported_by(tree: ast.AST, home: Sequence[str], folder: str) -> Iterator[tuple[int, str]]:
@@ -95,8 +95,10 @@ def in_package(
     line: int, module: Sequence[str], whole: str, folder: str
 ) -> Iterator[tuple[int, str]]:
     if module[0] == whole:
-        is_package = len(module) > 1 and os.path.isdir(os.path.join(folder, module[1]))
-        yield line, module[1] if is_package else TOP
+        home = [*module[1:]]
+        while home and not os.path.isdir(os.path.join(folder, *home)):
+            home.pop()
+        yield line, ".".join(home) or TOP
 
 
 def told_cycle(graph: Graph, cycle: Sequence[str]) -> Iterator[str]:
@@ -130,7 +132,7 @@ def as_dot(graph: Graph) -> Iterator[str]:
 def as_modules(graph: Graph, folder: str) -> Iterator[str]:
     """Each package with its modules, and the first sentence of each module's docstring."""
     for package in graph.in_order():
-        home = folder if package == TOP else os.path.join(folder, package)
+        home = folder if package == TOP else os.path.join(folder, *package.split("."))
         yield package
         for name in sorted(os.listdir(home)):
             if name.endswith(".py") and (name != "__init__.py" or package == TOP):

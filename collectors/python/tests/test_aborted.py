@@ -14,7 +14,7 @@ from zanteyard.explain._anomalies import find_anomaly
 from zanteyard.core._own_keys import FENCE, FLAG
 from zanteyard.program._auditor import PROGRAM
 from zanteyard.cli._main import main
-from zanteyard.core._window import Coverage
+from zanteyard.program._window import Coverage
 from zanteyard.trial.lockstep import SESSIONS, run_lockstep
 from zanteyard.stores.memory import MemoryStore
 from zanteyard.core._records import MOST, as_bytes, undone, unpacked

@@ -20,7 +20,7 @@ from zanteyard.cli import audit
 from zanteyard.cli.audit import stopped_by_signals
 from zanteyard.cli._commands import COMMANDS, GROUPS, parser
 from zanteyard.cli._main import main
-from zanteyard.core._command_start import is_command
+from zanteyard.cli._command_start import is_command
 from zanteyard.core._outcome import Outcome
 from zanteyard.program import _binaries
 from zanteyard.program._binaries import ProgramOrigin, find_program, program_path

@@ -8,11 +8,11 @@ from dataclasses import dataclass
 from unittest import mock
 
 from tests import watch_feed as feed
-from zanteyard.watch._describing import AT_ONCE, Describing
-from zanteyard.watch._explaining import Explaining
-from zanteyard.watch._feed import answered_of
-from zanteyard.watch._kept import Kept
-from zanteyard.watch._violations import Answered, Held
+from zanteyard.watch.violations._describing import AT_ONCE, Describing
+from zanteyard.watch.violations._explaining import Explaining
+from zanteyard.watch.outcome._feed import answered_of
+from zanteyard.watch.violations._kept import Kept
+from zanteyard.watch.violations._violations import Answered, Held
 
 MANY = 3 * AT_ONCE - 10
 IDS = [(at % 8, at // 8) for at in range(MANY)]
@@ -110,7 +110,7 @@ class Explanations(unittest.TestCase):
 
     def setUp(self):
         self.told, self.asked = [], []
-        patched = mock.patch("zanteyard.watch._explaining.explained", lambda *its: Explained(its[3].transactions))
+        patched = mock.patch("zanteyard.watch.violations._explaining.explained", lambda *its: Explained(its[3].transactions))
         patched.start()
         self.addCleanup(patched.stop)
         self.explaining = Explaining("no program", lambda one, _: self.told.append(one))

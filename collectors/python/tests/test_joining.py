@@ -18,17 +18,17 @@ from zanteyard.live._figures import Figures
 from zanteyard.live._told import Teller
 from zanteyard.core._own_keys import FLAG
 from zanteyard.live._backlog import Backlog
-from zanteyard.core._window import Coverage
+from zanteyard.program._window import Coverage
 from zanteyard.live._audit_start import coverage_from_now
 from zanteyard.core.errors import AuditLostError, NotAnchoredError
 from zanteyard.remote._crash_recovery import NOTHING, CrashedProcess
 from zanteyard.stores.memory import MemoryStore
-from zanteyard.core._crash_notes import CrashNote
+from zanteyard.session._crash_notes import CrashNote
 from zanteyard.live._session_pool import SessionPool
 from zanteyard.core._records import as_bytes
 from zanteyard.session._place import Place
 from zanteyard.session._session import Session
-from zanteyard.core._tenancy import Tenancy
+from zanteyard.program._tenancy import Tenancy
 
 from .test_live import WithProgram, add_one
 from .waiting import SOON

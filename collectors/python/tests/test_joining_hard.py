@@ -11,7 +11,7 @@ from zanteyard.live._backlog import Backlog
 from zanteyard.core.errors import AuditLostError
 from zanteyard.remote._crash_recovery import CrashedProcess
 from zanteyard.stores.memory import MemoryStore
-from zanteyard.core._crash_notes import CrashNote
+from zanteyard.session._crash_notes import CrashNote
 from zanteyard.live._session_pool import SessionPool
 from zanteyard.core._records import as_bytes
 from zanteyard.session._place import Place

@@ -7,7 +7,7 @@ import time
 import unittest
 
 from zanteyard import Auditor, AuditLostError, ProgramEndedError, LiveAuditor, Logged, Policy
-from zanteyard.core._window import Coverage
+from zanteyard.program._window import Coverage
 from zanteyard.core.errors import JournalError, JournalInUseError, JournalVersionError
 from zanteyard.core._own_keys import FENCE
 from zanteyard.journal._file import Journal

@@ -16,7 +16,7 @@ from contextlib import suppress
 from unittest import mock
 
 from zanteyard import Auditor, AuditServer, LiveAuditor, Policy, Session
-from zanteyard.core._commit_status import find_out
+from zanteyard.stores._commit_status import find_out
 from zanteyard.core._own_keys import FENCE, MARK, is_own
 from zanteyard.program._auditor import PROGRAM
 from zanteyard.trial.postgres_server import PostgresServer, program

@@ -20,7 +20,7 @@ from zanteyard.core.errors import AuditLostError
 from zanteyard.remote._outbox import Outbox
 from zanteyard.remote._crash_recovery import NOTHING, CrashedProcess, LostError, in_files
 from zanteyard.stores.memory import MemoryStore
-from zanteyard.core._crash_notes import FORKED, HEAD, ROOM, CrashNotes, notes_of
+from zanteyard.session._crash_notes import FORKED, HEAD, ROOM, CrashNotes, notes_of
 from zanteyard.core._records import as_bytes, unpacked
 from zanteyard.core.errors import OutcomeUnknownError
 from zanteyard.session._place import Place
@@ -95,7 +95,7 @@ class Noted(unittest.TestCase):
                 self.assertEqual(len(self.failures), 1)
 
     def test_another_version_is_not_guessed_at(self):
-        with mock.patch("zanteyard.core._crash_notes.VERSION", 9):
+        with mock.patch("zanteyard.session._crash_notes.VERSION", 9):
             self.notes.write(0, 0, "aborted", None)
         self.assertIsNone(notes_of(self.path))
 

@@ -108,7 +108,7 @@ class Serving(unittest.TestCase):
     def test_who_asks_for_figures_and_is_slow_is_hung_up_on(self):
         for address in ("127.0.0.1:0", "[::1]:0"):
             try:
-                with mock.patch("zanteyard.watch._web.SLOWEST", 0.2):
+                with mock.patch("zanteyard.watch.pages._web.SLOWEST", 0.2):
                     server = MetricsServer(address, lambda: "figures\n")
             except OSError:
                 self.assertEqual(address, "[::1]:0")  # which a machine may not have

@@ -6,7 +6,7 @@ import tempfile
 import unittest
 
 from zanteyard import Auditor, Session
-from zanteyard.core._commit_status import UNKNOWN, find_out
+from zanteyard.stores._commit_status import UNKNOWN, find_out
 from zanteyard.core._own_keys import FLAG
 from zanteyard.trial.postgres_server import PostgresServer, program
 

@@ -12,10 +12,10 @@ from tests import watch_feed as feed
 from tests.made_up_programs import made_up
 from zanteyard.program._binaries import PROGRAM
 from zanteyard.watch._auditing import Auditing
-from zanteyard.watch._board import Board
-from zanteyard.watch._explaining import Explaining
-from zanteyard.watch._feed import Split
-from zanteyard.watch._intake import Intake
+from zanteyard.watch.outcome._board import Board
+from zanteyard.watch.violations._explaining import Explaining
+from zanteyard.watch.outcome._feed import Split
+from zanteyard.watch.proxy._intake import Intake
 from zanteyard.watch._watching import OK, Watching
 
 

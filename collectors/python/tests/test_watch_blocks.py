@@ -7,7 +7,7 @@ import unittest
 from zanteyard.program._binaries import PROGRAM
 from zanteyard.promises._kinds import SNAPSHOT
 from zanteyard.watch._auditing import Auditing, head_of
-from zanteyard.watch._feed import Split
+from zanteyard.watch.outcome._feed import Split
 
 OFFER, JOIN, OPEN = b'["offer",0,0,[[[],[5]]]]', b'["join",1,[[[[0,0,1]],[0]]]]', b'["open",1,8,3]'
 ROUND, TRUNCATE, EVENT = b'["round",64,0,1]', b'["truncate"]', b'{"event":"stopped","at":1}'

@@ -7,8 +7,8 @@ from tests import test_watch_after
 from tests import watch_feed as feed
 from tests.browsing import BROWSER, Browser
 from tests.test_watch_after import WRITE_SKEW, lost_update
-from zanteyard.watch._serving import Pages
-from zanteyard.watch._web import WebServer
+from zanteyard.watch.pages._serving import Pages
+from zanteyard.watch.pages._web import WebServer
 
 HEADING = "document.querySelector('h1').innerText"
 EXPLAINED = "document.querySelectorAll('ol.violations li').length"

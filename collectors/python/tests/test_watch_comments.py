@@ -5,7 +5,7 @@ import sys
 import unittest
 
 from zanteyard import comments
-from zanteyard.watch import _origins as origins
+from zanteyard.watch.violations import _origins as origins
 
 try:
     import psycopg2

@@ -5,10 +5,10 @@ from dataclasses import dataclass
 from tests import watch_feed as feed
 from zanteyard.core._records import Logged
 from zanteyard.explain._anomalies import Anomaly
-from zanteyard.watch import _sql_anomalies as sql_anomalies
-from zanteyard.watch._feed import seen_of
-from zanteyard.watch._state import added
-from zanteyard.watch._totals import Conditions
+from zanteyard.watch.violations import _sql_anomalies as sql_anomalies
+from zanteyard.watch.outcome._feed import seen_of
+from zanteyard.watch.outcome._state import added
+from zanteyard.watch.outcome._totals import Conditions
 
 SAID = {
     "seen": 1200, "followed": 1000, "passed_over": 4000, "left_out": {"LIMIT": 50, "an aggregate": 150},

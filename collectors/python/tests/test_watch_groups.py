@@ -13,13 +13,13 @@ from tests import watch_feed as feed
 from zanteyard.cli._commands import parser
 from zanteyard.core._records import AuditId
 from zanteyard.promises._kinds import SERIALIZABLE
-from zanteyard.watch._conflicts import cycles_of
-from zanteyard.watch._described import Described, Statement
-from zanteyard.watch._groups import (
+from zanteyard.watch.violations._conflicts import cycles_of
+from zanteyard.watch.violations._described import Described, Statement
+from zanteyard.watch.violations._groups import (
     MOST, Groups, KnownFileError, Ran, Shape, happened, known_in, lines_of_groups, shape_of,
 )
-from zanteyard.watch._hooks import Hooks
-from zanteyard.watch._violations import Answered, Held, Row
+from zanteyard.watch.violations._hooks import Hooks
+from zanteyard.watch.violations._violations import Answered, Held, Row
 
 AT = feed.AT
 REPORT = ["report", 1, "violated", [9] * 6, []]

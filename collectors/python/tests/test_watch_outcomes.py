@@ -5,13 +5,13 @@ import unittest
 from zanteyard.core._records import AuditId
 from zanteyard.explain._anomalies import Anomaly
 from zanteyard.explain._report import Story
-from zanteyard.watch._described import Described, Statement
-from zanteyard.watch._ending import lines_of
-from zanteyard.watch._live_page import changing
-from zanteyard.watch._state import Seen, Status
-from zanteyard.watch._totals import Total, Totals
-from zanteyard.watch._updates import APART, BUILT_ON, LOST, fate_of
-from zanteyard.watch._violations import Told, Violation
+from zanteyard.watch.violations._described import Described, Statement
+from zanteyard.watch.outcome._ending import lines_of
+from zanteyard.watch.pages._live_page import changing
+from zanteyard.watch.outcome._state import Seen, Status
+from zanteyard.watch.outcome._totals import Total, Totals
+from zanteyard.watch.violations._updates import APART, BUILT_ON, LOST, fate_of
+from zanteyard.watch.violations._violations import Told, Violation
 
 AT = 1764220800.25
 ONE, OTHER = AuditId((1, 0)), AuditId((2, 0))

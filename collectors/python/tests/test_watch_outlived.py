@@ -14,10 +14,10 @@ import unittest
 
 from zanteyard.program._binaries import PROGRAM
 from zanteyard.trial.postgres_server import PostgresServer, program
-from zanteyard.watch._attached import _is_like
-from zanteyard.watch._control import ControlError, Who, control_path, who
-from zanteyard.watch._database import Database
-from zanteyard.watch._proxy_program import proxy_path
+from zanteyard.watch.proxy._attached import _is_like
+from zanteyard.watch.proxy._control import ControlError, Who, control_path, who
+from zanteyard.watch.postgres._database import Database
+from zanteyard.watch.proxy._proxy_program import proxy_path
 
 try:
     import psycopg2

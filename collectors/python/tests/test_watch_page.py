@@ -16,21 +16,21 @@ from zanteyard.core._records import Logged
 from zanteyard.explain._charts import RoundSeen
 from zanteyard.explain._reasons import explain_history
 from zanteyard.explain._report import story_of
-from zanteyard.watch import _ending as ending
-from zanteyard.watch import _live_page as live_page
-from zanteyard.watch._board import Board
-from zanteyard.watch._described import Described, Statement
-from zanteyard.watch._feed import answered_of, seen_of
-from zanteyard.watch._json import status_json
-from zanteyard.watch._serving import Pages
-from zanteyard.watch._state import Ended, Status
-from zanteyard.watch._totals import Total
-from zanteyard.watch._style import NOW, SCRIPT, STYLE
+from zanteyard.watch.outcome import _ending as ending
+from zanteyard.watch.pages import _live_page as live_page
+from zanteyard.watch.outcome._board import Board
+from zanteyard.watch.violations._described import Described, Statement
+from zanteyard.watch.outcome._feed import answered_of, seen_of
+from zanteyard.watch.outcome._json import status_json
+from zanteyard.watch.pages._serving import Pages
+from zanteyard.watch.outcome._state import Ended, Status
+from zanteyard.watch.outcome._totals import Total
+from zanteyard.watch.pages._style import NOW, SCRIPT, STYLE
 from zanteyard.core._visible import escaped, visible, visible_lines
-from zanteyard.watch._text import counted
-from zanteyard.watch._violation_page import violation_page
-from zanteyard.watch._violations import Row, Told, Violation
-from zanteyard.watch._web import Answer, WebServer
+from zanteyard.core._numbers import counted
+from zanteyard.watch.pages._violation_page import violation_page
+from zanteyard.watch.violations._violations import Row, Told, Violation
+from zanteyard.watch.pages._web import Answer, WebServer
 
 EVIL = "<script>alert(1)</script>\x1b[2J\u202egnp.exe\u200b\x00"
 SHOWN_EVIL = "&lt;script&gt;alert(1)&lt;/script&gt;\\x1b[2J\\u202egnp.exe\\u200b\\x00"

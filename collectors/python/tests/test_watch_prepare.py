@@ -14,14 +14,14 @@ from unittest import mock
 
 from zanteyard.cli._main import main
 from zanteyard.trial.postgres_server import BIN, PostgresServer, program
-from zanteyard.watch import _facts as facts
-from zanteyard.watch import _hosts as hosts
-from zanteyard.watch._address import _LIMITED
-from zanteyard.watch._database import Database, DatabaseError, without_password
-from zanteyard.watch._facts import Server
-from zanteyard.watch._patterns import table_patterns
+from zanteyard.watch.postgres import _facts as facts
+from zanteyard.watch.postgres import _hosts as hosts
+from zanteyard.watch.postgres._address import _LIMITED
+from zanteyard.watch.postgres._database import Database, DatabaseError, without_password
+from zanteyard.watch.postgres._facts import Server
+from zanteyard.watch.postgres._patterns import table_patterns
 from zanteyard.watch._prepare import host_name, is_ready, report
-from zanteyard.watch._schema import Table, quoted, tables_of
+from zanteyard.watch.postgres._schema import Table, quoted, tables_of
 
 try:
     import psycopg2

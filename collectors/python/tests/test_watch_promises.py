@@ -15,16 +15,16 @@ from zanteyard.program._binaries import PROGRAM
 from zanteyard.promises._kinds import SNAPSHOT
 from zanteyard.trial.postgres_server import program
 from zanteyard.watch._auditing import Auditing
-from zanteyard.watch._board import Board
+from zanteyard.watch.outcome._board import Board
 from zanteyard.watch._command import call_of
-from zanteyard.watch._explaining import Explaining
-from zanteyard.watch._figures import families
-from zanteyard.watch._intake import Intake
-from zanteyard.watch._live_page import whole_page
-from zanteyard.watch._proxy_program import proxy_path
+from zanteyard.watch.violations._explaining import Explaining
+from zanteyard.watch.pages._figures import families
+from zanteyard.watch.proxy._intake import Intake
+from zanteyard.watch.pages._live_page import whole_page
+from zanteyard.watch.proxy._proxy_program import proxy_path
 from zanteyard.watch._run import Plan, Run
-from zanteyard.watch._violation_page import violation_page
-from zanteyard.watch._violations import keys_of
+from zanteyard.watch.pages._violation_page import violation_page
+from zanteyard.watch.violations._violations import keys_of
 from zanteyard.watch._watching import Watching
 
 try:

@@ -10,12 +10,12 @@ from unittest import mock
 
 from tests import watch_feed as feed
 from zanteyard.core.errors import ProgramEndedError, ProgramMissingError
-from zanteyard.watch import _supervising as supervising
-from zanteyard.watch._feed import Split, command
-from zanteyard.watch._intake import Intake
-from zanteyard.watch._proxy import Proxy
-from zanteyard.watch._proxy_program import build_of
-from zanteyard.watch._supervising import CantBeginError, Supervisor
+from zanteyard.watch.proxy import _supervising as supervising
+from zanteyard.watch.outcome._feed import Split, command
+from zanteyard.watch.proxy._intake import Intake
+from zanteyard.watch.proxy._proxy import Proxy
+from zanteyard.watch.proxy._proxy_program import build_of
+from zanteyard.watch.proxy._supervising import CantBeginError, Supervisor
 
 
 class InAFolder(unittest.TestCase):

@@ -16,11 +16,11 @@ from zanteyard.cli._main import main
 from zanteyard.program._binaries import PROGRAM
 from zanteyard.trial.postgres_server import PostgresServer, program
 from zanteyard.trial.redis_server import RedisServer, redis_server
-from zanteyard.watch import _figures as figures
-from zanteyard.watch import _live_page as live_page
-from zanteyard.watch._database import Database
-from zanteyard.watch._feed import command, seen_of
-from zanteyard.watch._proxy_program import proxy_path
+from zanteyard.watch.pages import _figures as figures
+from zanteyard.watch.pages import _live_page as live_page
+from zanteyard.watch.postgres._database import Database
+from zanteyard.watch.outcome._feed import command, seen_of
+from zanteyard.watch.proxy._proxy_program import proxy_path
 from zanteyard.watch._run import Plan, Run
 
 from tests import watch_feed as feed

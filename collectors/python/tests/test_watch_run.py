@@ -18,10 +18,10 @@ from zanteyard.core.errors import ProgramMissingError
 from zanteyard.program._binaries import PROGRAM
 from zanteyard.promises._kinds import SNAPSHOT
 from zanteyard.trial.postgres_server import PostgresServer, program
-from zanteyard.watch._database import Database, DatabaseError
-from zanteyard.watch._proxy_program import build_of, find_proxy, proxy_path
+from zanteyard.watch.postgres._database import Database, DatabaseError
+from zanteyard.watch.proxy._proxy_program import build_of, find_proxy, proxy_path
 from zanteyard.watch._run import Plan, Run
-from zanteyard.watch._supervising import CantBeginError
+from zanteyard.watch.proxy._supervising import CantBeginError
 
 TOP = os.path.normpath(os.path.join(os.path.dirname(os.path.abspath(__file__)), ".."))
 SERIAL = [

@@ -12,8 +12,8 @@ import unittest
 from tests.waiting import wait_until
 from zanteyard.program._binaries import PROGRAM
 from zanteyard.trial.postgres_server import PostgresServer, program
-from zanteyard.watch._database import Database
-from zanteyard.watch._proxy_program import proxy_path
+from zanteyard.watch.postgres._database import Database
+from zanteyard.watch.proxy._proxy_program import proxy_path
 
 try:
     import psycopg2

@@ -10,17 +10,17 @@ from dataclasses import replace
 from tests import watch_feed as feed
 from zanteyard.program._binaries import PROGRAM
 from zanteyard.promises._kinds import SERIALIZABLE
-from zanteyard.watch._conflicts import cycles_of
-from zanteyard.watch._described import Described, Statement, by_time, clock, lines_of
-from zanteyard.watch._feed import answered_of
-from zanteyard.watch._intake import Intake
-from zanteyard.watch._kept import Kept
-from zanteyard.watch._pending import waiting_reads
-from zanteyard.watch._redacting import without_constants, without_values
-from zanteyard.watch._sql_anomalies import LostUpdate, both_replaced
-from zanteyard.watch._statement_reads import as_shown, by_statement
-from zanteyard.watch._violation_page import violation_page
-from zanteyard.watch._violations import (
+from zanteyard.watch.violations._conflicts import cycles_of
+from zanteyard.watch.violations._described import Described, Statement, by_time, clock, lines_of
+from zanteyard.watch.outcome._feed import answered_of
+from zanteyard.watch.proxy._intake import Intake
+from zanteyard.watch.violations._kept import Kept
+from zanteyard.watch.violations._pending import waiting_reads
+from zanteyard.watch.violations._redacting import without_constants, without_values
+from zanteyard.watch.violations._sql_anomalies import LostUpdate, both_replaced
+from zanteyard.watch.violations._statement_reads import as_shown, by_statement
+from zanteyard.watch.pages._violation_page import violation_page
+from zanteyard.watch.violations._violations import (
     NOTHING, Held, compact, explained, keys_of, key_text,
 )
 from zanteyard.core._records import Logged

@@ -7,7 +7,7 @@ import threading
 import unittest
 from unittest import mock
 
-from zanteyard.watch import _web as web
+from zanteyard.watch.pages import _web as web
 
 PAGE = web.Answer("<p>a page</p>")
 

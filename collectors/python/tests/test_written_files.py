@@ -12,7 +12,7 @@ from unittest import mock
 
 from zanteyard.cli._main import main
 from zanteyard.core._private_files import check_folder, private
-from zanteyard.core._prometheus import text_of
+from zanteyard.watch.pages._prometheus import text_of
 from zanteyard.core.errors import FolderUnfitError, JournalError
 from zanteyard.journal._file import Journal
 from zanteyard.remote._connecting import Door

@@ -23,7 +23,7 @@
 
 docs/COLLECTORS.md says what is logged, and why.
 """
-from .core._command_start import begin as _begin
+from .cli._command_start import begin as _begin
 
 _begin()
 
@@ -39,7 +39,7 @@ if TYPE_CHECKING:
     from .core._outcome import RATHER_LOSE_THE_AUDIT, RATHER_WAIT, Outcome, Policy
     from .core._own_keys import FENCE
     from .core._records import Cut, Logged, Pending, Report
-    from .core._stores import Store
+    from .session._stores import Store
     from .core.errors import (
         AbortedError,
         AuditLostError,
@@ -93,7 +93,7 @@ _PLACES = {
     "core._outcome": "RATHER_LOSE_THE_AUDIT RATHER_WAIT Outcome Policy",
     "core._own_keys": "FENCE",
     "core._records": "Cut Logged Pending Report",
-    "core._stores": "Store",
+    "session._stores": "Store",
     "core.errors": (
         "AbortedError AuditLostError BadLineError CantBeAskedError ElsewhereError "
         "FolderUnfitError FullError ImportRefusedError JournalDamagedError JournalError "

@@ -8,7 +8,7 @@ from collections.abc import Sequence
 from typing import Any
 
 from ..core import _visible
-from ..core._command_start import is_over
+from ._command_start import is_over
 from ..core.errors import ImportRefusedError, ProgramEndedError, ZanteyardError
 from ._statuses import MISTAKE, UNDECIDED, complain
 

@@ -3,11 +3,11 @@
 import time
 from collections.abc import Callable, Iterator
 
-from ..core._prometheus import TEXT, Family, text_of
+from ..watch.pages._prometheus import TEXT, Family, text_of
 from ..core._version import VERSION
 from ..live._live_auditor import LiveAuditor
-from ..watch._web import TEXT as PLAIN
-from ..watch._web import Answer, WebServer
+from ..watch.pages._web import TEXT as PLAIN
+from ..watch.pages._web import Answer, WebServer
 
 KINDS = ("serial", "pending", "violated", "spent")
 

@@ -4,7 +4,7 @@ says, as text and on a page."""
 import argparse
 from typing import Any
 
-from ..core._garbage import no_collections
+from ..imports._garbage import no_collections
 from ..core._visible import say
 from ..core.errors import CantBeAskedError, ScriptMistakeError
 from ..explain._html import page_of

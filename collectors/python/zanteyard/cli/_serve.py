@@ -41,7 +41,7 @@ from ..promises._kinds import LIVE as PROMISES
 from ..promises._kinds import SERIALIZABLE
 from ..remote._server import AuditServer, ProcessServer
 from ..watch._options import FORM, add_logging, address, least_of, whole_of
-from ..watch._sharing import add_sharing, mistake_of
+from ..watch.proxy._sharing import add_sharing, mistake_of
 from ._metrics import MetricsServer, families, text_of
 from ._parsing import add_old_name
 

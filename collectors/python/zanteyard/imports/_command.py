@@ -9,7 +9,7 @@ from collections.abc import Callable, Collection, Mapping
 from dataclasses import dataclass
 from typing import Any
 
-from ..core._garbage import no_collections
+from ._garbage import no_collections
 from ..core._private_files import private
 from ..core._visible import say
 from ..core.errors import ImportRefusedError

@@ -2,7 +2,7 @@
 
 from collections.abc import Iterable, Sequence
 
-from ..core._window import SKIPPED, Coverage
+from ..program._window import SKIPPED, Coverage
 from ..session._place import Place
 from ..session._quiesce import Edge
 from ._backlog import Backlog

@@ -19,8 +19,8 @@ from ..core._forks import is_forked
 from ..core._outcome import RATHER_LOSE_THE_AUDIT, Outcome, Policy
 from ..core._own_keys import LONGEST
 from ..core._records import AuditId, Logged
-from ..core._stores import Store
-from ..core._window import SESSIONS, Coverage
+from ..session._stores import Store
+from ..program._window import SESSIONS, Coverage
 from ..core.errors import AuditLostError
 from ..program._auditor import Auditor
 from ..program._binaries import slowness_of

@@ -5,8 +5,8 @@ import time
 from collections import deque
 from collections.abc import Iterable, Mapping
 
-from ..core._tenancy import Tenancy
-from ..core._window import SESSIONS
+from ..program._tenancy import Tenancy
+from ..program._window import SESSIONS
 from ..session._place import Place
 from ..session._quiesce import Edge
 

@@ -15,7 +15,7 @@ from ..core._outcome import RATHER_LOSE_THE_AUDIT, VIOLATED, Outcome, Policy, ki
 from ..core._own_keys import FORM, LARGE_FORM
 from ..core._records import Report
 from ..core._store_identity import AuditedStore, checked
-from ..core._window import Coverage
+from ._window import Coverage
 from ..core.errors import AuditLostError, ProgramEndedError
 from ..journal._entries import Head
 from ..promises._asking import form_of, most_remaining

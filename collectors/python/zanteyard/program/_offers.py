@@ -8,8 +8,8 @@ from typing import Any
 from ..core._own_keys import FENCE
 from ..core._records import ABORTED, AuditId, AuditNaming, Cut, History, Logged, Pending
 from ..core._store_identity import AuditedStore
-from ..core._tenancy import Tenancy
-from ..core._window import Coverage
+from ._tenancy import Tenancy
+from ._window import Coverage
 from ..core.errors import FullError, RefusedError
 from ..promises._asking import begun_in, longest
 from ..promises._kinds import Promise

@@ -4,7 +4,7 @@ import logging
 from collections.abc import Callable, Sequence
 from dataclasses import dataclass
 
-from ..core._window import Coverage
+from ._window import Coverage
 from ..core.errors import JournalDamagedError, JournalError
 from ..journal._entries import Head, Kept, Violation, kept_in
 from ..journal._file import Journal

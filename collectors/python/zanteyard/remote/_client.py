@@ -14,7 +14,7 @@ from typing import Any
 from ..core._outcome import Policy
 from ..core._records import Logged
 from ..core._store_identity import StoreIdentity
-from ..core._stores import Store
+from ..session._stores import Store
 from ..core.errors import ProgramEndedError
 from ..live._live_auditor import PAUSE
 from ..session._local_sessions import PATIENCE, LocalSessions

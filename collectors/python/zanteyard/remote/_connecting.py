@@ -6,7 +6,7 @@ import os
 from multiprocessing.connection import Client
 from typing import Any
 
-from ..core._crash_notes import FORKED, CrashNotes
+from ..session._crash_notes import FORKED, CrashNotes
 from ..core._private_files import check_folder
 from ..core._version import FORM, VERSION
 from ..core.errors import OtherVersionError, ProgramEndedError

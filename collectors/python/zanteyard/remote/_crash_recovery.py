@@ -13,8 +13,8 @@ import time
 from collections.abc import Callable, Iterable, Sequence
 from typing import Any
 
-from ..core._commit_status import find_out
-from ..core._crash_notes import CrashNote, notes_of
+from ..stores._commit_status import find_out
+from ..session._crash_notes import CrashNote, notes_of
 from ..core._own_keys import FENCE
 from ..core._records import Logged, StoreId, as_bytes, undone, unpacked
 from ..live._backlog import keys_written_unseen

@@ -4,7 +4,7 @@ from typing import Any
 
 import redis
 
-from ..core._shared_key import shared_key
+from ._shared_key import shared_key
 from ..core._version import FORM, VERSION
 from ._connecting import ANSWERING, welcomed
 from ._outbox import Outbox

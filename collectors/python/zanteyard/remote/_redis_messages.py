@@ -20,7 +20,7 @@ import redis
 
 from ..core._locks import give_back, take
 from ..core._records import Logged
-from ..core._shared_key import Signer
+from ._shared_key import Signer
 from ._message_text import LONGEST, Message, NoMessageError, logged_text, message_of, plain, text_of
 from ._messages import HANDING_ON, SENDING
 

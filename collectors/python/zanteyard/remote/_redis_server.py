@@ -17,7 +17,7 @@ from typing import Any
 import redis
 
 from ..core._records import as_bytes
-from ..core._shared_key import shared_key
+from ._shared_key import shared_key
 from ..core.errors import NameTakenError
 from ..live._backlog import keys_written_unseen
 from ..live._live_auditor import LiveAuditor

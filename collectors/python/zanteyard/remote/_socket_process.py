@@ -6,7 +6,7 @@ from contextlib import suppress
 from multiprocessing.connection import Connection, wait
 from typing import Any
 
-from ..core._crash_notes import FORKED, notes_of
+from ..session._crash_notes import FORKED, notes_of
 from ..live._live_auditor import LiveAuditor
 from ._client_process import ClientProcess
 from ._crash_recovery import LostError, Noted, in_files

@@ -12,7 +12,7 @@ from typing import Any
 
 from ..core._own_keys import FENCE, FORM, LARGE_FORM
 from ..core._records import ABORTED, AuditId, Logged, Pending
-from ..core._tenancy import Tenancy
+from ..program._tenancy import Tenancy
 from ..core.errors import (
     CantBeAskedError,
     ProgramEndedError,

@@ -2,10 +2,10 @@
 
 import os
 
-from ..core._crash_notes import CrashNotes
+from ._crash_notes import CrashNotes
 from ..core._locks import give_back, take
 from ..core._outcome import Policy
-from ..core._stores import Store
+from ._stores import Store
 from ._place import Place
 from ._quiesce import SessionGroup
 from ._session import Session

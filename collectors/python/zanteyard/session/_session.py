@@ -14,11 +14,11 @@ from collections.abc import Callable, Iterator
 from contextlib import contextmanager
 from typing import Any
 
-from ..core._crash_notes import CrashNotes
+from ._crash_notes import CrashNotes
 from ..core._forks import keep
 from ..core._locks import give_back, take
 from ..core._store_identity import UNSURE, UNTOLD, StoreIdentity
-from ..core._stores import Store
+from ._stores import Store
 from ..core.errors import (
     AbortedError,
     AuditLostError,

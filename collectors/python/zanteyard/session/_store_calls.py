@@ -6,8 +6,8 @@ from typing import Any
 
 from ..core._records import Name, StoredValue
 from ..core._store_identity import StoreIdentity, identity_of
-from ..core._stores import BoundedStore, BulkStore, IdentifiedStore, ObservedStore, Store
-from ..core._stores import TracedStore
+from ._stores import BoundedStore, BulkStore, IdentifiedStore, ObservedStore, Store
+from ._stores import TracedStore
 
 logger = logging.getLogger("zanteyard")
 

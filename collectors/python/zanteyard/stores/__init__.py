@@ -2,6 +2,6 @@
 driver: `postgres`, `mariadb`, `redis`. Every store has the methods of `Store`, which `zanteyard`
 exports. The protocols here are optional parts of a store."""
 
-from ..core._stores import BoundedStore, BulkStore, ObservedStore, TracedStore
+from ..session._stores import BoundedStore, BulkStore, ObservedStore, TracedStore
 
 __all__ = ["BoundedStore", "BulkStore", "ObservedStore", "TracedStore"]

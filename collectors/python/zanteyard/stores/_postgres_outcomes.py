@@ -7,7 +7,7 @@ from typing import Any
 
 from psycopg2 import extensions
 
-from ..core._commit_status import UNKNOWN, CommitStatus
+from ._commit_status import UNKNOWN, CommitStatus
 from ..core._own_keys import FLAG
 from ..core._records import Name
 from ._postgres_connection import answer, reached

@@ -19,7 +19,7 @@ from typing import Any
 import pymysql
 from pymysql.constants import SERVER_STATUS
 
-from ..core._commit_status import CommitStatus
+from ._commit_status import CommitStatus
 from ..core._records import Name, StoredValue
 from ..core._store_identity import UNSURE, StoreIdentity, known_of
 from ._timeouts import LateError, within

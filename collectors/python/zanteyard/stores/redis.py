@@ -17,7 +17,7 @@ from typing import Any
 
 import redis
 
-from ..core._commit_status import CommitStatus
+from ._commit_status import CommitStatus
 from ..core._records import Name, StoredValue
 from ._redis_wire import BROKEN, Command, answers, connected, limit, replies
 from ..core._store_identity import UNSURE, StoreIdentity

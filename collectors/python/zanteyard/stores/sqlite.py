@@ -14,7 +14,7 @@ import time
 from collections.abc import Sequence
 from typing import Any
 
-from ..core._commit_status import CommitStatus, kept, overwritten
+from ._commit_status import CommitStatus, kept, overwritten
 from ..core._records import Name, StoredValue
 from ..core._store_identity import StoreIdentity, known_of, this_machine
 from ..core.errors import AbortedError, NameTakenError, OutcomeUnknownError

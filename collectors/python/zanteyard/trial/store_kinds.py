@@ -8,7 +8,7 @@ import os
 from collections.abc import Callable, Mapping, Sequence
 from typing import Any
 
-from ..core._stores import ConnectedStore
+from ..session._stores import ConnectedStore
 from ..core._visible import say
 from ..core.errors import ZanteyardError
 from ..stores.levels import LEVELS

@@ -24,7 +24,7 @@ from ..program._supervised import SupervisedProgram
 from ..program._resuming import journaled
 from ..promises._asking import Asking, asked_in, most_remaining
 from ..promises._kinds import SERIALIZABLE, SNAPSHOT, Promise
-from ._kept import Kept
+from .violations._kept import Kept
 
 SECONDS = 60.0  # seconds for the reply to a line
 OPEN = re.compile(rb'\["open",(\d+),(\d+),(\d+)')

@@ -18,21 +18,21 @@ from ..core.errors import ZanteyardError
 from ..program._binaries import find_program, origin_of
 from ..promises._kinds import ASKED, LIVE, SERIALIZABLE
 from . import _prepare
-from ._control import ControlError, control_path
-from ._clients import add_clients, mistake_in, words_for
-from ._database import Database, DatabaseError, DriverMissingError, without_password
-from ._ending import STATUS_WORDS
-from ._facts import findings, server_of, unneeded
-from ._groups import KnownFileError, known_in
-from ._hooks import Hooks
+from .proxy._control import ControlError, control_path
+from .proxy._clients import add_clients, mistake_in, words_for
+from .postgres._database import Database, DatabaseError, DriverMissingError, without_password
+from .outcome._ending import STATUS_WORDS
+from .postgres._facts import findings, server_of, unneeded
+from .violations._groups import KnownFileError, known_in
+from .violations._hooks import Hooks
 from ._options import FORM, URL, add_logging, add_server, address, least_of, percent, share
 from ._options import web_address, whole_of
-from ._patterns import add_tables_option
+from .postgres._patterns import add_tables_option
 from ._prepare import host_name
-from ._proxy_program import find_proxy
+from .proxy._proxy_program import find_proxy
 from ._run import Plan, Run, stopped_by_signals
-from ._sharing import add_sharing, mistake_of, words_of
-from ._supervising import CantBeginError, Control
+from .proxy._sharing import add_sharing, mistake_of, words_of
+from .proxy._supervising import CantBeginError, Control
 
 MISTAKE = 2
 WEBHOOK = "ZANTEYARD_WEBHOOK"

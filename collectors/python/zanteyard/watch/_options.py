@@ -4,8 +4,8 @@ import argparse
 import logging
 from collections.abc import Callable
 
-from ._hooks import is_web
-from ._web import host_and_port
+from .violations._hooks import is_web
+from .pages._web import host_and_port
 
 LISTEN = "127.0.0.1:6432"
 FORM = "%(asctime)s %(levelname)s %(message)s"

@@ -9,13 +9,13 @@ from urllib.parse import parse_qs, urlsplit
 
 from ..core._visible import say, visible
 from ..explain._json import say_json
-from ._database import Database, DatabaseError, without_password
-from ._facts import Finding, Server, findings, least_role, server_of, unneeded
-from ._hosts import DOCKER_NOTE, OWN
-from ._json import prepared_json
-from ._patterns import add_tables_option
-from ._schema import Table, asked_of, summary, tables_of
-from ._text import counted
+from .postgres._database import Database, DatabaseError, without_password
+from .postgres._facts import Finding, Server, findings, least_role, server_of, unneeded
+from .postgres._hosts import DOCKER_NOTE, OWN
+from .outcome._json import prepared_json
+from .postgres._patterns import add_tables_option
+from .postgres._schema import Table, asked_of, summary, tables_of
+from ..core._numbers import counted
 
 READY, MISSING = 0, 1
 STATUS_WORDS = (

@@ -8,12 +8,12 @@ from typing import Any
 
 from ..core._visible import say
 from ..promises._kinds import SERIALIZABLE
-from ._clients import add_clients, mistake_in
+from .proxy._clients import add_clients, mistake_in
 from ._command import MISTAKE, add_ending, call_of, control_of
 from ._options import URL, add_server
-from ._patterns import add_tables_option
-from ._proxy_program import find_proxy
-from ._sharing import add_sharing, mistake_of
+from .postgres._patterns import add_tables_option
+from .proxy._proxy_program import find_proxy
+from .proxy._sharing import add_sharing, mistake_of
 
 EXAMPLE = """\
 One audit of two application servers, each with its own proxy:

@@ -14,21 +14,21 @@ from ..core._visible import say, shown
 from ..core.errors import ProgramEndedError
 from ..promises._kinds import SERIALIZABLE, Promise
 from ._auditing import Auditing
-from ._board import Board
-from ._ending import lines_of, status_of
-from ._explaining import Explaining
-from ._figures import Metrics
-from ._groups import Group, Groups
-from ._hooks import Hooks
-from ._intake import Intake
-from ._json import status_json, violation_json
-from ._saving import save
-from ._serving import Pages
-from ._stopping import LEAVES, STOPS
-from ._supervising import CantBeginError, Control, Supervisor
-from ._violations import Violation
+from .outcome._board import Board
+from .outcome._ending import lines_of, status_of
+from .violations._explaining import Explaining
+from .pages._figures import Metrics
+from .violations._groups import Group, Groups
+from .violations._hooks import Hooks
+from .proxy._intake import Intake
+from .outcome._json import status_json, violation_json
+from .pages._saving import save
+from .pages._serving import Pages
+from ..core._stopping import LEAVES, STOPS
+from .proxy._supervising import CantBeginError, Control, Supervisor
+from .violations._violations import Violation
 from ._watching import Watching
-from ._web import Tell, WebServer
+from .pages._web import Tell, WebServer
 
 LOOKS = 0.1  # seconds between two checks whether it is over
 LAST_ROUND = 30.0  # seconds for the proxy's last meeting, in addition to the time of a round

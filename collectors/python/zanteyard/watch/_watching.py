@@ -11,15 +11,15 @@ from typing import Any
 
 from ..core.errors import JournalError, ProgramEndedError, ZanteyardError
 from ._auditing import OPEN, ROUND, TRUNCATE, Auditing, head_of, refusal_of
-from ._board import Board
-from ._ending import word_of
-from ._explaining import Explaining
-from ._feed import Event, Item, answered_of, command, text, whole
-from ._intake import Intake
-from ._pending import waiting_reads
-from ._redacting import without_values
-from ._found import Found, found_in
-from ._stopping import STOPS
+from .outcome._board import Board
+from .outcome._ending import word_of
+from .violations._explaining import Explaining
+from .outcome._feed import Event, Item, answered_of, command, text, whole
+from .proxy._intake import Intake
+from .violations._pending import waiting_reads
+from .violations._redacting import without_values
+from .violations._found import Found, found_in
+from ..core._stopping import STOPS
 
 OK, REPORT, CUT = b'["ok"]', b'["report",', b'["cut",'
 GONE = "gone"  # an event of this program: the proxy has ended

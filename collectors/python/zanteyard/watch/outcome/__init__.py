@@ -1,0 +1,1 @@
+"""What is known of an audit: its state, its totals, and its end in words."""

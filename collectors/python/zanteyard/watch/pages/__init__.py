@@ -1,0 +1,1 @@
+"""What is shown: pages, metrics, saved files, and the server for them."""

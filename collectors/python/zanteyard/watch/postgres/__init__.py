@@ -1,0 +1,1 @@
+"""What `watch` needs of a PostgreSQL: its settings, its tables, and connections to it."""

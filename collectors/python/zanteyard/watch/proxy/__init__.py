@@ -1,0 +1,1 @@
+"""The proxy's process, and what it writes."""

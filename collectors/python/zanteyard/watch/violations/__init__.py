@@ -1,0 +1,1 @@
+"""A violated round, taken apart and explained with what the application ran."""
