@@ -7,7 +7,8 @@ import tempfile
 import unittest
 
 from zanteyard import AbortedError, AuditClient, Auditor, AuditServer, LiveAuditor, Outcome, Policy, Session
-from zanteyard.cli._metrics import families, text_of
+from zanteyard.cli._metrics import families
+from zanteyard.watch.pages._prometheus import text_of
 from zanteyard.cli.audit import LiveRun
 from zanteyard.core.errors import AuditLostError
 from zanteyard.stores.memory import MemoryStore

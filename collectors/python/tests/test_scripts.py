@@ -13,7 +13,7 @@ from zanteyard.core._own_keys import FENCE
 from zanteyard.explain._audited import from_start
 from zanteyard.program._auditor import PROGRAM
 from zanteyard.cli._main import main
-from zanteyard.cli._statuses import STATUSES
+from zanteyard.core._outcome import exit_status
 from zanteyard.core.errors import ScriptMistakeError
 from zanteyard.scripts._running import ScriptRun
 from zanteyard.explain._shrinking import is_violated
@@ -151,7 +151,7 @@ class Scripts(unittest.TestCase):
                 lines.pop()  # so that no round is added at the end
             with self.subTest(script=name):
                 status, out = self.told(lines, "check", "0.5")
-                self.assertEqual(status, STATUSES[kinds[-1]], out)
+                self.assertEqual(status, exit_status(kinds[-1]), out)
                 self.assertEqual("violated" in kinds, "because" in out)
                 if "violated" in kinds:  # the first one ends it
                     status, out = self.told(lines, "explain", "0.5")
@@ -222,7 +222,7 @@ class Scripts(unittest.TestCase):
             with self.subTest(last=lines[-1]):
                 status, out = self.told(lines)
                 kind = "violated" if "init" in lines[-1] else "pending"
-                self.assertEqual(status, STATUSES[kind], out)
+                self.assertEqual(status, exit_status(kind), out)
                 told = {"violated": (r"    0\.3 .*wrote key 7", r"    0\.4 .*read key 7 as it was at first"),
                         "pending": (r"    0\.4 .*read key 5 from 0\.9\b.*, which hasn't arrived",)}[kind]
                 for line in told:

@@ -14,10 +14,11 @@ import urllib.request
 from unittest import mock
 
 from zanteyard import AuditClient
+from zanteyard.watch.pages._prometheus import Metrics
+from zanteyard.watch.pages._web import WebServer
 from zanteyard.program._auditor import PROGRAM
 from zanteyard.core.errors import OtherVersionError
 from zanteyard.stores.memory import MemoryStore
-from zanteyard.cli._metrics import MetricsServer
 from zanteyard.core._version import VERSION
 
 from .test_live import add_one
@@ -109,7 +110,7 @@ class Serving(unittest.TestCase):
         for address in ("127.0.0.1:0", "[::1]:0"):
             try:
                 with mock.patch("zanteyard.watch.pages._web.SLOWEST", 0.2):
-                    server = MetricsServer(address, lambda: "figures\n")
+                    server = WebServer(address, Metrics(tuple), any_name=True)
             except OSError:
                 self.assertEqual(address, "[::1]:0")  # which a machine may not have
                 continue

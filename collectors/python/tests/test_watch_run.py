@@ -270,6 +270,8 @@ class Runs(InAFolder):
         self.assertEqual(seen["json"]["seen"]["transactions"]["all"], 11)
         self.assertEqual(seen["json"]["explained"], [])
         self.assertIn("SELECT count(*) FROM orders WHERE customer = $1", seen["page"])
+        names = [line.split()[2] for line in seen["metrics"].splitlines() if line.startswith("# HELP")]
+        self.assertEqual(len(names), len({*names}), sorted(names))
         for line in (
             "zanteyard_transactions_taken_total 8",
             'zanteyard_rounds_total{kind="serial"} 1',

@@ -4,11 +4,12 @@ process left."""
 import argparse
 from typing import Any
 
+from ..core._outcome import exit_status
 from ..core._visible import say
 from ..explain._report import EXPLAINED, violation_story
 from ..program._auditor import Auditor
 from ..program._binaries import find_program
-from ._told import STATUSES, UNDECIDED, tell_with_page
+from ._told import tell_with_page
 
 
 def add_journal(command: argparse.ArgumentParser) -> None:
@@ -23,11 +24,11 @@ def run_journal(asked: argparse.Namespace) -> int:
         say(f"{auditor.run_name}: {count} transactions from {sessions} sessions were accepted")
         report = auditor.last_round()
         if report.kind == "violated":
-            asked.status = STATUSES["violated"]
+            asked.status = exit_status(report.kind)
             round_told = (report.counts, EXPLAINED, report.certificate, auditor.promise)
             tell_with_page(violation_story(auditor, program, *round_told))
-            return STATUSES["violated"]
+            return exit_status(report.kind)
         outcome = auditor.outcome()
-        asked.status = STATUSES.get(outcome.kind, UNDECIDED)
+        asked.status = exit_status(outcome.kind)
         say(f"the last round over them is {report.kind}; {outcome}")
-        return STATUSES.get(outcome.kind, UNDECIDED)
+        return exit_status(outcome.kind)

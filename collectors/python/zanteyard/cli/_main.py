@@ -8,9 +8,10 @@ from collections.abc import Sequence
 from typing import Any
 
 from ..core import _visible
-from ._command_start import is_over
+from ..core._outcome import UNDECIDED_STATUS
 from ..core.errors import ImportRefusedError, ProgramEndedError, ZanteyardError
-from ._statuses import MISTAKE, UNDECIDED, complain
+from ._command_start import is_over
+from ._statuses import MISTAKE, complain
 
 
 def main(words: Sequence[str] | None = None) -> int:
@@ -35,7 +36,7 @@ def main(words: Sequence[str] | None = None) -> int:
         sys.stdout.flush()
         return status
     except ProgramEndedError as error:
-        return complain(UNDECIDED, f"undecided: {error}")
+        return complain(UNDECIDED_STATUS, f"undecided: {error}")
     except ImportRefusedError as error:
         return complain(MISTAKE, f"refused: {error}")
     except ZanteyardError as error:
@@ -46,19 +47,19 @@ def main(words: Sequence[str] | None = None) -> int:
         if known is not None:
             return int(known)
         if not getattr(asked, "has_verdict", True):
-            return UNDECIDED  # as `zanteyard prepare URL | head` wants it
-        return complain(UNDECIDED, "undecided: standard output was closed")
+            return UNDECIDED_STATUS  # as `zanteyard prepare URL | head` wants it
+        return complain(UNDECIDED_STATUS, "undecided: standard output was closed")
     except OSError as error:
         why = f"{error.filename}: {error.strerror}" if error.filename else str(error)
         return complain(MISTAKE, f"mistake: {why}")
     except KeyboardInterrupt:
         word = "undecided: " if getattr(asked, "has_verdict", False) else ""
-        return complain(UNDECIDED, f"{word}interrupted")
+        return complain(UNDECIDED_STATUS, f"{word}interrupted")
     except Exception:  # Python's own status would be 1, which means violated
         import traceback
 
         first, *lines = traceback.format_exc().rstrip().split("\n")
-        return complain(UNDECIDED, first, *(f"  | {line}" for line in lines))
+        return complain(UNDECIDED_STATUS, first, *(f"  | {line}" for line in lines))
 
 
 def _let_go_of_output() -> None:

@@ -3,12 +3,13 @@
 import argparse
 from typing import Any
 
+from ..core._outcome import exit_status
 from ..core._visible import say
 from ..explain._report import Story, violation_story
 from ..program._auditor import Auditor
 from ..program._binaries import find_program
 from ..trial import _demo as demo
-from ._told import STATUSES, UNDECIDED, complain, origin, tell_with_page, write
+from ._told import complain, origin, tell_with_page, write
 
 
 def add_demo(command: argparse.ArgumentParser) -> None:
@@ -39,17 +40,17 @@ def run_demo(asked: argparse.Namespace) -> int:
         else:
             order = tuple(f"{session}.{number}" for session, number in report.certificate)
             story = Story(report.kind, tuple(report.counts), order=order)
-    asked.status = STATUSES[report.kind]
+    asked.status = exit_status(report.kind)
     page = None if asked.no_html else asked.html or f"zanteyard-{asked.name}.html"
     tell_with_page(story, f"in-memory store, {asked.name}", page)
-    return STATUSES[report.kind]
+    return exit_status(report.kind)
 
 
 def run_audit(asked: argparse.Namespace) -> int:
     from . import audit as audit_command
 
     ran = audit_command.run(asked)
-    asked.status = status = STATUSES.get(ran.outcome.whole.kind, UNDECIDED)
+    asked.status = status = exit_status(ran.outcome.whole.kind)
     why_not = ""
     if asked.html:
         try:

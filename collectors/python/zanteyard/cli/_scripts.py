@@ -4,13 +4,14 @@ says, as text and on a page."""
 import argparse
 from typing import Any
 
-from ..imports._garbage import no_collections
+from ..core._outcome import exit_status
 from ..core._visible import say
 from ..core.errors import CantBeAskedError, ScriptMistakeError
 from ..explain._html import page_of
 from ..explain._json import levels_json, say_json, story_json
 from ..explain._levels import NO, PENDING, UNKNOWN, YES, Levels, levels_lines
 from ..explain._report import EXPLAINED, Story, verdict_story, violation_story
+from ..imports._garbage import no_collections
 from ..scripts._names import ScriptNames, read_names
 from ..scripts._times import ScriptTimes, read_times
 from ..scripts._running import MORE, ScriptRun, Verdict
@@ -22,7 +23,7 @@ from ._journal import run_journal
 from ._junit import junit_report
 from ._parsing import add_old_name, one_of
 from ._progress import Progress
-from ._told import STATUSES, origin, tell, tell_with_page, write
+from ._told import origin, tell, tell_with_page, write
 
 
 OF_LEVELS = {YES: 0, NO: 1, PENDING: 3, UNKNOWN: 4}  # statuses, with --expect
@@ -186,7 +187,7 @@ def check(asked: argparse.Namespace) -> int:
             for verdict in run.verdicts(its.lines):
                 is_violated = verdict.kind == "violated"
                 if is_violated:
-                    asked.status = STATUSES[verdict.kind]  # this is final
+                    asked.status = exit_status(verdict.kind)  # this is final
                 if is_violated and stories and stories[-1].kind == "violated":
                     if not asked.json:
                         say(f"{its.where(verdict)} still violated")
@@ -263,4 +264,4 @@ def _tell_resumed(run: ScriptRun) -> None:
 def _status(run: ScriptRun) -> int:
     if run.verdict is None:
         raise ScriptMistakeError(0, "nothing")
-    return STATUSES[run.verdict.kind]
+    return exit_status(run.verdict.kind)

@@ -18,17 +18,8 @@ import threading
 import traceback
 from typing import Any
 
-from ..core._outcome import (
-    COLLECTOR,
-    INCOMPLETE,
-    PENDING,
-    RATHER_LOSE_THE_AUDIT,
-    RATHER_WAIT,
-    SERIAL,
-    UNDECIDED,
-    VIOLATED,
-    Outcome,
-)
+from ..core._outcome import RATHER_LOSE_THE_AUDIT, RATHER_WAIT, UNDECIDED_STATUS, VIOLATED, Outcome
+from ..core._outcome import exit_status
 from ..core._private_files import private
 from ..core.errors import FolderUnfitError, KeyFileError, ZanteyardError
 from ..explain._audited import from_start, refuted
@@ -42,17 +33,17 @@ from ..promises._kinds import SERIALIZABLE
 from ..remote._server import AuditServer, ProcessServer
 from ..watch._options import FORM, add_logging, address, least_of, whole_of
 from ..watch.proxy._sharing import add_sharing, mistake_of
-from ._metrics import MetricsServer, families, text_of
+from ..watch.pages._prometheus import Metrics
+from ..watch.pages._web import WebServer
+from ._metrics import families
 from ._parsing import add_old_name
 
 JOURNAL, SOCKET, VIOLATION = "audit.journal", "audit.socket", "violation"
-STATUSES = {SERIAL: 0, VIOLATED: 1, COLLECTOR: 4, PENDING: 3, UNDECIDED: 4, INCOMPLETE: 4}
 STATUS_WORDS = (
     "Exit status: 0 stopped, and serial; 1 violated; 2 it can't start, or another daemon has the "
     "audit; 3 stopped, and pending; 4 something wasn't audited or decided, or the collector's own "
     "transactions have no order."
 )
-UNKNOWN = 4  # the status if the audit ended by a fault
 LOOKS = 0.2  # seconds between two checks whether it is over
 TELLING = 30.0  # seconds that reducing a violation may take
 logger = logging.getLogger("zanteyard")
@@ -135,7 +126,8 @@ def _audit(asked: argparse.Namespace, stack: contextlib.ExitStack, stopped: thre
         return sum(server.clients for server in servers)
 
     if asked.metrics is not None:
-        metrics = MetricsServer(asked.metrics, lambda: text_of(families(live, clients())))
+        answer = Metrics(lambda: families(live, clients()))
+        metrics = WebServer(asked.metrics, answer, any_name=True)
         stack.callback(metrics.close)
         logger.info("serving metrics on port %d", metrics.port)
     about = auditor.promise.title
@@ -152,11 +144,11 @@ def _audit(asked: argparse.Namespace, stack: contextlib.ExitStack, stopped: thre
         logger.warning("nothing was handed in: no client ran a transaction")
     if outcome.is_violated:
         _tell(asked, auditor, outcome)
-        return STATUSES[VIOLATED]
+        return exit_status(VIOLATED)
     if faults:
         logger.error("ending: %s", faults[0])
-        return UNKNOWN
-    return STATUSES.get(outcome.whole.kind, UNKNOWN)
+        return UNDECIDED_STATUS
+    return exit_status(outcome.whole.kind)
 
 
 def _end_at_faults(faults: list[str]) -> None:

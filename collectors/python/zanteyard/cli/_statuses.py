@@ -2,12 +2,10 @@
 
 import contextlib
 import sys
-from collections.abc import Mapping
 
 from ..core._visible import say
 
-MISTAKE, UNDECIDED = 2, 4
-STATUSES: Mapping[str, int] = {"serial": 0, "violated": 1, "pending": 3, "spent": UNDECIDED}
+MISTAKE = 2
 STATUS_WORDS = (
     "Exit status: that of the last verdict, 0 serial, 1 violated, 3 pending, 4 undecided; 2 if the "
     "script or the call is wrong."

@@ -6,8 +6,6 @@ from ..core._visible import say
 from ..explain._html import page_of
 from ..explain._report import Story, story_lines
 from ..program._binaries import find_program, origin_of
-from ._statuses import STATUSES as STATUSES
-from ._statuses import UNDECIDED as UNDECIDED
 from ._statuses import complain as complain
 
 

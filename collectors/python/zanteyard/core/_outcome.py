@@ -1,5 +1,5 @@
 """The outcome of an audit, and the policy for an audit that can't keep up with its clients."""
-from collections.abc import Sequence
+from collections.abc import Mapping, Sequence
 from dataclasses import dataclass
 from typing import Any
 
@@ -10,6 +10,14 @@ SERIAL, PENDING, VIOLATED, UNDECIDED = "serial", "pending", "violated", "undecid
 INCOMPLETE = "incomplete"  # something that clients did wasn't audited
 COLLECTOR = "the collector's own violation"  # of fences and marks only; no client is involved
 RUNNING = "running"
+# The exit status of a command that ends with this verdict; 4 for any other.
+STATUSES: Mapping[str, int] = {SERIAL: 0, VIOLATED: 1, PENDING: 3}
+UNDECIDED_STATUS = 4
+
+
+def exit_status(kind: str) -> int:
+    """The exit status of a command that ends with this verdict."""
+    return STATUSES.get(kind, UNDECIDED_STATUS)
 
 
 @dataclass(frozen=True)

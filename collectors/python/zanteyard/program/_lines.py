@@ -71,6 +71,11 @@ class Lines:
     lock: threading.RLock  # the state follows the replies in their order
     _late: LateLine | None = None
 
+    @property
+    def restarts(self) -> int:
+        """How many programs were replaced in this audit."""
+        return self.program.restarts if isinstance(self.program, SupervisedProgram) else 0
+
     # Lines and answers are in step except between `_leave_step` and `_be_in_step`. If an interrupt
     # came there, the next caller could take an answer that isn't its own.
 

@@ -17,7 +17,8 @@ from ._auditing import Auditing
 from .outcome._board import Board
 from .outcome._ending import lines_of, status_of
 from .violations._explaining import Explaining
-from .pages._figures import Metrics
+from .pages._figures import families
+from .pages._prometheus import Metrics
 from .violations._groups import Group, Groups
 from .violations._hooks import Hooks
 from .proxy._intake import Intake
@@ -90,7 +91,7 @@ class Run:
         self._stack = contextlib.ExitStack()
         served: tuple[tuple[str | None, Tell, str, bool], ...] = (
             (plan.page, Pages(self.board), "the page", False),
-            (plan.metrics, Metrics(self.board), "metrics", True),
+            (plan.metrics, Metrics(lambda: families(self.board.status())), "metrics", True),
         )
         for address, pages, name, any_name in served:
             if address is not None:

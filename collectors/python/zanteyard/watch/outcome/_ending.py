@@ -3,6 +3,7 @@
 from collections import Counter
 from collections.abc import Iterator, Mapping, Sequence
 
+from ...core._outcome import exit_status
 from ...core._visible import visible
 from ...promises._kinds import SERIALIZABLE, Promise
 from ..violations._described import clock
@@ -13,8 +14,6 @@ from ...core._numbers import counted
 from ._totals import Totals
 from ..violations._violations import Violation
 
-STATUSES: Mapping[str, int] = {"serial": 0, "violated": 1, "pending": 3}
-UNDECIDED = 4
 UNTOLD = "its writes couldn't be told apart"  # of rows: for any of several reasons
 TOO_LITTLE = 5
 SHOWN = 15  # statement shapes
@@ -48,7 +47,7 @@ def word_of(kind: str, promise: Promise) -> str:
 
 def status_of(status: Status) -> int:
     """The exit status."""
-    found = STATUSES.get(kind_of(status), UNDECIDED)
+    found = exit_status(kind_of(status))
     if not found and least_share(status.whole_seen.totals.closed()) < status.at_least:
         return TOO_LITTLE
     return found

@@ -1,18 +1,12 @@
-"""Metrics of a watched audit, for Prometheus. Those that the daemon `zanteyard serve` has, too,
-have the same names."""
+"""The metrics of an audit of an application."""
 
 from collections.abc import Iterator
 
-from ._prometheus import TEXT, Family, text_of
-from ...core._version import VERSION
 from ...promises._kinds import ALL
-from ..outcome._board import Board
 from ..outcome._state import Status
 from ..outcome._totals import Conditions, Totals
-from ._web import TEXT as PLAIN
-from ._web import Answer
+from ._prometheus import Common, Family, by, one
 
-KINDS = ("serial", "pending", "violated", "spent")
 WHAT = {
     "transactions": "Transactions",
     "selects": "SELECTs",
@@ -25,18 +19,24 @@ WHAT = {
 def families(status: Status) -> Iterator[Family]:
     """All metrics. Counts are over all audits of this run."""
     seen, earlier = status.seen, status.earlier_seen
-
-    def one(name: str, kind: str, about: str, value: float) -> Family:
-        return f"zanteyard_{name}", kind, about, [((), value)]
-
-    its = (
-        ("version", VERSION),
-        ("database", status.database),
-        ("promise", status.promise.name),
-    )
-    yield "zanteyard_info", "gauge", "The audit's name and the version of this program.", [(its, 1)]
+    since = max(0.0, status.now - status.told_at) if status.told_at else 0.0
+    yield from Common(
+        labels=(("database", status.database), ("promise", status.promise.name)),
+        taken=seen.offered + earlier.offered,
+        waiting=seen.waiting,
+        remaining=status.remaining,
+        rounds=status.kinds,
+        cuts=status.cuts,
+        since_round=since,
+        behind=status.behind,
+        audits=status.audit if status.has_begun else 0,
+        meetings=status.meetings,
+        clients=seen.connections,
+        is_violated=status.new_count > 0,
+        is_incomplete=any(it.is_lost for it in status.ended),
+        restarts=status.restarts,
+    ).families()
     for name, field, about in (
-        ("transactions_taken_total", "offered", "Transactions given to the auditor."),
         ("transactions_committed_total", "committed", "Commits in the server's log."),
         ("reads_taken_total", "reads", "Row reads given to the auditor."),
         ("commits_without_rows_total", "bare", "Commits without a row, of no client."),
@@ -46,35 +46,28 @@ def families(status: Status) -> Iterator[Family]:
         yield one(name, "counter", about, getattr(seen, field) + getattr(earlier, field))
     yield from _totals(status.whole_seen.totals)
     yield from _conditions(status.whole_seen.conditions)
-    unseen = seen.unseen_count + earlier.unseen_count
-    yield one("statements_unseen_total", "counter", "Statements only partly seen.", unseen)
-    yield one(
-        "transactions_waiting", "gauge", "Transactions not yet given to the auditor.", seen.waiting
-    )
-    about = "Transactions given and not yet forgotten."
-    yield one("transactions_remaining", "gauge", about, status.remaining)
-    rounds = [((("kind", kind),), float(status.kinds.get(kind, 0))) for kind in KINDS]
-    yield "zanteyard_rounds_total", "counter", "Rounds, by verdict.", rounds
-    yield one("cuts_total", "counter", "How often transactions were forgotten.", status.cuts)
-    yield one("meetings_total", "counter", "Meetings of the audited connections.", status.meetings)
-    about = "For how long meetings held clients, in seconds."
-    yield one("meeting_seconds_total", "counter", about, status.meetings_ms / 1000)
-    about = "For how long the longest meeting held clients, in seconds."
-    yield one("longest_meeting_seconds", "gauge", about, status.longest_meeting_ms / 1000)
-    since = max(0.0, status.now - status.told_at) if status.told_at else 0.0
-    yield one("seconds_since_round", "gauge", "Seconds since the last round.", since)
     age = max(0.0, status.now - status.checked_until) if status.checked_until else 0.0
-    about = "Seconds since the meeting up to which the last verdict goes."
-    yield one("verdict_age_seconds", "gauge", about, age)
-    about = "Seconds from the last meeting to its verdict."
-    yield one("seconds_behind", "gauge", about, status.behind)
-    about = "How many seconds the reader of the server's log lags."
-    yield one("log_lag_seconds", "gauge", about, seen.lag_seconds)
-    about = "Bytes of the server's log that aren't yet read."
-    yield one("log_lag_bytes", "gauge", about, seen.lag_bytes)
-    yield one("clients", "gauge", "Open client connections.", seen.connections)
-    about = "Connections that wait for a session."
-    yield one("clients_beyond", "gauge", about, seen.waiting_connections)
+    for name, kind, about, value in (
+        ("statements_unseen_total", "counter", "Statements only partly seen.",
+         seen.unseen_count + earlier.unseen_count),
+        ("meeting_seconds_total", "counter", "For how long meetings held clients, in seconds.",
+         status.meetings_ms / 1000),
+        ("longest_meeting_seconds", "gauge",
+         "For how long the longest meeting held clients, in seconds.",
+         status.longest_meeting_ms / 1000),
+        ("verdict_age_seconds", "gauge",
+         "Seconds since the meeting up to which the last verdict goes.", age),
+        ("log_lag_seconds", "gauge", "How many seconds the reader of the server's log lags.",
+         seen.lag_seconds),
+        ("log_lag_bytes", "gauge", "Bytes of the server's log that aren't yet read.",
+         seen.lag_bytes),
+        ("clients_beyond", "gauge", "Connections that wait for a session.",
+         seen.waiting_connections),
+        ("violations_total", "counter", "Violations found.", status.violations_count),
+        ("violations_known_total", "counter", "Of these, set aside.", status.known_count),
+        ("auditing", "gauge", "1 while an audit runs.", not status.is_over),
+    ):
+        yield one(name, kind, about, value)
     if seen.others is not None:
         feeding = sum(it.feeds for it in seen.others.proxies)
         yield one(
@@ -83,10 +76,6 @@ def families(status: Status) -> Iterator[Family]:
         about = "Messages that weren't signed with the audit's key."
         yield one("messages_refused_total", "counter", about, seen.others.refused)
         yield one("redis_up", "gauge", "1 if Redis can be reached.", not seen.others.down)
-    audits = status.audit if status.has_begun else 0
-    yield one("audits_total", "counter", "Audits started.", audits)
-    yield one("violations_total", "counter", "Violations found.", status.violations_count)
-    yield one("violations_known_total", "counter", "Of these, set aside.", status.known_count)
     shapes = [
         (
             (("name", it.name), ("anomaly", it.title), ("tables", ",".join(it.shape.tables))),
@@ -95,18 +84,10 @@ def families(status: Status) -> Iterator[Family]:
         for it in status.groups
     ]
     yield "zanteyard_violations_by_shape_total", "counter", "Violations of each shape.", shapes
-    about = "1 after a violation that isn't set aside."
-    yield one("violated", "gauge", about, status.new_count > 0)
-    broken = status.standing.broken
-    promises = [((("promise", it.name),), float(it in broken)) for it in ALL if not it.is_timed]
     about = "1 after an explained violation that breaks this promise."
-    yield "zanteyard_promise_broken", "gauge", about, promises
-    is_lost = any(one.is_lost for one in status.ended)
-    yield one("incomplete", "gauge", "1 after an audit ended early.", is_lost)
-    yield one("auditing", "gauge", "1 while an audit runs.", not status.is_over)
-    yield one(
-        "program_restarts_total", "counter", "Auditor programs that were replaced.", status.restarts
-    )
+    broken = status.standing.broken
+    promises = {it.name: float(it in broken) for it in ALL if not it.is_timed}
+    yield by("promise_broken", "gauge", about, "promise", promises)
 
 
 def _conditions(its: Conditions) -> Iterator[Family]:
@@ -115,15 +96,15 @@ def _conditions(its: Conditions) -> Iterator[Family]:
         ("followed", its.followed, "Conditions of which what they passed over was checked."),
         ("dropped", its.dropped, "Conditions that were forgotten to make room."),
     ):
-        yield f"zanteyard_conditions_{name}_total", "counter", about, [((), count)]
+        yield one(f"conditions_{name}_total", "counter", about, count)
     about = "Rows that conditions passed over, and that were checked."
-    yield "zanteyard_rows_passed_over_total", "counter", about, [((), its.passed_over)]
+    yield one("rows_passed_over_total", "counter", about, its.passed_over)
     for name, reasons, about in (
         ("conditions", its.left_out, "Conditions that weren't followed."),
         ("rows_passed_over", its.rows_left_out, "Rows that weren't checked."),
     ):
-        samples = [((("reason", it),), float(n)) for it, n in sorted(reasons.items())]
-        yield f"zanteyard_{name}_left_out_total", "counter", about, samples
+        counts = dict(sorted(reasons.items()))
+        yield by(f"{name}_left_out_total", "counter", about, "reason", counts)
 
 
 def _totals(totals: Totals) -> Iterator[Family]:
@@ -135,16 +116,15 @@ def _totals(totals: Totals) -> Iterator[Family]:
             ("checked", its.checked, f"{what} that were checked in full."),
             ("rolled_back", its.rolled_back, f"{what} that were rolled back."),
         ):
-            yield f"zanteyard_{name}_{place}_total", "counter", about, [((), count)]
-        yield f"zanteyard_{name}_waiting", "gauge", f"{what} that wait for a round.", [
-            ((), its.waiting)
-        ]
+            yield one(f"{name}_{place}_total", "counter", about, count)
+        place = "waiting_for_round" if name == "transactions" else "waiting"
+        yield one(f"{name}_{place}", "gauge", f"{what} that wait for a round.", its.waiting)
         for place, reasons, about in (
             ("in_part", its.in_part, f"{what} that were checked in part."),
             ("not_checked", its.not_checked, f"{what} that weren't checked."),
         ):
-            samples = [((("reason", it),), float(n)) for it, n in sorted(reasons.items())]
-            yield f"zanteyard_{name}_{place}_total", "counter", about, samples
+            counts = dict(sorted(reasons.items()))
+            yield by(f"{name}_{place}_total", "counter", about, "reason", counts)
     for name, count, about in (
         ("transactions_only_read", totals.only_read, "Rolled back, and --rollbacks checks them."),
         ("selects_by_condition", totals.by_condition, "SELECTs not by one whole key."),
@@ -158,16 +138,4 @@ def _totals(totals: Totals) -> Iterator[Family]:
         ("commits_untold", totals.untold, "Commits of clients, or of other programs."),
         ("commits_untold_without_the_proxy", totals.bypassed, "Of these, others' at least."),
     ):
-        yield f"zanteyard_{name}_total", "counter", about, [((), count)]
-
-
-class Metrics:
-    """Answers /metrics; safe for use by several threads."""
-
-    def __init__(self, board: Board) -> None:
-        self._board = board
-
-    def __call__(self, path: str) -> Answer:
-        if path != "/metrics":
-            return Answer("only /metrics is here\n", PLAIN, 404)
-        return Answer(text_of(families(self._board.status())), TEXT)
+        yield one(f"{name}_total", "counter", about, count)
